@@ -1,0 +1,38 @@
+ghost use Rattle.std.specs.Prelude.{◌≡◌, IfOk};
+
+use crate::fault::NoMemory;
+use std::alloc::Global;
+use std::marker::Model;
+
+/// A `Box` that contracts see as the value in it.
+#[derive(Debug, Drop)]
+pub struct Boxed<T> {
+    inner: Box<T>,
+}
+
+impl<T> Model for Boxed<T> {
+    ghost Value = { T };
+
+    ghost coded = { T.code };
+
+    ghost view = { λ b. b.inner.value };
+}
+
+impl<T> Boxed<T> {
+    /// Lends the value.
+    pub fn get(&self) -> &T
+        ensures { result.now ≡ self.now }
+    {
+        &self.inner
+    }
+}
+
+impl<T: Drop> Boxed<T> {
+    /// The value in a box of its own.
+    pub fn new(alloc: Global, value: T) -> Result<Boxed<T>, NoMemory>
+        ensures { IfOk result (λ b. b ≡ value) }
+    {
+        let inner = Box::new(alloc, value)?;
+        Ok(Boxed { inner })
+    }
+}

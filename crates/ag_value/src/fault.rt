@@ -1,0 +1,61 @@
+ghost use Rattle.std.specs.Prelude.{◌≡◌};
+ghost use Rattle.ag_value.specs.declared.fault.NoMemory.{NoMemory};
+ghost use Rattle.ag_value.specs.declared.fault.NoMemory.TheVariants as no_memory;
+ghost use Rattle.ag_value.specs.declared.fault.ValueFault.TheVariants as value_fault;
+
+use std::alloc::{AllocError, AllocFailed};
+
+/// The fault of a call that can only run out of memory. It is answered only where a growth was refused.
+#[derive(Clone, Copy, Debug, PartialEq, Eq)]
+pub enum NoMemory {
+    NoMemory,
+}
+
+impl From<AllocError> for NoMemory {
+    ghost from_gives = { λ _ e. e ≡ no_memory.NoMemory };
+
+    fn from(_error: AllocError) -> NoMemory {
+        NoMemory::NoMemory
+    }
+}
+
+impl<T: Drop> From<AllocFailed<T>> for NoMemory {
+    ghost from_gives = { λ _ e. e ≡ no_memory.NoMemory };
+
+    fn from(_error: AllocFailed<T>) -> NoMemory {
+        NoMemory::NoMemory
+    }
+}
+
+/// Why bytes gave no value.
+#[derive(Clone, Copy, Debug, PartialEq, Eq)]
+pub enum ValueFault {
+    /// No front of the bytes is the spelling of a well value.
+    Malformed,
+    /// A growth was refused.
+    NoMemory,
+}
+
+impl From<NoMemory> for ValueFault {
+    ghost from_gives = { λ _ e. e ≡ value_fault.NoMemory };
+
+    fn from(_error: NoMemory) -> ValueFault {
+        ValueFault::NoMemory
+    }
+}
+
+impl From<AllocError> for ValueFault {
+    ghost from_gives = { λ _ e. e ≡ value_fault.NoMemory };
+
+    fn from(_error: AllocError) -> ValueFault {
+        ValueFault::NoMemory
+    }
+}
+
+impl<T: Drop> From<AllocFailed<T>> for ValueFault {
+    ghost from_gives = { λ _ e. e ≡ value_fault.NoMemory };
+
+    fn from(_error: AllocFailed<T>) -> ValueFault {
+        ValueFault::NoMemory
+    }
+}

@@ -1,0 +1,38 @@
+use crate::items::Items;
+use crate::text::Text;
+
+/// Why an expression has no other value, as a value. The codes are 1 to 8 in this order.
+#[derive(Clone, Copy, Debug, PartialEq, Eq)]
+pub enum ErrorCode {
+    /// A number left the range of i64.
+    Overflow = 1,
+    /// A division by zero.
+    Divide,
+    /// An argument of a kind that the operation does not take.
+    Kind,
+    /// A list has no item there.
+    Index,
+    /// A table has no such key.
+    Key,
+    /// A text is no number.
+    Number,
+    /// A value whose spelling has more than 1,048,576 bytes.
+    Big,
+    /// A value of more than 64 levels.
+    Deep = 8,
+}
+
+/// The value of an attribute.
+#[derive(Debug, Drop)]
+pub enum Value {
+    /// A number of 64 bits with a sign.
+    Num(i64),
+    /// A text.
+    Text(Text),
+    /// Values in order.
+    List(Items<Value>),
+    /// Pairs of a key and its value, with keys that rise by their bytes where the value is well.
+    Table(Items<(Text, Value)>),
+    /// An error.
+    Fault(ErrorCode),
+}
