@@ -150,3 +150,11 @@ width-encoded (c ∷ cs) = let more = width-encoded cs in omega (arith, length-a
 
 pub width-chars : (bs : List ℕ) → IsUtf8 bs → width (chars bs) ≡ length bs
 width-chars bs is = width-encoded (chars bs) ∙ ap length (encodes-chars bs is)
+
+same_count : {at : ℕ} {cs : List ℕ} {ts : List Token} {ats : List ℕ} {end : ℕ} {rest : List ℕ} → AreTokens at cs ts ats end rest → length ts ≡ length ats
+same_count (ended at cs) = refl
+same_count (separator at c cs ts ats end rest h is) = same_count is
+same_count (word at all w cs t ts ats end rest split token longest is) = ap suc (same_count is)
+
+pub counts : (cs : List ℕ) (ts : List Token) (ats : List ℕ) (at : ℕ) (rest : List ℕ) → IsSoFar cs ts ats at rest → length ts ≡ length ats
+counts cs ts ats at rest so_far = same_count so_far.tokens

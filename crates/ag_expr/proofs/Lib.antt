@@ -1,6 +1,10 @@
+pub mod Agree
 pub mod Below
 pub mod Fronts
 pub mod Lexed
+pub mod Listing
 pub mod TextTurns
 pub mod TokenLaws
+pub mod Texts
 pub mod Turns
+pub mod Unique

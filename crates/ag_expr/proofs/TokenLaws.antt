@@ -1,7 +1,7 @@
 -- Cutting the token in front and the definition of tokens agree.
 use Rattle.std.proofs.Common.{◌≡◌, ℕ, zero, suc, pos, ◌+◌, ◌-◌, ◌<◌, ◌≤◌, ◌≢◌, Bool, true, false, ◌&&◌, ◌||◌, cond, eqb, ◌==◌, List, [], ◌∷◌, ◌++◌, length, take, drop, Option, Some, None, refl, ap, sym, ◌∙◌, subst, lit<, arith, append_assoc, encode_utf8, encode_utf8_all}
 use Rattle.std.proofs.lemmas.List.{length-append, length-drop, length-take-le, take-append-drop, append-nil}
-use Rattle.std.proofs.Math.Seq.{drop-append_seam}
+use Rattle.std.proofs.Math.Seq.{drop-append_seam, take-append_seam}
 use Rattle.std.proofs.lemmas.List.Sums.{prefix_len-le-length}
 use Rattle.std.proofs.lemmas.Bool.{eqb-true, eqb-false}
 use Rattle.std.proofs.lemmas.Bool.Decides.{nat_tests}
@@ -15,7 +15,7 @@ use Rattle.ag_expr.specs.declared.token.Sign.TheVariants as sign
 use Rattle.ag_expr.specs.declared.token.Token.{Token}
 use Rattle.ag_expr.specs.declared.token.Token.TheVariants as token
 use Rattle.ag_expr.specs.Reading.{and_then, where_some}
-use Rattle.ag_expr.specs.Tokens.{starts_name, escaped, IsDigits, IsName, IsBody, empty, plain, escape, sign_text, IsToken, IsLongest, BeginsNoToken}
+use Rattle.ag_expr.specs.Tokens.{starts_name, is_separator, escaped, IsDigits, IsName, IsBody, empty, plain, escape, sign_text, IsToken, IsLongest, BeginsNoToken}
 use Rattle.ag_expr.specs.Lexing.{digits_from, name_from, single_sign, doubled, sign_from, escape_from, character_from, unquoted, undotted, text_from, occurrence_from, plain_from, token_from}
 use Rattle.ag_expr.proofs.Fronts.{both_first, both_second, front_passes, front_reaches, front_ends}
 
@@ -290,50 +290,51 @@ token_sound (c ∷ cs) t rest e = go (c == 34) (c == 36) refl refl e
     go false true p q h = subst (λ k. IsCut (k ∷ cs) t rest) (sym (same_number c 36 q)) (occurrence_sound cs t rest h)
     go false false p q h = plain_sound (c ∷ cs) t rest h
 
--- ---- where a token stands, one is cut that is no shorter
+-- ---- where a token stands, one is cut that is no shorter; it is that token where it is no longer
 
--- as much is read
-abbrev Reaches : Option (Token × List ℕ) → List ℕ → Type 0
-Reaches None more = ⊥
-Reaches (Some x) more = length x.1 ≤ length more
+-- what is cut reaches at least as far as the word in front of `more`, and is the word where it reaches no further
+abbrev IsSplit : List ℕ → List ℕ → Option (List ℕ × List ℕ) → Type 0
+IsSplit word more o = (x : List ℕ × List ℕ) × (o ≡ Some x) × (length x.1 ≤ length more) × (length x.1 ≡ length more → x.0 ≡ word)
 
-abbrev Splits : Option (List ℕ × List ℕ) → List ℕ → Type 0
-Splits None more = ⊥
-Splits (Some x) more = length x.1 ≤ length more
+split_there : (n : ℕ) (word more : List ℕ) → length (drop n (word ++ more)) ≡ length more → length word ≤ n → n ≤ length (word ++ more) → take n (word ++ more) ≡ word
+split_there n word more same far within =
+    let k : n ≡ length word = omega (arith, length-drop n (word ++ more), length-append word more) in
+    rw k (take-append_seam word more)
 
-digits_reach : (word more : List ℕ) → IsDigits word → (d : List ℕ × List ℕ) × (digits_from (word ++ more) ≡ Some d) × (length d.1 ≤ length more)
+digits_reach : (word more : List ℕ) → IsDigits word → IsSplit word more (digits_from (word ++ more))
 digits_reach word more (some, all) =
     let n = prefix_len is_ascii_digit (word ++ more) in
     let far = front_reaches is_ascii_digit word more all in
+    let within = prefix_len-le-length is_ascii_digit (word ++ more) in
     let zero_not : (n == 0) ≡ false = grind (arith, nat_tests) in
-    ((take n (word ++ more), drop n (word ++ more)), rw zero_not refl, omega (arith, length-drop n (word ++ more), length-append word more))
+    ((take n (word ++ more), drop n (word ++ more)), rw zero_not refl, omega (arith, length-drop n (word ++ more), length-append word more),
+     λ same. split_there n word more same far within)
 
-name_reach : (word more : List ℕ) → IsName word → (d : List ℕ × List ℕ) × (name_from (word ++ more) ≡ Some d) × (length d.1 ≤ length more)
+name_reach : (word more : List ℕ) → IsName word → IsSplit word more (name_from (word ++ more))
 name_reach [] more is = absurd is
 name_reach (c ∷ word) more (starts, all) =
     let n = prefix_len is_xid_continue (c ∷ (word ++ more)) in
     let far = front_reaches is_xid_continue word more all in
+    let within = prefix_len-le-length is_xid_continue (c ∷ (word ++ more)) in
     let here : is_xid_continue c ≡ true = goes_on c starts in
     let k : n ≡ suc (prefix_len is_xid_continue (word ++ more)) = rw here (omega arith) in
-    ((take n (c ∷ (word ++ more)), drop n (c ∷ (word ++ more))), rw starts refl, omega (arith, length-drop n (c ∷ (word ++ more)), length-append word more))
+    ((take n (c ∷ (word ++ more)), drop n (c ∷ (word ++ more))), rw starts refl, omega (arith, length-drop n (c ∷ (word ++ more)), length-append word more),
+     λ same. split_there n (c ∷ word) more same (omega arith) within)
 
-text_reach : (body bytes : List ℕ) → IsBody body bytes → (n : ℕ) (front more : List ℕ) → length body < n → (t : Token) × (text_from n front (body ++ 34 ∷ more) ≡ Some (t, more))
+text_reach : (body bytes : List ℕ) → IsBody body bytes → (n : ℕ) (front more : List ℕ) → length body < n → text_from n front (body ++ 34 ∷ more) ≡ Some (token.Text (front ++ bytes), more)
 unfolding text_from
 text_reach body bytes is zero front more lt = let bad : ⊥ = omega arith in absurd bad
-text_reach _ _ empty (suc n) front more lt = (token.Text front, refl)
+text_reach _ _ empty (suc n) front more lt = ap (λ y. Some (token.Text y, more)) (sym (append-nil front))
 text_reach _ _ (plain c body bytes a b is) (suc n) front more lt =
     let rest = text_reach body bytes is n (front ++ encode_utf8 c) more (omega arith) in
-    (rest.0, rw (other_number c 34 a, other_number c 92 b) rest.1)
+    rw (other_number c 34 a, other_number c 92 b) (rest ∙ ap (λ y. Some (token.Text y, more)) (append_assoc front (encode_utf8 c) bytes))
 text_reach _ _ (escape c d body bytes a is) (suc n) front more lt =
     let rest = text_reach body bytes is n (front ++ encode_utf8 d) more (omega arith) in
-    (rest.0, rw a rest.1)
+    rw a (rest ∙ ap (λ y. Some (token.Text y, more)) (append_assoc front (encode_utf8 d) bytes))
 
-undotted_reach : (more : List ℕ) → undotted (46 ∷ more) ≡ Some more
-undotted_reach more = refl
-
--- a token of the same length or a longer one is cut
-abbrev IsReached : List ℕ → List ℕ → Type 0
-IsReached cs more = (x : Token × List ℕ) × (token_from cs ≡ Some x) × (length x.1 ≤ length more)
+-- in front of `more` a token of the word's length is cut, which is this one, or a longer one
+abbrev IsReached : List ℕ → Token → List ℕ → Type 0
+IsReached cs t more = (x : Token × List ℕ) × (token_from cs ≡ Some x) × (length x.1 ≤ length more) × (length x.1 ≡ length more → x.0 ≡ t)
 
 -- in front of other characters than quote and dollar
 from_plain : (c : ℕ) (cs : List ℕ) → (c == 34) ≡ false → (c == 36) ≡ false → token_from (c ∷ cs) ≡ plain_from (c ∷ cs)
@@ -343,84 +344,93 @@ from_plain c cs p q = rw (p, q) refl
 digit_plain : (c : ℕ) → is_ascii_digit c ≡ true → ((c == 34) ≡ false) × ((c == 36) ≡ false)
 digit_plain c h = (grind (arith, nat_tests), grind (arith, nat_tests))
 
-number_reached : (word more : List ℕ) → IsDigits word → IsReached (word ++ more) more
+number_reached : (word more : List ℕ) → IsDigits word → IsReached (word ++ more) (token.Number (pos (digits_value 10 word))) more
 number_reached [] more is = let none = is.0 in let bad : ⊥ = omega arith in absurd bad
 number_reached (c ∷ word) more is =
     let here : is_ascii_digit c ≡ true = both_first (is_ascii_digit c) (list_all is_ascii_digit word) is.1 in
     let found = digits_reach (c ∷ word) more is in
     let other = digit_plain c here in
-    ((token.Number (pos (digits_value 10 found.0.0)), found.0.1), from_plain c (word ++ more) other.0 other.1 ∙ rw found.1 refl, found.2)
+    ((token.Number (pos (digits_value 10 found.0.0)), found.0.1), from_plain c (word ++ more) other.0 other.1 ∙ rw found.1 refl, found.2,
+     λ same. ap (λ w. token.Number (pos (digits_value 10 w))) (found.3 same))
 
 no_digits : (c : ℕ) (cs : List ℕ) → is_ascii_digit c ≡ false → digits_from (c ∷ cs) ≡ None
 no_digits c cs h = rw h refl
 
-name_reached : (word more : List ℕ) → IsName word → IsReached (word ++ more) more
+name_reached : (word more : List ℕ) → IsName word → IsReached (word ++ more) (token.Name (encode_utf8_all word)) more
 name_reached [] more is = absurd is
 name_reached (c ∷ word) more is =
     let found = name_reach (c ∷ word) more is in
     let quote = differs c 34 is.0 (no_start 34 (lit< tt) refl refl) in
     let dollar = differs c 36 is.0 (no_start 36 (lit< tt) refl refl) in
     ((token.Name (encode_utf8_all found.0.0), found.0.1),
-     from_plain c (word ++ more) quote dollar ∙ rw (no_digits c (word ++ more) (name_no_digit c is.0), found.1) refl, found.2)
+     from_plain c (word ++ more) quote dollar ∙ rw (no_digits c (word ++ more) (name_no_digit c is.0), found.1) refl, found.2,
+     λ same. ap (λ w. token.Name (encode_utf8_all w)) (found.3 same))
 
-text_reached : (body bytes more : List ℕ) → IsBody body bytes → IsReached (34 ∷ ((body ++ 34 ∷ []) ++ more)) more
+text_reached : (body bytes more : List ℕ) → IsBody body bytes → IsReached (34 ∷ ((body ++ 34 ∷ []) ++ more)) (token.Text bytes) more
 unfolding token_from
 text_reached body bytes more is =
     let all : (body ++ 34 ∷ []) ++ more ≡ body ++ 34 ∷ more = append_assoc body (34 ∷ []) more in
     let far : length body < length (body ++ 34 ∷ more) = omega (arith, length-append body (34 ∷ more)) in
-    let found = text_reach body bytes is (length (body ++ 34 ∷ more)) [] more far in
-    ((found.0, more), ap (λ x. token_from (34 ∷ x)) all ∙ found.1, omega arith)
+    ((token.Text bytes, more), ap (λ x. token_from (34 ∷ x)) all ∙ text_reach body bytes is (length (body ++ 34 ∷ more)) [] more far, omega arith, λ same. refl)
 
-occurrence_reached : (digits name more : List ℕ) → IsDigits digits → IsName name → IsReached (36 ∷ ((digits ++ 46 ∷ name) ++ more)) more
+occurrence_reached : (digits name more : List ℕ) → IsDigits digits → IsName name
+    → IsReached (36 ∷ ((digits ++ 46 ∷ name) ++ more)) (token.Occurrence (digits_value 10 digits) (encode_utf8_all name)) more
 unfolding token_from
-occurrence_reached digits name more is (called) =
+occurrence_reached digits name more is called =
     let all : (digits ++ 46 ∷ name) ++ more ≡ digits ++ 46 ∷ (name ++ more) = append_assoc digits (46 ∷ name) more in
     let n = length digits in
     let ends : prefix_len is_ascii_digit (digits ++ 46 ∷ (name ++ more)) ≡ n = front_ends is_ascii_digit digits (name ++ more) 46 is.1 refl in
     let zero_not : (n == 0) ≡ false = let some = is.0 in grind (arith, nat_tests) in
-    let cut : digits_from (digits ++ 46 ∷ (name ++ more)) ≡ Some (take n (digits ++ 46 ∷ (name ++ more)), 46 ∷ (name ++ more)) = rw (ends, zero_not, drop-append_seam digits (46 ∷ (name ++ more))) refl in
+    let cut : digits_from (digits ++ 46 ∷ (name ++ more)) ≡ Some (digits, 46 ∷ (name ++ more)) = rw (ends, zero_not, take-append_seam digits (46 ∷ (name ++ more)), drop-append_seam digits (46 ∷ (name ++ more))) refl in
     let found = name_reach name more called in
-    ((token.Occurrence (digits_value 10 (take n (digits ++ 46 ∷ (name ++ more)))) (encode_utf8_all found.0.0), found.0.1),
-     ap (λ x. token_from (36 ∷ x)) all ∙ rw (cut, found.1) refl, found.2)
+    ((token.Occurrence (digits_value 10 digits) (encode_utf8_all found.0.0), found.0.1),
+     ap (λ x. token_from (36 ∷ x)) all ∙ rw (cut, found.1) refl, found.2,
+     λ same. ap (λ w. token.Occurrence (digits_value 10 digits) (encode_utf8_all w)) (found.3 same))
 
 sign_cut : (c : ℕ) (cs : List ℕ) (x : Sign × List ℕ) → starts_name c ≡ false → is_ascii_digit c ≡ false → (c == 34) ≡ false → (c == 36) ≡ false → sign_from (c ∷ cs) ≡ Some x → token_from (c ∷ cs) ≡ Some (token.Sign x.0, x.1)
 sign_cut c cs x name digit quote dollar is = from_plain c cs quote dollar ∙ rw (no_digits c cs digit, name, is) refl
 
-doubled_short : (k : ℕ) (two one : Sign) (cs : List ℕ) → length (doubled k two one cs).1 ≤ length cs
-doubled_short k two one [] = omega arith
+doubled_short : (k : ℕ) (two one : Sign) (cs : List ℕ) → (length (doubled k two one cs).1 ≤ length cs) × (length (doubled k two one cs).1 ≡ length cs → token.Sign (doubled k two one cs).0 ≡ token.Sign one)
+doubled_short k two one [] = (omega arith, λ same. refl)
 doubled_short k two one (c ∷ cs) = go (c == k)
   where
-    go : (b : Bool) → length (cond {A = Sign × List ℕ} b (two, cs) (one, c ∷ cs)).1 ≤ length (c ∷ cs)
-    go false = omega arith
-    go true = omega arith
+    go : (b : Bool) → (length (cond {A = Sign × List ℕ} b (two, cs) (one, c ∷ cs)).1 ≤ length (c ∷ cs)) × (length (cond {A = Sign × List ℕ} b (two, cs) (one, c ∷ cs)).1 ≡ length (c ∷ cs) → token.Sign (cond {A = Sign × List ℕ} b (two, cs) (one, c ∷ cs)).0 ≡ token.Sign one)
+    go false = (omega arith, λ same. refl)
+    go true = (omega arith, λ same. let bad : ⊥ = omega arith in absurd bad)
 
-sign_reached : (s : Sign) (more : List ℕ) → IsReached (sign_text s ++ more) more
+sign_reached : (s : Sign) (more : List ℕ) → IsReached (sign_text s ++ more) (token.Sign s) more
 sign_reached sign.Plus more =
     let x = doubled 43 sign.Join sign.Plus more in
-    ((token.Sign x.0, x.1), sign_cut 43 more x (no_start 43 (lit< tt) refl refl) refl refl refl refl, doubled_short 43 sign.Join sign.Plus more)
-sign_reached sign.Minus more = ((token.Sign sign.Minus, more), sign_cut 45 more (sign.Minus, more) (no_start 45 (lit< tt) refl refl) refl refl refl refl, omega arith)
-sign_reached sign.Times more = ((token.Sign sign.Times, more), sign_cut 42 more (sign.Times, more) (no_start 42 (lit< tt) refl refl) refl refl refl refl, omega arith)
-sign_reached sign.Join more = ((token.Sign sign.Join, more), sign_cut 43 (43 ∷ more) (sign.Join, more) (no_start 43 (lit< tt) refl refl) refl refl refl refl, omega arith)
-sign_reached sign.Equal more = ((token.Sign sign.Equal, more), sign_cut 61 (61 ∷ more) (sign.Equal, more) (no_start 61 (lit< tt) refl refl) refl refl refl refl, omega arith)
-sign_reached sign.Less more = ((token.Sign sign.Less, more), sign_cut 60 more (sign.Less, more) (no_start 60 (lit< tt) refl refl) refl refl refl refl, omega arith)
+    let short = doubled_short 43 sign.Join sign.Plus more in
+    ((token.Sign x.0, x.1), sign_cut 43 more x (no_start 43 (lit< tt) refl refl) refl refl refl refl, short.0, short.1)
+sign_reached sign.Minus more = ((token.Sign sign.Minus, more), sign_cut 45 more (sign.Minus, more) (no_start 45 (lit< tt) refl refl) refl refl refl refl, omega arith, λ same. refl)
+sign_reached sign.Times more = ((token.Sign sign.Times, more), sign_cut 42 more (sign.Times, more) (no_start 42 (lit< tt) refl refl) refl refl refl refl, omega arith, λ same. refl)
+sign_reached sign.Join more = ((token.Sign sign.Join, more), sign_cut 43 (43 ∷ more) (sign.Join, more) (no_start 43 (lit< tt) refl refl) refl refl refl refl, omega arith, λ same. refl)
+sign_reached sign.Equal more = ((token.Sign sign.Equal, more), sign_cut 61 (61 ∷ more) (sign.Equal, more) (no_start 61 (lit< tt) refl refl) refl refl refl refl, omega arith, λ same. refl)
+sign_reached sign.Less more = ((token.Sign sign.Less, more), sign_cut 60 more (sign.Less, more) (no_start 60 (lit< tt) refl refl) refl refl refl refl, omega arith, λ same. refl)
 sign_reached sign.Becomes more =
     let x = doubled 61 sign.Equal sign.Becomes more in
-    ((token.Sign x.0, x.1), sign_cut 61 more x (no_start 61 (lit< tt) refl refl) refl refl refl refl, doubled_short 61 sign.Equal sign.Becomes more)
-sign_reached sign.Open more = ((token.Sign sign.Open, more), sign_cut 40 more (sign.Open, more) (no_start 40 (lit< tt) refl refl) refl refl refl refl, omega arith)
-sign_reached sign.Close more = ((token.Sign sign.Close, more), sign_cut 41 more (sign.Close, more) (no_start 41 (lit< tt) refl refl) refl refl refl refl, omega arith)
-sign_reached sign.OpenList more = ((token.Sign sign.OpenList, more), sign_cut 91 more (sign.OpenList, more) (no_start 91 (lit< tt) refl refl) refl refl refl refl, omega arith)
-sign_reached sign.CloseList more = ((token.Sign sign.CloseList, more), sign_cut 93 more (sign.CloseList, more) (no_start 93 (lit< tt) refl refl) refl refl refl refl, omega arith)
-sign_reached sign.OpenTable more = ((token.Sign sign.OpenTable, more), sign_cut 123 more (sign.OpenTable, more) (no_start 123 (lit< tt) refl refl) refl refl refl refl, omega arith)
-sign_reached sign.CloseTable more = ((token.Sign sign.CloseTable, more), sign_cut 125 more (sign.CloseTable, more) (no_start 125 (lit< tt) refl refl) refl refl refl refl, omega arith)
-sign_reached sign.Comma more = ((token.Sign sign.Comma, more), sign_cut 44 more (sign.Comma, more) (no_start 44 (lit< tt) refl refl) refl refl refl refl, omega arith)
-sign_reached sign.Semicolon more = ((token.Sign sign.Semicolon, more), sign_cut 59 more (sign.Semicolon, more) (no_start 59 (lit< tt) refl refl) refl refl refl refl, omega arith)
+    let short = doubled_short 61 sign.Equal sign.Becomes more in
+    ((token.Sign x.0, x.1), sign_cut 61 more x (no_start 61 (lit< tt) refl refl) refl refl refl refl, short.0, short.1)
+sign_reached sign.Open more = ((token.Sign sign.Open, more), sign_cut 40 more (sign.Open, more) (no_start 40 (lit< tt) refl refl) refl refl refl refl, omega arith, λ same. refl)
+sign_reached sign.Close more = ((token.Sign sign.Close, more), sign_cut 41 more (sign.Close, more) (no_start 41 (lit< tt) refl refl) refl refl refl refl, omega arith, λ same. refl)
+sign_reached sign.OpenList more = ((token.Sign sign.OpenList, more), sign_cut 91 more (sign.OpenList, more) (no_start 91 (lit< tt) refl refl) refl refl refl refl, omega arith, λ same. refl)
+sign_reached sign.CloseList more = ((token.Sign sign.CloseList, more), sign_cut 93 more (sign.CloseList, more) (no_start 93 (lit< tt) refl refl) refl refl refl refl, omega arith, λ same. refl)
+sign_reached sign.OpenTable more = ((token.Sign sign.OpenTable, more), sign_cut 123 more (sign.OpenTable, more) (no_start 123 (lit< tt) refl refl) refl refl refl refl, omega arith, λ same. refl)
+sign_reached sign.CloseTable more = ((token.Sign sign.CloseTable, more), sign_cut 125 more (sign.CloseTable, more) (no_start 125 (lit< tt) refl refl) refl refl refl refl, omega arith, λ same. refl)
+sign_reached sign.Comma more = ((token.Sign sign.Comma, more), sign_cut 44 more (sign.Comma, more) (no_start 44 (lit< tt) refl refl) refl refl refl refl, omega arith, λ same. refl)
+sign_reached sign.Semicolon more = ((token.Sign sign.Semicolon, more), sign_cut 59 more (sign.Semicolon, more) (no_start 59 (lit< tt) refl refl) refl refl refl refl, omega arith, λ same. refl)
 
-pub token_reached : (word more : List ℕ) (t : Token) → IsToken word t → IsReached (word ++ more) more
-token_reached word more (token.Number n) is = number_reached word more is.0
-token_reached word more (token.Text bytes) is = subst (λ w. IsReached (w ++ more) more) (sym is.1) (text_reached is.0 bytes more is.2)
-token_reached word more (token.Name bytes) is = name_reached word more is.0
-token_reached word more (token.Occurrence place attr) is = subst (λ w. IsReached (w ++ more) more) (sym is.2) (occurrence_reached is.0 is.1 more is.3 is.4)
-token_reached word more (token.Sign s) is = subst (λ w. IsReached (w ++ more) more) (sym is) (sign_reached s more)
+pub token_reached : (word more : List ℕ) (t : Token) → IsToken word t → IsReached (word ++ more) t more
+token_reached word more (token.Number n) is = subst (λ m. IsReached (word ++ more) (token.Number m) more) (sym is.1) (number_reached word more is.0)
+token_reached word more (token.Text bytes) is = subst (λ w. IsReached (w ++ more) (token.Text bytes) more) (sym is.1) (text_reached is.0 bytes more is.2)
+token_reached word more (token.Name bytes) is = subst (λ b. IsReached (word ++ more) (token.Name b) more) (sym is.1) (name_reached word more is.0)
+token_reached word more (token.Occurrence place attr) is =
+    let here = occurrence_reached is.0 is.1 more is.3 is.4 in
+    let value = subst (λ p. IsReached (36 ∷ ((is.0 ++ 46 ∷ is.1) ++ more)) (token.Occurrence p (encode_utf8_all is.1)) more) (sym is.5) here in
+    let called = subst (λ a. IsReached (36 ∷ ((is.0 ++ 46 ∷ is.1) ++ more)) (token.Occurrence place a) more) (sym is.6) value in
+    subst (λ w. IsReached (w ++ more) (token.Occurrence place attr) more) (sym is.2) called
+token_reached word more (token.Sign s) is = subst (λ w. IsReached (w ++ more) (token.Sign s) more) (sym is) (sign_reached s more)
 
 -- ---- what is cut is the longest token, and where nothing is cut there is none
 
@@ -441,3 +451,53 @@ cut_none cs e word more t split is =
     let found = token_reached word more t is in
     let bad : None ≡ Some found.0 = sym e ∙ ap token_from split ∙ found.1 in
     none_some _ bad
+
+-- ---- a word is one token at most, and no token begins with a separator
+
+pub one_token : (word : List ℕ) (t u : Token) → IsToken word t → IsToken word u → t ≡ u
+one_token word t u is also =
+    let a = token_reached word [] t is in
+    let b = token_reached word [] u also in
+    let same : a.0 ≡ b.0 = some_same _ _ (sym a.1 ∙ b.1) in
+    let a_ends : length a.0.1 ≡ length {A = ℕ} [] = let short = a.2 in omega arith in
+    let b_ends : length b.0.1 ≡ length {A = ℕ} [] = let short = b.2 in omega arith in
+    sym (a.3 a_ends) ∙ ap (λ (x : Token × List ℕ). x.0) same ∙ b.3 b_ends
+
+abbrev IsPlainWord : List ℕ → Type 0
+IsPlainWord word = (c : ℕ) × (cs : List ℕ) × (word ≡ c ∷ cs) × (is_separator c ≡ false)
+
+digits_plain : (word : List ℕ) → IsDigits word → IsPlainWord word
+digits_plain [] is = let none = is.0 in let bad : ⊥ = omega arith in absurd bad
+digits_plain (c ∷ word) is =
+    let here : is_ascii_digit c ≡ true = both_first (is_ascii_digit c) (list_all is_ascii_digit word) is.1 in
+    (c, word, refl, grind (arith, nat_tests))
+
+name_plain : (word : List ℕ) → IsName word → IsPlainWord word
+name_plain [] is = absurd is
+name_plain (c ∷ word) is =
+    let other : (k : ℕ) → k < 128 → is_ascii_alphabetic k ≡ false → (k == 95) ≡ false → (c == k) ≡ false = λ k small letter line. differs c k is.0 (no_start k small letter line) in
+    (c, word, refl, rw (other 32 (lit< tt) refl refl, other 9 (lit< tt) refl refl, other 13 (lit< tt) refl refl, other 10 (lit< tt) refl refl) refl)
+
+sign_plain : (s : Sign) → IsPlainWord (sign_text s)
+sign_plain sign.Plus = (43, [], refl, refl)
+sign_plain sign.Minus = (45, [], refl, refl)
+sign_plain sign.Times = (42, [], refl, refl)
+sign_plain sign.Join = (43, 43 ∷ [], refl, refl)
+sign_plain sign.Equal = (61, 61 ∷ [], refl, refl)
+sign_plain sign.Less = (60, [], refl, refl)
+sign_plain sign.Becomes = (61, [], refl, refl)
+sign_plain sign.Open = (40, [], refl, refl)
+sign_plain sign.Close = (41, [], refl, refl)
+sign_plain sign.OpenList = (91, [], refl, refl)
+sign_plain sign.CloseList = (93, [], refl, refl)
+sign_plain sign.OpenTable = (123, [], refl, refl)
+sign_plain sign.CloseTable = (125, [], refl, refl)
+sign_plain sign.Comma = (44, [], refl, refl)
+sign_plain sign.Semicolon = (59, [], refl, refl)
+
+pub begins_plain : (word : List ℕ) (t : Token) → IsToken word t → IsPlainWord word
+begins_plain word (token.Number n) is = digits_plain word is.0
+begins_plain word (token.Text bytes) is = (34, is.0 ++ 34 ∷ [], is.1, refl)
+begins_plain word (token.Name bytes) is = name_plain word is.0
+begins_plain word (token.Occurrence place attr) is = (36, is.0 ++ 46 ∷ is.1, is.2, refl)
+begins_plain word (token.Sign s) is = subst IsPlainWord (sym is) (sign_plain s)

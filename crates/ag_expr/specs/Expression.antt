@@ -1,5 +1,5 @@
 -- Which texts read as which expressions: this project's language.
-use Rattle.std.specs.Prelude.{◌≡◌, ℕ, true, List, [], length, chars, Result, Ok, Err}
+use Rattle.std.specs.Prelude.{◌≡◌, ℕ, true, List, [], length, chars}
 use Rattle.std.specs.List.{list_all}
 use Rattle.ag_expr.specs.declared.fault.ExprFault.{ExprFault}
 use Rattle.ag_expr.specs.declared.fault.ExprFault.TheVariants as fault
@@ -33,10 +33,9 @@ abbrev pub ReadsAsNone : List ℕ → Type 0
 ReadsAsNone text = (expr : Node × List Occ) → ReadsAsExpr text expr → ⊥
 
 -- what a refusal says of the text: that it reads as no expression, unless memory ran out
-abbrev pub Refuses : {X : Type 0} → List ℕ → Result X ExprFault → Type 0
-Refuses text (Ok x) = Unit {0}
-Refuses text (Err fault.NoMemory) = Unit {0}
-Refuses text (Err e) = ReadsAsNone text
+abbrev pub IsRefused : List ℕ → ExprFault → Type 0
+IsRefused text fault.NoMemory = Unit {0}
+IsRefused text e = ReadsAsNone text
 
 -- what a fault says of its offset
 abbrev pub IsAt : List ℕ → ExprFault → Type 0

@@ -1,6 +1,6 @@
-ghost use Rattle.std.specs.Prelude.{◌≡◌, length, true, IfOk, IfErr};
+ghost use Rattle.std.specs.Prelude.{◌≡◌, chars, length, true, IfOk, IfErr};
 ghost use Rattle.ag_expr.specs.Evaluation.{is_below};
-ghost use Rattle.ag_expr.specs.Expression.{ReadsAsExpr, Refuses, IsAt, IsFaultOf, fault_at_end};
+ghost use Rattle.ag_expr.specs.Expression.{ReadsAsExpr, IsRefused, IsAt, IsFaultOf, fault_at_end};
 
 use crate::fault::{ExprFault, ParseFault};
 use crate::lexer::{Ending, Lexed, lex};
@@ -8,7 +8,7 @@ use crate::node::Node;
 use crate::occurrence::{Occ, list_occurrences};
 use crate::parser::parse;
 use smallvec::SmallVec;
-use std::alloc::Global;
+use std::alloc::{AllocError, Global};
 use std::marker::Model;
 
 /// An expression: its tree, and the different occurrences in it in the order of their first appearance.
@@ -75,13 +75,20 @@ fn fault_of(fault: ParseFault, lexed: &Lexed, len: usize) -> ExprFault
     }
 }
 
+/// The characters of a text.
+fn characters_of(alloc: Global, text: &str) -> Result<Vec<char>, AllocError>
+    ensures { IfOk result (λ characters. characters.items ≡ chars text.now) }
+{
+    text.chars().collect(alloc)
+}
+
 /// Reads a text as an expression. Takes memory.
 pub fn read_expr(alloc: Global, text: &str) -> Result<Expr, ExprFault>
     ensures reads { IfOk result (λ e. ReadsAsExpr text.now e) }
-    ensures refuses { Refuses text.now result }
+    ensures refuses { IfErr result (λ e. IsRefused text.now e) }
     ensures places { IfErr result (λ e. IsAt text.now e) }
 {
-    let characters: Vec<char> = text.chars().collect(alloc)?;
+    let characters = characters_of(alloc, text)?;
     let lexed = lex(alloc, characters.as_slice())?;
     let tokens = lexed.tokens.as_slice();
     let occurrences = list_occurrences(alloc, tokens, lexed.offsets.as_slice())?;

@@ -364,10 +364,11 @@ fn token_in_front(alloc: Global, characters: &[char]) -> Result<(Token, &[char])
 }
 
 /// The tokens of characters.
-#[tactic(auto, using(crate::proofs::Lexed::nothing_here, crate::proofs::Lexed::too_large_here))]
+#[tactic(auto, using(crate::proofs::Lexed::nothing_here, crate::proofs::Lexed::too_large_here, crate::proofs::Lexed::counts))]
 pub fn lex(alloc: Global, characters: &[char]) -> Result<Lexed, NoMemory>
     requires { tokens_spec.width characters.now < 2 ^ 64 }
-    ensures { IfOk result (λ lexed. lexing.EndsAt characters.now lexed.tokens.items lexed.offsets.items lexed.ending) }
+    ensures ends { IfOk result (λ lexed. lexing.EndsAt characters.now lexed.tokens.items lexed.offsets.items lexed.ending) }
+    ensures counts { IfOk result (λ lexed. length lexed.tokens.items ≡ length lexed.offsets.items) }
 {
     let mut tokens = Vec::new(alloc);
     let mut offsets = Vec::new(alloc);

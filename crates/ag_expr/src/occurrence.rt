@@ -1,4 +1,5 @@
 ghost use Rattle.std.specs.Prelude.{◌≡◌, ◌<◌, [], length, IfOk, IfSome, OnOk};
+ghost use Rattle.std.specs.List.{list_any};
 ghost use Rattle.ag_expr.specs.Occurrences as spec;
 
 use crate::token::Token;
@@ -29,13 +30,32 @@ impl MadeWith<Global> for Occ {
     }
 }
 
+/// Whether an occurrence has this place and name.
+fn is_of(occurrence: &Occ, place: u16, attr: &str) -> bool
+    ensures { result ≡ spec.is_of place attr.now occurrence.now }
+{
+    occurrence.place == place && occurrence.attr.as_str() == attr
+}
+
+/// Whether an occurrence with this place and name is listed.
+fn is_listed(listed: &[Occ], place: u16, attr: &str) -> bool
+    ensures { result ≡ list_any (spec.is_of place attr.now) listed.now }
+{
+    for occurrence in listed {
+        if is_of(occurrence, place, attr) {
+            return true;
+        }
+    }
+    false
+}
+
 /// The number of the first listed occurrence with this place and name.
 pub fn position_of(listed: &[Occ], place: u16, attr: &str) -> Option<usize>
     ensures value { result ≡ spec.position_of listed.now place attr.now }
     ensures within { IfSome result (λ k. k < length listed.now) }
 {
     for (k, occurrence) in listed.iter().enumerate() {
-        if occurrence.place == place && occurrence.attr.as_str() == attr {
+        if is_of(occurrence, place, attr) {
             return Some(k);
         }
     }
@@ -52,7 +72,7 @@ fn list(
 ) -> Result<(), NoMemory>
     ensures { OnOk result (listed.new.items ≡ spec.listed_with listed.old.items (record { place = place; attr = attr.now; at = at })) }
 {
-    if position_of(listed.as_slice(), place, attr.as_str()).is_some() {
+    if is_listed(listed.as_slice(), place, attr.as_str()) {
         return Ok(());
     }
     let attr = Text::from_string(String::from_str(alloc, attr.as_str())?);
