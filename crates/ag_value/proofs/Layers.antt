@@ -35,6 +35,12 @@ weight-Fault c = ap weight_of (sym (rolls-Fault c)) ∙ fold-roll-Value ℕ weig
 pub weight-Text : (text : List ℕ) → weight_of (v.Text text) ≡ 5 + length text
 weight-Text text = ap weight_of (sym (rolls-Text text)) ∙ fold-roll-Value ℕ weight_step (Value-F.Text text)
 
+pub depth-Num : (n : ℤ) → depth_of (v.Num n) ≡ 0
+depth-Num n = ap depth_of (sym (rolls-Num n)) ∙ fold-roll-Value ℕ depth_step (Value-F.Num n)
+
+pub depth-Text : (text : List ℕ) → depth_of (v.Text text) ≡ 0
+depth-Text text = ap depth_of (sym (rolls-Text text)) ∙ fold-roll-Value ℕ depth_step (Value-F.Text text)
+
 pub depth-List : (vs : List Value) → depth_of (v.List vs) ≡ 1 + greatest (map depth_of vs)
 depth-List vs = ap depth_of (sym (rolls-List vs)) ∙ fold-roll-Value ℕ depth_step (Value-F.List vs)
 

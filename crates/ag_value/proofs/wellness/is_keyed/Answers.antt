@@ -7,8 +7,7 @@ use Rattle.ag_value.proofs.wellness.is_keyed.Goals as goal
 pub loop-pair-preserved : goal.loop-pair-preserved
 loop-pair-preserved c =
     let key = c.as_str-key.ensures in
-    let before : is_before c.loop-pair.before.now c.as_str-key.result.now ≡ true = not_ge _ c.if-ge.ensures in
-    (
+    let before : is_before c.loop-pair.before.now c.as_str-key.result.now ≡ true = not_ge _ c.if-ge.ensures in (
       rw key (next_key c.loop-pair.before.now _ c.loop-pair.pair-index c.pair-item.result _ c.loop-pair-test.true c.pair-item.is (rw key at before) (is_text _ c.loop-pair.invariant.1) c.loop-pair.invariant.0),
       c.as_str-key.utf8,
     )
