@@ -1,0 +1,10 @@
+-- Which fault a call answers where a call of its device failed.
+use Rattle.treefile.specs.declared.device.DeviceFault.{DeviceFault}
+use Rattle.treefile.specs.declared.device.DeviceFault.TheVariants as device_fault
+use Rattle.treefile.specs.declared.reading.FrameFault.{FrameFault}
+use Rattle.treefile.specs.declared.reading.FrameFault.TheVariants as frame_fault
+
+-- a device that failed, or one that was short of memory
+abbrev pub frame_fault_of : DeviceFault → FrameFault
+frame_fault_of device_fault.Failed = frame_fault.Device
+frame_fault_of device_fault.NoMemory = frame_fault.NoMemory

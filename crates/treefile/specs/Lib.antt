@@ -1,0 +1,4 @@
+pub mod Device
+pub mod Ending
+pub mod Faults
+pub mod TreeFile
