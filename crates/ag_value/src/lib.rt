@@ -2,13 +2,17 @@
 #![tactic(auto)]
 
 mod boxed;
+mod copying;
 mod fault;
 mod items;
+mod measuring;
 mod text;
 mod value;
 
 pub use boxed::Boxed;
+pub use copying::{copy, same};
 pub use fault::{NoMemory, ValueFault};
 pub use items::Items;
+pub use measuring::{depth, weight};
 pub use text::Text;
 pub use value::{ErrorCode, Value};

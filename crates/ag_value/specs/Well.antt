@@ -1,0 +1,59 @@
+-- Which values are well: those that the product makes, stores and takes. All of this is this project's.
+use Rattle.std.specs.Prelude.{◌≡◌, ℕ, ◌^◌, ◌≤◌, ℤ, pos, negsuc, Bool, true, false, ◌&&◌, ◌||◌, nat_lt, List, [], ◌∷◌, map}
+use Rattle.std.specs.Cmp.Lexicographic.{slice_cmp}
+use Rattle.std.specs.Ordering.{nat_cmp, is_lt}
+use Rattle.std.specs.Str.{is_utf8}
+use Rattle.ag_value.specs.declared.value.Value.{Value, fold-Value}
+use Rattle.ag_value.specs.declared.value.Value.TheOpen.{Value-F}
+use Rattle.ag_value.specs.Measure.{weight_of, depth_of, max_weight, max_depth}
+
+-- a number from -2^63 to 2^63 - 1
+abbrev pub is_i64 : ℤ → Bool
+is_i64 (pos n) = nat_lt n (2 ^ 63)
+is_i64 (negsuc n) = nat_lt n (2 ^ 63)
+
+-- one text comes before another by their bytes: the first byte in which they differ decides, and a beginning comes first
+abbrev pub is_before : List ℕ → List ℕ → Bool
+is_before a b = is_lt (slice_cmp nat_cmp a b)
+
+-- each key comes before the next
+abbrev pub is_rising : List (List ℕ) → Bool
+is_rising [] = true
+is_rising (a ∷ []) = true
+is_rising (a ∷ b ∷ keys) = is_before a b && is_rising (b ∷ keys)
+
+-- all of them hold
+abbrev pub all_true : List Bool → Bool
+all_true [] = true
+all_true (b ∷ bs) = b && all_true bs
+
+-- whether a value may stand in a list or table, from whether the values in it may
+abbrev pub item_step : Value-F Bool → Bool
+item_step (Value-F.Num n) = is_i64 n
+item_step (Value-F.Text text) = is_utf8 text
+item_step (Value-F.List items) = all_true items
+item_step (Value-F.Table pairs) = is_rising (map (λ p. p.0) pairs) && all_true (map (λ p. is_utf8 p.0 && p.1) pairs)
+item_step (Value-F.Fault code) = false
+
+-- A value may stand in a list or table: at every level of it numbers are of i64, texts and keys are UTF-8,
+-- keys rise strictly by their bytes, and nothing is an error.
+abbrev pub is_item : Value → Bool
+is_item = fold-Value Bool item_step
+
+abbrev pub fault_step : Value-F Bool → Bool
+fault_step (Value-F.Num n) = false
+fault_step (Value-F.Text text) = false
+fault_step (Value-F.List items) = false
+fault_step (Value-F.Table pairs) = false
+fault_step (Value-F.Fault code) = true
+
+-- the value is an error
+abbrev pub is_fault : Value → Bool
+is_fault = fold-Value Bool fault_step
+
+-- A value is well where it is an error, or where it may stand in a list or table; and where it is
+-- neither too deep nor too heavy.
+pub record IsWell (value : Value) : Type 0 where
+  pub formed : (is_fault value || is_item value) ≡ true
+  pub shallow : depth_of value ≤ max_depth
+  pub light : weight_of value ≤ max_weight
