@@ -10,6 +10,20 @@ pub enum Kind {
     Token,
 }
 
+impl Kind {
+    ghost use Rattle.treefile.specs.TreeFile.{kind_byte};
+
+    /// The first byte of a body of this kind.
+    pub(crate) fn byte(self) -> u8
+        ensures { result ≡ kind_byte self }
+    {
+        match self {
+            Kind::Node => 0,
+            Kind::Token => 1,
+        }
+    }
+}
+
 /// The kind, the number and the spellings of the values of a body, or `None` where it has fewer than three bytes or
 /// its first byte is neither 0 (a node) nor 1 (a token). Whether spellings follow isn't looked at. Takes no memory.
 pub fn split_body(body: &[u8]) -> Option<(Kind, u16, &[u8])>

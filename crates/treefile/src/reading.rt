@@ -1,6 +1,6 @@
 ghost use Rattle.std.specs.Prelude.{◌≡◌, ◌+◌, ◌<◌, ◌≤◌, ◌⊎◌, ◌^◌, length, true, IfErr, IfOk, IsErrOf, IsTrue, slice_range};
 ghost use Rattle.treefile.specs.Device.{Counts};
-ghost use Rattle.treefile.specs.Ending.{Told, body_before, fits_before, is_tree_file, last_body_of, number_before};
+ghost use Rattle.treefile.specs.Ending.{Told, body_before, fits_before, header_bytes, is_tree_file, length_bytes, last_body_of, number_before};
 ghost use Rattle.treefile.specs.Faults.{frame_fault_of};
 ghost use Rattle.treefile.specs.declared.reading.FrameFault.TheVariants as frame_fault;
 
@@ -90,7 +90,7 @@ fn number_before<D: Device>(device: &mut D, at: u64) -> Result<u32, DeviceFault>
 fn fits_before(at: u64, length: u64) -> bool
     requires { length < 2 ^ 32 }
     ensures exact { result ≡ fits_before at length }
-    ensures room { IsTrue result → length + 10 ≤ at }
+    ensures room { IsTrue result → header_bytes + length + length_bytes ≤ at }
 {
     LEAST_BODY <= length && length <= GREATEST_BODY && HEADER_BYTES + length + LENGTH_BYTES <= at
 }
