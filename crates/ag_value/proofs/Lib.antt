@@ -1,1 +1,3 @@
+pub mod Extending
 pub mod Layers
+pub mod Weights

@@ -3,6 +3,7 @@
 
 mod boxed;
 mod copying;
+mod encoding;
 mod fault;
 mod items;
 mod measuring;
@@ -11,6 +12,7 @@ mod value;
 
 pub use boxed::Boxed;
 pub use copying::{copy, same};
+pub use encoding::encode;
 pub use fault::{NoMemory, ValueFault};
 pub use items::Items;
 pub use measuring::{depth, weight};
