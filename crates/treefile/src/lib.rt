@@ -3,13 +3,17 @@
 
 mod body;
 mod device;
+mod laws;
 mod memory;
 mod reading;
-mod stub;
 mod writing;
 
 pub use body::{Kind, split_body};
 pub use device::{Device, DeviceFault};
+pub use laws::{frames_are_read, last_is_read, records_fit};
 pub use memory::MemDevice;
 pub use reading::{FrameFault, last_body};
 pub use writing::{WriteFault, Writer};
+
+#[cfg(test)]
+mod tests;

@@ -9,8 +9,7 @@ ghost use Rattle.treefile.specs.declared.writing.WriteFault.TheVariants as write
 
 use crate::body::Kind;
 use crate::device::{Device, DeviceFault};
-use crate::stub::encode;
-use ag_value::{NoMemory, Value};
+use ag_value::{NoMemory, Value, encode};
 use std::alloc::Global;
 use std::marker::Model;
 
@@ -63,11 +62,7 @@ impl Writer {
     /// A writer of a file of a pass: takes away what the device has, and appends the header.
     ///
     /// D1 Device where the device failed. Takes memory for the header where the device does.
-    pub fn begin<D: Device>(
-        alloc: Global,
-        device: &mut D,
-        pass: u16,
-    ) -> Result<Writer, WriteFault>
+    pub fn begin<D: Device>(alloc: Global, device: &mut D, pass: u16) -> Result<Writer, WriteFault>
         ensures header { OnOk result (D.is_honest device.old ≡ true → D.content device.new ≡ header pass) }
         ensures fresh { IfOk result (λ writer. writer ≡ record { written = 0; is_broken = false }) }
         // D1: what the device had, or a beginning of the header
