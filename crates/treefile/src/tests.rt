@@ -2,8 +2,8 @@ ghost use Rattle.std.specs.Prelude.{◌≡◌, [], true, false, IsTrue};
 ghost use Rattle.treefile.specs.Device.{Counts};
 
 use super::*;
-use ag_value::{Text, Value};
-use std::alloc::Global;
+use ag_value::Value;
+use std::alloc::{AllocError, Global};
 use std::test::Fail;
 
 /// A device in memory that fails at one of its calls, counted from 1, and does nothing then.
@@ -143,23 +143,19 @@ fn a_number_in_a_token(rt: HostRuntime) -> Result<(), Fail> {
 }
 
 #[test]
-fn a_text_and_a_node(rt: HostRuntime) -> Result<(), Fail> {
+fn two_nodes_with_values(rt: HostRuntime) -> Result<(), Fail> {
     let alloc = rt.alloc();
     let mut device = MemDevice::from_bytes(vec![in alloc; 1, 2, 3]?);
-    let mut writer = Writer::begin(alloc, &mut device, 258)?;
-    let word = Value::Text(Text::from_string(String::from_str(alloc, "iffy")?));
-    writer.put(&mut device, Kind::Token, 0, &[word])?;
-    writer.put(&mut device, Kind::Node, 4, &[])?;
+    let mut writer = Writer::begin(alloc, &mut device, 2)?;
+    writer.put(&mut device, Kind::Node, 7, &[Value::Num(1)])?;
+    let values = [Value::Num(65536), Value::Num(0), Value::Num(32768)];
+    writer.put(&mut device, Kind::Node, 4, &values)?;
     assert_eq!(rt; writer.written(), 2);
-    let bytes = [
-        0x41, 0x47, 0x54, 0x31, 1, 2, 1, 0, 0, 1, 0, 0, 0, 4, 0x69, 0x66, 0x66, 0x79, 0, 0, 0, 12,
-        0, 0, 4, 0, 0, 0, 3,
-    ];
+    let bytes = b"AGT1\0\x02\
+        \0\0\x07\0\0\0\0\0\0\0\0\x01\0\0\0\x0c\
+        \0\0\x04\0\0\0\0\0\0\x01\0\0\0\0\0\0\0\0\0\0\0\0\0\0\0\0\0\0\x80\0\0\0\0\x1e";
     assert_eq!(rt; device.bytes(), bytes.as_slice());
-    assert_eq!(rt;
-        last_body(alloc, &mut device)?.as_slice(),
-        [0, 0, 4].as_slice()
-    );
+    assert_eq!(rt; last_body(alloc, &mut device)?.as_slice(), &bytes[22..52]);
     Ok(())
 }
 
@@ -204,27 +200,28 @@ fn contents_without_a_last_body(rt: HostRuntime) -> Result<(), Fail> {
     Ok(())
 }
 
+/// A header, so many bytes, and a length.
+fn content_of(alloc: Global, count: u32, length: u32) -> Result<Vec<u8>, AllocError> {
+    let body = vec![in alloc; 0; count as usize]?;
+    let mut bytes = Vec::from_slice(alloc, b"AGT1\0\0")?;
+    bytes.extend_from_slice(&body)?;
+    bytes.extend_from_slice(&length.to_be_bytes())?;
+    Ok(bytes)
+}
+
 #[test]
 fn least_and_greatest_bodies(rt: HostRuntime) -> Result<(), Fail> {
     let alloc = rt.alloc();
     let least = last_of(alloc, b"AGT1\0\0\x07\x08\x09\0\0\0\x03")?;
     assert_eq!(rt; least.as_slice(), [7, 8, 9].as_slice());
-
-    let mut bytes = vec![in alloc; 0; 6 + 16_777_219]?;
-    bytes[..4].copy_from_slice(b"AGT1");
-    bytes.extend_from_slice(&[1, 0, 0, 3])?;
-    let greatest = last_of(alloc, &bytes)?;
-    assert_eq!(rt; greatest.len(), 16_777_219);
-
-    bytes.truncate(6 + 16_777_219);
-    bytes.extend_from_slice(&[0, 1, 0, 0, 4])?;
-    match last_of(alloc, &bytes) {
-        Err(FrameFault::NoMemory) => Ok(Err(FrameFault::NoMemory)?),
-        told => {
-            assert_eq!(rt; told, Err(FrameFault::Damaged(16_777_230)));
-            Ok(())
-        }
+    let greatest = content_of(alloc, 16_777_219, 16_777_219)?;
+    assert_eq!(rt; last_of(alloc, &greatest)?.len(), 16_777_219);
+    let greater = content_of(alloc, 16_777_220, 16_777_220)?;
+    match last_of(alloc, &greater) {
+        Err(FrameFault::NoMemory) => return Ok(Err(FrameFault::NoMemory)?),
+        told => assert_eq!(rt; told, Err(FrameFault::Damaged(16_777_230))),
     }
+    Ok(())
 }
 
 #[test]
@@ -240,6 +237,7 @@ fn a_device_that_fails_while_it_is_written(rt: HostRuntime) -> Result<(), Fail> 
     let mut writer = Writer::begin(alloc, &mut device, 0)?;
     writer.put(&mut device, Kind::Node, 1, &[])?;
     for _ in 0..2 {
+        assert!(rt; writer.written() == 1);
         let put = writer.put(&mut device, Kind::Node, 2, &[]);
         assert_eq!(rt; put, Err(WriteFault::Device));
         assert_eq!(rt; writer.written(), 1);
