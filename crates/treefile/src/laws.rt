@@ -1,10 +1,16 @@
-ghost use Rattle.std.specs.Prelude.{◌≡◌, ◌≤◌, ◌++◌, ◌∷◌, ℕ, List, [], length, All, Ok, Err};
+ghost use Rattle.std.specs.Prelude.{◌≡◌, ◌≤◌, ◌++◌, ◌∷◌, ◌↔◌, ℕ, List, [], length, take, true, All, Ok, Err};
 ghost use Rattle.ag_value.specs.Well.{IsWell};
 ghost use Rattle.ag_value.specs.declared.value.Value.{Value};
-ghost use Rattle.treefile.specs.Ending.{IsBodyBefore, IsBytes, body_before, greatest_body, last_body_of, least_body};
-ghost use Rattle.treefile.specs.TreeFile.{body_of, file};
+ghost use Rattle.treefile.specs.Ending.{IsBodyBefore, IsBytes, body_before, greatest_body, header_bytes, is_tree_file, last_body_of, least_body};
+ghost use Rattle.treefile.specs.TreeFile.{body_of, file, magic};
 ghost use Rattle.treefile.specs.declared.body.Kind.{Kind};
 ghost use Rattle.treefile.specs.declared.reading.FrameFault.TheVariants.{Damaged};
+
+/// A content is a tree file exactly where there is room for a header and the first four bytes are those of one.
+#[tactic(auto, unfolding(crate::specs::Ending::is_tree_file))]
+pub fn headers_are_told()
+    ensures { (content : List ℕ) → (is_tree_file content ≡ true) ↔ ((header_bytes ≤ length content) × (take 4 content ≡ magic)) }
+{}
 
 /// Of a content of bytes, a body is read exactly where its frame ends at the offset, and the offset is told as damaged
 /// exactly where no frame ends there.

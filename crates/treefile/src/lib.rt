@@ -10,7 +10,7 @@ mod writing;
 
 pub use body::{Kind, split_body};
 pub use device::{Device, DeviceFault};
-pub use laws::{frames_are_read, last_is_read, records_fit};
+pub use laws::{frames_are_read, headers_are_told, last_is_read, records_fit};
 pub use memory::MemDevice;
 pub use reading::{FrameFault, last_body};
 pub use writing::{WriteFault, Writer};

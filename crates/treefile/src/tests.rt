@@ -160,6 +160,18 @@ fn two_nodes_with_values(rt: HostRuntime) -> Result<(), Fail> {
 }
 
 #[test]
+fn calls_of_memory_that_cannot_fail(rt: HostRuntime) -> Result<(), Fail> {
+    let mut device = MemDevice::from_bytes(vec![in rt.alloc(); 1, 2, 3]?);
+    assert_eq!(rt; device.len().unwrap(), 3);
+    let mut two = [0, 0];
+    device.read_at(1, &mut two).unwrap();
+    assert_eq!(rt; two, [2, 3]);
+    device.clear().unwrap();
+    assert_eq!(rt; device.len().unwrap(), 0);
+    Ok(())
+}
+
+#[test]
 fn bodies_are_split(rt: HostRuntime) {
     assert_eq!(rt;
         split_body(&[0, 1, 2]),
