@@ -1,0 +1,48 @@
+-- The longest front that passes a test.
+use Rattle.std.proofs.Common.{◌≡◌, ℕ, zero, suc, ◌+◌, ◌*◌, ◌<◌, ◌≤◌, Bool, true, false, ◌&&◌, cond, eqb, List, [], ◌∷◌, ◌++◌, length, take, drop, Option, Some, None, refl, ap, sym, ◌∙◌, arith}
+use Rattle.std.proofs.lemmas.List.{length-append}
+use Rattle.std.proofs.lemmas.Bool.{eqb-true, eqb-false}
+use Rattle.std.proofs.lemmas.Grind.{common_steps}
+use Rattle.std.specs.Char.{digit_value}
+use Rattle.std.specs.List.{prefix_len, list_all}
+use Rattle.std.specs.Str.Parse.{digits_value, digits_value_after}
+
+pub both_first : (a b : Bool) → (a && b) ≡ true → a ≡ true
+both_first true b h = refl
+both_first false b h = let bad : ⊥ = cc in absurd bad
+
+pub both_second : (a b : Bool) → (a && b) ≡ true → b ≡ true
+both_second true b h = h
+both_second false b h = let bad : ⊥ = cc in absurd bad
+
+-- what stands in front passes
+pub front_passes : (p : ℕ → Bool) (cs : List ℕ) → list_all p (take (prefix_len p cs) cs) ≡ true
+front_passes p [] = refl
+front_passes p (c ∷ cs) = go (p c) refl (front_passes p cs)
+  where
+    go : (b : Bool) → p c ≡ b → list_all p (take (prefix_len p cs) cs) ≡ true → list_all p (take (cond b (1 + prefix_len p cs) 0) (c ∷ cs)) ≡ true
+    go false h more = refl
+    go true h more = let k : 1 + prefix_len p cs ≡ suc (prefix_len p cs) = omega arith in rw (k, h) more
+
+-- the front is no shorter than any that passes
+pub front_reaches : (p : ℕ → Bool) (word more : List ℕ) → list_all p word ≡ true → length word ≤ prefix_len p (word ++ more)
+front_reaches p [] more h = omega arith
+front_reaches p (c ∷ word) more h =
+    let here : p c ≡ true = both_first (p c) (list_all p word) h in
+    let so_far = front_reaches p word more (both_second (p c) (list_all p word) h) in
+    rw here (omega arith)
+
+-- and is just as long where the next character does not pass
+pub front_ends : (p : ℕ → Bool) (word more : List ℕ) (c : ℕ) → list_all p word ≡ true → p c ≡ false → prefix_len p (word ++ c ∷ more) ≡ length word
+front_ends p [] more c h ends = rw ends refl
+front_ends p (d ∷ word) more c h ends =
+    let here : p d ≡ true = both_first (p d) (list_all p word) h in
+    rw (here, front_ends p word more c (both_second (p d) (list_all p word) h) ends) (omega arith)
+
+pub digits_grow : (n : ℕ) (ds : List ℕ) → n ≤ digits_value_after 10 n ds
+digits_grow n [] = omega arith
+digits_grow n (d ∷ ds) = let more = digits_grow (n * 10 + digit_value d) ds in omega arith
+
+-- a number whose first digits are above the limit is above it
+pub digits_over : (most number : ℕ) (ds all : List ℕ) → most < number → digits_value_after 10 number ds ≡ digits_value 10 all → most < digits_value 10 all
+digits_over most number ds all over same = let more = digits_grow number ds in rw (sym same) (omega arith)

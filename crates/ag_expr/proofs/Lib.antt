@@ -1,0 +1,4 @@
+pub mod Below
+pub mod Fronts
+pub mod TextTurns
+pub mod Turns

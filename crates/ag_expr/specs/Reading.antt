@@ -1,0 +1,87 @@
+-- Reading an expression from the front of tokens: the plain function, which agrees with the grammar.
+use Rattle.std.specs.Prelude.{◌≡◌, ℕ, zero, suc, List, [], ◌∷◌, ◌++◌, length, Option, Some, None, Result, Ok, Err}
+use Rattle.ag_expr.specs.declared.fault.ParseFault.{ParseFault}
+use Rattle.ag_expr.specs.declared.fault.ParseFault.TheVariants as fault
+use Rattle.ag_expr.specs.declared.token.Sign.TheVariants as sign
+use Rattle.ag_expr.specs.declared.token.Token.{Token}
+use Rattle.ag_expr.specs.declared.token.Token.TheVariants as token
+use Rattle.ag_expr.specs.declared.node.Operator.{Operator}
+use Rattle.ag_expr.specs.declared.node.Node.{Node}
+use Rattle.ag_expr.specs.declared.node.Node.TheVariants as node
+use Rattle.ag_expr.specs.declared.occurrence.Occ.{Occ}
+use Rattle.ag_expr.specs.Occurrences.{position_of}
+use Rattle.ag_expr.specs.Grammar.{sum_operator, product_operator, chained}
+
+-- what is read, and the tokens behind it
+abbrev pub Reader : Type 0 → Type 0
+Reader A = List Token → Option (A × List Token)
+
+abbrev pub and_then : {A B : Type 0} → Option A → (A → Option B) → Option B
+and_then None f = None
+and_then (Some x) f = f x
+
+-- the first where there is nothing, else the second of what there is
+abbrev pub where_some : {A B : Type 0} → Option A → B → (A → B) → B
+where_some None b f = b
+where_some (Some x) b f = f x
+
+-- an operator in front
+abbrev pub operator_from : (Token → Option Operator) → Reader Operator
+operator_from operator [] = None
+operator_from operator (t ∷ ts) = and_then (operator t) (λ o. Some (o, ts))
+
+-- further operators and operands behind those in `front`, so many turns at most
+unfoldable pub rest_from : (Token → Option Operator) → Reader Node → ℕ → List (Operator × Node) → Reader (List (Operator × Node))
+rest_from operator operand zero front ts = Some (front, ts)
+rest_from operator operand (suc turns) front ts =
+    where_some (operator_from operator ts) (Some (front, ts)) (λ o. and_then (operand o.1) (λ p. rest_from operator operand turns (front ++ (o.0, p.0) ∷ []) p.1))
+
+abbrev pub chain_from : (Token → Option Operator) → Reader Node → Reader Node
+chain_from operator operand ts =
+    and_then (operand ts) (λ p. and_then (rest_from operator operand (length p.1) [] p.1) (λ q. Some (chained p.0 q.0, q.1)))
+
+-- what stands behind a closing parenthesis
+abbrev pub closed_from : List Token → Option (List Token)
+closed_from [] = None
+closed_from (token.Sign sign.Close ∷ ts) = Some ts
+closed_from (t ∷ ts) = None
+
+abbrev pub occurrence_from : List Occ → ℕ → List ℕ → List Token → Option (Node × List Token)
+occurrence_from listed place attr ts = and_then (position_of listed place attr) (λ k. Some (node.Occurrence k, ts))
+
+unfoldable pub atom_from : List Occ → Reader Node → Reader Node
+atom_from listed inner [] = None
+atom_from listed inner (token.Number n ∷ ts) = Some (node.Number n, ts)
+atom_from listed inner (token.Occurrence place attr ∷ ts) = occurrence_from listed place attr ts
+atom_from listed inner (token.Sign sign.Open ∷ ts) = and_then (inner ts) (λ p. and_then (closed_from p.1) (λ us. Some (p.0, us)))
+atom_from listed inner (t ∷ ts) = None
+
+unfoldable pub product_from : List Occ → Reader Node → Reader Node
+product_from listed inner = chain_from product_operator (atom_from listed inner)
+
+unfoldable pub sum_from : List Occ → Reader Node → Reader Node
+sum_from listed inner = chain_from sum_operator (product_from listed inner)
+
+-- an expression of at most so many levels
+unfoldable pub expr_from : List Occ → ℕ → Reader Node
+expr_from listed zero ts = None
+expr_from listed (suc levels) ts = sum_from listed (expr_from listed levels) ts
+
+-- all of the tokens
+abbrev pub at_end : Node × List Token → Option Node
+at_end (e, []) = Some e
+at_end (e, t ∷ ts) = None
+
+unfoldable pub expr_of : List Occ → ℕ → List Token → Option Node
+expr_of listed levels ts = and_then (expr_from listed levels ts) at_end
+
+-- a fault is answered where nothing is read, and memory may always run out
+abbrev pub Refuses : {Y : Type 0} → ParseFault → Option Y → Type 0
+Refuses fault.NoMemory read = Unit {0}
+Refuses (fault.Unexpected left) read = read ≡ None
+Refuses (fault.TooDeep left) read = read ≡ None
+
+-- what a function returned, seen by view, is what reading gives, unless memory ran out
+abbrev pub Gives : {X Y : Type 0} → (X → Y) → Result X ParseFault → Option Y → Type 0
+Gives view (Ok x) read = read ≡ Some (view x)
+Gives view (Err e) read = Refuses e read

@@ -1,0 +1,96 @@
+ghost use Rattle.std.specs.Prelude.{◌≡◌, length, true};
+ghost use Rattle.ag_expr.specs.Evaluation.{is_below};
+
+use crate::fault::{ExprFault, ParseFault};
+use crate::lexer::{Ending, Lexed, lex};
+use crate::node::Node;
+use crate::occurrence::{Occ, list_occurrences};
+use crate::parser::parse;
+use smallvec::SmallVec;
+use std::alloc::Global;
+use std::marker::Model;
+
+/// An expression: its tree, and the different occurrences in it in the order of their first appearance.
+#[derive(Drop)]
+pub struct Expr {
+    node: Node,
+    occurrences: SmallVec<Occ, 4>,
+}
+
+impl Model for Expr {
+    ghost use Rattle.std.specs.Prelude.{◌≡◌, List, length, true};
+    ghost use Rattle.ag_expr.specs.Evaluation.{is_below};
+    ghost use Rattle.std.specs.Coded.{codes};
+    ghost use Rattle.ag_expr.specs.declared.node.Node.{Node};
+    ghost use Rattle.ag_expr.specs.declared.occurrence.Occ.{Occ};
+    ghost use Rattle.ag_expr.specs.contracts.node.Node as node_row;
+
+    ghost Value = { Node × List Occ };
+
+    ghost coded = { Prim.hlevel (codes, node_row.the_row.coded) };
+
+    ghost view = { λ e. (e.node, e.occurrences.items) };
+
+    ghost invariant = { λ e. is_below (length e.occurrences.items) e.node ≡ true };
+}
+
+/// Lends the different occurrences of an expression, in the order of their first appearance in its text.
+pub fn occurrences(expr: &Expr) -> &[Occ]
+    ensures { result.now ≡ expr.now.1 }
+{
+    expr.occurrences.as_slice()
+}
+
+/// The fault of a parser that needs the token behind the last one.
+fn ending_fault(ending: Ending, len: usize) -> ExprFault {
+    match ending {
+        Ending::Whole => ExprFault::Unexpected(len),
+        Ending::NoToken(at) => ExprFault::NoToken(at),
+        Ending::TooLarge(at) => ExprFault::NumberTooLarge(at),
+    }
+}
+
+/// The offset of the token from which on so many are left.
+fn offset_of(offsets: &[usize], left: usize) -> usize {
+    match offsets.get(offsets.len().saturating_sub(left)) {
+        Some(at) => *at,
+        None => 0,
+    }
+}
+
+/// The fault of a text of so many bytes.
+fn fault_of(fault: ParseFault, lexed: &Lexed, len: usize) -> ExprFault {
+    match fault {
+        ParseFault::Unexpected(0) => ending_fault(lexed.ending, len),
+        ParseFault::Unexpected(left) => {
+            ExprFault::Unexpected(offset_of(lexed.offsets.as_slice(), left))
+        }
+        ParseFault::TooDeep(left) => ExprFault::TooDeep(offset_of(lexed.offsets.as_slice(), left)),
+        ParseFault::NoMemory => ExprFault::NoMemory,
+    }
+}
+
+/// Reads a text as an expression. Takes memory.
+pub fn read_expr(alloc: Global, text: &str) -> Result<Expr, ExprFault> {
+    let characters: Vec<char> = text.chars().collect(alloc)?;
+    let lexed = lex(alloc, characters.as_slice())?;
+    let tokens = lexed.tokens.as_slice();
+    let occurrences = list_occurrences(alloc, tokens, lexed.offsets.as_slice())?;
+    match parse(alloc, occurrences.as_slice(), tokens) {
+        Ok(node) => match lexed.ending {
+            Ending::Whole => Ok(Expr { node, occurrences }),
+            ending => Err(ending_fault(ending, text.len())),
+        },
+        Err(fault) => Err(fault_of(fault, &lexed, text.len())),
+    }
+}
+
+impl Expr {
+    /// Lends the tree.
+    pub(crate) fn tree(&self) -> &Node
+        ensures value { result.now ≡ self.now.0 }
+        ensures below { is_below (length self.now.1) result.now ≡ true }
+    {
+        &self.node
+    }
+}

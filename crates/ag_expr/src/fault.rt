@@ -1,0 +1,92 @@
+ghost use Rattle.std.specs.Prelude.{◌≡◌};
+ghost use Rattle.ag_expr.specs.declared.fault.ExprFault.TheVariants as expr_fault;
+ghost use Rattle.ag_expr.specs.declared.fault.ParseFault.TheVariants as parse_fault;
+ghost use Rattle.ag_expr.specs.declared.fault.TokenFault.TheVariants as token_fault;
+
+use ag_value::NoMemory;
+use std::alloc::{AllocError, AllocFailed};
+
+/// Why a text is no expression. Offsets are in bytes from the front of the text.
+#[derive(Clone, Copy, Debug, PartialEq, Eq)]
+pub enum ExprFault {
+    /// X1: at this offset stands no separator, and no token begins there.
+    NoToken(usize),
+    /// X2: no expression goes on with the token at this offset, or ends here, at the text's end.
+    Unexpected(usize),
+    /// X3: at this offset stands a number above 9223372036854775807, or an occurrence with a place above 65535.
+    NumberTooLarge(usize),
+    /// X4: at this offset an expression of level 65 begins.
+    TooDeep(usize),
+    /// A growth was refused.
+    NoMemory,
+}
+
+impl From<NoMemory> for ExprFault {
+    ghost from_gives = { λ _ e. e ≡ expr_fault.NoMemory };
+
+    fn from(_error: NoMemory) -> ExprFault {
+        ExprFault::NoMemory
+    }
+}
+
+impl From<AllocError> for ExprFault {
+    ghost from_gives = { λ _ e. e ≡ expr_fault.NoMemory };
+
+    fn from(_error: AllocError) -> ExprFault {
+        ExprFault::NoMemory
+    }
+}
+
+/// Why tokens are no expression. Places are told by how many tokens stand from there to the last one.
+#[derive(Clone, Copy, Debug, PartialEq, Eq)]
+pub enum ParseFault {
+    /// No expression goes on with the token there, or ends there, where none is left.
+    Unexpected(usize),
+    /// There an expression of one level too many begins.
+    TooDeep(usize),
+    /// A growth was refused.
+    NoMemory,
+}
+
+impl From<NoMemory> for ParseFault {
+    ghost from_gives = { λ _ e. e ≡ parse_fault.NoMemory };
+
+    fn from(_error: NoMemory) -> ParseFault {
+        ParseFault::NoMemory
+    }
+}
+
+impl<T: Drop> From<AllocFailed<T>> for ParseFault {
+    ghost from_gives = { λ _ e. e ≡ parse_fault.NoMemory };
+
+    fn from(_error: AllocFailed<T>) -> ParseFault {
+        ParseFault::NoMemory
+    }
+}
+
+/// Why no token is cut from the front of characters.
+#[derive(Clone, Copy, Debug, PartialEq, Eq)]
+pub enum TokenFault {
+    /// No token begins there.
+    Nothing,
+    /// The token there has a number above its limit.
+    TooLarge,
+    /// A growth was refused.
+    NoMemory,
+}
+
+impl From<NoMemory> for TokenFault {
+    ghost from_gives = { λ _ e. e ≡ token_fault.NoMemory };
+
+    fn from(_error: NoMemory) -> TokenFault {
+        TokenFault::NoMemory
+    }
+}
+
+impl From<AllocError> for TokenFault {
+    ghost from_gives = { λ _ e. e ≡ token_fault.NoMemory };
+
+    fn from(_error: AllocError) -> TokenFault {
+        TokenFault::NoMemory
+    }
+}

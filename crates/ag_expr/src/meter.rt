@@ -1,0 +1,48 @@
+ghost use Rattle.std.specs.Prelude.{◌≡◌, ◌+◌, ◌-◌, ◌^◌, ◌<◌, nat_eq};
+
+use std::marker::Model;
+
+/// Counts evaluations.
+#[derive(Debug, Drop)]
+pub struct Meter {
+    count: u64,
+}
+
+impl Model for Meter {
+    ghost use Rattle.std.specs.Prelude.{ℕ};
+
+    ghost Value = { ℕ };
+
+    ghost view = { λ m. m.count };
+}
+
+impl Meter {
+    /// A meter at 0. Takes no memory.
+    pub fn new() -> Meter
+        ensures { result ≡ 0 }
+    {
+        Meter { count: 0 }
+    }
+
+    /// How many evaluations it has counted.
+    pub fn count(&self) -> u64
+        ensures { result ≡ self.now }
+    {
+        self.count
+    }
+
+    /// Whether it can count no more, which is so exactly at 2^64 - 1.
+    pub fn is_full(&self) -> bool
+        ensures { result ≡ nat_eq self.now (2 ^ 64 - 1) }
+    {
+        self.count == u64::MAX
+    }
+
+    /// Counts one evaluation more.
+    pub(crate) fn count_one(&mut self)
+        requires { self.old < 2 ^ 64 - 1 }
+        ensures { self.new ≡ self.old + 1 }
+    {
+        self.count += 1;
+    }
+}
