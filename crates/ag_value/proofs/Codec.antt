@@ -17,7 +17,7 @@ use Rattle.ag_value.proofs.Fields.{IsBytes, IsBytes-rest, bind_some, some_is, Ta
 use Rattle.ag_value.proofs.Layers.{spelling-Num, spelling-Text, spelling-List, spelling-Table, spelling-Fault, weight-Text, weight-List, weight-Table, depth-List, depth-Table, fault-Num, fault-Text, fault-List, fault-Table, item-Num, item-Text, item-List, item-Table}
 use Rattle.ag_value.proofs.Weights.{few_items, few_pairs}
 use Rattle.ag_value.specs.declared.fault.ValueFault.{ValueFault}
-use Rattle.ag_value.specs.declared.fault.ValueFault.TheVariants.{Malformed}
+use Rattle.ag_value.specs.declared.fault.ValueFault.TheVariants.{Malformed, NoMemory}
 use Rattle.ag_value.specs.Well.{IsWell, all_true, are_keys, is_fault, is_i64, is_item, is_item_pair, key_of}
 use Rattle.std.specs.Str.{is_utf8}
 use Rattle.std.specs.Prelude.{FitsSigned, pos, negsuc}
@@ -255,13 +255,13 @@ well_is_read value rest well =
     let l = well.light in
     spelled_is_read 64 value (record { formed = well.formed; light = omega arith; shallow = well.shallow }) rest
 
--- where nothing is read, no front is a spelling
-pub nothing_spelled : (input : List ℕ) (e : ValueFault) → e ≡ Malformed → Fails e (value_at 64 input) → (value : Value) (rest : List ℕ) → IsWell value → input ≡ spelling_of value ++ rest → ⊥
-nothing_spelled input e is fails value rest well spelled =
-    let none : value_at 64 input ≡ None = subst (λ (f : ValueFault). Fails f (value_at 64 input)) is fails in
+-- where a front is a spelling, only memory is a reason to refuse
+pub only_memory : (input : List ℕ) (e : ValueFault) → Fails e (value_at 64 input) → (value : Value) (rest : List ℕ) → IsWell value → input ≡ spelling_of value ++ rest → e ≡ NoMemory
+only_memory input Malformed fails value rest well spelled =
     let some : value_at 64 input ≡ Some (value, rest) = ap (value_at 64) spelled ∙ well_is_read value rest well in
-    let bad : None ≡ Some (value, rest) = sym none ∙ some in
-    cc
+    let bad : None ≡ Some (value, rest) = sym fails ∙ some in
+    absurd cc
+only_memory input NoMemory fails value rest well spelled = refl
 
 -- a front that is a spelling is the one that was read
 pub one_spelled : (input : List ℕ) (read : Value × List ℕ) → value_at 64 input ≡ Some read → (value : Value) (rest : List ℕ) → IsWell value → input ≡ spelling_of value ++ rest → read ≡ (value, rest)
@@ -272,6 +272,16 @@ pub front_is : (input text rest : List ℕ) → input ≡ text ++ rest → take 
 front_is input text rest e =
     let len : length text ≡ length input - length rest = omega (arith, ap length e, length-append text rest) in
     ap (take (length input - length rest)) e ∙ take_at text rest (length input - length rest) len
+
+-- a value that was read from its own spelling, and how many bytes were read
+pub read_whole : (input : List ℕ) (read : Value × List ℕ) → value_at 64 input ≡ Some read → (value : Value) (rest : List ℕ) → IsWell value → input ≡ spelling_of value ++ rest → ◌≡◌ {A = Value × ℕ} (read.0, length input - length read.1) (value, length (spelling_of value))
+read_whole input read e value rest well spelled =
+    let same = one_spelled input read e value rest well spelled in
+    let value_is : read.0 ≡ value = ap (λ (p : Value × List ℕ). p.0) same in
+    let rest_is : read.1 ≡ rest = ap (λ (p : Value × List ℕ). p.1) same in
+    let len : length input - length rest ≡ length (spelling_of value) = omega (arith, ap length spelled, length-append (spelling_of value) rest) in
+    let len_is : length input - length read.1 ≡ length (spelling_of value) = ap (λ (r : List ℕ). length input - length r) rest_is ∙ len in
+    cc
 
 -- no spelling of a well value begins another
 pub prefix_free : (value other : Value) (rest : List ℕ) → IsWell value → IsWell other → spelling_of other ≡ spelling_of value ++ rest → value ≡ other

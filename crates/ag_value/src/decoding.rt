@@ -1,4 +1,4 @@
-ghost use Rattle.std.specs.Prelude.{◌≡◌, ◌++◌, ◌≤◌, ℕ, List, [], true, false, length, take, IfOk, IsErrOf, IfSome, IfNone};
+ghost use Rattle.std.specs.Prelude.{◌≡◌, ◌++◌, ◌≤◌, ℕ, List, [], true, false, length, take, IfOk, IfSome, IfNone, MatchResult};
 ghost use Rattle.std.specs.Int.{w32, w64};
 ghost use Rattle.std.specs.Str.{is_utf8};
 ghost use Rattle.ag_value.specs.Reading.{Gives, all_at, code_at, fault_at, number_at, pair_at, text_at, value_at};
@@ -16,12 +16,13 @@ use std::str::from_utf8;
 
 /// The value whose spelling is a front of the input, and that front's length in bytes. Bytes may follow it.
 ///
-/// `Malformed` (V1) is answered exactly where no front of the input is the spelling of a well value.
+/// `Malformed` (V1) is answered exactly where no front of the input is the spelling of a well value: what is answered
+/// is well and spelled so, and what begins with a spelling is read as that value.
 pub fn decode(alloc: Global, input: &[u8]) -> Result<(Value, usize), ValueFault>
     ensures well { IfOk result (λ found. IsWell found.0) }
     ensures within { IfOk result (λ found. found.1 ≤ length input.now) }
     ensures spelled { IfOk result (λ found. take found.1 input.now ≡ spelling_of found.0) }
-    ensures malformed { IsErrOf result ValueFault.Malformed → (value : Value) (rest : List ℕ) → IsWell value → input.now ≡ spelling_of value ++ rest → ⊥ }
+    ensures read { (value : Value) (rest : List ℕ) → IsWell value → input.now ≡ spelling_of value ++ rest → MatchResult result (λ found. found ≡ (value, length (spelling_of value))) (λ e. e ≡ ValueFault.NoMemory) }
 {
     let (value, rest) = value_of(alloc, MAX_DEPTH as usize, input)?;
     if !is_well(&value) {
