@@ -1,5 +1,5 @@
 -- What the calls of a device tell of its content and of its failures. All of this is this project's.
-use Rattle.std.specs.Prelude.{◌≡◌, ◌≢◌, ℕ, ◌+◌, ◌^◌, ◌-◌, ◌<◌, ◌≤◌, ◌⊎◌, List, [], ◌∷◌, ◌++◌, take, Result, Ok, Err, refl}
+use Rattle.std.specs.Prelude.{◌≡◌, ◌≢◌, ℕ, ◌^◌, ◌-◌, ◌<◌, ◌≤◌, ◌⊎◌, List, [], ◌∷◌, ◌++◌, take, Result, Ok, Err, refl}
 use Rattle.std.proofs.Common.{inl, inr, lit<}
 use Rattle.treefile.specs.declared.device.DeviceFault.{DeviceFault}
 use Rattle.treefile.specs.declared.device.DeviceFault.TheVariants.{Failed, NoMemory}
@@ -40,10 +40,11 @@ abbrev pub Clears : List ℕ → List ℕ → Result (Unit {0}) DeviceFault → 
 Clears old new (Ok u) = new ≡ []
 Clears old new (Err fault) = (new ≡ []) ⊎ (new ≡ old)
 
--- one failure more has risen; so has any call at the most that is counted; no change below it has not
+-- one failure more has risen
 pub risen_by_one : HasRisen 3 4
 risen_by_one = inl (lit< tt)
 
+-- at the most that is counted the number has risen, though it is the same
 pub risen_at_the_most : HasRisen 18446744073709551615 18446744073709551615
 risen_at_the_most = inr refl
 

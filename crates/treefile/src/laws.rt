@@ -2,7 +2,7 @@ ghost use Rattle.std.specs.Prelude.{◌≡◌, ◌≤◌, ◌++◌, ◌∷◌, �
 ghost use Rattle.ag_value.specs.Well.{IsWell};
 ghost use Rattle.ag_value.specs.declared.value.Value.{Value};
 ghost use Rattle.treefile.specs.Ending.{IsBodyBefore, IsBytes, body_before, greatest_body, header_bytes, is_tree_file, last_body_of, least_body};
-ghost use Rattle.treefile.specs.TreeFile.{body_of, file, magic};
+ghost use Rattle.treefile.specs.TreeFile.{body_of, file, frame, magic};
 ghost use Rattle.treefile.specs.declared.body.Kind.{Kind};
 ghost use Rattle.treefile.specs.declared.reading.FrameFault.TheVariants.{Damaged};
 
@@ -20,8 +20,10 @@ pub fn frames_are_read()
     ensures damaged { (content : List ℕ) (at : ℕ) → IsBytes content → at ≤ length content → ((body : List ℕ) → IsBodyBefore content at body → ⊥) → body_before content at ≡ Err (Damaged at) }
 {}
 
-/// The last body of a file is the one whose frame was put last. Behind a header alone there is none.
+/// A file grows by the frame of a body. Its last body is the one whose frame was put last, and behind a header alone
+/// there is none.
 pub fn last_is_read()
+    ensures grows { (pass : ℕ) (bodies : List (List ℕ)) (body : List ℕ) → file pass (bodies ++ body ∷ []) ≡ file pass bodies ++ frame body }
     ensures last { (pass : ℕ) (bodies : List (List ℕ)) (body : List ℕ) → least_body ≤ length body → length body ≤ greatest_body → last_body_of (file pass (bodies ++ body ∷ [])) ≡ Ok body }
     ensures none { (pass : ℕ) → last_body_of (file pass []) ≡ Err (Damaged 6) }
 {}

@@ -4,6 +4,7 @@
 mod body;
 mod device;
 mod laws;
+mod layout;
 mod memory;
 mod reading;
 mod writing;

@@ -5,6 +5,7 @@ ghost use Rattle.treefile.specs.Faults.{frame_fault_of};
 ghost use Rattle.treefile.specs.declared.reading.FrameFault.TheVariants as frame_fault;
 
 use crate::device::{Device, DeviceFault};
+use crate::layout::{GREATEST_BODY, HEADER_BYTES, LEAST_BODY, LENGTH_BYTES, MAGIC};
 use std::alloc::{AllocError, Global};
 
 /// Why a tree file gave no body.
@@ -39,21 +40,6 @@ impl From<AllocError> for FrameFault {
     }
 }
 
-/// The first four bytes of a tree file.
-const MAGIC: [u8; 4] = [b'A', b'G', b'T', b'1'];
-
-/// How many bytes a header has: the first four, and the number of the pass in two.
-const HEADER_BYTES: u64 = 6;
-
-/// How many bytes the length behind a body has.
-const LENGTH_BYTES: u64 = 4;
-
-/// How many bytes a body has at least: a kind and a number.
-const LEAST_BODY: u64 = 3;
-
-/// How many bytes a body has at most: those, and 16 values of 1,048,576 bytes.
-const GREATEST_BODY: u64 = 16_777_219;
-
 /// Whether the device has a header, and its first four bytes are those of a tree file.
 #[tactic(auto, unfolding(crate::specs::Ending::is_tree_file))]
 fn begins_tree_file<D: Device>(device: &mut D, end: u64) -> Result<bool, DeviceFault>
@@ -73,7 +59,7 @@ fn begins_tree_file<D: Device>(device: &mut D, end: u64) -> Result<bool, DeviceF
 
 /// The number in the four bytes before an offset.
 fn number_before<D: Device>(device: &mut D, at: u64) -> Result<u32, DeviceFault>
-    requires room { 4 ≤ at }
+    requires room { length_bytes ≤ at }
     requires within { D.is_honest device.old ≡ true → at ≤ length (D.content device.old) }
     ensures found { D.is_honest device.old ≡ true → IfOk result (λ found. found ≡ number_before (D.content device.old) at) }
     ensures content { D.is_honest device.old ≡ true → D.content device.new ≡ D.content device.old }

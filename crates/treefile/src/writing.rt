@@ -9,6 +9,7 @@ ghost use Rattle.treefile.specs.declared.writing.WriteFault.TheVariants as write
 
 use crate::body::Kind;
 use crate::device::{Device, DeviceFault};
+use crate::layout::header_of;
 use ag_value::{NoMemory, Value, encode};
 use std::alloc::Global;
 use std::marker::Model;
@@ -61,7 +62,8 @@ impl Model for Writer {
 impl Writer {
     /// A writer of a file of a pass: takes away what the device has, and appends the header.
     ///
-    /// D1 Device where the device failed. Takes memory for the header where the device does.
+    /// D1 Device where the device failed: it has what it had, or a beginning of the header. Takes memory for the header
+    /// where the device does, and for want of it leaves the device empty.
     pub fn begin<D: Device>(alloc: Global, device: &mut D, pass: u16) -> Result<Writer, WriteFault>
         ensures header { OnOk result (D.is_honest device.old ≡ true → D.content device.new ≡ header pass) }
         ensures fresh { IfOk result (λ writer. writer ≡ record { written = 0; is_broken = false }) }
@@ -72,8 +74,7 @@ impl Writer {
         ensures counts { Counts (D.failures device.old) (D.failures device.new) (IsErrOf result WriteFault.Device) }
     {
         device.clear()?;
-        let [high, low] = pass.to_be_bytes();
-        device.append(&[b'A', b'G', b'T', b'1', high, low])?;
+        device.append(&header_of(pass))?;
         Ok(Writer {
             buffer: Vec::new(alloc),
             written: 0,
@@ -82,6 +83,8 @@ impl Writer {
     }
 
     /// Appends the frame of a record by one call of the device. Takes memory for the frame.
+    ///
+    /// Asks for at most 16 values, each of them well, and for fewer than u64::MAX frames put before.
     ///
     /// D1 Device where the device failed: it has a beginning of the frame more, and the writer is broken. A broken
     /// writer answers this for good, and doesn't touch the device. For want of memory nothing changes.
