@@ -1,7 +1,7 @@
 -- Cutting the token at the front of characters: the plain function, which agrees with the definition of tokens.
-use Rattle.std.specs.Prelude.{◌≡◌, ℕ, zero, suc, pos, Bool, true, false, cond, ◌==◌, List, [], ◌∷◌, ◌++◌, length, take, drop, Option, Some, None, Result, Ok, Err, encode_utf8, encode_utf8_all}
+use Rattle.std.specs.Prelude.{◌≡◌, ℕ, zero, suc, pos, ◌+◌, ◌-◌, ◌<◌, Bool, true, false, cond, ◌==◌, List, [], ◌∷◌, ◌++◌, length, take, drop, Option, Some, None, Result, Ok, Err, encode_utf8, encode_utf8_all}
 use Rattle.std.specs.Char.{is_ascii_digit}
-use Rattle.std.specs.List.{prefix_len}
+use Rattle.std.specs.List.{prefix_len, list_all}
 use Rattle.std.specs.Str.Parse.{digits_value}
 use Rattle.unicode_ident.specs.Ident.{is_xid_continue}
 use Rattle.ag_expr.specs.declared.fault.TokenFault.{TokenFault}
@@ -11,7 +11,9 @@ use Rattle.ag_expr.specs.declared.token.Sign.TheVariants as sign
 use Rattle.ag_expr.specs.declared.token.Token.{Token}
 use Rattle.ag_expr.specs.declared.token.Token.TheVariants as token
 use Rattle.ag_expr.specs.Reading.{and_then, where_some}
-use Rattle.ag_expr.specs.Tokens.{escaped, starts_name, is_within}
+use Rattle.ag_expr.specs.declared.lexer.Ending.{Ending}
+use Rattle.ag_expr.specs.declared.lexer.Ending.TheVariants as ending
+use Rattle.ag_expr.specs.Tokens.{escaped, starts_name, is_separator, is_within, width, AreTokens, NoTokenAt, TooLargeAt}
 
 -- the digits in front, where there are some, and what stands behind them
 abbrev pub digits_from : List ℕ → Option (List ℕ × List ℕ)
@@ -93,3 +95,26 @@ GivesToken view (Ok x) read = (read ≡ Some (view x)) × (is_within (view x).0 
 GivesToken view (Err fault.Nothing) read = read ≡ None
 GivesToken view (Err fault.TooLarge) read = IsTooLarge read
 GivesToken view (Err fault.NoMemory) read = Unit {0}
+
+-- What stands behind a token that was cut, and how wide the token is.
+pub record IsBehind (cs rest : List ℕ) : Type 0 where
+  pub shorter : length rest < length cs
+  pub widths : width (take (length cs - length rest) cs) + width rest ≡ width cs
+
+-- no separator stands in front
+abbrev pub StartsPlain : List ℕ → Type 0
+StartsPlain [] = Unit {0}
+StartsPlain (c ∷ cs) = is_separator c ≡ false
+
+-- These tokens were cut so far, up to the offset `at`, where `rest` stands.
+pub record IsSoFar (cs : List ℕ) (ts : List Token) (ats : List ℕ) (at : ℕ) (rest : List ℕ) : Type 0 where
+  pub tokens : AreTokens 0 cs ts ats at rest
+  pub within : list_all is_within ts ≡ true
+  pub plain : StartsPlain rest
+  pub widths : at + width rest ≡ width cs
+
+-- All of the characters were cut, each number within its limit; or they were cut up to an offset where no token stands, or one that is too large.
+abbrev pub EndsAt : List ℕ → List Token → List ℕ → Ending → Type 0
+EndsAt cs ts ats ending.Whole = AreTokens 0 cs ts ats (width cs) [] × (list_all is_within ts ≡ true)
+EndsAt cs ts ats (ending.NoToken at) = NoTokenAt cs at
+EndsAt cs ts ats (ending.TooLarge at) = TooLargeAt cs at

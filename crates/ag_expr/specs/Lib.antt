@@ -1,4 +1,5 @@
 pub mod Evaluation
+pub mod Expression
 pub mod Grammar
 pub mod Lexing
 pub mod Occurrences

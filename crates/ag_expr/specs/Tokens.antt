@@ -89,3 +89,25 @@ abbrev pub is_within : Token → Bool
 is_within (token.Number n) = int_le n (pos 9223372036854775807)
 is_within (token.Occurrence place attr) = nat_le place 65535
 is_within _ = true
+
+-- What stands before the offset `at` is whole tokens and separators, and there stands a character that is no separator and begins no token.
+pub record NoTokenAt (cs : List ℕ) (at : ℕ) : Type 0 where
+  pub tokens : List Token
+  pub offsets : List ℕ
+  pub first : ℕ
+  pub rest : List ℕ
+  pub before : AreTokens 0 cs tokens offsets at (first ∷ rest)
+  pub no_separator : is_separator first ≡ false
+  pub no_token : BeginsNoToken (first ∷ rest)
+
+-- What stands before the offset `at` is whole tokens and separators, and there stands a token whose number is above its limit.
+pub record TooLargeAt (cs : List ℕ) (at : ℕ) : Type 0 where
+  pub tokens : List Token
+  pub offsets : List ℕ
+  pub word : List ℕ
+  pub token : Token
+  pub rest : List ℕ
+  pub before : AreTokens 0 cs tokens offsets at (word ++ rest)
+  pub is : IsToken word token
+  pub longest : IsLongest word rest
+  pub large : is_within token ≡ false

@@ -1,5 +1,6 @@
-ghost use Rattle.std.specs.Prelude.{◌≡◌, length, true};
+ghost use Rattle.std.specs.Prelude.{◌≡◌, length, true, IfOk, IfErr};
 ghost use Rattle.ag_expr.specs.Evaluation.{is_below};
+ghost use Rattle.ag_expr.specs.Expression.{ReadsAsExpr, Refuses, IsAt, IsFaultOf, fault_at_end};
 
 use crate::fault::{ExprFault, ParseFault};
 use crate::lexer::{Ending, Lexed, lex};
@@ -42,7 +43,9 @@ pub fn occurrences(expr: &Expr) -> &[Occ]
 }
 
 /// The fault of a parser that needs the token behind the last one.
-fn ending_fault(ending: Ending, len: usize) -> ExprFault {
+fn ending_fault(ending: Ending, len: usize) -> ExprFault
+    ensures { result ≡ fault_at_end ending len }
+{
     match ending {
         Ending::Whole => ExprFault::Unexpected(len),
         Ending::NoToken(at) => ExprFault::NoToken(at),
@@ -59,7 +62,9 @@ fn offset_of(offsets: &[usize], left: usize) -> usize {
 }
 
 /// The fault of a text of so many bytes.
-fn fault_of(fault: ParseFault, lexed: &Lexed, len: usize) -> ExprFault {
+fn fault_of(fault: ParseFault, lexed: &Lexed, len: usize) -> ExprFault
+    ensures { IsFaultOf fault lexed.now.ending len result }
+{
     match fault {
         ParseFault::Unexpected(0) => ending_fault(lexed.ending, len),
         ParseFault::Unexpected(left) => {
@@ -71,7 +76,11 @@ fn fault_of(fault: ParseFault, lexed: &Lexed, len: usize) -> ExprFault {
 }
 
 /// Reads a text as an expression. Takes memory.
-pub fn read_expr(alloc: Global, text: &str) -> Result<Expr, ExprFault> {
+pub fn read_expr(alloc: Global, text: &str) -> Result<Expr, ExprFault>
+    ensures reads { IfOk result (λ e. ReadsAsExpr text.now e) }
+    ensures refuses { Refuses text.now result }
+    ensures places { IfErr result (λ e. IsAt text.now e) }
+{
     let characters: Vec<char> = text.chars().collect(alloc)?;
     let lexed = lex(alloc, characters.as_slice())?;
     let tokens = lexed.tokens.as_slice();

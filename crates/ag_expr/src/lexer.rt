@@ -1,4 +1,4 @@
-ghost use Rattle.std.specs.Prelude.{◌≡◌, ◌+◌, ◌<◌, ◌≤◌, ◌^◌, ◌∷◌, [], pos, Some, true, length, option_map, IfOk, IfSome, MatchOption, encode_utf8_all, string_bytes};
+ghost use Rattle.std.specs.Prelude.{◌≡◌, ◌+◌, ◌<◌, ◌≤◌, ◌^◌, ◌∷◌, [], drop, pos, Some, true, length, option_map, IfOk, IfSome, MatchOption, encode_utf8_all, string_bytes};
 ghost use Rattle.ag_expr.specs.Reading.{and_then};
 ghost use Rattle.std.specs.Char.{is_ascii_digit};
 ghost use Rattle.std.specs.List.{list_all, prefix_len};
@@ -57,6 +57,7 @@ fn starts_name(c: char) -> bool
 fn separators_len(characters: &[char]) -> usize
     ensures value { result ≡ prefix_len tokens_spec.is_separator characters.now }
     ensures within { result ≤ length characters.now }
+    ensures widths { result + tokens_spec.width (drop result characters.now) ≡ tokens_spec.width characters.now }
 {
     let mut len = 0;
     while len < characters.len() && is_separator(characters[len]) {
@@ -343,7 +344,7 @@ fn plain_token(alloc: Global, characters: &[char]) -> Result<(Token, &[char]), T
 
 /// The token in front, and what stands behind it.
 #[tactic(auto, unfolding(crate::specs::Lexing::token_from))]
-fn token_in_front(alloc: Global, characters: &[char]) -> Result<(Token, &[char]), TokenFault>
+fn any_token(alloc: Global, characters: &[char]) -> Result<(Token, &[char]), TokenFault>
     ensures { GivesToken (λ x. (x.0, x.1.now)) result (lexing.token_from characters.now) }
 {
     match characters {
@@ -354,20 +355,33 @@ fn token_in_front(alloc: Global, characters: &[char]) -> Result<(Token, &[char])
     }
 }
 
+/// The token in front, and what stands behind it, which is a part of the characters.
+fn token_in_front(alloc: Global, characters: &[char]) -> Result<(Token, &[char]), TokenFault>
+    ensures gives { GivesToken (λ x. (x.0, x.1.now)) result (lexing.token_from characters.now) }
+    ensures behind { IfOk result (λ x. lexing.IsBehind characters.now x.1.now) }
+{
+    any_token(alloc, characters)
+}
+
 /// The tokens of characters.
-pub fn lex(alloc: Global, characters: &[char]) -> Result<Lexed, NoMemory> {
+#[tactic(auto, using(crate::proofs::Lexed::nothing_here, crate::proofs::Lexed::too_large_here))]
+pub fn lex(alloc: Global, characters: &[char]) -> Result<Lexed, NoMemory>
+    requires { tokens_spec.width characters.now < 2 ^ 64 }
+    ensures { IfOk result (λ lexed. lexing.EndsAt characters.now lexed.tokens.items lexed.offsets.items lexed.ending) }
+{
     let mut tokens = Vec::new(alloc);
     let mut offsets = Vec::new(alloc);
     let mut at = separators_len(characters);
-    let mut rest = &characters[at..];
+    let mut rest = characters.split_at(at).1;
     while !rest.is_empty() {
         match token_in_front(alloc, rest) {
             Ok((token, after)) => {
                 tokens.push(token)?;
                 offsets.push(at)?;
+                let word = rest.split_at(rest.len() - after.len()).0;
                 let space = separators_len(after);
-                at += width(&rest[..rest.len() - after.len()]) + space;
-                rest = &after[space..];
+                at += width(word) + space;
+                rest = after.split_at(space).1;
             }
             Err(TokenFault::Nothing) => {
                 let ending = Ending::NoToken(at);

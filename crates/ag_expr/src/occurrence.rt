@@ -1,4 +1,4 @@
-ghost use Rattle.std.specs.Prelude.{◌≡◌, ◌<◌, length, IfSome};
+ghost use Rattle.std.specs.Prelude.{◌≡◌, ◌<◌, [], length, IfOk, IfSome, OnOk};
 ghost use Rattle.ag_expr.specs.Occurrences as spec;
 
 use crate::token::Token;
@@ -49,7 +49,9 @@ fn list(
     place: u16,
     attr: &Text,
     at: usize,
-) -> Result<(), NoMemory> {
+) -> Result<(), NoMemory>
+    ensures { OnOk result (listed.new.items ≡ spec.listed_with listed.old.items (record { place = place; attr = attr.now; at = at })) }
+{
     if position_of(listed.as_slice(), place, attr.as_str()).is_some() {
         return Ok(());
     }
@@ -58,17 +60,33 @@ fn list(
     Ok(())
 }
 
+/// Lists the occurrence that a token is, if it is one.
+fn list_token(
+    alloc: Global,
+    listed: &mut SmallVec<Occ, 4>,
+    token: &Token,
+    at: usize,
+) -> Result<(), NoMemory>
+    ensures { OnOk result (listed.new.items ≡ spec.listed_with_all listed.old.items (spec.occurrence_in token.now at)) }
+{
+    match token {
+        Token::Occurrence(place, attr) => list(alloc, listed, *place, attr, at),
+        _ => Ok(()),
+    }
+}
+
 /// The different occurrences among tokens, in the order of their first appearance.
 pub fn list_occurrences(
     alloc: Global,
     tokens: &[Token],
     offsets: &[usize],
-) -> Result<SmallVec<Occ, 4>, NoMemory> {
+) -> Result<SmallVec<Occ, 4>, NoMemory>
+    requires { length tokens.now ≡ length offsets.now }
+    ensures { IfOk result (λ listed. listed.items ≡ spec.listed_with_all [] (spec.all_occurrences tokens.now offsets.now)) }
+{
     let mut listed = SmallVec::new(alloc);
-    for (token, at) in tokens.iter().zip(offsets.iter()) {
-        if let Token::Occurrence(place, attr) = token {
-            list(alloc, &mut listed, *place, attr, *at)?;
-        }
+    for i in 0..tokens.len() {
+        list_token(alloc, &mut listed, &tokens[i], offsets[i])?;
     }
     Ok(listed)
 }

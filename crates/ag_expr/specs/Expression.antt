@@ -1,0 +1,58 @@
+-- Which texts read as which expressions: this project's language.
+use Rattle.std.specs.Prelude.{◌≡◌, ℕ, true, List, [], length, chars, Result, Ok, Err}
+use Rattle.std.specs.List.{list_all}
+use Rattle.ag_expr.specs.declared.fault.ExprFault.{ExprFault}
+use Rattle.ag_expr.specs.declared.fault.ExprFault.TheVariants as fault
+use Rattle.ag_expr.specs.declared.fault.ParseFault.{ParseFault}
+use Rattle.ag_expr.specs.declared.fault.ParseFault.TheVariants as parse_fault
+use Rattle.ag_expr.specs.declared.lexer.Ending.{Ending}
+use Rattle.ag_expr.specs.declared.lexer.Ending.TheVariants as ending
+use Rattle.ag_expr.specs.declared.token.Token.{Token}
+use Rattle.ag_expr.specs.declared.node.Node.{Node}
+use Rattle.ag_expr.specs.declared.occurrence.Occ.{Occ}
+use Rattle.ag_expr.specs.Tokens.{AreTokens, is_within, NoTokenAt, TooLargeAt}
+use Rattle.ag_expr.specs.Occurrences.{all_occurrences, different}
+use Rattle.ag_expr.specs.Grammar.{IsExpr}
+
+-- how many levels an expression has at most
+abbrev pub max_levels : ℕ
+max_levels = 64
+
+-- The text reads as the expression, which is a tree and a list of occurrences: the text is separators and longest tokens, each number within
+-- its limit; the list has the different occurrences among them; and they spell the tree.
+pub record ReadsAsExpr (text : List ℕ) (expr : Node × List Occ) : Type 0 where
+  pub tokens : List Token
+  pub offsets : List ℕ
+  pub are_tokens : AreTokens 0 (chars text) tokens offsets (length text) []
+  pub within : list_all is_within tokens ≡ true
+  pub listed : expr.1 ≡ different (all_occurrences tokens offsets)
+  pub spells : IsExpr expr.1 max_levels tokens expr.0
+
+-- the text reads as no expression
+abbrev pub ReadsAsNone : List ℕ → Type 0
+ReadsAsNone text = (expr : Node × List Occ) → ReadsAsExpr text expr → ⊥
+
+-- what a refusal says of the text: that it reads as no expression, unless memory ran out
+abbrev pub Refuses : {X : Type 0} → List ℕ → Result X ExprFault → Type 0
+Refuses text (Ok x) = Unit {0}
+Refuses text (Err fault.NoMemory) = Unit {0}
+Refuses text (Err e) = ReadsAsNone text
+
+-- what a fault says of its offset
+abbrev pub IsAt : List ℕ → ExprFault → Type 0
+IsAt text (fault.NoToken at) = NoTokenAt (chars text) at
+IsAt text (fault.NumberTooLarge at) = TooLargeAt (chars text) at
+IsAt text _ = Unit {0}
+
+-- the fault of a text whose tokens end so, where a token is needed behind the last
+abbrev pub fault_at_end : Ending → ℕ → ExprFault
+fault_at_end ending.Whole len = fault.Unexpected len
+fault_at_end (ending.NoToken at) len = fault.NoToken at
+fault_at_end (ending.TooLarge at) len = fault.NumberTooLarge at
+
+-- the fault of a text is that of its tokens: memory, the end, or a place among them
+abbrev pub IsFaultOf : ParseFault → Ending → ℕ → ExprFault → Type 0
+IsFaultOf parse_fault.NoMemory ends len e = e ≡ fault.NoMemory
+IsFaultOf p ends len (fault.Unexpected at) = Unit {0}
+IsFaultOf p ends len (fault.TooDeep at) = Unit {0}
+IsFaultOf p ends len e = e ≡ fault_at_end ends len
