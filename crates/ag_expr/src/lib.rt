@@ -2,6 +2,7 @@
 #![tactic(auto)]
 
 mod arithmetic;
+mod display;
 mod environment;
 mod evaluation;
 mod expression;

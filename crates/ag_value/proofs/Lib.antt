@@ -1,1 +1,9 @@
+pub mod Codec
+pub mod Extending
+pub mod Fields
+pub mod Keys
 pub mod Layers
+pub mod Lengths
+pub mod Turns
+pub mod Utf8
+pub mod Weights

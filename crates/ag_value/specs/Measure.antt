@@ -1,5 +1,5 @@
 -- How heavy and how deep a value is, and the limits of both. All of this is this project's.
-use Rattle.std.specs.Prelude.{ℕ, ◌+◌, max, List, [], ◌∷◌, length, sum, sum_by, map}
+use Rattle.std.specs.Prelude.{ℕ, ◌+◌, max, List, [], ◌∷◌, length, sum, map}
 use Rattle.ag_value.specs.declared.value.Value.{Value, fold-Value}
 use Rattle.ag_value.specs.declared.value.Value.TheOpen.{Value-F}
 
@@ -8,7 +8,7 @@ abbrev pub weight_step : Value-F ℕ → ℕ
 weight_step (Value-F.Num n) = 9
 weight_step (Value-F.Text text) = 5 + length text
 weight_step (Value-F.List weights) = 5 + sum weights
-weight_step (Value-F.Table pairs) = 5 + sum_by (λ p. 4 + length p.0 + p.1) pairs
+weight_step (Value-F.Table pairs) = 5 + sum (map (λ p. 4 + length p.0 + p.1) pairs)
 weight_step (Value-F.Fault code) = 2
 
 -- The weight of a value: 9 for a number, 5 and its bytes for a text, 5 and its items' weights for a list,
@@ -16,6 +16,10 @@ weight_step (Value-F.Fault code) = 2
 -- It is the length of the value's spelling.
 abbrev pub weight_of : Value → ℕ
 weight_of = fold-Value ℕ weight_step
+
+-- the weight of a pair of a table
+abbrev pub weight_of_pair : List ℕ × Value → ℕ
+weight_of_pair p = 4 + length p.0 + weight_of p.1
 
 -- the greatest of some numbers, 0 where there is none
 abbrev pub greatest : List ℕ → ℕ

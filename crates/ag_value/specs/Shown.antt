@@ -54,3 +54,7 @@ shown_step (Value-F.Fault c) = codes "error " ++ name_of c
 -- `{"k": v, "l": w}`; an error as `error` and its name.
 abbrev pub shown_of : Value → List ℕ
 shown_of = fold-Value (List ℕ) shown_step
+
+-- what is shown of a pair of a table
+abbrev pub shown_of_pair : List ℕ × Value → List ℕ
+shown_of_pair p = quoted p.0 ++ codes ": " ++ shown_of p.1

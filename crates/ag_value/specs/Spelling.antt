@@ -1,5 +1,5 @@
 -- The one spelling of each value, in bytes. All numbers are big-endian. This project's.
-use Rattle.std.specs.Prelude.{ℕ, List, [], ◌∷◌, ◌++◌, length, map}
+use Rattle.std.specs.Prelude.{◌≡◌, ℕ, List, [], ◌∷◌, ◌++◌, length, map}
 use Rattle.std.specs.Int.{w32, w64, to_be_bytes, cast_unsigned}
 use Rattle.ag_value.specs.declared.value.Value.{Value, fold-Value}
 use Rattle.ag_value.specs.declared.value.Value.TheOpen.{Value-F}
@@ -40,3 +40,12 @@ spelling_step (Value-F.Fault c) = 4 ∷ number_of c ∷ []
 -- the value's spelling. An error: byte 4 and its number.
 abbrev pub spelling_of : Value → List ℕ
 spelling_of = fold-Value (List ℕ) spelling_step
+
+-- the spelling of a pair of a table
+abbrev pub spelling_of_pair : List ℕ × Value → List ℕ
+spelling_of_pair p = counted p.0 ++ spelling_of p.1
+
+-- new is old with something behind it
+pub record Extends (old new : List ℕ) : Type 0 where
+  pub more : List ℕ
+  pub is : new ≡ old ++ more

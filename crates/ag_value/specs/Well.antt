@@ -27,18 +27,29 @@ abbrev pub all_true : List Bool → Bool
 all_true [] = true
 all_true (b ∷ bs) = b && all_true bs
 
+-- the keys of a table: UTF-8, and each before the next
+abbrev pub are_keys : List (List ℕ) → Bool
+are_keys keys = is_rising keys && all_true (map is_utf8 keys)
+
 -- whether a value may stand in a list or table, from whether the values in it may
 abbrev pub item_step : Value-F Bool → Bool
 item_step (Value-F.Num n) = is_i64 n
 item_step (Value-F.Text text) = is_utf8 text
 item_step (Value-F.List items) = all_true items
-item_step (Value-F.Table pairs) = is_rising (map (λ p. p.0) pairs) && all_true (map (λ p. is_utf8 p.0 && p.1) pairs)
+item_step (Value-F.Table pairs) = are_keys (map (λ p. p.0) pairs) && all_true (map (λ p. p.1) pairs)
 item_step (Value-F.Fault code) = false
 
 -- A value may stand in a list or table: at every level of it numbers are of i64, texts and keys are UTF-8,
 -- keys rise strictly by their bytes, and nothing is an error.
 abbrev pub is_item : Value → Bool
 is_item = fold-Value Bool item_step
+
+-- the keys of the pairs of a table, and whether the value of a pair may stand in it
+abbrev pub key_of : List ℕ × Value → List ℕ
+key_of p = p.0
+
+abbrev pub is_item_pair : List ℕ × Value → Bool
+is_item_pair p = is_item p.1
 
 abbrev pub fault_step : Value-F Bool → Bool
 fault_step (Value-F.Num n) = false

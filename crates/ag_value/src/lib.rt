@@ -3,16 +3,28 @@
 
 mod boxed;
 mod copying;
+mod decoding;
+mod encoding;
 mod fault;
 mod items;
+pub mod laws;
 mod measuring;
+mod showing;
 mod text;
 mod value;
+mod wellness;
 
 pub use boxed::Boxed;
 pub use copying::{copy, same};
+pub use decoding::decode;
+pub use encoding::encode;
 pub use fault::{NoMemory, ValueFault};
 pub use items::Items;
 pub use measuring::{depth, weight};
+pub use showing::show;
 pub use text::Text;
 pub use value::{ErrorCode, Value};
+pub use wellness::{MAX_DEPTH, MAX_WEIGHT, is_well};
+
+#[cfg(test)]
+mod tests;

@@ -1,5 +1,5 @@
-ghost use Rattle.std.specs.Prelude.{◌≡◌, ◌+◌, ◌-◌, ◌^◌, map, min, sum, sum_by, length};
-ghost use Rattle.ag_value.specs.Measure.{depth_of, greatest, weight_of};
+ghost use Rattle.std.specs.Prelude.{◌≡◌, ◌+◌, ◌-◌, ◌^◌, map, min, sum, length};
+ghost use Rattle.ag_value.specs.Measure.{depth_of, greatest, weight_of, weight_of_pair};
 
 use crate::text::Text;
 use crate::value::Value;
@@ -33,7 +33,7 @@ fn weight_of_items(items: &[Value]) -> u64
 
 #[cycle(weighing)]
 fn weight_of_pairs(pairs: &[(Text, Value)]) -> u64
-    ensures { result ≡ min (sum_by (λ p. 4 + length p.0 + weight_of p.1) pairs.now) (2 ^ 64 - 1) }
+    ensures { result ≡ min (sum (map weight_of_pair pairs.now)) (2 ^ 64 - 1) }
 {
     let mut total = 0u64;
     for pair in pairs {

@@ -1,0 +1,17 @@
+use crate::fault::ExprFault;
+use std::error::Error;
+use std::fmt;
+
+impl fmt::Display for ExprFault {
+    fn fmt<W: fmt::Write>(&self, f: &mut fmt::Formatter<W>) -> fmt::Result {
+        match self {
+            ExprFault::NoToken(at) => write!(f, "X1 at {at}"),
+            ExprFault::Unexpected(at) => write!(f, "X2 at {at}"),
+            ExprFault::NumberTooLarge(at) => write!(f, "X3 at {at}"),
+            ExprFault::TooDeep(at) => write!(f, "X4 at {at}"),
+            ExprFault::NoMemory => write!(f, "NoMemory"),
+        }
+    }
+}
+
+impl Error for ExprFault {}

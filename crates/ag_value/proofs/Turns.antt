@@ -1,0 +1,22 @@
+-- A recursion on a count, beside a loop that counts up.
+use Rattle.std.proofs.Common.{◌≡◌, ℕ, suc, ◌+◌, ◌-◌, ◌<◌, List, [], ◌∷◌, ◌++◌, Option, Some, ◌∙◌, refl, sym, arith}
+use Rattle.ag_value.specs.declared.fault.ValueFault.{ValueFault}
+use Rattle.ag_value.specs.declared.fault.ValueFault.TheVariants.{Malformed, NoMemory}
+use Rattle.ag_value.specs.Reading.{Fails, Read, all_at}
+
+-- one item more is read, and one fewer is to come
+pub goes_on : {A : Type 0} (item : List ℕ → Read A) (n i : ℕ) (front : List A) (bytes : List ℕ) (first : A) (rest : List ℕ) (whole : Read (List A)) → i < n → item bytes ≡ Some (first, rest)
+    → all_at item (n - i) front bytes ≡ whole → all_at item (n - (i + 1)) (front ++ first ∷ []) rest ≡ whole
+unfolding all_at
+goes_on item n i front bytes first rest whole lt read so_far =
+    let left : n - i ≡ suc (n - (i + 1)) = omega arith in
+    sym (rw (left, read) refl) ∙ so_far
+
+-- where the next item is not read, nothing is
+pub stops : {A : Type 0} (item : List ℕ → Read A) (n i : ℕ) (front : List A) (bytes : List ℕ) (whole : Read (List A)) (e : ValueFault) → i < n → Fails e (item bytes)
+    → all_at item (n - i) front bytes ≡ whole → Fails e whole
+unfolding all_at
+stops item n i front bytes whole Malformed lt none so_far =
+    let left : n - i ≡ suc (n - (i + 1)) = omega arith in
+    sym so_far ∙ rw (left, none) refl
+stops item n i front bytes whole NoMemory lt none so_far = tt

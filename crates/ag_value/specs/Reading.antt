@@ -1,0 +1,77 @@
+-- Reading a value from the front of some bytes, as a plain function on lists. It reads whatever has the form of a
+-- spelling; whether the value is well is asked afterwards. Laws tie it to the spelling.
+use Rattle.std.specs.Prelude.{◌≡◌, ℕ, zero, suc, List, [], ◌∷◌, ◌++◌, length, take, drop, Option, Some, None, Result, Ok, Err, nat_lt, if◌then◌else◌}
+use Rattle.std.specs.Int.{Width, w32, w64, byte_len, from_be_bytes, cast_signed}
+use Rattle.std.specs.Str.{is_utf8}
+use Rattle.ag_value.specs.declared.fault.ValueFault.{ValueFault}
+use Rattle.ag_value.specs.declared.fault.ValueFault.TheVariants as fault
+use Rattle.ag_value.specs.declared.value.Value.{Value}
+use Rattle.ag_value.specs.declared.value.Value.TheVariants as v
+use Rattle.ag_value.specs.declared.value.ErrorCode.{ErrorCode}
+use Rattle.ag_value.specs.declared.value.ErrorCode.TheVariants as code
+
+-- what is read, and the bytes behind it
+abbrev pub Read : Type 0 → Type 0
+Read A = Option (A × List ℕ)
+
+infixl 10 ◌>>=◌
+abbrev pub ◌>>=◌ : {A B : Type 0} → Option A → (A → Option B) → Option B
+None >>= f = None
+(Some x) >>= f = f x
+
+-- a refusal for another cause than memory comes where reading gives nothing
+abbrev pub Fails : {Y : Type 0} → ValueFault → Option Y → Type 0
+Fails fault.Malformed read = read ≡ None
+Fails fault.NoMemory read = Unit {0}
+
+-- what a function answers, as view shows it, is what reading gives, unless memory ran out
+abbrev pub Gives : {X Y : Type 0} → (X → Y) → Result X ValueFault → Option Y → Type 0
+Gives view (Ok x) read = read ≡ Some (view x)
+Gives view (Err e) read = Fails e read
+
+-- a number of so many bytes
+abbrev pub number_at : Width → List ℕ → Read ℕ
+number_at w bytes = if nat_lt (length bytes) (byte_len w) then None else Some (from_be_bytes w (take (byte_len w) bytes), drop (byte_len w) bytes)
+
+-- a length, and that many bytes that are UTF-8
+unfoldable pub text_at : List ℕ → Read (List ℕ)
+text_at bytes = number_at w32 bytes >>= λ n.
+    if nat_lt (length n.1) n.0 then None else (if is_utf8 (take n.0 n.1) then Some (take n.0 n.1, drop n.0 n.1) else None)
+
+-- an error by its number
+abbrev pub code_at : ℕ → Option ErrorCode
+code_at zero = None
+code_at (suc zero) = Some code.Overflow
+code_at (suc (suc zero)) = Some code.Divide
+code_at (suc (suc (suc zero))) = Some code.Kind
+code_at (suc (suc (suc (suc zero)))) = Some code.Index
+code_at (suc (suc (suc (suc (suc zero))))) = Some code.Key
+code_at (suc (suc (suc (suc (suc (suc zero)))))) = Some code.Number
+code_at (suc (suc (suc (suc (suc (suc (suc zero))))))) = Some code.Big
+code_at (suc (suc (suc (suc (suc (suc (suc (suc zero)))))))) = Some code.Deep
+code_at (suc (suc (suc (suc (suc (suc (suc (suc (suc b))))))))) = None
+
+unfoldable pub fault_at : List ℕ → Read Value
+fault_at [] = None
+fault_at (b ∷ rest) = code_at b >>= λ c. Some (v.Fault c, rest)
+
+-- so many of what item reads, after those in front
+unfoldable pub all_at : {A : Type 0} → (List ℕ → Read A) → ℕ → List A → List ℕ → Read (List A)
+all_at item zero front bytes = Some (front, bytes)
+all_at item (suc n) front bytes = item bytes >>= λ first. all_at item n (front ++ first.0 ∷ []) first.1
+
+-- a key, and what item reads
+unfoldable pub pair_at : (List ℕ → Read Value) → List ℕ → Read (List ℕ × Value)
+pair_at item bytes = text_at bytes >>= λ key. item key.1 >>= λ value. Some ((key.0, value.0), value.1)
+
+-- a value of at most so many levels
+unfoldable pub value_at : ℕ → List ℕ → Read Value
+value_at levels [] = None
+value_at levels (zero ∷ rest) = number_at w64 rest >>= λ n. Some (v.Num (cast_signed w64 n.0), n.1)
+value_at levels (suc zero ∷ rest) = text_at rest >>= λ text. Some (v.Text text.0, text.1)
+value_at zero (suc (suc zero) ∷ rest) = None
+value_at (suc levels) (suc (suc zero) ∷ rest) = number_at w32 rest >>= λ n. all_at (value_at levels) n.0 [] n.1 >>= λ items. Some (v.List items.0, items.1)
+value_at zero (suc (suc (suc zero)) ∷ rest) = None
+value_at (suc levels) (suc (suc (suc zero)) ∷ rest) = number_at w32 rest >>= λ n. all_at (pair_at (value_at levels)) n.0 [] n.1 >>= λ pairs. Some (v.Table pairs.0, pairs.1)
+value_at levels (suc (suc (suc (suc zero))) ∷ rest) = fault_at rest
+value_at levels (suc (suc (suc (suc (suc b)))) ∷ rest) = None

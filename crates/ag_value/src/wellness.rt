@@ -1,0 +1,85 @@
+ghost use Rattle.std.specs.Prelude.{◌≡◌, ◌↔◌, ◌&&◌, ◌∷◌, IsTrue, map};
+ghost use Rattle.ag_value.specs.Well.{IsWell, all_true, are_keys, is_item, is_item_pair, key_of};
+
+use crate::measuring::{depth, weight};
+use crate::text::Text;
+use crate::value::Value;
+
+/// The greatest depth of a well value.
+pub const MAX_DEPTH: u32 = 64;
+
+/// The greatest weight of a well value: the greatest length of a spelling, in bytes.
+pub const MAX_WEIGHT: u64 = 1_048_576;
+
+/// Whether a value is well: at most [`MAX_DEPTH`] deep and [`MAX_WEIGHT`] heavy, with keys that rise strictly by their
+/// bytes in every table, and with no error inside a list or table. Takes no memory.
+pub fn is_well(value: &Value) -> bool
+    ensures { IsTrue result ↔ IsWell value.now }
+{
+    let is_formed = matches!(value, Value::Fault(_)) || is_item(value);
+    is_formed && depth(value) <= MAX_DEPTH && weight(value) <= MAX_WEIGHT
+}
+
+/// Whether a value may stand in a list or table.
+#[cycle(items)]
+#[tactic(auto, using(crate::proofs::Layers::items, crate::proofs::Utf8::is_text))]
+fn is_item(value: &Value) -> bool
+    ensures { result ≡ is_item value.now }
+{
+    match value {
+        Value::Num(n) => {
+            let _in_range = *n;
+            true
+        }
+        Value::Text(text) => {
+            let _utf8 = text.as_str();
+            true
+        }
+        Value::List(items) => are_items(items.as_slice()),
+        Value::Table(pairs) => is_keyed(pairs.as_slice()) && are_item_pairs(pairs.as_slice()),
+        Value::Fault(_) => false,
+    }
+}
+
+#[cycle(items)]
+fn are_items(items: &[Value]) -> bool
+    ensures { result ≡ all_true (map is_item items.now) }
+{
+    for item in items {
+        if !is_item(item) {
+            return false;
+        }
+    }
+    true
+}
+
+#[cycle(items)]
+fn are_item_pairs(pairs: &[(Text, Value)]) -> bool
+    ensures { result ≡ all_true (map is_item_pair pairs.now) }
+{
+    for pair in pairs {
+        if !is_item(&pair.1) {
+            return false;
+        }
+    }
+    true
+}
+
+/// Whether each key comes before the next by its bytes.
+#[tactic(auto, using(crate::proofs::Utf8::is_text, crate::proofs::Keys::next_key, crate::proofs::Keys::last_key))]
+fn is_keyed(pairs: &[(Text, Value)]) -> bool
+    ensures { result ≡ are_keys (map key_of pairs.now) }
+{
+    if pairs.is_empty() {
+        return true;
+    }
+    let mut before = pairs[0].0.as_str();
+    for pair in &pairs[1..] {
+        let key = pair.0.as_str();
+        if before >= key {
+            return false;
+        }
+        before = key;
+    }
+    true
+}

@@ -1,0 +1,35 @@
+-- The faults of the program: which faults of the crates below they stand for, and the status of each. This project's.
+use Rattle.std.specs.Prelude.{ℕ}
+use Rattle.ag_expr.specs.declared.fault.ExprFault.{ExprFault}
+use Rattle.ag_expr.specs.declared.fault.ExprFault.TheVariants as expr
+use Rattle.treefile.specs.declared.reading.FrameFault.{FrameFault}
+use Rattle.treefile.specs.declared.reading.FrameFault.TheVariants as frame
+use Rattle.treefile.specs.declared.writing.WriteFault.{WriteFault}
+use Rattle.treefile.specs.declared.writing.WriteFault.TheVariants as writing
+use Rattle.aggen.specs.declared.fault.Fault.{Fault}
+use Rattle.aggen.specs.declared.fault.Fault.TheVariants as fault
+
+-- 2 for the command line, 3 for X1 to X4, 5 for B1 and B2, 7 for want of memory, 8 for D1 and O2
+abbrev pub status_of : Fault → ℕ
+status_of fault.Usage = 2
+status_of (fault.Expr e) = 3
+status_of fault.NotATreeFile = 5
+status_of (fault.Damaged at) = 5
+status_of fault.Device = 8
+status_of fault.Write = 8
+status_of fault.NoMemory = 7
+
+-- want of memory is a fault of its own, and never inside another
+abbrev pub expr_fault_of : ExprFault → Fault
+expr_fault_of expr.NoMemory = fault.NoMemory
+expr_fault_of e = fault.Expr e
+
+abbrev pub write_fault_of : WriteFault → Fault
+write_fault_of writing.Device = fault.Device
+write_fault_of writing.NoMemory = fault.NoMemory
+
+abbrev pub frame_fault_of : FrameFault → Fault
+frame_fault_of frame.NotATreeFile = fault.NotATreeFile
+frame_fault_of (frame.Damaged at) = fault.Damaged at
+frame_fault_of frame.Device = fault.Device
+frame_fault_of frame.NoMemory = fault.NoMemory

@@ -1,0 +1,99 @@
+ghost use Rattle.std.specs.Prelude.{◌≡◌};
+ghost use Rattle.aggen.specs.Status.{expr_fault_of, frame_fault_of, status_of, write_fault_of};
+ghost use Rattle.aggen.specs.declared.fault.Fault.TheVariants as program_fault;
+
+use ag_expr::ExprFault;
+use ag_value::NoMemory;
+use std::alloc::AllocError;
+use thiserror::Error;
+use treefile::{FrameFault, WriteFault};
+
+/// Why the program, or a call of it, did not do what it was asked for. Each has a number, which is printed first.
+#[derive(Clone, Copy, Debug, PartialEq, Eq, Error)]
+pub enum Fault {
+    /// The words of the command line are not as they should be.
+    #[error("usage")]
+    Usage,
+    /// X1 to X4: the text is no expression. Want of memory is never in it.
+    #[error("{0}")]
+    Expr(ExprFault),
+    /// B1: a device holds no tree file.
+    #[error("B1 the device holds no tree file")]
+    NotATreeFile,
+    /// B2: no frame ends at this offset in bytes, where one should, or its body is not as it should be.
+    #[error("B2 at {0}: the tree file is damaged here")]
+    Damaged(u64),
+    /// D1: a call of a device failed.
+    #[error("D1 the device failed")]
+    Device,
+    /// O2: a write failed, or took no byte. A beginning of the text may have gone out.
+    #[error("O2 the text could not be written whole")]
+    Write,
+    /// A growth was refused.
+    #[error("NoMemory a request for memory was refused")]
+    NoMemory,
+}
+
+/// The status that the program ends with after a fault: 2 usage; 3 X; 5 B1 and B2; 7 want of memory; 8 D1 and O2.
+pub fn status(fault: &Fault) -> u8
+    ensures { result ≡ status_of fault.now }
+{
+    match fault {
+        Fault::Usage => 2,
+        Fault::Expr(_) => 3,
+        Fault::NotATreeFile | Fault::Damaged(_) => 5,
+        Fault::NoMemory => 7,
+        Fault::Device | Fault::Write => 8,
+    }
+}
+
+impl From<ExprFault> for Fault {
+    ghost from_gives = { λ fault e. e ≡ expr_fault_of fault };
+
+    fn from(fault: ExprFault) -> Fault {
+        match fault {
+            ExprFault::NoMemory => Fault::NoMemory,
+            _ => Fault::Expr(fault),
+        }
+    }
+}
+
+impl From<WriteFault> for Fault {
+    ghost from_gives = { λ fault e. e ≡ write_fault_of fault };
+
+    fn from(fault: WriteFault) -> Fault {
+        match fault {
+            WriteFault::Device => Fault::Device,
+            WriteFault::NoMemory => Fault::NoMemory,
+        }
+    }
+}
+
+impl From<FrameFault> for Fault {
+    ghost from_gives = { λ fault e. e ≡ frame_fault_of fault };
+
+    fn from(fault: FrameFault) -> Fault {
+        match fault {
+            FrameFault::NotATreeFile => Fault::NotATreeFile,
+            FrameFault::Damaged(at) => Fault::Damaged(at),
+            FrameFault::Device => Fault::Device,
+            FrameFault::NoMemory => Fault::NoMemory,
+        }
+    }
+}
+
+impl From<NoMemory> for Fault {
+    ghost from_gives = { λ _ e. e ≡ program_fault.NoMemory };
+
+    fn from(_error: NoMemory) -> Fault {
+        Fault::NoMemory
+    }
+}
+
+impl From<AllocError> for Fault {
+    ghost from_gives = { λ _ e. e ≡ program_fault.NoMemory };
+
+    fn from(_error: AllocError) -> Fault {
+        Fault::NoMemory
+    }
+}

@@ -1,0 +1,76 @@
+//! `aggen`: translators from attribute grammars.
+//!
+//! The program's one command so far is `value EXPR`: it evaluates an expression, takes its value through a tree file
+//! in memory, and prints what it reads back.
+#![tactic(auto)]
+
+mod command;
+mod fault;
+mod message;
+mod output;
+mod value;
+
+use command::{Request, request_of};
+use fault::{Fault, status};
+use message::Message;
+use std::alloc::{AllocError, Global};
+use std::io;
+use std::process::ExitCode;
+use std::rt::Env;
+use treefile::MemDevice;
+use value::show_value;
+
+#[cfg(test)]
+mod tests;
+
+fn main(rt: HostRuntime) -> ExitCode {
+    match run(&rt) {
+        Ok(()) => ExitCode::SUCCESS,
+        Err(fault) => ExitCode::from(status(&fault)),
+    }
+}
+
+/// Does what the words of the command line ask for. A fault has been told on standard error.
+fn run<R: Env + Print + Eprint + AllocGlobal>(rt: &R) -> Result<(), Fault> {
+    let alloc = rt.alloc();
+    let words = match words_of(rt, alloc) {
+        Ok(words) => words,
+        Err(fault) => return tell(rt, fault, ""),
+    };
+    match request_of(rt, alloc, words.as_slice()) {
+        Ok(Request::Nothing) => Ok(()),
+        Ok(Request::Value(text)) => print_value(rt, alloc, text),
+        // the fault of the command line was told already
+        Err(Fault::Usage) => Err(Fault::Usage),
+        Err(fault) => tell(rt, fault, ""),
+    }
+}
+
+/// The words of the command line, the program's name among them.
+fn words_of<R: Env + AllocGlobal>(rt: &R, alloc: Global) -> Result<Vec<String>, Fault> {
+    let Ok(words) = std::env::args(rt) else {
+        return Err(Fault::Usage);
+    };
+    let collected: Result<Vec<String>, AllocError> = words.collect(alloc);
+    Ok(collected?)
+}
+
+/// Prints the value of an expression, by way of a tree file in memory.
+fn print_value<R: Print + Eprint>(rt: &R, alloc: Global, text: &str) -> Result<(), Fault> {
+    let mut device = MemDevice::new(alloc);
+    let mut out = io::writer(rt);
+    match show_value(alloc, text, &mut device, &mut out) {
+        Ok(()) => Ok(()),
+        Err(fault) => tell(rt, fault, text),
+    }
+}
+
+/// Tells a fault of a text in one line on standard error.
+fn tell<R: Eprint>(rt: &R, fault: Fault, text: &str) -> Result<(), Fault> {
+    // where the line can't be written, the status still tells
+    let _ = rt.eprintln(Message {
+        fault: &fault,
+        text,
+    });
+    Err(fault)
+}

@@ -1,0 +1,5 @@
+use Rattle.treefile.proofs.Sizes.{body_size}
+use Rattle.treefile.proofs.laws.records_fit.Goals as goal
+
+pub returns-clause-greatest : goal.returns-clause-greatest
+returns-clause-greatest c = body_size

@@ -1,0 +1,53 @@
+-- What the calls of a device tell of its content and of its failures. All of this is this project's.
+use Rattle.std.specs.Prelude.{◌≡◌, ◌≢◌, ℕ, ◌^◌, ◌-◌, ◌<◌, ◌≤◌, ◌⊎◌, List, [], ◌∷◌, ◌++◌, take, Result, Ok, Err, refl}
+use Rattle.std.proofs.Common.{inl, inr, lit<}
+use Rattle.treefile.specs.declared.device.DeviceFault.{DeviceFault}
+use Rattle.treefile.specs.declared.device.DeviceFault.TheVariants.{Failed, NoMemory}
+
+-- the most failures that are counted: the greatest number of 64 bits
+abbrev pub most_failures : ℕ
+most_failures = 2 ^ 64 - 1
+
+-- A call failed since: the number of failures is greater. At the most that is counted it can't grow, and each
+-- call since may have failed.
+abbrev pub HasRisen : ℕ → ℕ → Type 0
+HasRisen before now = (before < now) ⊎ (now ≡ most_failures)
+
+-- The number of failures never falls, passes the most that is counted only where it had passed it, and has risen
+-- where the call's answer is that the device failed.
+pub record Counts (before now : ℕ) (failed : Type 0) : Type 0 where
+  pub kept : before ≤ now
+  pub bounded : before ≤ most_failures → now ≤ most_failures
+  pub cause : failed → HasRisen before now
+
+-- want of memory is not the answer
+abbrev pub TakesNoMemory : {A : Type 0} → Result A DeviceFault → Type 0
+TakesNoMemory result = result ≢ Err NoMemory
+
+-- The new content is the old one with a beginning of the bytes after it, maybe none of them, maybe all.
+abbrev pub AppendsFront : List ℕ → List ℕ → List ℕ → Type 0
+AppendsFront bytes old new = (n : ℕ) × (new ≡ old ++ take n bytes)
+
+-- The content after bytes were put at its end: they stand there; a beginning of them does, where the device failed;
+-- none does for want of memory.
+abbrev pub Appends : List ℕ → List ℕ → List ℕ → Result (Unit {0}) DeviceFault → Type 0
+Appends bytes old new (Ok u) = new ≡ old ++ bytes
+Appends bytes old new (Err Failed) = AppendsFront bytes old new
+Appends bytes old new (Err NoMemory) = new ≡ old
+
+-- The content after all of it was to be taken away: nothing, or all of it where the device failed.
+abbrev pub Clears : List ℕ → List ℕ → Result (Unit {0}) DeviceFault → Type 0
+Clears old new (Ok u) = new ≡ []
+Clears old new (Err fault) = (new ≡ []) ⊎ (new ≡ old)
+
+-- one failure more has risen
+pub risen_by_one : HasRisen 3 4
+risen_by_one = inl (lit< tt)
+
+-- at the most that is counted the number has risen, though it is the same
+pub risen_at_the_most : HasRisen 18446744073709551615 18446744073709551615
+risen_at_the_most = inr refl
+
+-- of two bytes the first came through
+pub front_of_two : AppendsFront (8 ∷ 9 ∷ []) (7 ∷ []) (7 ∷ 8 ∷ [])
+front_of_two = (1, refl)

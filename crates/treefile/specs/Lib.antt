@@ -1,0 +1,5 @@
+pub mod Device
+pub mod Ending
+pub mod Faults
+pub mod TreeFile
+pub mod Writing

@@ -1,0 +1,57 @@
+-- The bytes of a tree file, version 1: this project's layout. All numbers are big-endian.
+use Rattle.std.specs.Prelude.{◌≡◌, ℕ, List, [], ◌∷◌, ◌++◌, length, pos, refl}
+use Rattle.std.proofs.Common.{ap, sym, ◌∙◌}
+use Rattle.std.specs.List.{flat_map}
+use Rattle.std.specs.Int.{w16, w32, to_be_bytes}
+use Rattle.ag_value.specs.declared.value.Value.{Value}
+use Rattle.ag_value.specs.declared.value.Value.TheVariants as value
+use Rattle.ag_value.specs.declared.value.Value.TheVariants.{rolls-Num}
+use Rattle.ag_value.specs.declared.value.Value.TheOpen.{Value-F}
+use Rattle.ag_value.specs.declared.value.Value.TheFolds.{fold-roll-Value}
+use Rattle.ag_value.specs.Spelling.{spelling_of, spelling_step}
+use Rattle.treefile.specs.declared.body.Kind.{Kind}
+use Rattle.treefile.specs.declared.body.Kind.TheVariants.{Node, Token}
+
+-- the first four bytes, AGT1
+abbrev pub magic : List ℕ
+magic = 65 ∷ 71 ∷ 84 ∷ 49 ∷ []
+
+-- the first six bytes: those four, and the number of the pass that wrote the file in two
+abbrev pub header : ℕ → List ℕ
+header pass = magic ++ to_be_bytes w16 pass
+
+-- A frame is a body and then the body's length in four bytes, so that frames are read from the last to the first.
+abbrev pub frame : List ℕ → List ℕ
+frame body = body ++ to_be_bytes w32 (length body)
+
+-- a file is its header and the frames of its bodies
+abbrev pub file : ℕ → List (List ℕ) → List ℕ
+file pass bodies = header pass ++ flat_map frame bodies
+
+-- the first byte of a body
+abbrev pub kind_byte : Kind → ℕ
+kind_byte Node = 0
+kind_byte Token = 1
+
+-- A body is a kind, a number in two bytes (of the production of a node, of the class of a token), and then spellings.
+abbrev pub body_from : Kind → ℕ → List ℕ → List ℕ
+body_from kind number spellings = kind_byte kind ∷ (to_be_bytes w16 number ++ spellings)
+
+-- the body of a record: its spellings are those of its values, one behind the other
+abbrev pub body_of : Kind → ℕ → List Value → List ℕ
+body_of kind number values = body_from kind number (flat_map spelling_of values)
+
+-- The file of pass 0 with one record, a token of class 0 with the value 14: 22 bytes,
+-- 41475431 0000, 01 0000 00 000000000000000e, 0000000c.
+abbrev pub file_of_fourteen : List ℕ
+file_of_fourteen = 65 ∷ 71 ∷ 84 ∷ 49 ∷ 0 ∷ 0 ∷ 1 ∷ 0 ∷ 0 ∷ 0 ∷ 0 ∷ 0 ∷ 0 ∷ 0 ∷ 0 ∷ 0 ∷ 0 ∷ 14 ∷ 0 ∷ 0 ∷ 0 ∷ 12 ∷ []
+
+fourteen : spelling_of (value.Num (pos 14)) ≡ 0 ∷ 0 ∷ 0 ∷ 0 ∷ 0 ∷ 0 ∷ 0 ∷ 0 ∷ 14 ∷ []
+fourteen = ap spelling_of (sym (rolls-Num (pos 14))) ∙ fold-roll-Value (List ℕ) spelling_step (Value-F.Num (pos 14))
+
+pub bytes_of_fourteen : file 0 (body_of Token 0 (value.Num (pos 14) ∷ []) ∷ []) ≡ file_of_fourteen
+bytes_of_fourteen = ap (λ (spelling : List ℕ). file 0 (body_from Token 0 (spelling ++ []) ∷ [])) fourteen
+
+-- a node of production 258 without values in a file of pass 1
+pub bytes_of_node : file 1 (body_of Node 258 [] ∷ []) ≡ 65 ∷ 71 ∷ 84 ∷ 49 ∷ 0 ∷ 1 ∷ 0 ∷ 1 ∷ 2 ∷ 0 ∷ 0 ∷ 0 ∷ 3 ∷ []
+bytes_of_node = refl

@@ -1,0 +1,47 @@
+ghost use Rattle.std.specs.Prelude.{◌≡◌, ◌<◌, ◌^◌, ◌⊎◌, ℕ, List, length, IfNone, IfSome, IsSomeAnd, slice_index};
+ghost use Rattle.treefile.specs.TreeFile.{body_from};
+ghost use Rattle.treefile.specs.declared.body.Kind.{Kind};
+
+/// What a record of a tree file stands for.
+#[derive(Clone, Copy, Debug, PartialEq, Eq)]
+pub enum Kind {
+    /// A node of a tree; its number is that of its production.
+    Node,
+    /// A leaf of a tree; its number is that of its class.
+    Token,
+}
+
+impl Kind {
+    ghost use Rattle.treefile.specs.TreeFile.{kind_byte};
+
+    /// The first byte of a body of this kind.
+    pub(crate) fn byte(self) -> u8
+        ensures { result ≡ kind_byte self }
+    {
+        match self {
+            Kind::Node => 0,
+            Kind::Token => 1,
+        }
+    }
+}
+
+/// The kind, the number and the spellings of the values of a body, or `None` where it has fewer than three bytes or
+/// its first byte is neither 0 (a node) nor 1 (a token). Whether spellings follow isn't looked at. Takes no memory.
+pub fn split_body(body: &[u8]) -> Option<(Kind, u16, &[u8])>
+    // What is given stands there,
+    ensures fields { IfSome result (λ fields. body.now ≡ body_from fields.0 fields.1 fields.2.now) }
+    ensures none { IfNone result ((length body.now < 3) ⊎ (1 < slice_index body.now 0)) }
+
+    // and what stands there is given.
+    ensures only { (kind : Kind) (number : ℕ) (spellings : List ℕ) → number < 2 ^ 16 → body.now ≡ body_from kind number spellings → IsSomeAnd result (λ fields. (fields.0 ≡ kind) × (fields.1 ≡ number) × (fields.2.now ≡ spellings)) }
+{
+    let [kind, high, low, spellings @ ..] = body else {
+        return None;
+    };
+    let number = u16::from_be_bytes([*high, *low]);
+    match kind {
+        0 => Some((Kind::Node, number, spellings)),
+        1 => Some((Kind::Token, number, spellings)),
+        _ => None,
+    }
+}

@@ -1,0 +1,26 @@
+ghost use Rattle.std.specs.Prelude.{◌≡◌};
+ghost use Rattle.treefile.specs.TreeFile.{header};
+
+/// The first four bytes of a tree file of this version.
+pub(crate) const MAGIC: [u8; 4] = [b'A', b'G', b'T', b'1'];
+
+/// How many bytes a header has: those four, and the number of the pass in two.
+pub(crate) const HEADER_BYTES: u64 = 6;
+
+/// How many bytes the length behind a body has.
+pub(crate) const LENGTH_BYTES: u64 = 4;
+
+/// How many bytes a body has at least: a kind and a number.
+pub(crate) const LEAST_BODY: u64 = 3;
+
+/// How many bytes a body has at most: those, and 16 values of 1,048,576 bytes each.
+pub(crate) const GREATEST_BODY: u64 = 16_777_219;
+
+/// The header of the file of a pass.
+pub(crate) fn header_of(pass: u16) -> [u8; 6]
+    ensures { result ≡ header pass }
+{
+    let [first, second, third, fourth] = MAGIC;
+    let [high, low] = pass.to_be_bytes();
+    [first, second, third, fourth, high, low]
+}

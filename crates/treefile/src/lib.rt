@@ -1,0 +1,20 @@
+//! Tree files: devices that keep bytes, the frames of a file of records, writing them and reading the last one.
+#![tactic(auto)]
+
+mod body;
+mod device;
+mod laws;
+mod layout;
+mod memory;
+mod reading;
+mod writing;
+
+pub use body::{Kind, split_body};
+pub use device::{Device, DeviceFault};
+pub use laws::{frames_are_read, headers_are_told, last_is_read, records_fit};
+pub use memory::MemDevice;
+pub use reading::{FrameFault, last_body};
+pub use writing::{WriteFault, Writer};
+
+#[cfg(test)]
+mod tests;

@@ -1,0 +1,183 @@
+ghost use Rattle.std.specs.Prelude.{◌≡◌, ◌++◌, ◌+◌, ◌-◌, ◌<◌, ◌≤◌, ◌^◌, ◌⊎◌, [], length, true, false, All, IfOk, IsErrOf, OnOk};
+ghost use Rattle.std.specs.List.{flat_map};
+ghost use Rattle.ag_value.specs.Spelling.{spelling_of};
+ghost use Rattle.ag_value.specs.Well.{IsWell};
+ghost use Rattle.treefile.specs.Device.{AppendsFront, Counts};
+ghost use Rattle.treefile.specs.Faults.{write_fault_of};
+ghost use Rattle.treefile.specs.TreeFile.{body_of, frame, header};
+ghost use Rattle.treefile.specs.declared.writing.WriteFault.TheVariants as write_fault;
+
+use crate::body::Kind;
+use crate::device::{Device, DeviceFault};
+use crate::layout::header_of;
+use ag_value::{NoMemory, Value, encode};
+use std::alloc::Global;
+use std::marker::Model;
+
+/// Why nothing was written.
+#[derive(Clone, Copy, Debug, PartialEq, Eq)]
+pub enum WriteFault {
+    /// D1: a call of the device failed, now or at an earlier call of a broken writer.
+    Device,
+    /// A growth was refused.
+    NoMemory,
+}
+
+impl From<DeviceFault> for WriteFault {
+    ghost from_gives = { λ fault e. e ≡ write_fault_of fault };
+
+    fn from(fault: DeviceFault) -> WriteFault {
+        match fault {
+            DeviceFault::Failed => WriteFault::Device,
+            DeviceFault::NoMemory => WriteFault::NoMemory,
+        }
+    }
+}
+
+impl From<NoMemory> for WriteFault {
+    ghost from_gives = { λ _ e. e ≡ write_fault.NoMemory };
+
+    fn from(_error: NoMemory) -> WriteFault {
+        WriteFault::NoMemory
+    }
+}
+
+/// Writes the records of a tree file, each as one frame at the end of a device. It holds no device: each call takes
+/// the one that it was begun on. It is seen as how many frames were put, and whether it is broken.
+#[derive(Drop)]
+pub struct Writer {
+    buffer: Vec<u8>,
+    written: u64,
+    is_broken: bool,
+}
+
+impl Model for Writer {
+    ghost use Rattle.treefile.specs.Writing.{Progress};
+
+    ghost Value = { Progress };
+
+    ghost view = { λ w. record { written = w.written; is_broken = w.is_broken } };
+}
+
+impl Writer {
+    /// A writer of a file of a pass: takes away what the device has, and appends the header.
+    ///
+    /// D1 Device where the device failed: it has what it had, or a beginning of the header. Takes memory for the header
+    /// where the device does, and for want of it leaves the device empty.
+    pub fn begin<D: Device>(alloc: Global, device: &mut D, pass: u16) -> Result<Writer, WriteFault>
+        ensures header { OnOk result (D.is_honest device.old ≡ true → D.content device.new ≡ header pass) }
+        ensures fresh { IfOk result (λ writer. writer ≡ record { written = 0; is_broken = false }) }
+        // D1: what the device had, or a beginning of the header
+        ensures device { IsErrOf result WriteFault.Device → D.is_honest device.old ≡ true → (D.content device.new ≡ D.content device.old) ⊎ AppendsFront (header pass) [] (D.content device.new) }
+        ensures memory { IsErrOf result WriteFault.NoMemory → D.is_honest device.old ≡ true → D.content device.new ≡ [] }
+        ensures honest { D.is_honest device.new ≡ D.is_honest device.old }
+        ensures counts { Counts (D.failures device.old) (D.failures device.new) (IsErrOf result WriteFault.Device) }
+    {
+        device.clear()?;
+        device.append(&header_of(pass))?;
+        Ok(Writer {
+            buffer: Vec::new(alloc),
+            written: 0,
+            is_broken: false,
+        })
+    }
+
+    /// Appends the frame of a record by one call of the device. Takes memory for the frame.
+    ///
+    /// Asks for at most 16 values, each of them well, and for fewer than u64::MAX frames put before.
+    ///
+    /// D1 Device where the device failed: it has a beginning of the frame more, and the writer is broken. A broken
+    /// writer answers this for good, and doesn't touch the device. For want of memory nothing changes.
+    pub fn put<D: Device>(
+        &mut self,
+        device: &mut D,
+        kind: Kind,
+        number: u16,
+        values: &[Value],
+    ) -> Result<(), WriteFault>
+        requires few { length values.now ≤ 16 }
+        requires well { All IsWell values.now }
+        requires room { self.old.written < 2 ^ 64 - 1 }
+        ensures frame { OnOk result (D.is_honest device.old ≡ true → D.content device.new ≡ D.content device.old ++ frame (body_of kind number values.now)) }
+        ensures counted { OnOk result (self.new ≡ record self.old { written = self.old.written + 1 }) }
+
+        // D1: a beginning of the frame, and a broken writer
+        ensures device { IsErrOf result WriteFault.Device → D.is_honest device.old ≡ true → AppendsFront (frame (body_of kind number values.now)) (D.content device.old) (D.content device.new) }
+        ensures breaks { IsErrOf result WriteFault.Device → self.new ≡ record self.old { is_broken = true } }
+        ensures broken { self.old.is_broken ≡ true → IsErrOf result WriteFault.Device × (device.new ≡ device.old) }
+
+        // no memory: nothing changes
+        ensures memory { IsErrOf result WriteFault.NoMemory → D.is_honest device.old ≡ true → D.content device.new ≡ D.content device.old }
+        ensures unchanged { IsErrOf result WriteFault.NoMemory → self.new ≡ self.old }
+
+        ensures honest { D.is_honest device.new ≡ D.is_honest device.old }
+        ensures counts { Counts (D.failures device.old) (D.failures device.new) (IsErrOf result WriteFault.Device × (self.old.is_broken ≡ false)) }
+    {
+        if self.is_broken {
+            return Err(WriteFault::Device);
+        }
+        fill_frame(&mut self.buffer, kind, number, values)?;
+        match device.append(self.buffer.as_slice()) {
+            Ok(()) => {
+                self.written += 1;
+                Ok(())
+            }
+            Err(DeviceFault::Failed) => {
+                self.is_broken = true;
+                Err(WriteFault::Device)
+            }
+            Err(DeviceFault::NoMemory) => Err(WriteFault::NoMemory),
+        }
+    }
+
+    /// How many frames were put.
+    pub fn written(&self) -> u64
+        ensures { result ≡ self.now.written }
+    {
+        self.written
+    }
+}
+
+/// Makes the buffer the frame of a record.
+fn fill_frame(
+    buffer: &mut Vec<u8>,
+    kind: Kind,
+    number: u16,
+    values: &[Value],
+) -> Result<(), NoMemory>
+    requires few { length values.now ≤ 16 }
+    requires well { All IsWell values.now }
+    ensures { OnOk result (buffer.new.items ≡ frame (body_of kind number values.now)) }
+{
+    fill_body(buffer, kind, number, values)?;
+    let length = buffer.len() as u32;
+    buffer.extend_from_slice(&length.to_be_bytes())?;
+    Ok(())
+}
+
+/// Makes the buffer the body of a record.
+fn fill_body(
+    buffer: &mut Vec<u8>,
+    kind: Kind,
+    number: u16,
+    values: &[Value],
+) -> Result<(), NoMemory>
+    requires { All IsWell values.now }
+    ensures { OnOk result (buffer.new.items ≡ body_of kind number values.now) }
+{
+    buffer.clear();
+    buffer.push(kind.byte())?;
+    buffer.extend_from_slice(&number.to_be_bytes())?;
+    append_values(buffer, values)
+}
+
+/// Appends the spellings of values.
+fn append_values(buffer: &mut Vec<u8>, values: &[Value]) -> Result<(), NoMemory>
+    requires { All IsWell values.now }
+    ensures { OnOk result (buffer.new.items ≡ buffer.old.items ++ flat_map spelling_of values.now) }
+{
+    for value in values {
+        encode(value, buffer)?;
+    }
+    Ok(())
+}
