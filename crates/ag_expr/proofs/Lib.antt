@@ -3,8 +3,9 @@ pub mod Below
 pub mod Fronts
 pub mod Lexed
 pub mod Listing
+pub mod OneReading
 pub mod TextTurns
-pub mod TokenLaws
 pub mod Texts
+pub mod TokenLaws
 pub mod Turns
 pub mod Unique

@@ -8,3 +8,9 @@ pub record AppendsBeginning (old new : Option (List ℕ)) (bytes : List ℕ) : T
   pub rest : List ℕ
   pub cut : bytes ≡ front ++ rest
   pub put : Appends old new front
+
+-- all of the bytes but the rest were written
+pub record HasWritten (old new : Option (List ℕ)) (bytes rest : List ℕ) : Type 0 where
+  pub front : List ℕ
+  pub cut : bytes ≡ front ++ rest
+  pub put : Appends old new front

@@ -6,6 +6,7 @@
 
 mod command;
 mod fault;
+mod file;
 mod message;
 mod output;
 mod value;

@@ -1,35 +1,75 @@
+ghost use Rattle.std.specs.Prelude.{◌≡◌, ◌≢◌, [], true, IfErr, IfOk, IsErrAnd, IsErrOf, OnOk};
+ghost use Rattle.ag_expr.specs.Expression.{ReadsAsExpr};
+ghost use Rattle.ag_value.specs.Well.{IsWell};
+ghost use Rattle.treefile.specs.Device.{Counts};
+ghost use Rattle.aggen.specs.Showing.{HasNone, HasValue, IsDamage, IsExprFault, IsTextFault, Shows, ShowsBeginning};
+
 use crate::fault::Fault;
+use crate::file::{line_of, read_file, write_file};
 use crate::output::write_whole;
 use ag_expr::{Env, Expr, ExprFault, Meter, eval, occurrences, read_expr};
-use ag_value::{Value, ValueFault, decode, show};
+use ag_value::Value;
 use std::alloc::Global;
 use std::io::Write;
-use treefile::{Device, Kind, Writer, last_body, split_body};
+use treefile::Device;
 
 /// Evaluates an expression without occurrences, puts its value as the one record of a tree file of pass 0 on the
 /// device, a token of number 0, reads the record back, and writes the text of the value that it read, and LF.
+///
+/// The text is refused before the device is touched: X1 to X4 where it is no expression, X2 at its first `$` where it
+/// has occurrences. D1 Device where the device failed; B1 and B2 where it does not give back what was written. Only
+/// then is anything written: O2 Write where a write fails or takes no byte.
 pub fn show_value<D: Device, W: Write>(
     alloc: Global,
     text: &str,
     device: &mut D,
     out: &mut W,
-) -> Result<(), Fault> {
+) -> Result<(), Fault>
+    ensures shows { OnOk result (D.is_honest device.old ≡ true → Shows text.now (W.contents out.old) (W.contents out.new) (D.content device.new)) }
+
+    // X exactly where no expression without occurrences is related to the text, and the device is untouched then
+    ensures refused { IfErr result (λ e. IsExprFault e → HasNone text.now) }
+    ensures only { HasNone text.now → IsErrAnd result IsTextFault }
+    ensures untouched { IfErr result (λ e. IsExprFault e → device.new ≡ device.old) }
+
+    // an honest device gives back what was written; D1 only where it failed
+    ensures undamaged { D.is_honest device.old ≡ true → IfErr result (λ e. ¬ (IsDamage e)) }
+    ensures honest { D.is_honest device.new ≡ D.is_honest device.old }
+    ensures counts { Counts (D.failures device.old) (D.failures device.new) (IsErrOf result Fault.Device) }
+
+    // nothing is written before all is known, and no refusal but O2 comes after something was
+    ensures kept { IfErr result (λ e. e ≢ Fault.Write → out.new ≡ out.old) }
+    ensures write { IsErrOf result Fault.Write → D.is_honest device.old ≡ true → ShowsBeginning text.now (W.contents out.old) (W.contents out.new) }
+    ensures usage { ¬ (IsErrOf result Fault.Usage) }
+{
     let value = value_of(alloc, text)?;
     write_file(alloc, device, value)?;
     let value = read_file(alloc, device)?;
     let line = line_of(alloc, &value)?;
-    write_whole(out, line.as_bytes())
+    write_whole(out, line.as_bytes())?;
+    Ok(())
 }
 
 /// The value of an expression without occurrences. X1 to X4 where the text is none; X2 at its first `$` where it has
 /// occurrences.
-fn value_of(alloc: Global, text: &str) -> Result<Value, Fault> {
+fn value_of(alloc: Global, text: &str) -> Result<Value, Fault>
+    ensures value { IfOk result (λ value. HasValue text.now value) }
+    ensures well { IfOk result (λ value. IsWell value) }
+    ensures kind { IfErr result IsTextFault }
+    ensures refused { IfErr result (λ e. IsExprFault e → HasNone text.now) }
+{
     let expr = read_closed(alloc, text)?;
     let mut meter = Meter::new();
     Ok(eval(alloc, &expr, &NoValues, &mut meter)?)
 }
 
-fn read_closed(alloc: Global, text: &str) -> Result<Expr, Fault> {
+/// The expression without occurrences that the text is.
+fn read_closed(alloc: Global, text: &str) -> Result<Expr, Fault>
+    ensures reads { IfOk result (λ expr. ReadsAsExpr text.now expr) }
+    ensures closed { IfOk result (λ expr. expr.1 ≡ []) }
+    ensures kind { IfErr result IsTextFault }
+    ensures refused { IfErr result (λ e. IsExprFault e → HasNone text.now) }
+{
     let expr = read_expr(alloc, text)?;
     if let Some(first) = occurrences(&expr).first() {
         return Err(Fault::Expr(ExprFault::Unexpected(first.at)));
@@ -41,43 +81,13 @@ fn read_closed(alloc: Global, text: &str) -> Result<Expr, Fault> {
 struct NoValues;
 
 impl Env for NoValues {
+    ghost use Rattle.aggen.specs.Showing.{no_values};
+
     ghost count = { λ _. 0 };
 
-    ghost lent = { λ _ _. Num (pos 0) };
+    ghost lent = { λ _. no_values };
 
     fn lend(&self, _k: usize) -> &Value {
         unreachable!()
     }
-}
-
-/// Makes the device a tree file of pass 0 whose one record is a token of number 0 with this value.
-fn write_file<D: Device>(alloc: Global, device: &mut D, value: Value) -> Result<(), Fault> {
-    let mut writer = Writer::begin(alloc, device, 0)?;
-    writer.put(device, Kind::Token, 0, &[value])?;
-    Ok(())
-}
-
-/// How many bytes of a tree file with one frame are not of its body.
-const BYTES_BESIDE_BODY: u64 = 10;
-
-/// The value of the last record of a tree file. B2 at the file's end where that record is no token of number 0 with
-/// exactly one value.
-fn read_file<D: Device>(alloc: Global, device: &mut D) -> Result<Value, Fault> {
-    let body = last_body(alloc, device)?;
-    let end = BYTES_BESIDE_BODY.saturating_add(body.len() as u64);
-    let Some((Kind::Token, 0, spelling)) = split_body(body.as_slice()) else {
-        return Err(Fault::Damaged(end));
-    };
-    match decode(alloc, spelling) {
-        Ok((value, len)) if len == spelling.len() => Ok(value),
-        Err(ValueFault::NoMemory) => Err(Fault::NoMemory),
-        _ => Err(Fault::Damaged(end)),
-    }
-}
-
-/// The text of a value, and LF.
-fn line_of(alloc: Global, value: &Value) -> Result<String, Fault> {
-    let mut line = show(alloc, value)?;
-    line.push_str("\n")?;
-    Ok(line)
 }

@@ -1,0 +1,37 @@
+-- The record in the file of a value is the one that was put.
+use Rattle.std.proofs.Common.{◌≡◌, ℕ, zero, suc, ◌≤◌, List, [], ◌∷◌, length, Result, Ok, Err, sym, ap, subst, ◌∙◌, arith, refl}
+use Rattle.std.specs.Prelude.{All, MatchResult}
+use Rattle.ag_value.specs.declared.value.Value.{Value}
+use Rattle.ag_value.specs.Well.{IsWell}
+use Rattle.treefile.specs.declared.body.Kind.TheVariants.{Token}
+use Rattle.treefile.specs.declared.reading.FrameFault.{FrameFault}
+use Rattle.treefile.specs.declared.reading.FrameFault.TheVariants.{NotATreeFile, Damaged, Device, NoMemory}
+use Rattle.treefile.specs.Ending.{Told, least_body, last_body_of}
+use Rattle.treefile.specs.TreeFile.{body_of}
+use Rattle.treefile.proofs.Files.{last_of_file}
+use Rattle.treefile.proofs.Sizes.{body_size}
+use Rattle.aggen.specs.declared.fault.Fault.{Fault}
+use Rattle.aggen.specs.declared.fault.Fault.TheVariants as fault
+use Rattle.aggen.specs.Showing.{IsWant, file_of}
+use Rattle.aggen.specs.Status.{frame_fault_of}
+
+one_well : (value : Value) → IsWell value → All IsWell (value ∷ [])
+one_well value well zero d lt = well
+one_well value well (suc k) d lt = absurd (omega arith)
+
+pub last_of : (value : Value) → IsWell value → last_body_of (file_of value) ≡ Ok (body_of Token 0 (value ∷ []))
+last_of value well = last_of_file 0 [] (body_of Token 0 (value ∷ [])) (omega arith) (body_size Token 0 (value ∷ []) (omega arith) (one_well value well))
+
+pub body_told : (content body found : List ℕ) → last_body_of content ≡ Ok body → last_body_of content ≡ Ok found → found ≡ body
+body_told content body found e f = let same : Ok body ≡ Ok found = sym e ∙ f in cc
+
+pub want_told : (content body : List ℕ) (e : FrameFault) → last_body_of content ≡ Ok body → Told (λ (x : List ℕ). x) (Err e) (last_body_of content) → IsWant (frame_fault_of e)
+want_told content body NotATreeFile is told = let bad : Err NotATreeFile ≡ Ok body = sym told ∙ is in absurd cc
+want_told content body (Damaged at) is told = let bad : Err (Damaged at) ≡ Ok body = sym told ∙ is in absurd cc
+want_told content body Device is told = tt
+want_told content body NoMemory is told = tt
+
+-- a value that was read, or want of memory
+pub value_told : (value : Value) (r : Result Value Fault) → MatchResult r (λ found. found ≡ value) (λ e. e ≡ fault.NoMemory) → MatchResult r (λ found. found ≡ value) IsWant
+value_told value (Ok found) is = is
+value_told value (Err e) is = subst IsWant (sym is) tt

@@ -1,0 +1,81 @@
+-- What it means to show a value: the expression of a text, the file that its value goes through, and the line that is
+-- written. All of this is this project's.
+use Rattle.std.specs.Prelude.{◌≡◌, ℕ, pos, List, [], ◌∷◌, ◌++◌, codes, Option, Result, Ok, Err}
+use Rattle.std.specs.Io.KnownBytes.{Appends}
+use Rattle.ag_expr.specs.Evaluation.{value_of}
+use Rattle.ag_expr.specs.Expression.{ReadsAsExpr}
+use Rattle.ag_expr.specs.declared.node.Node.{Node}
+use Rattle.ag_value.specs.Shown.{shown_of}
+use Rattle.ag_value.specs.declared.value.Value.{Value}
+use Rattle.ag_value.specs.declared.value.Value.TheVariants as value
+use Rattle.treefile.specs.TreeFile.{body_of, file}
+use Rattle.treefile.specs.declared.body.Kind.TheVariants.{Token}
+use Rattle.aggen.specs.declared.fault.Fault.{Fault}
+use Rattle.aggen.specs.declared.fault.Fault.TheVariants as fault
+use Rattle.aggen.specs.Output.{AppendsBeginning}
+
+-- the environment of an expression without occurrences: nothing is asked of it
+abbrev pub no_values : ℕ → Value
+no_values k = value.Num (pos 0)
+
+-- the text reads as an expression without occurrences, whose value this is
+pub record HasValue (text : List ℕ) (is : Value) : Type 0 where
+  pub tree : Node
+  pub reads : ReadsAsExpr text (tree, [])
+  pub value : is ≡ value_of tree no_values
+
+-- the text reads as no expression without occurrences
+abbrev pub HasNone : List ℕ → Type 0
+HasNone text = (is : Value) → HasValue text is → ⊥
+
+-- the tree file of pass 0 whose one record is a token of number 0 with this value
+abbrev pub file_of : Value → List ℕ
+file_of is = file 0 (body_of Token 0 (is ∷ []) ∷ [])
+
+-- the line that tells a value
+abbrev pub line_of : Value → List ℕ
+line_of is = shown_of is ++ codes "\n"
+
+-- the value of the text went through a file, and its line was written
+pub record Shows (text : List ℕ) (old new : Option (List ℕ)) (content : List ℕ) : Type 0 where
+  pub shown : Value
+  pub has : HasValue text shown
+  pub file : content ≡ file_of shown
+  pub line : Appends old new (line_of shown)
+
+-- a beginning of the line was written
+pub record ShowsBeginning (text : List ℕ) (old new : Option (List ℕ)) : Type 0 where
+  pub shown : Value
+  pub has : HasValue text shown
+  pub beginning : AppendsBeginning old new (line_of shown)
+
+-- X1 to X4: the text is no expression
+abbrev pub IsExprFault : Fault → Type 0
+IsExprFault (fault.Expr e) = Unit {0}
+IsExprFault _ = ⊥
+
+-- a call of the device failed, or memory was short
+abbrev pub IsWant : Fault → Type 0
+IsWant fault.Device = Unit {0}
+IsWant fault.NoMemory = Unit {0}
+IsWant _ = ⊥
+
+-- B1 and B2: the file on the device is not as it should be
+abbrev pub IsDamage : Fault → Type 0
+IsDamage fault.NotATreeFile = Unit {0}
+IsDamage (fault.Damaged at) = Unit {0}
+IsDamage _ = ⊥
+
+-- a fault of a device, of the file on it, or of memory
+abbrev pub IsFileFault : Fault → Type 0
+IsFileFault fault.NotATreeFile = Unit {0}
+IsFileFault (fault.Damaged at) = Unit {0}
+IsFileFault fault.Device = Unit {0}
+IsFileFault fault.NoMemory = Unit {0}
+IsFileFault _ = ⊥
+
+-- a fault of the text, or of memory
+abbrev pub IsTextFault : Fault → Type 0
+IsTextFault (fault.Expr e) = Unit {0}
+IsTextFault fault.NoMemory = Unit {0}
+IsTextFault _ = ⊥

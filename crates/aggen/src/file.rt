@@ -1,0 +1,76 @@
+ghost use Rattle.std.specs.Prelude.{◌≡◌, ◌∷◌, [], true, string_bytes, IfErr, IfOk, IsErrOf, MatchResult, OnOk};
+ghost use Rattle.ag_value.specs.Well.{IsWell};
+ghost use Rattle.ag_value.specs.declared.value.Value.{Value as AttributeValue};
+ghost use Rattle.treefile.specs.Device.{Counts};
+ghost use Rattle.treefile.specs.TreeFile.{body_of};
+ghost use Rattle.aggen.specs.Showing.{IsFileFault, IsWant, file_of, line_of};
+
+use crate::fault::Fault;
+use ag_value::{Value, ValueFault, decode, show};
+use std::alloc::Global;
+use treefile::{Device, Kind, Writer, last_body, split_body};
+
+/// Makes the device a tree file of pass 0 whose one record is a token of number 0 with this value. D1 Device where
+/// the device failed.
+pub fn write_file<D: Device>(alloc: Global, device: &mut D, value: Value) -> Result<(), Fault>
+    requires { IsWell value }
+    ensures ok { OnOk result (D.is_honest device.old ≡ true → D.content device.new ≡ file_of value) }
+    ensures err { IfErr result IsWant }
+    ensures honest { D.is_honest device.new ≡ D.is_honest device.old }
+    ensures counts { Counts (D.failures device.old) (D.failures device.new) (IsErrOf result Fault.Device) }
+{
+    let mut writer = Writer::begin(alloc, device, 0)?;
+    writer.put(device, Kind::Token, 0, &[value])?;
+    Ok(())
+}
+
+/// How many bytes of a tree file with one frame are not of its body.
+const BYTES_BESIDE_BODY: u64 = 10;
+
+/// The value in the last record of a tree file. B2 Damaged at the file's end where that record is no token of number 0
+/// with exactly one value; B1, B2 and D1 as `last_body` answers them.
+pub fn read_file<D: Device>(alloc: Global, device: &mut D) -> Result<Value, Fault>
+    ensures read { D.is_honest device.old ≡ true → (value : AttributeValue) → IsWell value → D.content device.old ≡ file_of value → MatchResult result (λ found. found ≡ value) IsWant }
+    ensures err { IfErr result IsFileFault }
+    ensures content { D.is_honest device.old ≡ true → D.content device.new ≡ D.content device.old }
+    ensures honest { D.is_honest device.new ≡ D.is_honest device.old }
+    ensures counts { Counts (D.failures device.old) (D.failures device.new) (IsErrOf result Fault.Device) }
+{
+    let body = last_body(alloc, device)?;
+    value_in(alloc, body.as_slice())
+}
+
+/// The value in the body of a record.
+fn value_in(alloc: Global, body: &[u8]) -> Result<Value, Fault>
+    ensures read { (value : AttributeValue) → IsWell value → body.now ≡ body_of Kind.Token 0 (value ∷ []) → MatchResult result (λ found. found ≡ value) (λ e. e ≡ Fault.NoMemory) }
+    ensures err { IfErr result (λ e. IsFileFault e) }
+    ensures device { ¬ (IsErrOf result Fault.Device) }
+{
+    let end = BYTES_BESIDE_BODY.saturating_add(body.len() as u64);
+    let Some((kind, number, spelling)) = split_body(body) else {
+        return Err(Fault::Damaged(end));
+    };
+    if kind != Kind::Token || number != 0 {
+        return Err(Fault::Damaged(end));
+    }
+    match decode(alloc, spelling) {
+        Ok((value, len)) => {
+            if len != spelling.len() {
+                return Err(Fault::Damaged(end));
+            }
+            Ok(value)
+        }
+        Err(ValueFault::NoMemory) => Err(Fault::NoMemory),
+        Err(ValueFault::Malformed) => Err(Fault::Damaged(end)),
+    }
+}
+
+/// The text of a value, and LF.
+pub fn line_of(alloc: Global, value: &Value) -> Result<String, Fault>
+    ensures ok { IfOk result (λ line. string_bytes line ≡ line_of value.now) }
+    ensures err { IfErr result (λ e. e ≡ Fault.NoMemory) }
+{
+    let mut line = show(alloc, value)?;
+    line.push_str("\n")?;
+    Ok(line)
+}
