@@ -1,4 +1,5 @@
 use crate::fault::Fault;
+use clap::error::ErrorKind;
 use clap::{Arg, ArgMatches, Command, Error};
 use std::alloc::{AllocError, Global};
 
@@ -37,6 +38,9 @@ fn expression_of<'a>(matches: &ArgMatches<'a>) -> &'a str {
 }
 
 fn refuse<'a, R: Print + Eprint>(rt: &R, error: Error) -> Result<Request<'a>, Fault> {
+    if error.kind() == ErrorKind::OutOfMemory {
+        return Err(Fault::NoMemory);
+    }
     if error.print(rt).is_err() {
         return Err(Fault::Write);
     }

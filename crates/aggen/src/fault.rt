@@ -12,7 +12,7 @@ use treefile::{FrameFault, WriteFault};
 #[derive(Clone, Copy, Debug, PartialEq, Eq, Error)]
 pub enum Fault {
     /// The words of the command line are not as they should be.
-    #[error("usage")]
+    #[error("usage: the words of the command line can't be read")]
     Usage,
     /// X1 to X4: the text is no expression. Want of memory is never in it.
     #[error("{0}")]

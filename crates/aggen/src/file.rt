@@ -1,7 +1,8 @@
-ghost use Rattle.std.specs.Prelude.{◌≡◌, ◌∷◌, [], true, string_bytes, IfErr, IfOk, IsErrOf, MatchResult, OnOk};
+ghost use Rattle.std.specs.Prelude.{◌≡◌, ◌+◌, ◌∷◌, ℕ, [], true, Ok, length, string_bytes, IfErr, IfOk, IsErrOf, MatchResult, OnOk};
 ghost use Rattle.ag_value.specs.Well.{IsWell};
 ghost use Rattle.ag_value.specs.declared.value.Value.{Value as AttributeValue};
 ghost use Rattle.treefile.specs.Device.{Counts};
+ghost use Rattle.treefile.specs.Ending.{last_body_of};
 ghost use Rattle.treefile.specs.TreeFile.{body_of};
 ghost use Rattle.aggen.specs.Showing.{IsFileFault, IsWant, file_of, line_of};
 
@@ -30,6 +31,7 @@ const BYTES_BESIDE_BODY: u64 = 10;
 /// The value in the last record of a tree file. B2 Damaged at the file's end where that record is no token of number 0
 /// with exactly one value; B1, B2 and D1 as `last_body` answers them.
 pub fn read_file<D: Device>(alloc: Global, device: &mut D) -> Result<Value, Fault>
+    ensures found { D.is_honest device.old ≡ true → IfOk result (λ value. last_body_of (D.content device.old) ≡ Ok (body_of Kind.Token 0 (value ∷ []))) }
     ensures read { D.is_honest device.old ≡ true → (value : AttributeValue) → IsWell value → D.content device.old ≡ file_of value → MatchResult result (λ found. found ≡ value) IsWant }
     ensures err { IfErr result IsFileFault }
     ensures content { D.is_honest device.old ≡ true → D.content device.new ≡ D.content device.old }
@@ -42,11 +44,13 @@ pub fn read_file<D: Device>(alloc: Global, device: &mut D) -> Result<Value, Faul
 
 /// The value in the body of a record.
 fn value_in(alloc: Global, body: &[u8]) -> Result<Value, Fault>
+    ensures found { IfOk result (λ value. body.now ≡ body_of Kind.Token 0 (value ∷ [])) }
     ensures read { (value : AttributeValue) → IsWell value → body.now ≡ body_of Kind.Token 0 (value ∷ []) → MatchResult result (λ found. found ≡ value) (λ e. e ≡ Fault.NoMemory) }
     ensures err { IfErr result (λ e. IsFileFault e) }
+    ensures place { (at : ℕ) → IsErrOf result (Fault.Damaged at) → at ≡ length body.now + 10 }
     ensures device { ¬ (IsErrOf result Fault.Device) }
 {
-    let end = BYTES_BESIDE_BODY.saturating_add(body.len() as u64);
+    let end = body.len() as u64 + BYTES_BESIDE_BODY;
     let Some((kind, number, spelling)) = split_body(body) else {
         return Err(Fault::Damaged(end));
     };

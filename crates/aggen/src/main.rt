@@ -49,8 +49,10 @@ fn run<R: Env + Print + Eprint + AllocGlobal>(rt: &R) -> Result<(), Fault> {
 
 /// The words of the command line, the program's name among them.
 fn words_of<R: Env + AllocGlobal>(rt: &R, alloc: Global) -> Result<Vec<String>, Fault> {
-    let Ok(words) = std::env::args(rt) else {
-        return Err(Fault::Usage);
+    let words = match std::env::args(rt) {
+        Ok(words) => words,
+        Err(error) if error.kind() == io::ErrorKind::OutOfMemory => return Err(Fault::NoMemory),
+        Err(_) => return Err(Fault::Usage),
     };
     let collected: Result<Vec<String>, AllocError> = words.collect(alloc);
     Ok(collected?)

@@ -30,8 +30,9 @@ fn tell_expression<W: fmt::Write>(
     match fault {
         ExprFault::NoToken(at) => {
             tell_place(f, text, at)?;
-            write!(f, ": no number, name or sign begins with ")?;
-            tell_found(f, text, at)
+            write!(f, ": no token begins with ")?;
+            tell_found(f, text, at)?;
+            write!(f, "{}", hint_at(text, at))
         }
         ExprFault::Unexpected(at) => {
             tell_place(f, text, at)?;
@@ -56,6 +57,15 @@ fn tell_expression<W: fmt::Write>(
             )
         }
         ExprFault::NoMemory => Ok(()),
+    }
+}
+
+/// What a character that begins no token may have been meant as.
+fn hint_at(text: &str, at: usize) -> &'static str {
+    match text.as_bytes().get(at) {
+        Some(b'"') => ", a text ends with a quote and has only the escapes \\\" \\\\ \\n \\t \\r",
+        Some(b'$') => ", an occurrence is `$`, digits, `.` and a name with nothing between",
+        _ => "",
     }
 }
 
