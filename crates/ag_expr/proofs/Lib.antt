@@ -1,5 +1,6 @@
 pub mod Agree
 pub mod Below
+pub mod Examples
 pub mod Fronts
 pub mod Lexed
 pub mod Listing
@@ -8,3 +9,4 @@ pub mod TokenLaws
 pub mod Texts
 pub mod Turns
 pub mod Unique
+pub mod Values

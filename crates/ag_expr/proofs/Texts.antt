@@ -22,6 +22,9 @@ use Rattle.ag_expr.proofs.Lexed.{width-chars}
 use Rattle.ag_expr.proofs.Listing.{listed_are_different}
 use Rattle.ag_expr.proofs.Unique.{one_list, no_list, no_list_within}
 
+some_same : {A : Type 0} (x y : A) → Some x ≡ Some y → x ≡ y
+some_same x y e = cc
+
 -- all of the text was cut into tokens, and they were read
 pub read_whole : (text : List ℕ) (ts : List Token) (ats : List ℕ) (listed : List Occ) (e : Node) → IsUtf8 text → EndsAt (chars text) ts ats ending.Whole
     → listed ≡ listed_with_all [] (all_occurrences ts ats) → expr_of listed 64 ts ≡ Some e → ReadsAsExpr text (e, listed)
@@ -90,3 +93,14 @@ pub refused_end : (text : List ℕ) (ts : List Token) (ats : List ℕ) (ends : E
 refused_end text ts ats ending.Whole len is part = let bad : ⊥ = part refl in absurd bad
 refused_end text ts ats (ending.NoToken at) len is part = refused_at_end text ts ats (ending.NoToken at) is part
 refused_end text ts ats (ending.TooLarge at) len is part = refused_at_end text ts ats (ending.TooLarge at) is part
+
+-- a text reads as one expression at most
+pub one_expression : (text : List ℕ) (one other : Node × List Occ) → ReadsAsExpr text one → ReadsAsExpr text other → one ≡ other
+one_expression text one other is also =
+    let same = one_list 0 (chars text) is.tokens also.tokens is.offsets also.offsets (length text) (length text) is.are_tokens also.are_tokens in
+    let listed : other.1 ≡ one.1 = also.listed ∙ ap (λ us. different (all_occurrences us also.offsets)) same.0 ∙ ap (λ uats. different (all_occurrences is.tokens uats)) same.1 ∙ sym is.listed in
+    let spells = subst (λ us. IsExpr one.1 max_levels us other.0) same.0 (subst (λ os. IsExpr os max_levels also.tokens other.0) listed also.spells) in
+    let first : expr_of one.1 max_levels is.tokens ≡ Some one.0 = (agree.exact one.1 max_levels is.tokens one.0).1 is.spells in
+    let second : expr_of one.1 max_levels is.tokens ≡ Some other.0 = (agree.exact one.1 max_levels is.tokens other.0).1 spells in
+    let tree : one.0 ≡ other.0 = some_same _ _ (sym first ∙ second) in
+    ap (λ e. (e, one.1)) tree ∙ ap (λ os. (other.0, os)) (sym listed)

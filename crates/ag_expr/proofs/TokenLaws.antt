@@ -39,7 +39,7 @@ other_number a b e = grind (arith, nat_tests)
 
 -- ---- which characters start a name
 
-no_start : (k : ℕ) → k < 128 → is_ascii_alphabetic k ≡ false → (k == 95) ≡ false → starts_name k ≡ false
+pub no_start : (k : ℕ) → k < 128 → is_ascii_alphabetic k ≡ false → (k == 95) ≡ false → starts_name k ≡ false
 no_start k small letter line = rw (is_xid_start-ascii k small, letter, line) refl
 
 differs : (c k : ℕ) → starts_name c ≡ true → starts_name k ≡ false → (c == k) ≡ false
@@ -387,7 +387,7 @@ occurrence_reached digits name more is called =
      ap (λ x. token_from (36 ∷ x)) all ∙ rw (cut, found.1) refl, found.2,
      λ same. ap (λ w. token.Occurrence (digits_value 10 digits) (encode_utf8_all w)) (found.3 same))
 
-sign_cut : (c : ℕ) (cs : List ℕ) (x : Sign × List ℕ) → starts_name c ≡ false → is_ascii_digit c ≡ false → (c == 34) ≡ false → (c == 36) ≡ false → sign_from (c ∷ cs) ≡ Some x → token_from (c ∷ cs) ≡ Some (token.Sign x.0, x.1)
+pub sign_cut : (c : ℕ) (cs : List ℕ) (x : Sign × List ℕ) → starts_name c ≡ false → is_ascii_digit c ≡ false → (c == 34) ≡ false → (c == 36) ≡ false → sign_from (c ∷ cs) ≡ Some x → token_from (c ∷ cs) ≡ Some (token.Sign x.0, x.1)
 sign_cut c cs x name digit quote dollar is = from_plain c cs quote dollar ∙ rw (no_digits c cs digit, name, is) refl
 
 doubled_short : (k : ℕ) (two one : Sign) (cs : List ℕ) → (length (doubled k two one cs).1 ≤ length cs) × (length (doubled k two one cs).1 ≡ length cs → token.Sign (doubled k two one cs).0 ≡ token.Sign one)

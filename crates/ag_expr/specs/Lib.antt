@@ -5,3 +5,4 @@ pub mod Lexing
 pub mod Occurrences
 pub mod Reading
 pub mod Tokens
+pub mod Worked
