@@ -6,7 +6,7 @@ use Rattle.ag_value.specs.declared.value.Value.{Value, out-Value}
 use Rattle.ag_value.specs.declared.value.Value.TheVariants as value
 use Rattle.ag_value.specs.declared.value.Value.TheVariants.{outs-Num, outs-Fault}
 use Rattle.ag_value.specs.declared.value.Value.TheOpen.{Value-F}
-use Rattle.ag_value.specs.Well.{is_i64}
+use Rattle.ag_value.specs.Well.{is_i64, IsWell}
 use Rattle.ag_expr.specs.declared.node.Operator.{Operator}
 use Rattle.ag_expr.specs.declared.node.Operator.TheVariants as operator
 use Rattle.ag_expr.specs.declared.node.Node.{Node, roll-Node}
@@ -14,7 +14,7 @@ use Rattle.ag_expr.specs.declared.node.Node.TheVariants as node
 use Rattle.ag_expr.specs.declared.node.Node.TheVariants.{rolls-Number}
 use Rattle.ag_expr.specs.declared.node.Node.TheOpen.{Node-F}
 use Rattle.ag_expr.specs.declared.node.Node.TheFolds.{fold-roll-Node, ind-Node, map-Node}
-use Rattle.ag_expr.specs.Evaluation.{Meaning, value_step, value_of, chain_value, applied, applied_at, calculated, divided, number_value, is_plain, is_plain_at}
+use Rattle.ag_expr.specs.Evaluation.{AreWell, Meaning, value_step, value_of, chain_value, applied, applied_at, calculated, divided, number_value, is_plain, is_plain_at}
 use Rattle.ag_expr.proofs.Below.{value_of-Chain}
 
 pub value_of-Number : (n : ℤ) (env : ℕ → Value) → value_of (node.Number n) env ≡ value.Num n
@@ -79,3 +79,7 @@ plain_layer x y is env all = subst (λ v. is_plain v ≡ true) (sym (ap (λ (m :
 
 pub stays_plain : (tree : Node) → StaysPlain tree
 stays_plain = ind-Node StaysPlain plain_layer
+
+-- one value, lent for every occurrence
+pub are_well : (n : ℕ) (v : Value) → IsWell v → AreWell n (λ k. v)
+are_well n v well = record { well = λ k lt. well }

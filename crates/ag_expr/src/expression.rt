@@ -53,11 +53,11 @@ fn ending_fault(ending: Ending, len: usize) -> ExprFault
     }
 }
 
-/// The offset of the token from which on so many are left.
-fn offset_of(offsets: &[usize], left: usize) -> usize {
+/// The offset of the token from which on so many are left: the text's length where none is.
+fn offset_of(offsets: &[usize], left: usize, len: usize) -> usize {
     match offsets.get(offsets.len().saturating_sub(left)) {
         Some(at) => *at,
-        None => 0,
+        None => len,
     }
 }
 
@@ -68,9 +68,11 @@ fn fault_of(fault: ParseFault, lexed: &Lexed, len: usize) -> ExprFault
     match fault {
         ParseFault::Unexpected(0) => ending_fault(lexed.ending, len),
         ParseFault::Unexpected(left) => {
-            ExprFault::Unexpected(offset_of(lexed.offsets.as_slice(), left))
+            ExprFault::Unexpected(offset_of(lexed.offsets.as_slice(), left, len))
         }
-        ParseFault::TooDeep(left) => ExprFault::TooDeep(offset_of(lexed.offsets.as_slice(), left)),
+        ParseFault::TooDeep(left) => {
+            ExprFault::TooDeep(offset_of(lexed.offsets.as_slice(), left, len))
+        }
         ParseFault::NoMemory => ExprFault::NoMemory,
     }
 }
