@@ -1,5 +1,5 @@
 -- Examples worked out by hand.
-use Rattle.std.proofs.Common.{◌≡◌, ℕ, List, [], ◌∷◌, Option, Some, pos, codes, lit<, refl, sym, subst}
+use Rattle.std.proofs.Common.{◌≡◌, ℕ, List, [], ◌∷◌, Some, pos, codes, lit<, refl, sym, subst}
 use Rattle.std.proofs.lemmas.Str.{encode_ascii}
 use Rattle.std.specs.Str.{chars}
 use Rattle.unicode_ident.proofs.IdentLemmas.{is_xid_start-ascii, is_xid_continue-ascii}
@@ -7,7 +7,7 @@ use Rattle.ag_expr.specs.declared.token.Sign.TheVariants as sign
 use Rattle.ag_expr.specs.declared.token.Token.{Token}
 use Rattle.ag_expr.specs.declared.token.Token.TheVariants as token
 use Rattle.ag_expr.specs.Tokens.{AreTokens}
-use Rattle.ag_expr.specs.Lexing.{token_from, text_from}
+use Rattle.ag_expr.specs.Lexing.{token_from}
 use Rattle.ag_expr.specs.Reading.{expr_of, expr_from, sum_from, product_from, atom_from, rest_from}
 use Rattle.ag_expr.specs.Expression.{ReadsAsExpr}
 use Rattle.ag_expr.specs.Worked.{sum_and_product}
@@ -18,7 +18,6 @@ use Rattle.ag_expr.proofs.TokenLaws.{no_start, sign_cut}
 cut_occurrence : token_from (codes "$1.a + 2") ≡ Some (token.Occurrence 1 (codes "a"), codes " + 2")
 unfolding token_from
 cut_occurrence = rw (is_xid_start-ascii 97 (lit< tt), is_xid_continue-ascii 97 (lit< tt), is_xid_continue-ascii 32 (lit< tt), encode_ascii 97 (lit< tt)) refl
-
 
 cut_plus : (rest : List ℕ) → token_from (43 ∷ 32 ∷ rest) ≡ Some (token.Sign sign.Plus, 32 ∷ rest)
 cut_plus rest = sign_cut 43 (32 ∷ rest) (sign.Plus, 32 ∷ rest) (no_start 43 (lit< tt) refl refl) refl refl refl refl

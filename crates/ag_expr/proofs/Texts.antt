@@ -1,6 +1,5 @@
 -- What is read is what the text reads as, and a text that is refused reads as nothing.
-use Rattle.std.proofs.Common.{◌≡◌, ℕ, true, List, [], length, Option, Some, None, chars, IsUtf8, refl, ap, sym, ◌∙◌, subst}
-use Rattle.std.specs.List.{list_all}
+use Rattle.std.proofs.Common.{◌≡◌, ℕ, List, [], length, Some, None, chars, IsUtf8, refl, ap, sym, ◌∙◌, subst}
 use Rattle.ag_expr.specs.declared.fault.ExprFault.{ExprFault}
 use Rattle.ag_expr.specs.declared.fault.ExprFault.TheVariants as fault
 use Rattle.ag_expr.specs.declared.fault.ParseFault.{ParseFault}
@@ -10,7 +9,7 @@ use Rattle.ag_expr.specs.declared.lexer.Ending.TheVariants as ending
 use Rattle.ag_expr.specs.declared.token.Token.{Token}
 use Rattle.ag_expr.specs.declared.node.Node.{Node}
 use Rattle.ag_expr.specs.declared.occurrence.Occ.{Occ}
-use Rattle.ag_expr.specs.Tokens.{AreTokens, is_within, width}
+use Rattle.ag_expr.specs.Tokens.{AreTokens, width}
 use Rattle.ag_expr.specs.Lexing.{EndsAt}
 use Rattle.ag_expr.specs.Occurrences.{all_occurrences, different, listed_with_all}
 use Rattle.ag_expr.specs.Grammar.{IsExpr}

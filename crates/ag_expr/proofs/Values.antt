@@ -15,7 +15,6 @@ use Rattle.ag_expr.specs.declared.node.Node.TheVariants.{rolls-Number}
 use Rattle.ag_expr.specs.declared.node.Node.TheOpen.{Node-F}
 use Rattle.ag_expr.specs.declared.node.Node.TheFolds.{fold-roll-Node, ind-Node, map-Node}
 use Rattle.ag_expr.specs.Evaluation.{AreWell, Meaning, value_step, value_of, chain_value, applied, applied_at, calculated, divided, number_value, is_plain, is_plain_at}
-use Rattle.ag_expr.proofs.Below.{value_of-Chain}
 
 pub value_of-Number : (n : ℤ) (env : ℕ → Value) → value_of (node.Number n) env ≡ value.Num n
 value_of-Number n env = ap (λ (m : Meaning). m env) (ap value_of (sym (rolls-Number n)) ∙ fold-roll-Node Meaning value_step (Node-F.Number n))

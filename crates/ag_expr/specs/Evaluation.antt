@@ -1,6 +1,5 @@
 -- The value of an expression. All of this is this project's.
 use Rattle.std.specs.Prelude.{ℕ, zero, suc, ℤ, pos, negsuc, ◌+ℤ◌, ◌-ℤ◌, ◌*ℤ◌, int_div, int_rem, Bool, true, false, ◌&&◌, nat_lt, if◌then◌else◌, ◌<◌, List, [], ◌∷◌, map}
-use Rattle.ag_value.specs.declared.value.ErrorCode.{ErrorCode}
 use Rattle.ag_value.specs.declared.value.ErrorCode.TheVariants.{Overflow, Divide, Kind}
 use Rattle.ag_value.specs.declared.value.Value.{Value, out-Value}
 use Rattle.ag_value.specs.declared.value.Value.TheOpen.{Value-F}

@@ -1,5 +1,5 @@
 -- Trees for worked examples.
-use Rattle.std.specs.Prelude.{ℕ, List, [], ◌∷◌, pos}
+use Rattle.std.specs.Prelude.{[], ◌∷◌, pos}
 use Rattle.ag_expr.specs.declared.node.Operator.TheVariants as operator
 use Rattle.ag_expr.specs.declared.node.Node.{Node}
 use Rattle.ag_expr.specs.declared.node.Node.TheVariants as node

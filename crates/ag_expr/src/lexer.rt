@@ -386,15 +386,27 @@ pub fn lex(alloc: Global, characters: &[char]) -> Result<Lexed, NoMemory>
             }
             Err(TokenFault::Nothing) => {
                 let ending = Ending::NoToken(at);
-                return Ok(Lexed { tokens, offsets, ending });
+                return Ok(Lexed {
+                    tokens,
+                    offsets,
+                    ending,
+                });
             }
             Err(TokenFault::TooLarge) => {
                 let ending = Ending::TooLarge(at);
-                return Ok(Lexed { tokens, offsets, ending });
+                return Ok(Lexed {
+                    tokens,
+                    offsets,
+                    ending,
+                });
             }
             Err(TokenFault::NoMemory) => return Err(NoMemory::NoMemory),
         }
     }
     let ending = Ending::Whole;
-    Ok(Lexed { tokens, offsets, ending })
+    Ok(Lexed {
+        tokens,
+        offsets,
+        ending,
+    })
 }

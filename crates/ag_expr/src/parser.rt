@@ -60,11 +60,7 @@ fn begins_expression(token: &Token) -> bool {
 }
 
 /// One operand alone, or a chain.
-fn chained(
-    alloc: Global,
-    first: Node,
-    others: Vec<(Operator, Node)>,
-) -> Result<Node, NoMemory>
+fn chained(alloc: Global, first: Node, others: Vec<(Operator, Node)>) -> Result<Node, NoMemory>
     ensures { IfOk result (λ e. e ≡ grammar.chained first others.items) }
 {
     if others.is_empty() {

@@ -77,7 +77,10 @@ fn errors(rt: HostRuntime) -> Result<(), Fail> {
         ("9223372036854775807 + 1", ErrorCode::Overflow),
         ("0 - 9223372036854775807 - 2", ErrorCode::Overflow),
         ("9223372036854775807 * 2", ErrorCode::Overflow),
-        ("(0 - 9223372036854775807 - 1) div (0 - 1)", ErrorCode::Overflow),
+        (
+            "(0 - 9223372036854775807 - 1) div (0 - 1)",
+            ErrorCode::Overflow,
+        ),
         ("1 div 0", ErrorCode::Divide),
         ("1 mod 0", ErrorCode::Divide),
         ("1 div 0 + 9223372036854775807 * 2", ErrorCode::Divide),
@@ -125,7 +128,12 @@ fn values_of_occurrences(rt: HostRuntime) -> Result<(), Fail> {
     let text = Value::Text(Text::from_string(String::from_str(rt.alloc(), "ab")?));
     let fault = Value::Fault(ErrorCode::Index);
     assert!(rt; same(&value_where(&rt, "$1.a", &text)?, &text));
-    assert!(rt; same(&value_where(&rt, "$1.a - 1 - $2.b", &Value::Num(4))?, &Value::Num(-1)));
+    assert!(rt;
+        same(
+            &value_where(&rt, "$1.a - 1 - $2.b", &Value::Num(4))?,
+            &Value::Num(-1)
+        )
+    );
     for (expression, value, code) in [
         ("$1.a + 1", &text, ErrorCode::Kind),
         ("1 - $1.a", &text, ErrorCode::Kind),
@@ -146,7 +154,11 @@ fn values_of_occurrences(rt: HostRuntime) -> Result<(), Fail> {
     Ok(())
 }
 
-fn check_occurrences(rt: &(impl Abort + Alloc<A = Global>), text: &str, wanted: &[(u16, &str, usize)]) -> Result<(), Fail> {
+fn check_occurrences(
+    rt: &(impl Abort + Alloc<A = Global>),
+    text: &str,
+    wanted: &[(u16, &str, usize)],
+) -> Result<(), Fail> {
     let expr = read_expr(rt.alloc(), text)?;
     let listed = occurrences(&expr);
     assert_eq!(rt; listed.len(), wanted.len(), "at {text}");
@@ -165,11 +177,20 @@ fn different_occurrences(rt: HostRuntime) -> Result<(), Fail> {
     check_occurrences(&rt, "$1.if", &[(1, "if", 0)])?;
     check_occurrences(&rt, "1 + $2.\u{e9}t\u{e9}_1", &[(2, "\u{e9}t\u{e9}_1", 4)])?;
     check_occurrences(&rt, "$1.a + $2.b + $1.a", &[(1, "a", 0), (2, "b", 7)])?;
-    check_occurrences(&rt, "\u{20}($2.a*$65535.b)mod $2.b", &[(2, "a", 2), (65535, "b", 7), (2, "b", 20)])
+    check_occurrences(
+        &rt,
+        "\u{20}($2.a*$65535.b)mod $2.b",
+        &[(2, "a", 2), (65535, "b", 7), (2, "b", 20)],
+    )
 }
 
 /// So many opening parentheses, a text, so many closing ones.
-fn nested(rt: &(impl Abort + Alloc<A = Global>), opening: usize, inner: &str, closing: usize) -> Result<String, Fail> {
+fn nested(
+    rt: &(impl Abort + Alloc<A = Global>),
+    opening: usize,
+    inner: &str,
+    closing: usize,
+) -> Result<String, Fail> {
     let mut text = String::new(rt.alloc());
     for _ in 0..opening {
         text.push('(')?;
