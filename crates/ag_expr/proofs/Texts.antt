@@ -15,7 +15,8 @@ use Rattle.ag_expr.specs.Occurrences.{all_occurrences, different, listed_with_al
 use Rattle.ag_expr.specs.Grammar.{IsExpr}
 use Rattle.ag_expr.specs.Reading as reading
 use Rattle.ag_expr.specs.Reading.{expr_of}
-use Rattle.ag_expr.specs.Expression.{max_levels, ReadsAsExpr, ReadsAsNone, IsRefused, IsAt, IsFaultOf, fault_at_end}
+use Rattle.ag_expr.specs.Expression.{max_levels, ReadsAsExpr, ReadsAsNone, IsRefused, IsAt}
+use Rattle.ag_expr.specs.Faults.{IsFaultOf, fault_at_end}
 use Rattle.ag_expr.proofs.Agree as agree
 use Rattle.ag_expr.proofs.Lexed.{width-chars}
 use Rattle.ag_expr.proofs.Listing.{listed_are_different}

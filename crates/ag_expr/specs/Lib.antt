@@ -1,5 +1,6 @@
 pub mod Evaluation
 pub mod Expression
+pub mod Faults
 pub mod Grammar
 pub mod Lexing
 pub mod Occurrences

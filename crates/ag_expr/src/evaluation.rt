@@ -32,7 +32,8 @@ fn tree_value<V: Env>(alloc: Global, expr: &Expr, node: &Node, env: &V) -> Resul
     }
 }
 
-/// The value of an expression where `env` lends the values of its occurrences. Takes memory, and counts one on the meter.
+/// The value of an expression where `env` lends the values of its occurrences. Takes memory for copies of values that
+/// are lent. The meter counts one more, also where memory is refused.
 pub fn eval<V: Env>(
     alloc: Global,
     expr: &Expr,

@@ -135,7 +135,7 @@ fn further_products<'a>(
 {
     let mut others = Vec::new(alloc);
     let mut rest = tokens;
-    for turn in 0..tokens.len() {
+    for _turn in 0..tokens.len() {
         let Some((operator, after)) = sum_operator(rest) else {
             return Ok((others, rest));
         };
@@ -175,7 +175,7 @@ fn further_atoms<'a>(
 {
     let mut others = Vec::new(alloc);
     let mut rest = tokens;
-    for turn in 0..tokens.len() {
+    for _turn in 0..tokens.len() {
         let Some((operator, after)) = product_operator(rest) else {
             return Ok((others, rest));
         };
