@@ -1,5 +1,5 @@
 -- Reading and the grammar agree.
-use Rattle.std.proofs.Common.{◌≡◌, ℕ, zero, suc, ◌+◌, ◌≤◌, List, [], ◌∷◌, ◌++◌, length, Option, Some, None, refl, ap, sym, ◌∙◌, subst, append_assoc, append-nil, arith, length-append, ◌↔◌}
+use Rattle.std.proofs.Common.{◌≡◌, ℕ, zero, suc, ◌≤◌, List, [], ◌∷◌, ◌++◌, length, Option, Some, None, refl, ap, sym, ◌∙◌, subst, append_assoc, append-nil, arith, length-append, ◌↔◌}
 use Rattle.ag_expr.specs.declared.token.Sign.{Sign}
 use Rattle.ag_expr.specs.declared.token.Sign.TheVariants as sign
 use Rattle.ag_expr.specs.declared.token.Token.{Token}
@@ -10,7 +10,7 @@ use Rattle.ag_expr.specs.declared.node.Node.TheVariants as node
 use Rattle.ag_expr.specs.declared.occurrence.Occ.{Occ}
 use Rattle.ag_expr.specs.Occurrences.{position_of}
 use Rattle.ag_expr.specs.Grammar.{sum_operator, product_operator, chained, IsRest, stop, next, IsChain, IsAtom, number, occurrence, parentheses, IsProduct, IsSum, IsExpr}
-use Rattle.ag_expr.specs.Reading.{Reader, and_then, where_some, operator_from, rest_from, chain_from, closed_from, occurrence_from, atom_from, product_from, sum_from, expr_from, at_end, expr_of}
+use Rattle.ag_expr.specs.Reading.{Reader, and_then, where_some, operator_from, rest_from, chain_from, closed_from, atom_from, product_from, sum_from, expr_from, at_end, expr_of}
 
 -- what was read is spelled at the front
 abbrev Sound : (List Token → Node → Type 0) → Reader Node → Type 0
@@ -64,9 +64,13 @@ module _ (operator : Token → Option Operator) (operand : List Token → Node �
             let one = opened (read o.1) _ _ h in
             let first = s o.1 one.0.1 one.0.0 one.1 in
             let more = ih (front ++ (o.0, one.0.0) ∷ []) one.0.1 rest all one.2 in
-            let text : o.1 ≡ (first.0 ++ more.0) ++ rest = first.1 ∙ ap (λ y. first.0 ++ y) more.2 ∙ sym (append_assoc first.0 more.0 rest) in
-            (sign.0 ∷ (first.0 ++ more.0), (o.0, one.0.0) ∷ more.1, sign.1 ∙ ap (λ y. sign.0 ∷ y) text,
-             next sign.0 o.0 first.0 more.0 one.0.0 more.1 sign.2 first.2 more.3, more.4 ∙ append_assoc front ((o.0, one.0.0) ∷ []) more.1)
+            let text : o.1 ≡ (first.0 ++ more.0) ++ rest = first.1 ∙ ap (λ y. first.0 ++ y) more.2 ∙ sym (append_assoc first.0 more.0 rest) in (
+              sign.0 ∷ (first.0 ++ more.0),
+              (o.0, one.0.0) ∷ more.1,
+              sign.1 ∙ ap (λ y. sign.0 ∷ y) text,
+              next sign.0 o.0 first.0 more.0 one.0.0 more.1 sign.2 first.2 more.3,
+              more.4 ∙ append_assoc front ((o.0, one.0.0) ∷ []) more.1,
+            )
 
     chain_sound : Sound (IsChain operator operand) (chain_from operator read)
     chain_sound ts rest e h =
@@ -197,12 +201,13 @@ ends_all (f, t ∷ ts) e h = let bad : ⊥ = cc in absurd bad
 
 pub exact : (listed : List Occ) (n : ℕ) (ts : List Token) (e : Node) → (expr_of listed n ts ≡ Some e) ↔ IsExpr listed n ts e
 unfolding expr_of
-exact listed n ts e =
-    (λ h.
+exact listed n ts e = (
+  λ h.
       let one = opened (expr_from listed n ts) at_end e h in
       let all = one.1 ∙ ap Some (ends_all one.0 e one.2) in
       let found = expr_sound listed n ts [] e all in
       subst (λ y. IsExpr listed n y e) (sym (found.1 ∙ append-nil found.0)) found.2,
-     λ i.
+  λ i.
       let read : expr_from listed n ts ≡ Some (e, []) = ap (expr_from listed n) (sym (append-nil ts)) ∙ expr_complete listed n ts [] e i (refl, refl) in
-      rw read refl)
+      rw read refl,
+)

@@ -1,17 +1,17 @@
 -- Tokens that are cut one after the other are the tokens of the text, and a text has one list of tokens.
-use Rattle.std.proofs.Common.{◌≡◌, ℕ, zero, suc, ◌+◌, ◌-◌, ◌<◌, ◌≤◌, Bool, true, false, ◌&&◌, ◌||◌, ◌==◌, cond, List, [], ◌∷◌, ◌++◌, length, take, drop, Option, Some, None, Result, Ok, Err, IfOk, Bor, chars, IsUtf8, encode_utf8, encode_utf8_all, refl, ap, sym, ◌∙◌, subst, arith, append_assoc}
-use Rattle.std.proofs.lemmas.List.{length-append, append-nil}
+use Rattle.std.proofs.Common.{◌≡◌, ℕ, suc, ◌+◌, ◌-◌, ◌<◌, Bool, true, false, cond, List, [], ◌∷◌, ◌++◌, length, take, drop, Option, Some, None, Result, Ok, Err, IfOk, Bor, chars, IsUtf8, encode_utf8, encode_utf8_all, refl, ap, sym, ◌∙◌, subst, arith}
+use Rattle.std.proofs.lemmas.List.{length-append}
 use Rattle.std.proofs.lemmas.List.Folds.{list_all-append}
-use Rattle.std.proofs.Math.Seq.{take-append_seam, drop-append_seam}
+use Rattle.std.proofs.Math.Seq.{take-append_seam}
 use Rattle.std.proofs.lemmas.Bool.Decides.{nat_tests}
 use Rattle.std.specs.Char.{len_utf8}
 use Rattle.std.specs.List.{prefix_len, list_all}
 use Rattle.std.proofs.lemmas.Str.{length-encode, encodes-chars}
 use Rattle.ag_expr.specs.declared.fault.TokenFault.{TokenFault}
 use Rattle.ag_expr.specs.declared.token.Token.{Token}
-use Rattle.ag_expr.specs.Tokens.{is_separator, IsToken, IsLongest, BeginsNoToken, width, AreTokens, ended, separator, word, is_within, NoTokenAt, TooLargeAt}
+use Rattle.ag_expr.specs.Tokens.{is_separator, width, AreTokens, ended, separator, word, is_within, NoTokenAt, TooLargeAt}
 use Rattle.ag_expr.specs.Lexing.{token_from, GivesToken, IsTooLarge, IsBehind, StartsPlain, IsSoFar}
-use Rattle.ag_expr.proofs.TokenLaws.{IsCut, token_sound, cut_longest, cut_none}
+use Rattle.ag_expr.proofs.TokenLaws.{token_sound, cut_longest, cut_none}
 
 width-append : (xs ys : List ℕ) → width (xs ++ ys) ≡ width xs + width ys
 width-append [] ys = omega arith
@@ -41,6 +41,7 @@ spaces (c ∷ cs) = go (is_separator c) refl (spaces cs)
   where
     n : ℕ
     n = prefix_len is_separator cs
+
     go : (b : Bool) → is_separator c ≡ b → n + width (drop n cs) ≡ width cs → cond b (1 + n) 0 + width (drop (cond b (1 + n) 0) (c ∷ cs)) ≡ width (c ∷ cs)
     go false h more = omega arith
     go true h more = let k : 1 + n ≡ suc n = omega arith in let one = separator_width c h in rw k (omega arith)
@@ -51,6 +52,7 @@ skipped at (c ∷ cs) = go (is_separator c) refl (skipped (at + 1) cs)
   where
     n : ℕ
     n = prefix_len is_separator cs
+
     go : (b : Bool) → is_separator c ≡ b → AreTokens (at + 1) cs [] [] ((at + 1) + n) (drop n cs) → AreTokens at (c ∷ cs) [] [] (at + cond b (1 + n) 0) (drop (cond b (1 + n) 0) (c ∷ cs))
     go false h more = subst (λ m. AreTokens at (c ∷ cs) [] [] m (c ∷ cs)) (omega arith) (ended at (c ∷ cs))
     go true h more =
@@ -64,6 +66,7 @@ plain_behind (c ∷ cs) = go (is_separator c) refl (plain_behind cs)
   where
     n : ℕ
     n = prefix_len is_separator cs
+
     go : (b : Bool) → is_separator c ≡ b → StartsPlain (drop n cs) → StartsPlain (drop (cond b (1 + n) 0) (c ∷ cs))
     go false h more = h
     go true h more = let k : 1 + n ≡ suc n = omega arith in rw k more
@@ -77,11 +80,11 @@ joined (word at all w cs t ts ats mid rest split token longest is) us uats end l
 
 pub begun : (cs : List ℕ) (n : ℕ) → n ≡ prefix_len is_separator cs → IsSoFar cs [] [] n (drop n cs)
 begun cs n is = subst (λ m. IsSoFar cs [] [] m (drop m cs)) (sym is) (record {
-      tokens = subst (λ m. AreTokens 0 cs [] [] m (drop (prefix_len is_separator cs) cs)) (omega arith) (skipped 0 cs);
-      within = refl;
-      plain = plain_behind cs;
-      widths = spaces cs;
-    })
+  tokens = subst (λ m. AreTokens 0 cs [] [] m (drop (prefix_len is_separator cs) cs)) (omega arith) (skipped 0 cs);
+  within = refl;
+  plain = plain_behind cs;
+  widths = spaces cs;
+})
 
 all_more : (ts : List Token) (t : Token) → list_all is_within ts ≡ true → is_within t ≡ true → list_all is_within (ts ++ t ∷ []) ≡ true
 all_more ts t all here = list_all-append is_within ts (t ∷ []) ∙ rw (all, here) refl

@@ -1,5 +1,6 @@
 pub mod Agree
 pub mod Below
+pub mod Examples
 pub mod Fronts
 pub mod Lexed
 pub mod Listing
@@ -9,3 +10,4 @@ pub mod Texts
 pub mod TokenLaws
 pub mod Turns
 pub mod Unique
+pub mod Values

@@ -1,5 +1,5 @@
 -- A text literal read in so many turns at most, beside a loop that counts up.
-use Rattle.std.proofs.Common.{◌≡◌, ℕ, zero, suc, ◌+◌, ◌-◌, ◌<◌, List, [], ◌∷◌, ◌++◌, Option, Some, None, encode_utf8, ◌∙◌, refl, sym, arith}
+use Rattle.std.proofs.Common.{◌≡◌, ℕ, suc, ◌+◌, ◌-◌, ◌<◌, List, ◌++◌, Option, Some, None, encode_utf8, ◌∙◌, refl, sym, arith}
 use Rattle.ag_expr.specs.declared.token.Token.{Token}
 use Rattle.ag_expr.specs.declared.token.Token.TheVariants as token
 use Rattle.ag_expr.specs.Reading.{and_then}

@@ -1,6 +1,5 @@
 -- What is read is what the text reads as, and a text that is refused reads as nothing.
-use Rattle.std.proofs.Common.{◌≡◌, ℕ, true, List, [], length, Option, Some, None, chars, IsUtf8, refl, ap, sym, ◌∙◌, subst}
-use Rattle.std.specs.List.{list_all}
+use Rattle.std.proofs.Common.{◌≡◌, ℕ, List, [], length, Some, None, chars, IsUtf8, refl, ap, sym, ◌∙◌, subst}
 use Rattle.ag_expr.specs.declared.fault.ExprFault.{ExprFault}
 use Rattle.ag_expr.specs.declared.fault.ExprFault.TheVariants as fault
 use Rattle.ag_expr.specs.declared.fault.ParseFault.{ParseFault}
@@ -10,17 +9,21 @@ use Rattle.ag_expr.specs.declared.lexer.Ending.TheVariants as ending
 use Rattle.ag_expr.specs.declared.token.Token.{Token}
 use Rattle.ag_expr.specs.declared.node.Node.{Node}
 use Rattle.ag_expr.specs.declared.occurrence.Occ.{Occ}
-use Rattle.ag_expr.specs.Tokens.{AreTokens, is_within, width}
+use Rattle.ag_expr.specs.Tokens.{AreTokens, width}
 use Rattle.ag_expr.specs.Lexing.{EndsAt}
 use Rattle.ag_expr.specs.Occurrences.{all_occurrences, different, listed_with_all}
 use Rattle.ag_expr.specs.Grammar.{IsExpr}
 use Rattle.ag_expr.specs.Reading as reading
 use Rattle.ag_expr.specs.Reading.{expr_of}
-use Rattle.ag_expr.specs.Expression.{max_levels, ReadsAsExpr, ReadsAsNone, IsRefused, IsAt, IsFaultOf, fault_at_end}
+use Rattle.ag_expr.specs.Expression.{max_levels, ReadsAsExpr, ReadsAsNone, IsRefused, IsAt}
+use Rattle.ag_expr.specs.Faults.{IsFaultOf, fault_at_end}
 use Rattle.ag_expr.proofs.Agree as agree
 use Rattle.ag_expr.proofs.Lexed.{width-chars}
 use Rattle.ag_expr.proofs.Listing.{listed_are_different}
 use Rattle.ag_expr.proofs.Unique.{one_list, no_list, no_list_within}
+
+some_same : {A : Type 0} (x y : A) → Some x ≡ Some y → x ≡ y
+some_same x y e = cc
 
 -- all of the text was cut into tokens, and they were read
 pub read_whole : (text : List ℕ) (ts : List Token) (ats : List ℕ) (listed : List Occ) (e : Node) → IsUtf8 text → EndsAt (chars text) ts ats ending.Whole
@@ -90,3 +93,14 @@ pub refused_end : (text : List ℕ) (ts : List Token) (ats : List ℕ) (ends : E
 refused_end text ts ats ending.Whole len is part = let bad : ⊥ = part refl in absurd bad
 refused_end text ts ats (ending.NoToken at) len is part = refused_at_end text ts ats (ending.NoToken at) is part
 refused_end text ts ats (ending.TooLarge at) len is part = refused_at_end text ts ats (ending.TooLarge at) is part
+
+-- a text reads as one expression at most
+pub one_expression : (text : List ℕ) (one other : Node × List Occ) → ReadsAsExpr text one → ReadsAsExpr text other → one ≡ other
+one_expression text one other is also =
+    let same = one_list 0 (chars text) is.tokens also.tokens is.offsets also.offsets (length text) (length text) is.are_tokens also.are_tokens in
+    let listed : other.1 ≡ one.1 = also.listed ∙ ap (λ us. different (all_occurrences us also.offsets)) same.0 ∙ ap (λ uats. different (all_occurrences is.tokens uats)) same.1 ∙ sym is.listed in
+    let spells = subst (λ us. IsExpr one.1 max_levels us other.0) same.0 (subst (λ os. IsExpr os max_levels also.tokens other.0) listed also.spells) in
+    let first : expr_of one.1 max_levels is.tokens ≡ Some one.0 = (agree.exact one.1 max_levels is.tokens one.0).1 is.spells in
+    let second : expr_of one.1 max_levels is.tokens ≡ Some other.0 = (agree.exact one.1 max_levels is.tokens other.0).1 spells in
+    let tree : one.0 ≡ other.0 = some_same _ _ (sym first ∙ second) in
+    ap (λ e. (e, one.1)) tree ∙ ap (λ os. (other.0, os)) (sym listed)

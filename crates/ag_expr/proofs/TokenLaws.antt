@@ -1,5 +1,5 @@
 -- Cutting the token in front and the definition of tokens agree.
-use Rattle.std.proofs.Common.{◌≡◌, ℕ, zero, suc, pos, ◌+◌, ◌-◌, ◌<◌, ◌≤◌, ◌≢◌, Bool, true, false, ◌&&◌, ◌||◌, cond, eqb, ◌==◌, List, [], ◌∷◌, ◌++◌, length, take, drop, Option, Some, None, refl, ap, sym, ◌∙◌, subst, lit<, arith, append_assoc, encode_utf8, encode_utf8_all}
+use Rattle.std.proofs.Common.{◌≡◌, ℕ, zero, suc, pos, ◌<◌, ◌≤◌, ◌≢◌, Bool, true, false, ◌||◌, cond, ◌==◌, List, [], ◌∷◌, ◌++◌, length, take, drop, Option, Some, None, refl, ap, sym, ◌∙◌, subst, lit<, arith, append_assoc, encode_utf8, encode_utf8_all}
 use Rattle.std.proofs.lemmas.List.{length-append, length-drop, length-take-le, take-append-drop, append-nil}
 use Rattle.std.proofs.Math.Seq.{drop-append_seam, take-append_seam}
 use Rattle.std.proofs.lemmas.List.Sums.{prefix_len-le-length}
@@ -17,7 +17,7 @@ use Rattle.ag_expr.specs.declared.token.Token.TheVariants as token
 use Rattle.ag_expr.specs.Reading.{and_then, where_some}
 use Rattle.ag_expr.specs.Tokens.{starts_name, is_separator, escaped, IsDigits, IsName, IsBody, empty, plain, escape, sign_text, IsToken, IsLongest, BeginsNoToken}
 use Rattle.ag_expr.specs.Lexing.{digits_from, name_from, single_sign, doubled, sign_from, escape_from, character_from, unquoted, undotted, text_from, occurrence_from, plain_from, token_from}
-use Rattle.ag_expr.proofs.Fronts.{both_first, both_second, front_passes, front_reaches, front_ends}
+use Rattle.ag_expr.proofs.Fronts.{both_first, front_passes, front_reaches, front_ends}
 
 -- ---- small tools
 
@@ -39,7 +39,7 @@ other_number a b e = grind (arith, nat_tests)
 
 -- ---- which characters start a name
 
-no_start : (k : ℕ) → k < 128 → is_ascii_alphabetic k ≡ false → (k == 95) ≡ false → starts_name k ≡ false
+pub no_start : (k : ℕ) → k < 128 → is_ascii_alphabetic k ≡ false → (k == 95) ≡ false → starts_name k ≡ false
 no_start k small letter line = rw (is_xid_start-ascii k small, letter, line) refl
 
 differs : (c k : ℕ) → starts_name c ≡ true → starts_name k ≡ false → (c == k) ≡ false
@@ -75,6 +75,7 @@ digits_sound cs d rest e = go (prefix_len is_ascii_digit cs == 0) refl e
   where
     n : ℕ
     n = prefix_len is_ascii_digit cs
+
     go : (b : Bool) → (n == 0) ≡ b → cond {A = Option (List ℕ × List ℕ)} b None (Some (take n cs, drop n cs)) ≡ Some (d, rest) → (cs ≡ d ++ rest) × IsDigits d
     go true p h = none_some _ h
     go false p h =
@@ -83,9 +84,10 @@ digits_sound cs d rest e = go (prefix_len is_ascii_digit cs == 0) refl e
         let two : drop n cs ≡ rest = ap (λ (x : List ℕ × List ℕ). x.1) same in
         let within = prefix_len-le-length is_ascii_digit cs in
         let some : n ≢ 0 = eqb-false n 0 p in
-        let len = length-take-le n cs within in
-        (sym (take-append-drop n cs) ∙ ap (λ x. x ++ drop n cs) one ∙ ap (λ x. d ++ x) two,
-         (subst (λ x. 0 < length x) one (omega arith), ap (list_all is_ascii_digit) (sym one) ∙ front_passes is_ascii_digit cs))
+        let len = length-take-le n cs within in (
+          sym (take-append-drop n cs) ∙ ap (λ x. x ++ drop n cs) one ∙ ap (λ x. d ++ x) two,
+          (subst (λ x. 0 < length x) one (omega arith), ap (list_all is_ascii_digit) (sym one) ∙ front_passes is_ascii_digit cs),
+        )
 
 name_sound : (cs n rest : List ℕ) → name_from cs ≡ Some (n, rest) → (cs ≡ n ++ rest) × IsName n
 name_sound [] n rest e = none_some _ e
@@ -93,6 +95,7 @@ name_sound (c ∷ cs) n rest e = go (starts_name c) refl e
   where
     len : ℕ
     len = prefix_len is_xid_continue (c ∷ cs)
+
     go : (b : Bool) → starts_name c ≡ b → cond {A = Option (List ℕ × List ℕ)} b (Some (take len (c ∷ cs), drop len (c ∷ cs))) None ≡ Some (n, rest) → (c ∷ cs ≡ n ++ rest) × IsName n
     go false p h = none_some _ h
     go true p h =
@@ -139,9 +142,13 @@ text_step front (c ∷ cs) d us t rest e more = go (c == 34) (c == 92) refl refl
         let pair = some_same _ _ h in
         let first : c ≡ d = ap (λ (x : ℕ × List ℕ). x.0) pair in
         let second : cs ≡ us = ap (λ (x : ℕ × List ℕ). x.1) pair in
-        let is = plain c more.0 more.1 (eqb-false c 34 p) (eqb-false c 92 q) more.3 in
-        (c ∷ more.0, encode_utf8 c ++ more.1, ap (λ x. c ∷ x) (second ∙ more.2), is,
-         more.4 ∙ ap token.Text (append_assoc front (encode_utf8 d) more.1 ∙ ap (λ k. front ++ (encode_utf8 k ++ more.1)) (sym first)))
+        let is = plain c more.0 more.1 (eqb-false c 34 p) (eqb-false c 92 q) more.3 in (
+          c ∷ more.0,
+          encode_utf8 c ++ more.1,
+          ap (λ x. c ∷ x) (second ∙ more.2),
+          is,
+          more.4 ∙ ap token.Text (append_assoc front (encode_utf8 d) more.1 ∙ ap (λ k. front ++ (encode_utf8 k ++ more.1)) (sym first)),
+        )
 
 text_sound : (n : ℕ) (front cs : List ℕ) (t : Token) (rest : List ℕ) → text_from n front cs ≡ Some (t, rest) → IsTextOf front cs t rest
 unfolding text_from
@@ -181,6 +188,7 @@ sign_sound (c ∷ cs) s rest e = go (c == 43) (c == 61) refl refl e
     of_pair k x same is h =
         let pair = some_same _ _ h in
         ap (λ y. y ∷ cs) same ∙ is ∙ ap (λ (y : Sign × List ℕ). sign_text y.0 ++ y.1) pair
+
     go : (a b : Bool) → (c == 43) ≡ a → (c == 61) ≡ b
         → cond a (Some (doubled 43 sign.Join sign.Plus cs)) (cond b (Some (doubled 61 sign.Equal sign.Becomes cs)) (and_then (single_sign c) (λ w. Some (w, cs)))) ≡ Some (s, rest) → c ∷ cs ≡ sign_text s ++ rest
     go true b p q h = of_pair 43 _ (same_number c 43 p) (doubled_sound 43 sign.Join sign.Plus refl refl cs) h
@@ -251,6 +259,7 @@ plain_sound cs t rest e = at_digits (digits_from cs) refl e
   where
     no_digits : Option (Token × List ℕ)
     no_digits = where_some (name_from cs) (and_then (sign_from cs) (λ s. Some (token.Sign s.0, s.1))) (λ n. Some (token.Name (encode_utf8_all n.0), n.1))
+
     at_name : (o : Option (List ℕ × List ℕ)) → name_from cs ≡ o
         → where_some {B = Option (Token × List ℕ)} o (and_then (sign_from cs) (λ s. Some (token.Sign s.0, s.1))) (λ n. Some (token.Name (encode_utf8_all n.0), n.1)) ≡ Some (t, rest) → IsCut cs t rest
     at_name None p h =
@@ -261,6 +270,7 @@ plain_sound cs t rest e = at_digits (digits_from cs) refl e
         let name = name_sound cs n.0 n.1 p in
         let same : (token.Name (encode_utf8_all n.0), n.1) ≡ (t, rest) = some_same _ _ h in
         subst (λ (x : Token × List ℕ). IsCut cs x.0 x.1) same (record { word = n.0; split = name.0; token = (name.1, refl); some = name_some n.0 name.1 })
+
     at_digits : (o : Option (List ℕ × List ℕ)) → digits_from cs ≡ o
         → where_some {B = Option (Token × List ℕ)} o no_digits (λ d. Some (token.Number (pos (digits_value 10 d.0)), d.1)) ≡ Some (t, rest) → IsCut cs t rest
     at_digits None p h = at_name (name_from cs) refl h
@@ -306,9 +316,12 @@ digits_reach word more (some, all) =
     let n = prefix_len is_ascii_digit (word ++ more) in
     let far = front_reaches is_ascii_digit word more all in
     let within = prefix_len-le-length is_ascii_digit (word ++ more) in
-    let zero_not : (n == 0) ≡ false = grind (arith, nat_tests) in
-    ((take n (word ++ more), drop n (word ++ more)), rw zero_not refl, omega (arith, length-drop n (word ++ more), length-append word more),
-     λ same. split_there n word more same far within)
+    let zero_not : (n == 0) ≡ false = grind (arith, nat_tests) in (
+      (take n (word ++ more), drop n (word ++ more)),
+      rw zero_not refl,
+      omega (arith, length-drop n (word ++ more), length-append word more),
+      λ same. split_there n word more same far within,
+    )
 
 name_reach : (word more : List ℕ) → IsName word → IsSplit word more (name_from (word ++ more))
 name_reach [] more is = absurd is
@@ -317,9 +330,12 @@ name_reach (c ∷ word) more (starts, all) =
     let far = front_reaches is_xid_continue word more all in
     let within = prefix_len-le-length is_xid_continue (c ∷ (word ++ more)) in
     let here : is_xid_continue c ≡ true = goes_on c starts in
-    let k : n ≡ suc (prefix_len is_xid_continue (word ++ more)) = rw here (omega arith) in
-    ((take n (c ∷ (word ++ more)), drop n (c ∷ (word ++ more))), rw starts refl, omega (arith, length-drop n (c ∷ (word ++ more)), length-append word more),
-     λ same. split_there n (c ∷ word) more same (omega arith) within)
+    let k : n ≡ suc (prefix_len is_xid_continue (word ++ more)) = rw here (omega arith) in (
+      (take n (c ∷ (word ++ more)), drop n (c ∷ (word ++ more))),
+      rw starts refl,
+      omega (arith, length-drop n (c ∷ (word ++ more)), length-append word more),
+      λ same. split_there n (c ∷ word) more same (omega arith) within,
+    )
 
 text_reach : (body bytes : List ℕ) → IsBody body bytes → (n : ℕ) (front more : List ℕ) → length body < n → text_from n front (body ++ 34 ∷ more) ≡ Some (token.Text (front ++ bytes), more)
 unfolding text_from
@@ -349,9 +365,12 @@ number_reached [] more is = let none = is.0 in let bad : ⊥ = omega arith in ab
 number_reached (c ∷ word) more is =
     let here : is_ascii_digit c ≡ true = both_first (is_ascii_digit c) (list_all is_ascii_digit word) is.1 in
     let found = digits_reach (c ∷ word) more is in
-    let other = digit_plain c here in
-    ((token.Number (pos (digits_value 10 found.0.0)), found.0.1), from_plain c (word ++ more) other.0 other.1 ∙ rw found.1 refl, found.2,
-     λ same. ap (λ w. token.Number (pos (digits_value 10 w))) (found.3 same))
+    let other = digit_plain c here in (
+      (token.Number (pos (digits_value 10 found.0.0)), found.0.1),
+      from_plain c (word ++ more) other.0 other.1 ∙ rw found.1 refl,
+      found.2,
+      λ same. ap (λ w. token.Number (pos (digits_value 10 w))) (found.3 same),
+    )
 
 no_digits : (c : ℕ) (cs : List ℕ) → is_ascii_digit c ≡ false → digits_from (c ∷ cs) ≡ None
 no_digits c cs h = rw h refl
@@ -361,10 +380,12 @@ name_reached [] more is = absurd is
 name_reached (c ∷ word) more is =
     let found = name_reach (c ∷ word) more is in
     let quote = differs c 34 is.0 (no_start 34 (lit< tt) refl refl) in
-    let dollar = differs c 36 is.0 (no_start 36 (lit< tt) refl refl) in
-    ((token.Name (encode_utf8_all found.0.0), found.0.1),
-     from_plain c (word ++ more) quote dollar ∙ rw (no_digits c (word ++ more) (name_no_digit c is.0), found.1) refl, found.2,
-     λ same. ap (λ w. token.Name (encode_utf8_all w)) (found.3 same))
+    let dollar = differs c 36 is.0 (no_start 36 (lit< tt) refl refl) in (
+      (token.Name (encode_utf8_all found.0.0), found.0.1),
+      from_plain c (word ++ more) quote dollar ∙ rw (no_digits c (word ++ more) (name_no_digit c is.0), found.1) refl,
+      found.2,
+      λ same. ap (λ w. token.Name (encode_utf8_all w)) (found.3 same),
+    )
 
 text_reached : (body bytes more : List ℕ) → IsBody body bytes → IsReached (34 ∷ ((body ++ 34 ∷ []) ++ more)) (token.Text bytes) more
 unfolding token_from
@@ -382,12 +403,14 @@ occurrence_reached digits name more is called =
     let ends : prefix_len is_ascii_digit (digits ++ 46 ∷ (name ++ more)) ≡ n = front_ends is_ascii_digit digits (name ++ more) 46 is.1 refl in
     let zero_not : (n == 0) ≡ false = let some = is.0 in grind (arith, nat_tests) in
     let cut : digits_from (digits ++ 46 ∷ (name ++ more)) ≡ Some (digits, 46 ∷ (name ++ more)) = rw (ends, zero_not, take-append_seam digits (46 ∷ (name ++ more)), drop-append_seam digits (46 ∷ (name ++ more))) refl in
-    let found = name_reach name more called in
-    ((token.Occurrence (digits_value 10 digits) (encode_utf8_all found.0.0), found.0.1),
-     ap (λ x. token_from (36 ∷ x)) all ∙ rw (cut, found.1) refl, found.2,
-     λ same. ap (λ w. token.Occurrence (digits_value 10 digits) (encode_utf8_all w)) (found.3 same))
+    let found = name_reach name more called in (
+      (token.Occurrence (digits_value 10 digits) (encode_utf8_all found.0.0), found.0.1),
+      ap (λ x. token_from (36 ∷ x)) all ∙ rw (cut, found.1) refl,
+      found.2,
+      λ same. ap (λ w. token.Occurrence (digits_value 10 digits) (encode_utf8_all w)) (found.3 same),
+    )
 
-sign_cut : (c : ℕ) (cs : List ℕ) (x : Sign × List ℕ) → starts_name c ≡ false → is_ascii_digit c ≡ false → (c == 34) ≡ false → (c == 36) ≡ false → sign_from (c ∷ cs) ≡ Some x → token_from (c ∷ cs) ≡ Some (token.Sign x.0, x.1)
+pub sign_cut : (c : ℕ) (cs : List ℕ) (x : Sign × List ℕ) → starts_name c ≡ false → is_ascii_digit c ≡ false → (c == 34) ≡ false → (c == 36) ≡ false → sign_from (c ∷ cs) ≡ Some x → token_from (c ∷ cs) ≡ Some (token.Sign x.0, x.1)
 sign_cut c cs x name digit quote dollar is = from_plain c cs quote dollar ∙ rw (no_digits c cs digit, name, is) refl
 
 doubled_short : (k : ℕ) (two one : Sign) (cs : List ℕ) → (length (doubled k two one cs).1 ≤ length cs) × (length (doubled k two one cs).1 ≡ length cs → token.Sign (doubled k two one cs).0 ≡ token.Sign one)

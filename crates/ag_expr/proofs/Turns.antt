@@ -1,5 +1,5 @@
 -- A recursion on a count of turns, beside a loop that counts up.
-use Rattle.std.proofs.Common.{◌≡◌, ℕ, zero, suc, ◌+◌, ◌-◌, ◌<◌, List, [], ◌∷◌, ◌++◌, Option, Some, None, ◌∙◌, refl, sym, ap, arith}
+use Rattle.std.proofs.Common.{◌≡◌, ℕ, suc, ◌+◌, ◌-◌, ◌<◌, List, [], ◌∷◌, ◌++◌, Option, Some, None, ◌∙◌, refl, sym, arith}
 use Rattle.ag_expr.specs.declared.fault.ParseFault.{ParseFault}
 use Rattle.ag_expr.specs.declared.fault.ParseFault.TheVariants as fault
 use Rattle.ag_expr.specs.declared.token.Token.{Token}

@@ -1,6 +1,5 @@
 -- The value of an expression. All of this is this project's.
 use Rattle.std.specs.Prelude.{ℕ, zero, suc, ℤ, pos, negsuc, ◌+ℤ◌, ◌-ℤ◌, ◌*ℤ◌, int_div, int_rem, Bool, true, false, ◌&&◌, nat_lt, if◌then◌else◌, ◌<◌, List, [], ◌∷◌, map}
-use Rattle.ag_value.specs.declared.value.ErrorCode.{ErrorCode}
 use Rattle.ag_value.specs.declared.value.ErrorCode.TheVariants.{Overflow, Divide, Kind}
 use Rattle.ag_value.specs.declared.value.Value.{Value, out-Value}
 use Rattle.ag_value.specs.declared.value.Value.TheOpen.{Value-F}
@@ -82,3 +81,12 @@ all_below n others = all_pass (map (λ p. (p.0, is_below n p.1)) others)
 -- the first n values are well
 pub record AreWell (n : ℕ) (env : ℕ → Value) : Type 0 where
   pub well : (k : ℕ) → k < n → IsWell (env k)
+
+abbrev pub is_plain_at : Value-F Value → Bool
+is_plain_at (Value-F.Num n) = true
+is_plain_at (Value-F.Fault code) = true
+is_plain_at _ = false
+
+-- a number or an error
+abbrev pub is_plain : Value → Bool
+is_plain v = is_plain_at (out-Value v)

@@ -3,10 +3,6 @@ use Rattle.std.specs.Prelude.{◌≡◌, ℕ, true, List, [], length, chars}
 use Rattle.std.specs.List.{list_all}
 use Rattle.ag_expr.specs.declared.fault.ExprFault.{ExprFault}
 use Rattle.ag_expr.specs.declared.fault.ExprFault.TheVariants as fault
-use Rattle.ag_expr.specs.declared.fault.ParseFault.{ParseFault}
-use Rattle.ag_expr.specs.declared.fault.ParseFault.TheVariants as parse_fault
-use Rattle.ag_expr.specs.declared.lexer.Ending.{Ending}
-use Rattle.ag_expr.specs.declared.lexer.Ending.TheVariants as ending
 use Rattle.ag_expr.specs.declared.token.Token.{Token}
 use Rattle.ag_expr.specs.declared.node.Node.{Node}
 use Rattle.ag_expr.specs.declared.occurrence.Occ.{Occ}
@@ -42,16 +38,3 @@ abbrev pub IsAt : List ℕ → ExprFault → Type 0
 IsAt text (fault.NoToken at) = NoTokenAt (chars text) at
 IsAt text (fault.NumberTooLarge at) = TooLargeAt (chars text) at
 IsAt text _ = Unit {0}
-
--- the fault of a text whose tokens end so, where a token is needed behind the last
-abbrev pub fault_at_end : Ending → ℕ → ExprFault
-fault_at_end ending.Whole len = fault.Unexpected len
-fault_at_end (ending.NoToken at) len = fault.NoToken at
-fault_at_end (ending.TooLarge at) len = fault.NumberTooLarge at
-
--- the fault of a text is that of its tokens: memory, the end, or a place among them
-abbrev pub IsFaultOf : ParseFault → Ending → ℕ → ExprFault → Type 0
-IsFaultOf parse_fault.NoMemory ends len e = e ≡ fault.NoMemory
-IsFaultOf p ends len (fault.Unexpected at) = Unit {0}
-IsFaultOf p ends len (fault.TooDeep at) = Unit {0}
-IsFaultOf p ends len e = e ≡ fault_at_end ends len

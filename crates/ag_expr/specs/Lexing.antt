@@ -1,5 +1,5 @@
 -- Cutting the token at the front of characters: the plain function, which agrees with the definition of tokens.
-use Rattle.std.specs.Prelude.{◌≡◌, ℕ, zero, suc, pos, ◌+◌, ◌-◌, ◌<◌, Bool, true, false, cond, ◌==◌, List, [], ◌∷◌, ◌++◌, length, take, drop, Option, Some, None, Result, Ok, Err, encode_utf8, encode_utf8_all}
+use Rattle.std.specs.Prelude.{◌≡◌, ℕ, zero, suc, pos, ◌+◌, ◌-◌, ◌<◌, true, false, cond, ◌==◌, List, [], ◌∷◌, ◌++◌, length, take, drop, Option, Some, None, Result, Ok, Err, encode_utf8, encode_utf8_all}
 use Rattle.std.specs.Char.{is_ascii_digit}
 use Rattle.std.specs.List.{prefix_len, list_all}
 use Rattle.std.specs.Str.Parse.{digits_value}
@@ -75,8 +75,8 @@ occurrence_from cs =
 abbrev pub plain_from : List ℕ → Option (Token × List ℕ)
 plain_from cs =
     where_some (digits_from cs)
-      (where_some (name_from cs) (and_then (sign_from cs) (λ s. Some (token.Sign s.0, s.1))) (λ n. Some (token.Name (encode_utf8_all n.0), n.1)))
-      (λ d. Some (token.Number (pos (digits_value 10 d.0)), d.1))
+    (where_some (name_from cs) (and_then (sign_from cs) (λ s. Some (token.Sign s.0, s.1))) (λ n. Some (token.Name (encode_utf8_all n.0), n.1)))
+    (λ d. Some (token.Number (pos (digits_value 10 d.0)), d.1))
 
 -- the token in front, and what stands behind it
 unfoldable pub token_from : List ℕ → Option (Token × List ℕ)

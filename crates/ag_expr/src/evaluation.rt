@@ -11,12 +11,7 @@ use ag_value::{NoMemory, Value, copy};
 use std::alloc::Global;
 
 /// The value of a tree that is a part of an expression.
-fn tree_value<V: Env>(
-    alloc: Global,
-    expr: &Expr,
-    node: &Node,
-    env: &V,
-) -> Result<Value, NoMemory>
+fn tree_value<V: Env>(alloc: Global, expr: &Expr, node: &Node, env: &V) -> Result<Value, NoMemory>
     requires below { is_below (length expr.now.1) node.now ≡ true }
     requires lends { length expr.now.1 ≤ V.count env.now }
     requires well { AreWell (length expr.now.1) (V.lent env.now) }
@@ -37,7 +32,8 @@ fn tree_value<V: Env>(
     }
 }
 
-/// The value of an expression where `env` lends the values of its occurrences. Takes memory, and counts one on the meter.
+/// The value of an expression where `env` lends the values of its occurrences. Takes memory for copies of values that
+/// are lent. The meter counts one more, also where memory is refused.
 pub fn eval<V: Env>(
     alloc: Global,
     expr: &Expr,

@@ -1,6 +1,7 @@
 ghost use Rattle.std.specs.Prelude.{◌≡◌, chars, length, true, IfOk, IfErr};
 ghost use Rattle.ag_expr.specs.Evaluation.{is_below};
-ghost use Rattle.ag_expr.specs.Expression.{ReadsAsExpr, IsRefused, IsAt, IsFaultOf, fault_at_end};
+ghost use Rattle.ag_expr.specs.Expression.{ReadsAsExpr, IsRefused, IsAt};
+ghost use Rattle.ag_expr.specs.Faults.{IsFaultOf, fault_at_end};
 
 use crate::fault::{ExprFault, ParseFault};
 use crate::lexer::{Ending, Lexed, lex};
@@ -12,7 +13,7 @@ use std::alloc::{AllocError, Global};
 use std::marker::Model;
 
 /// An expression: its tree, and the different occurrences in it in the order of their first appearance.
-#[derive(Drop)]
+#[derive(Debug, Drop)]
 pub struct Expr {
     node: Node,
     occurrences: SmallVec<Occ, 4>,
@@ -35,7 +36,8 @@ impl Model for Expr {
     ghost invariant = { λ e. is_below (length e.occurrences.items) e.node ≡ true };
 }
 
-/// Lends the different occurrences of an expression, in the order of their first appearance in its text.
+/// Lends the different occurrences of an expression, in the order of their first appearance in its text. Takes no
+/// memory.
 pub fn occurrences(expr: &Expr) -> &[Occ]
     ensures { result.now ≡ expr.now.1 }
 {
@@ -53,11 +55,11 @@ fn ending_fault(ending: Ending, len: usize) -> ExprFault
     }
 }
 
-/// The offset of the token from which on so many are left.
-fn offset_of(offsets: &[usize], left: usize) -> usize {
+/// The offset of the token from which on so many are left: the text's length where none is.
+fn offset_of(offsets: &[usize], left: usize, len: usize) -> usize {
     match offsets.get(offsets.len().saturating_sub(left)) {
         Some(at) => *at,
-        None => 0,
+        None => len,
     }
 }
 
@@ -68,9 +70,11 @@ fn fault_of(fault: ParseFault, lexed: &Lexed, len: usize) -> ExprFault
     match fault {
         ParseFault::Unexpected(0) => ending_fault(lexed.ending, len),
         ParseFault::Unexpected(left) => {
-            ExprFault::Unexpected(offset_of(lexed.offsets.as_slice(), left))
+            ExprFault::Unexpected(offset_of(lexed.offsets.as_slice(), left, len))
         }
-        ParseFault::TooDeep(left) => ExprFault::TooDeep(offset_of(lexed.offsets.as_slice(), left)),
+        ParseFault::TooDeep(left) => {
+            ExprFault::TooDeep(offset_of(lexed.offsets.as_slice(), left, len))
+        }
         ParseFault::NoMemory => ExprFault::NoMemory,
     }
 }
@@ -82,7 +86,12 @@ fn characters_of(alloc: Global, text: &str) -> Result<Vec<char>, AllocError>
     text.chars().collect(alloc)
 }
 
-/// Reads a text as an expression. Takes memory.
+/// Reads a text as an expression: its tree, and the different occurrences in it. Takes memory.
+///
+/// The first token that cannot be taken decides on the refusal, and at one token the order is: X1, where no token
+/// begins; X3, where its number is above the limit; X2, where no expression goes on with it, or at the text's end;
+/// X4, where it begins an expression of level 65. A refusal other than for memory means that the text reads as no
+/// expression.
 pub fn read_expr(alloc: Global, text: &str) -> Result<Expr, ExprFault>
     ensures reads { IfOk result (λ e. ReadsAsExpr text.now e) }
     ensures refuses { IfErr result (λ e. IsRefused text.now e) }

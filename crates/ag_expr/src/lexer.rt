@@ -1,5 +1,4 @@
 ghost use Rattle.std.specs.Prelude.{◌≡◌, ◌+◌, ◌<◌, ◌≤◌, ◌^◌, ◌∷◌, [], drop, pos, Some, true, length, option_map, IfOk, IfSome, MatchOption, encode_utf8_all, string_bytes};
-ghost use Rattle.ag_expr.specs.Reading.{and_then};
 ghost use Rattle.std.specs.Char.{is_ascii_digit};
 ghost use Rattle.std.specs.List.{list_all, prefix_len};
 ghost use Rattle.std.specs.Str.Parse.{digits_value};
@@ -7,6 +6,7 @@ ghost use Rattle.unicode_ident.specs.Ident as ident;
 ghost use Rattle.ag_expr.specs.Tokens as tokens_spec;
 ghost use Rattle.ag_expr.specs.Lexing as lexing;
 ghost use Rattle.ag_expr.specs.Lexing.{GivesToken};
+ghost use Rattle.ag_expr.specs.Reading.{and_then};
 
 use crate::fault::TokenFault;
 use crate::token::{Sign, Token};
@@ -273,7 +273,7 @@ fn text_literal(alloc: Global, characters: &[char]) -> Result<(Token, &[char]), 
 {
     let mut content = String::new(alloc);
     let mut rest = characters;
-    for turn in 0..characters.len() {
+    for _turn in 0..characters.len() {
         let Some((c, after)) = character_in_front(rest) else {
             return closed_text(content, rest);
         };
@@ -386,15 +386,27 @@ pub fn lex(alloc: Global, characters: &[char]) -> Result<Lexed, NoMemory>
             }
             Err(TokenFault::Nothing) => {
                 let ending = Ending::NoToken(at);
-                return Ok(Lexed { tokens, offsets, ending });
+                return Ok(Lexed {
+                    tokens,
+                    offsets,
+                    ending,
+                });
             }
             Err(TokenFault::TooLarge) => {
                 let ending = Ending::TooLarge(at);
-                return Ok(Lexed { tokens, offsets, ending });
+                return Ok(Lexed {
+                    tokens,
+                    offsets,
+                    ending,
+                });
             }
             Err(TokenFault::NoMemory) => return Err(NoMemory::NoMemory),
         }
     }
     let ending = Ending::Whole;
-    Ok(Lexed { tokens, offsets, ending })
+    Ok(Lexed {
+        tokens,
+        offsets,
+        ending,
+    })
 }

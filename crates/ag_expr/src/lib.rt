@@ -7,6 +7,7 @@ mod environment;
 mod evaluation;
 mod expression;
 mod fault;
+pub mod laws;
 mod lexer;
 mod meter;
 mod node;

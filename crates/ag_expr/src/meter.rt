@@ -33,7 +33,8 @@ impl Meter {
 
     /// Whether it can count no more, which is so exactly at 2^64 - 1.
     pub fn is_full(&self) -> bool
-        ensures { result ≡ nat_eq self.now (2 ^ 64 - 1) }
+        ensures exact { result ≡ nat_eq self.now (2 ^ 64 - 1) }
+        ensures fits { self.now < 2 ^ 64 }
     {
         self.count == u64::MAX
     }

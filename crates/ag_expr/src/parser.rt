@@ -60,11 +60,7 @@ fn begins_expression(token: &Token) -> bool {
 }
 
 /// One operand alone, or a chain.
-fn chained(
-    alloc: Global,
-    first: Node,
-    others: Vec<(Operator, Node)>,
-) -> Result<Node, NoMemory>
+fn chained(alloc: Global, first: Node, others: Vec<(Operator, Node)>) -> Result<Node, NoMemory>
     ensures { IfOk result (λ e. e ≡ grammar.chained first others.items) }
 {
     if others.is_empty() {
@@ -139,7 +135,7 @@ fn further_products<'a>(
 {
     let mut others = Vec::new(alloc);
     let mut rest = tokens;
-    for turn in 0..tokens.len() {
+    for _turn in 0..tokens.len() {
         let Some((operator, after)) = sum_operator(rest) else {
             return Ok((others, rest));
         };
@@ -179,7 +175,7 @@ fn further_atoms<'a>(
 {
     let mut others = Vec::new(alloc);
     let mut rest = tokens;
-    for turn in 0..tokens.len() {
+    for _turn in 0..tokens.len() {
         let Some((operator, after)) = product_operator(rest) else {
             return Ok((others, rest));
         };

@@ -1,33 +1,46 @@
 use crate::{Env, ExprFault, Meter, eval, occurrences, read_expr};
-use ag_value::{ErrorCode, Value, same};
+use ag_value::{ErrorCode, Text, Value, is_well, same};
 use std::alloc::{Alloc, Global};
 use std::process::Abort;
 use std::test::Fail;
 
-/// Lends nothing.
-struct Nothing;
+/// Lends one value for every occurrence.
+#[derive(Drop)]
+struct Same<'a> {
+    value: &'a Value,
+}
 
-impl Env for Nothing {
-    ghost use Rattle.ag_value.specs.declared.value.Value.TheVariants as value;
-    ghost use Rattle.std.specs.Prelude.{pos};
+impl<'a> Env for Same<'a> {
+    ghost use Rattle.std.specs.Prelude.{◌^◌};
 
-    ghost count = { λ _. 0 };
+    ghost count = { λ _. 2 ^ 64 };
 
-    ghost lent = { λ _ k. value.Num (pos 0) };
+    ghost lent = { λ same k. same.value.now };
 
     fn lend(&self, _k: usize) -> &Value {
-        unreachable!()
+        self.value
     }
 }
 
-/// The value of a text with no occurrence in it.
-fn value_of_text(rt: &(impl Abort + Alloc<A = Global>), text: &str) -> Result<Value, Fail> {
+/// The value of a text where every occurrence has this value.
+#[tactic(auto, using(crate::proofs::Values::are_well))]
+fn value_where(
+    rt: &(impl Abort + Alloc<A = Global>),
+    text: &str,
+    value: &Value,
+) -> Result<Value, Fail> {
     let expr = read_expr(rt.alloc(), text)?;
-    assert_eq!(rt; occurrences(&expr).len(), 0);
     let mut meter = Meter::new();
-    let value = eval(rt.alloc(), &expr, &Nothing, &mut meter)?;
+    assert!(rt; is_well(value));
+    let value = eval(rt.alloc(), &expr, &Same { value }, &mut meter)?;
     assert_eq!(rt; meter.count(), 1);
+    assert!(rt; !meter.is_full());
     Ok(value)
+}
+
+/// The value of a text without occurrences.
+fn value_of_text(rt: &(impl Abort + Alloc<A = Global>), text: &str) -> Result<Value, Fail> {
+    value_where(rt, text, &Value::Num(0))
 }
 
 fn fault_of_text(rt: &(impl Abort + Alloc<A = Global>), text: &str) -> Result<ExprFault, Fail> {
@@ -64,7 +77,10 @@ fn errors(rt: HostRuntime) -> Result<(), Fail> {
         ("9223372036854775807 + 1", ErrorCode::Overflow),
         ("0 - 9223372036854775807 - 2", ErrorCode::Overflow),
         ("9223372036854775807 * 2", ErrorCode::Overflow),
-        ("(0 - 9223372036854775807 - 1) div (0 - 1)", ErrorCode::Overflow),
+        (
+            "(0 - 9223372036854775807 - 1) div (0 - 1)",
+            ErrorCode::Overflow,
+        ),
         ("1 div 0", ErrorCode::Divide),
         ("1 mod 0", ErrorCode::Divide),
         ("1 div 0 + 9223372036854775807 * 2", ErrorCode::Divide),
@@ -107,7 +123,42 @@ fn refusals(rt: HostRuntime) -> Result<(), Fail> {
     Ok(())
 }
 
-fn check_occurrences(rt: &(impl Abort + Alloc<A = Global>), text: &str, wanted: &[(u16, &str, usize)]) -> Result<(), Fail> {
+#[test]
+fn values_of_occurrences(rt: HostRuntime) -> Result<(), Fail> {
+    let text = Value::Text(Text::from_string(String::from_str(rt.alloc(), "ab")?));
+    let fault = Value::Fault(ErrorCode::Index);
+    assert!(rt; same(&value_where(&rt, "$1.a", &text)?, &text));
+    assert!(rt;
+        same(
+            &value_where(&rt, "$1.a - 1 - $2.b", &Value::Num(4))?,
+            &Value::Num(-1)
+        )
+    );
+    for (expression, value, code) in [
+        ("$1.a + 1", &text, ErrorCode::Kind),
+        ("1 - $1.a", &text, ErrorCode::Kind),
+        ("$1.a * $1.a", &text, ErrorCode::Kind),
+        ("$1.a div 0", &text, ErrorCode::Kind),
+        ("0 mod $1.a", &text, ErrorCode::Kind),
+        ("$1.a + 1 div 0", &text, ErrorCode::Divide),
+        ("$1.a + 1", &fault, ErrorCode::Index),
+        ("1 - $1.a", &fault, ErrorCode::Index),
+        ("$1.a * (1 div 0)", &fault, ErrorCode::Index),
+        ("1 div 0 - $1.a", &fault, ErrorCode::Divide),
+        ("$1.a div 0", &fault, ErrorCode::Index),
+        ("0 mod $1.a", &fault, ErrorCode::Index),
+    ] {
+        let found = value_where(&rt, expression, value)?;
+        assert!(rt; same(&found, &Value::Fault(code)), "at {expression}");
+    }
+    Ok(())
+}
+
+fn check_occurrences(
+    rt: &(impl Abort + Alloc<A = Global>),
+    text: &str,
+    wanted: &[(u16, &str, usize)],
+) -> Result<(), Fail> {
     let expr = read_expr(rt.alloc(), text)?;
     let listed = occurrences(&expr);
     assert_eq!(rt; listed.len(), wanted.len(), "at {text}");
@@ -126,11 +177,20 @@ fn different_occurrences(rt: HostRuntime) -> Result<(), Fail> {
     check_occurrences(&rt, "$1.if", &[(1, "if", 0)])?;
     check_occurrences(&rt, "1 + $2.\u{e9}t\u{e9}_1", &[(2, "\u{e9}t\u{e9}_1", 4)])?;
     check_occurrences(&rt, "$1.a + $2.b + $1.a", &[(1, "a", 0), (2, "b", 7)])?;
-    check_occurrences(&rt, "\u{20}($2.a*$65535.b)mod $2.b", &[(2, "a", 2), (65535, "b", 7), (2, "b", 20)])
+    check_occurrences(
+        &rt,
+        "\u{20}($2.a*$65535.b)mod $2.b",
+        &[(2, "a", 2), (65535, "b", 7), (2, "b", 20)],
+    )
 }
 
 /// So many opening parentheses, a text, so many closing ones.
-fn nested(rt: &(impl Abort + Alloc<A = Global>), opening: usize, inner: &str, closing: usize) -> Result<String, Fail> {
+fn nested(
+    rt: &(impl Abort + Alloc<A = Global>),
+    opening: usize,
+    inner: &str,
+    closing: usize,
+) -> Result<String, Fail> {
     let mut text = String::new(rt.alloc());
     for _ in 0..opening {
         text.push('(')?;

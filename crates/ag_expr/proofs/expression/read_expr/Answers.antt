@@ -1,5 +1,4 @@
-use Rattle.std.proofs.Common.{arith, sym, ap, ◌∙◌, subst}
-use Rattle.ag_expr.specs.Lexing.{EndsAt}
+use Rattle.std.proofs.Common.{arith}
 use Rattle.ag_expr.proofs.Lexed.{width-chars}
 use Rattle.ag_expr.proofs.Texts.{read_whole, refused_end, refused_fault, at_end_is, fault_is}
 use Rattle.ag_expr.proofs.expression.read_expr.Goals as goal

@@ -1,4 +1,3 @@
-use Rattle.std.proofs.Common.{rules, arith}
 use Rattle.ag_expr.proofs.Below.{pushed}
 use Rattle.ag_expr.proofs.Turns.{goes_on, stopped}
 use Rattle.ag_expr.proofs.parser.+parsing.Goals as goal

@@ -24,12 +24,12 @@ decreases-atom l = 6 * l.levels + 1
 
 abbrev pub invariant-further_products-loop-turn : goal.invariant-further_products-loop-turn
 invariant-further_products-loop-turn l = record {
-  same : rest_from sum_operator (product_from l.listed (expr_from l.listed l.levels)) (length l.tokens - l.turn) l.others.items l.rest ≡ rest_from sum_operator (product_from l.listed (expr_from l.listed l.levels)) (length l.tokens) [] l.tokens;
+  same : rest_from sum_operator (product_from l.listed (expr_from l.listed l.levels)) (length l.tokens - l._turn) l.others.items l.rest ≡ rest_from sum_operator (product_from l.listed (expr_from l.listed l.levels)) (length l.tokens) [] l.tokens;
   below : all_below (length l.listed) l.others.items ≡ true;
 }
 
 abbrev pub invariant-further_atoms-loop-turn : goal.invariant-further_atoms-loop-turn
 invariant-further_atoms-loop-turn l = record {
-  same : rest_from product_operator (atom_from l.listed (expr_from l.listed l.levels)) (length l.tokens - l.turn) l.others.items l.rest ≡ rest_from product_operator (atom_from l.listed (expr_from l.listed l.levels)) (length l.tokens) [] l.tokens;
+  same : rest_from product_operator (atom_from l.listed (expr_from l.listed l.levels)) (length l.tokens - l._turn) l.others.items l.rest ≡ rest_from product_operator (atom_from l.listed (expr_from l.listed l.levels)) (length l.tokens) [] l.tokens;
   below : all_below (length l.listed) l.others.items ≡ true;
 }
