@@ -4,7 +4,6 @@ pub mod Examples
 pub mod Fronts
 pub mod Lexed
 pub mod Listing
-pub mod OneReading
 pub mod TextTurns
 pub mod Texts
 pub mod TokenLaws

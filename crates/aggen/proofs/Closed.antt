@@ -5,7 +5,7 @@ use Rattle.ag_expr.specs.declared.fault.ExprFault.TheVariants.{NoToken, Unexpect
 use Rattle.ag_expr.specs.declared.node.Node.{Node}
 use Rattle.ag_expr.specs.declared.occurrence.Occ.{Occ}
 use Rattle.ag_expr.specs.Expression.{IsRefused, ReadsAsExpr, ReadsAsNone}
-use Rattle.ag_expr.proofs.OneReading.{one_reading}
+use Rattle.ag_expr.proofs.Texts.{one_expression}
 use Rattle.aggen.specs.Showing.{HasNone, HasValue, IsExprFault}
 use Rattle.aggen.specs.Status.{expr_fault_of}
 
@@ -21,4 +21,4 @@ refused_none text NoMemory none is = absurd is
 
 -- the one expression of the text has occurrences
 pub listed_none : (text : List ℕ) (e : Node × List Occ) → ReadsAsExpr text e → (e.1 ≡ [] → ⊥) → HasNone text
-listed_none text e reads some is has = some (ap (λ (f : Node × List Occ). f.1) (one_reading text e (has.tree, []) reads has.reads))
+listed_none text e reads some is has = some (ap (λ (f : Node × List Occ). f.1) (one_expression text e (has.tree, []) reads has.reads))
