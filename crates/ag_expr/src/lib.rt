@@ -7,12 +7,14 @@ mod environment;
 mod evaluation;
 mod expression;
 mod fault;
+pub mod grammar_laws;
 pub mod laws;
 mod lexer;
 mod meter;
 mod node;
 mod occurrence;
 mod parser;
+pub mod samples;
 #[cfg(test)]
 mod tests;
 mod token;

@@ -1,0 +1,28 @@
+//! Laws about the definitions alone.
+
+ghost use Rattle.ag_expr.specs.GrammarLaws.{ProductiveByTrees, OneSolution, OneTranslation, EquationsKept, PassesSolve};
+
+/// A symbol derives a list of terminals exactly where there is a tree of it.
+pub fn productive_by_trees()
+    ensures { ProductiveByTrees }
+{}
+
+/// Any two solutions on a tree of a complete and normal grammar with a legal assignment of passes are the same.
+pub fn one_solution()
+    ensures { OneSolution }
+{}
+
+/// A tree of an accepted grammar with a legal assignment has one translation at most.
+pub fn one_translation()
+    ensures { OneTranslation }
+{}
+
+/// The equations of a pass stay true where the values of the passes so far are kept.
+pub fn equations_kept()
+    ensures { EquationsKept }
+{}
+
+/// Values that meet the equations of each pass are a solution.
+pub fn passes_solve()
+    ensures { PassesSolve }
+{}

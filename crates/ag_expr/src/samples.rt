@@ -1,0 +1,119 @@
+//! Examples of the definitions, each a law.
+
+ghost use Rattle.std.specs.Prelude.{ℕ, ◌≡◌, [], ◌∷◌, pos};
+ghost use Rattle.ag_value.specs.declared.value.Value.{Num, Text};
+ghost use Rattle.ag_expr.specs.AttributeGrammar.{Literal, Class};
+ghost use Rattle.ag_expr.specs.Accepted.{IsAccepted, IsComplete, IsNormal, IsProductive, IsReached};
+ghost use Rattle.ag_expr.specs.Tree.{node, none, more, IsTreeOf, depth_of, node_count, IsWithinLimits, most_depth, most_nodes};
+ghost use Rattle.ag_expr.specs.Yield.{yield_of};
+ghost use Rattle.ag_expr.specs.Passes.{IsLegal};
+ghost use Rattle.ag_expr.specs.Solution.{Solves, AnyRule, IsTranslation};
+ghost use Rattle.ag_expr.specs.Sample.{sample, without_out, production_r, rule_out, rule_first, rule_second, rule_inherited, later_passes, endless, with_unreached, sample_tree, sample_values, sample_passes, token_sample, token_tree, token_values, iffy};
+
+/// The first grammar is accepted.
+pub fn sample_accepted()
+    ensures { IsAccepted sample }
+{}
+
+/// Without the rule for `out` of the left side its first production is not complete.
+pub fn rule_missing()
+    ensures { IsComplete without_out (production_r (rule_first ∷ rule_second ∷ [])) → ⊥ }
+{}
+
+/// Without that rule the grammar is not accepted.
+pub fn missing_refused()
+    ensures { IsAccepted without_out → ⊥ }
+{}
+
+/// Its tree of `x x` is one of the grammar.
+pub fn sample_fits()
+    ensures { IsTreeOf sample sample_tree }
+{}
+
+/// That tree has depth 2 and 3 nodes, and is within the limits.
+pub fn sample_size()
+    ensures depth { depth_of sample_tree ≡ 2 }
+    ensures nodes { node_count sample_tree ≡ 3 }
+    ensures limits { IsWithinLimits most_depth most_nodes sample_tree }
+{}
+
+/// It yields the literal `x` twice.
+pub fn sample_yield()
+    ensures { yield_of sample sample_tree ≡ (Literal 0, 120 ∷ []) ∷ (Literal 0, 120 ∷ []) ∷ [] }
+{}
+
+/// The values with 2 for `out` solve the grammar on it.
+pub fn sample_solved()
+    ensures { Solves AnyRule sample sample_tree (sample_values 2) }
+{}
+
+/// The same values with 1 for `out` do not.
+pub fn sample_unsolved()
+    ensures { Solves AnyRule sample sample_tree (sample_values 1) → ⊥ }
+{}
+
+/// The translation is 2.
+pub fn sample_translation()
+    ensures { IsTranslation sample (sample_values 2) (Num (pos 2)) }
+{}
+
+/// The first pass for all attributes is a legal assignment.
+pub fn sample_legal()
+    ensures { IsLegal sample sample_passes }
+{}
+
+/// With `$2.i = $1.i` its first production is not normal.
+pub fn not_normal()
+    ensures { IsNormal sample (production_r (rule_out ∷ rule_first ∷ rule_inherited ∷ [])) → ⊥ }
+{}
+
+/// A node of `R = A A` with one child is no tree of the grammar.
+pub fn child_missing()
+    ensures { IsTreeOf sample (node 0 (more (node 1 none) none)) → ⊥ }
+{}
+
+/// The second pass for all attributes is not legal: from left to right the first child comes before what its `i` uses.
+pub fn not_legal()
+    ensures { IsLegal sample later_passes → ⊥ }
+{}
+
+/// A symbol with the production `R = R` alone derives no list of terminals.
+pub fn not_productive()
+    ensures { IsProductive endless 0 → ⊥ }
+{}
+
+/// A symbol that stands on no right side, and is not the start symbol, is not reached.
+pub fn not_reached()
+    ensures { IsReached with_unreached 2 → ⊥ }
+{}
+
+/// The tree of `iffy if`, with a token, is one of the second grammar.
+pub fn token_fits()
+    ensures { IsTreeOf token_sample token_tree }
+{}
+
+/// A token is a node: that tree has depth 2 and 2 nodes.
+pub fn token_size()
+    ensures depth { depth_of token_tree ≡ 2 }
+    ensures nodes { node_count token_tree ≡ 2 }
+{}
+
+/// It yields the name `iffy` and then the literal `if`.
+pub fn token_yield()
+    ensures { yield_of token_sample token_tree ≡ (Class 0, iffy) ∷ (Literal 0, 105 ∷ 102 ∷ []) ∷ [] }
+{}
+
+/// The name for `out` solves the grammar on it.
+pub fn token_solved()
+    ensures { Solves AnyRule token_sample token_tree (token_values iffy) }
+{}
+
+/// The empty text does not.
+pub fn token_unsolved()
+    ensures { Solves AnyRule token_sample token_tree (token_values []) → ⊥ }
+{}
+
+/// The translation is the name.
+pub fn token_translation()
+    ensures { IsTranslation token_sample (token_values iffy) (Text iffy) }
+{}
