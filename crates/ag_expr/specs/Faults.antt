@@ -1,5 +1,5 @@
--- Which fault of a text comes of the end of its tokens and of a fault among them.
-use Rattle.std.specs.Prelude.{◌≡◌, ℕ}
+-- Which fault of a text comes of the end of its tokens and of a fault among them, and how faults are printed.
+use Rattle.std.specs.Prelude.{◌≡◌, ℕ, List, ◌++◌, codes, decimal}
 use Rattle.ag_expr.specs.declared.fault.ExprFault.{ExprFault}
 use Rattle.ag_expr.specs.declared.fault.ExprFault.TheVariants as fault
 use Rattle.ag_expr.specs.declared.fault.ParseFault.{ParseFault}
@@ -19,3 +19,11 @@ IsFaultOf parse_fault.NoMemory ends len e = e ≡ fault.NoMemory
 IsFaultOf p ends len (fault.Unexpected at) = Unit {0}
 IsFaultOf p ends len (fault.TooDeep at) = Unit {0}
 IsFaultOf p ends len e = e ≡ fault_at_end ends len
+
+-- how a fault is printed: its number, and the offset in decimal
+abbrev pub printed : ExprFault → List ℕ
+printed (fault.NoToken at) = codes "X1 at " ++ decimal at
+printed (fault.Unexpected at) = codes "X2 at " ++ decimal at
+printed (fault.NumberTooLarge at) = codes "X3 at " ++ decimal at
+printed (fault.TooDeep at) = codes "X4 at " ++ decimal at
+printed fault.NoMemory = codes "NoMemory"

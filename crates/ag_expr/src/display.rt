@@ -2,7 +2,13 @@ use crate::fault::ExprFault;
 use std::error::Error;
 use std::fmt;
 
+/// The number of the fault, and where it has one its offset: `X2 at 13`.
 impl fmt::Display for ExprFault {
+    ghost use Rattle.std.specs.Prelude.{Some};
+    ghost use Rattle.ag_expr.specs.Faults.{printed};
+
+    ghost output = { λ fault. Some (printed fault) };
+
     fn fmt<W: fmt::Write>(&self, f: &mut fmt::Formatter<W>) -> fmt::Result {
         match self {
             ExprFault::NoToken(at) => write!(f, "X1 at {at}"),
