@@ -33,3 +33,10 @@ frame_fault_of frame.NotATreeFile = fault.NotATreeFile
 frame_fault_of (frame.Damaged at) = fault.Damaged at
 frame_fault_of frame.Device = fault.Device
 frame_fault_of frame.NoMemory = fault.NoMemory
+
+-- a fault of the command line, of printing what is wrong with it, or of memory
+abbrev pub IsCommandFault : Fault → Type 0
+IsCommandFault fault.Usage = Unit {0}
+IsCommandFault fault.Write = Unit {0}
+IsCommandFault fault.NoMemory = Unit {0}
+IsCommandFault _ = ⊥

@@ -1,3 +1,6 @@
+ghost use Rattle.std.specs.Prelude.{IfErr};
+ghost use Rattle.aggen.specs.Status.{IsCommandFault};
+
 use crate::fault::Fault;
 use clap::error::ErrorKind;
 use clap::{Arg, ArgMatches, Command, Error};
@@ -18,12 +21,14 @@ pub enum Request<'a> {
 }
 
 /// What the words ask for, the program's name first. Help and the version are printed on standard output, and what
-/// is wrong with the words on standard error.
+/// is wrong with the words on standard error; O2 Write where they can't be printed.
 pub fn request_of<'a, R: Print + Eprint>(
     rt: &R,
     alloc: Global,
     words: &'a [String],
-) -> Result<Request<'a>, Fault> {
+) -> Result<Request<'a>, Fault>
+    ensures { IfErr result IsCommandFault }
+{
     match command(alloc)?.try_get_matches_from(words) {
         Ok(matches) => Ok(Request::Value(expression_of(&matches))),
         Err(error) => refuse(rt, error),
@@ -37,7 +42,10 @@ fn expression_of<'a>(matches: &ArgMatches<'a>) -> &'a str {
     }
 }
 
-fn refuse<'a, R: Print + Eprint>(rt: &R, error: Error) -> Result<Request<'a>, Fault> {
+/// Prints help, the version, or what is wrong with the words.
+fn refuse<'a, R: Print + Eprint>(rt: &R, error: Error) -> Result<Request<'a>, Fault>
+    ensures { IfErr result IsCommandFault }
+{
     if error.kind() == ErrorKind::OutOfMemory {
         return Err(Fault::NoMemory);
     }
