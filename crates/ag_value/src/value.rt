@@ -1,11 +1,11 @@
 use crate::items::Items;
 use crate::text::Text;
 
-/// Why an expression has no other value, as a value. The codes are 1 to 8 in this order.
+/// Why an expression has no other value, as a value. In spellings the errors have the numbers 1 to 8 in this order.
 #[derive(Clone, Copy, Debug, PartialEq, Eq)]
 pub enum ErrorCode {
     /// A number left the range of i64.
-    Overflow = 1,
+    Overflow,
     /// A division by zero.
     Divide,
     /// An argument of a kind that the operation does not take.
@@ -19,7 +19,7 @@ pub enum ErrorCode {
     /// A value whose spelling has more than 1,048,576 bytes.
     Big,
     /// A value of more than 64 levels.
-    Deep = 8,
+    Deep,
 }
 
 /// The value of an attribute.

@@ -27,10 +27,12 @@ fn is_item(value: &Value) -> bool
     ensures { result ≡ is_item value.now }
 {
     match value {
+        // each i64 is in range, which a read of it tells the prover
         Value::Num(n) => {
             let _in_range = *n;
             true
         }
+        // and each text is UTF-8
         Value::Text(text) => {
             let _utf8 = text.as_str();
             true
