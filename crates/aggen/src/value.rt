@@ -59,8 +59,11 @@ fn value_of(alloc: Global, text: &str) -> Result<Value, Fault>
     ensures refused { IfErr result (λ e. IsExprFault e → HasNone text.now) }
 {
     let expr = read_closed(alloc, text)?;
+    let env = Unasked {
+        number: Value::Num(0),
+    };
     let mut meter = Meter::new();
-    Ok(eval(alloc, &expr, &NoValues, &mut meter)?)
+    Ok(eval(alloc, &expr, &env, &mut meter)?)
 }
 
 /// The expression without occurrences that the text is.
@@ -77,17 +80,18 @@ fn read_closed(alloc: Global, text: &str) -> Result<Expr, Fault>
     Ok(expr)
 }
 
-/// The environment of an expression without occurrences.
-struct NoValues;
+/// The environment of an expression without occurrences: it lends a number, and nothing asks for it.
+#[derive(Drop)]
+struct Unasked {
+    number: Value,
+}
 
-impl Env for NoValues {
-    ghost use Rattle.aggen.specs.Showing.{no_values};
+impl Env for Unasked {
+    ghost count = { λ _. 1 };
 
-    ghost count = { λ _. 0 };
-
-    ghost lent = { λ _. no_values };
+    ghost lent = { λ env _. env.number };
 
     fn lend(&self, _k: usize) -> &Value {
-        unreachable!()
+        &self.number
     }
 }
