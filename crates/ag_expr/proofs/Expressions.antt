@@ -1,5 +1,5 @@
 -- What the expressions of the sample grammars give.
-use Rattle.std.proofs.Common.{ℕ, ℤ, ◌≡◌, [], ◌∷◌, refl, ap, ap₂, ◌∙◌, sym, pos}
+use Rattle.std.proofs.Common.{ℕ, ℤ, ◌≡◌, [], ◌∷◌, ap, ap₂, ◌∙◌, sym, pos}
 use Rattle.ag_value.specs.declared.value.Value.{Value, Num}
 use Rattle.ag_value.specs.declared.value.Value.TheVariants.{outs-Num}
 use Rattle.ag_expr.specs.declared.node.Node.{Node}

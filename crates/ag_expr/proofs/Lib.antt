@@ -9,6 +9,7 @@ pub mod Lexed
 pub mod Listing
 pub mod Members
 pub mod NumberSample
+pub mod Numbered
 pub mod OneSolution
 pub mod Productive
 pub mod Refused

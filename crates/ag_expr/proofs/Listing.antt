@@ -8,7 +8,7 @@ use Rattle.ag_expr.specs.declared.occurrence.Occ.{Occ}
 use Rattle.ag_expr.specs.Occurrences.{is_of, different, listed_with_all}
 use Rattle.ag_expr.proofs.Fronts.{both_first, both_second}
 
-abbrev is_listed : List Occ → Occ → Bool
+abbrev pub is_listed : List Occ → Occ → Bool
 is_listed xs y = list_any (is_of y.place y.attr) xs
 
 -- those that are not listed
@@ -16,7 +16,7 @@ abbrev unlisted : List Occ → List Occ → List Occ
 unlisted xs ys = filter (λ y. not (is_listed xs y)) ys
 
 -- one of the same place and name is listed where the other is
-listed_alike : (xs : List Occ) (x y : Occ) → is_of y.place y.attr x ≡ true → is_listed xs x ≡ is_listed xs y
+pub listed_alike : (xs : List Occ) (x y : Occ) → is_of y.place y.attr x ≡ true → is_listed xs x ≡ is_listed xs y
 listed_alike xs x y h =
     let place : x.place ≡ y.place = eqb-true x.place y.place (both_first (x.place == y.place) (bytes_eq x.attr y.attr) h) in
     let attr : x.attr ≡ y.attr = (bytes_eq-Decides x.attr y.attr).0 (both_second (x.place == y.place) (bytes_eq x.attr y.attr) h) in

@@ -7,6 +7,7 @@ pub mod Grammar
 pub mod GrammarLaws
 pub mod Lexing
 pub mod Lists
+pub mod Numbers
 pub mod Occurrences
 pub mod Passes
 pub mod Reading

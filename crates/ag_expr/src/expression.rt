@@ -99,11 +99,15 @@ pub fn read_expr(alloc: Global, text: &str) -> Result<Expr, ExprFault>
 {
     let characters = characters_of(alloc, text)?;
     let lexed = lex(alloc, characters.as_slice())?;
+    let ending = lexed.ending;
     let tokens = lexed.tokens.as_slice();
-    let occurrences = list_occurrences(alloc, tokens, lexed.offsets.as_slice())?;
-    match parse(alloc, occurrences.as_slice(), tokens) {
-        Ok(node) => match lexed.ending {
-            Ending::Whole => Ok(Expr { node, occurrences }),
+    let listed = list_occurrences(alloc, tokens, lexed.offsets.as_slice())?;
+    match parse(alloc, &listed, tokens) {
+        Ok(node) => match ending {
+            Ending::Whole => Ok(Expr {
+                node,
+                occurrences: listed.into_list(),
+            }),
             ending => Err(ending_fault(ending, text.len())),
         },
         Err(fault) => Err(fault_of(fault, &lexed, text.len())),

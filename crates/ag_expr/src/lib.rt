@@ -2,6 +2,7 @@
 #![tactic(auto)]
 
 mod arithmetic;
+mod directory;
 mod display;
 mod environment;
 mod evaluation;

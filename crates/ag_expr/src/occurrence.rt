@@ -1,10 +1,9 @@
-ghost use Rattle.std.specs.Prelude.{◌≡◌, ◌<◌, [], length, IfOk, IfSome, OnOk};
-ghost use Rattle.std.specs.List.{list_any};
+ghost use Rattle.std.specs.Prelude.{◌≡◌, [], length, IfOk, OnOk};
 ghost use Rattle.ag_expr.specs.Occurrences as spec;
 
+use crate::directory::Directory;
 use crate::token::Token;
 use ag_value::{NoMemory, Text};
-use smallvec::SmallVec;
 use std::alloc::Global;
 use std::default::MadeWith;
 
@@ -30,81 +29,31 @@ impl MadeWith<Global> for Occ {
     }
 }
 
-/// Whether an occurrence has this place and name.
-fn is_of(occurrence: &Occ, place: u16, attr: &str) -> bool
-    ensures { result ≡ spec.is_of place attr.now occurrence.now }
-{
-    occurrence.place == place && occurrence.attr.as_str() == attr
-}
-
-/// Whether an occurrence with this place and name is listed.
-fn is_listed(listed: &[Occ], place: u16, attr: &str) -> bool
-    ensures { result ≡ list_any (spec.is_of place attr.now) listed.now }
-{
-    for occurrence in listed {
-        if is_of(occurrence, place, attr) {
-            return true;
-        }
-    }
-    false
-}
-
-/// The number of the first listed occurrence with this place and name.
-pub fn position_of(listed: &[Occ], place: u16, attr: &str) -> Option<usize>
-    ensures value { result ≡ spec.position_of listed.now place attr.now }
-    ensures within { IfSome result (λ k. k < length listed.now) }
-{
-    for (k, occurrence) in listed.iter().enumerate() {
-        if is_of(occurrence, place, attr) {
-            return Some(k);
-        }
-    }
-    None
-}
-
-/// Lists an occurrence at the end, unless its place and name are listed already.
-fn list(
-    alloc: Global,
-    listed: &mut SmallVec<Occ, 4>,
-    place: u16,
-    attr: &Text,
-    at: usize,
-) -> Result<(), NoMemory>
-    ensures { OnOk result (listed.new.items ≡ spec.listed_with listed.old.items (record { place = place; attr = attr.now; at = at })) }
-{
-    if is_listed(listed.as_slice(), place, attr.as_str()) {
-        return Ok(());
-    }
-    let attr = Text::from_string(String::from_str(alloc, attr.as_str())?);
-    listed.push(Occ { place, attr, at })?;
-    Ok(())
-}
-
 /// Lists the occurrence that a token is, if it is one.
-fn list_token(
+fn list_token<'t>(
     alloc: Global,
-    listed: &mut SmallVec<Occ, 4>,
-    token: &Token,
+    listed: &mut Directory<'t>,
+    token: &'t Token,
     at: usize,
 ) -> Result<(), NoMemory>
-    ensures { OnOk result (listed.new.items ≡ spec.listed_with_all listed.old.items (spec.occurrence_in token.now at)) }
+    ensures { OnOk result (listed.new ≡ spec.listed_with_all listed.old (spec.occurrence_in token.now at)) }
 {
     match token {
-        Token::Occurrence(place, attr) => list(alloc, listed, *place, attr, at),
+        Token::Occurrence(place, attr) => listed.list(alloc, *place, attr.as_str(), at),
         _ => Ok(()),
     }
 }
 
 /// The different occurrences among tokens, in the order of their first appearance.
-pub fn list_occurrences(
+pub fn list_occurrences<'t>(
     alloc: Global,
-    tokens: &[Token],
+    tokens: &'t [Token],
     offsets: &[usize],
-) -> Result<SmallVec<Occ, 4>, NoMemory>
+) -> Result<Directory<'t>, NoMemory>
     requires { length tokens.now ≡ length offsets.now }
-    ensures { IfOk result (λ listed. listed.items ≡ spec.listed_with_all [] (spec.all_occurrences tokens.now offsets.now)) }
+    ensures { IfOk result (λ listed. listed ≡ spec.listed_with_all [] (spec.all_occurrences tokens.now offsets.now)) }
 {
-    let mut listed = SmallVec::new(alloc);
+    let mut listed = Directory::new(alloc);
     for i in 0..tokens.len() {
         list_token(alloc, &mut listed, &tokens[i], offsets[i])?;
     }

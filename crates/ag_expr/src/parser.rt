@@ -3,9 +3,9 @@ ghost use Rattle.ag_expr.specs.Grammar as grammar;
 ghost use Rattle.ag_expr.specs.Reading.{Gives, atom_from, product_from, sum_from, expr_from, expr_of, operator_from, rest_from, closed_from};
 ghost use Rattle.ag_expr.specs.Evaluation.{is_below, all_below};
 
+use crate::directory::Directory;
 use crate::fault::ParseFault;
 use crate::node::{Node, Operator};
-use crate::occurrence::{Occ, position_of};
 use crate::token::{Sign, Token};
 use ag_value::{Boxed, Items, NoMemory};
 use std::alloc::Global;
@@ -92,7 +92,7 @@ fn no_level(tokens: &[Token]) -> ParseFault {
 #[tactic(auto, unfolding(crate::specs::Reading::expr_from))]
 fn expression<'a>(
     alloc: Global,
-    listed: &[Occ],
+    listed: &Directory<'a>,
     levels: usize,
     tokens: &'a [Token],
 ) -> Result<(Node, &'a [Token]), ParseFault>
@@ -110,7 +110,7 @@ fn expression<'a>(
 #[tactic(auto, using(crate::proofs::Below::in_chain), unfolding(crate::specs::Reading::sum_from))]
 fn sum<'a>(
     alloc: Global,
-    listed: &[Occ],
+    listed: &Directory<'a>,
     levels: usize,
     tokens: &'a [Token],
 ) -> Result<(Node, &'a [Token]), ParseFault>
@@ -126,7 +126,7 @@ fn sum<'a>(
 #[tactic(auto, using(crate::proofs::Turns::goes_on, crate::proofs::Turns::stopped, crate::proofs::Turns::failed, crate::proofs::Below::pushed), unfolding(crate::specs::Reading::rest_from))]
 fn further_products<'a>(
     alloc: Global,
-    listed: &[Occ],
+    listed: &Directory<'a>,
     levels: usize,
     tokens: &'a [Token],
 ) -> Result<(Vec<(Operator, Node)>, &'a [Token]), ParseFault>
@@ -150,7 +150,7 @@ fn further_products<'a>(
 #[tactic(auto, using(crate::proofs::Below::in_chain), unfolding(crate::specs::Reading::product_from))]
 fn product<'a>(
     alloc: Global,
-    listed: &[Occ],
+    listed: &Directory<'a>,
     levels: usize,
     tokens: &'a [Token],
 ) -> Result<(Node, &'a [Token]), ParseFault>
@@ -166,7 +166,7 @@ fn product<'a>(
 #[tactic(auto, using(crate::proofs::Turns::goes_on, crate::proofs::Turns::stopped, crate::proofs::Turns::failed, crate::proofs::Below::pushed), unfolding(crate::specs::Reading::rest_from))]
 fn further_atoms<'a>(
     alloc: Global,
-    listed: &[Occ],
+    listed: &Directory<'a>,
     levels: usize,
     tokens: &'a [Token],
 ) -> Result<(Vec<(Operator, Node)>, &'a [Token]), ParseFault>
@@ -190,7 +190,7 @@ fn further_atoms<'a>(
 #[tactic(auto, unfolding(crate::specs::Reading::atom_from))]
 fn atom<'a>(
     alloc: Global,
-    listed: &[Occ],
+    listed: &Directory<'a>,
     levels: usize,
     tokens: &'a [Token],
 ) -> Result<(Node, &'a [Token]), ParseFault>
@@ -200,7 +200,7 @@ fn atom<'a>(
     match tokens {
         [Token::Number(number), rest @ ..] => Ok((Node::Number(*number), rest)),
         [Token::Occurrence(place, attr), rest @ ..] => {
-            match position_of(listed, *place, attr.as_str()) {
+            match listed.position(*place, attr.as_str()) {
                 Some(k) => Ok((Node::Occurrence(k), rest)),
                 None => Err(ParseFault::Unexpected(tokens.len())),
             }
@@ -215,7 +215,11 @@ fn atom<'a>(
 
 /// The expression that the tokens spell, all of the tokens.
 #[tactic(auto, unfolding(crate::specs::Reading::expr_of))]
-pub fn parse(alloc: Global, listed: &[Occ], tokens: &[Token]) -> Result<Node, ParseFault>
+pub fn parse<'a>(
+    alloc: Global,
+    listed: &Directory<'a>,
+    tokens: &'a [Token],
+) -> Result<Node, ParseFault>
     ensures gives { Gives (λ e. e) result (expr_of listed.now 64 tokens.now) }
     ensures below { IfOk result (λ e. is_below (length listed.now) e ≡ true) }
 {

@@ -228,3 +228,14 @@ fn long_chain(rt: HostRuntime) -> Result<(), Fail> {
     assert!(rt; same(&value, &Value::Num(10000)));
     Ok(())
 }
+
+#[test]
+fn very_many_occurrences(rt: HostRuntime) -> Result<(), Fail> {
+    let mut text = String::from_str(rt.alloc(), "$1.a0")?;
+    for i in 1..20000 {
+        text.push_str(format!(in rt.alloc(); " + $1.a{i}")?.as_str())?;
+    }
+    let expr = read_expr(rt.alloc(), text.as_str())?;
+    assert_eq!(rt; occurrences(&expr).len(), 20000);
+    Ok(())
+}

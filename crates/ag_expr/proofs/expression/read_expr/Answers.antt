@@ -9,9 +9,9 @@ lex-requires c = rw (c.as_slice.ensures.value, c.in_ok-characters.ensures, width
 pub returns-in-Whole-clause-reads : goal.returns-in-Whole-clause-reads
 returns-in-Whole-clause-reads c =
     let ends = rw (c.as_slice.ensures.value, c.in_ok-characters.ensures, c.in-Whole.is) at c.in_ok-lexed.ensures.ends in
-    let listed = rw (c.as_slice-tokens.ensures.value, c.as_slice-2.ensures.value) at c.in_ok-occurrences.ensures in
-    let read = rw (c.as_slice-tokens.ensures.value, c.as_slice-3.ensures) at c.in-Ok.ensures.gives in
-    read_whole c.args.text.now _ _ _ _ c.utf8.text ends listed read
+    let listed = rw (c.as_slice-tokens.ensures.value, c.as_slice-2.ensures.value) at c.in_ok-listed.ensures in
+    let read = rw c.as_slice-tokens.ensures.value at c.in-Ok.ensures.gives in
+    rw c.into_list.ensures (read_whole c.args.text.now _ _ _ _ c.utf8.text ends listed read)
 
 pub returns-in-Ok : goal.returns-in-Ok
 returns-in-Ok c =
@@ -25,8 +25,8 @@ returns-in-Ok c =
 pub returns-clause-refuses : goal.returns-clause-refuses
 returns-clause-refuses c =
     let ends = rw (c.as_slice.ensures.value, c.in_ok-characters.ensures) at c.in_ok-lexed.ensures.ends in
-    let listed = rw (c.as_slice-tokens.ensures.value, c.as_slice-2.ensures.value) at c.in_ok-occurrences.ensures in
-    let read = rw (c.as_slice-tokens.ensures.value, c.as_slice-3.ensures) at c.in-Err.ensures.gives in
+    let listed = rw (c.as_slice-tokens.ensures.value, c.as_slice-2.ensures.value) at c.in_ok-listed.ensures in
+    let read = rw c.as_slice-tokens.ensures.value at c.in-Err.ensures.gives in
     refused_fault c.args.text.now _ _ _ _ _ _ c.fault_of.result ends listed read c.fault_of.ensures
 
 pub returns-clause-places : goal.returns-clause-places

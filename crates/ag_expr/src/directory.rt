@@ -1,0 +1,83 @@
+ghost use Rattle.std.specs.Prelude.{◌≡◌, ◌<◌, [], length, IfSome, OnOk, OnErr};
+ghost use Rattle.ag_expr.specs.Occurrences as spec;
+
+use crate::occurrence::Occ;
+use ag_value::{NoMemory, Text};
+use smallvec::SmallVec;
+use std::alloc::Global;
+use std::collections::HashMap;
+use std::marker::Model;
+
+/// The different occurrences so far, and the number of each by its place and name.
+#[derive(Drop)]
+pub struct Directory<'t> {
+    listed: SmallVec<Occ, 4>,
+    numbers: HashMap<(u16, &'t str), usize>,
+}
+
+impl<'t> Model for Directory<'t> {
+    ghost use Rattle.std.specs.Prelude.{List};
+    ghost use Rattle.ag_expr.specs.declared.occurrence.Occ.{Occ};
+
+    ghost Value = { List Occ };
+
+    ghost use Rattle.ag_expr.specs.Numbers.{Follows};
+
+    ghost view = { λ directory. directory.listed.items };
+
+    ghost invariant = { λ directory. Follows directory.numbers directory.listed.items };
+}
+
+impl<'t> Directory<'t> {
+    /// An empty directory. Takes no memory.
+    pub fn new(alloc: Global) -> Directory<'t>
+        ensures { result ≡ [] }
+    {
+        Directory {
+            listed: SmallVec::new(alloc),
+            numbers: HashMap::new(alloc),
+        }
+    }
+
+    /// The number of the listed occurrence with this place and name. Takes no memory.
+    pub fn position(&self, place: u16, attr: &'t str) -> Option<usize>
+        ensures value { result ≡ spec.position_of self.now place attr.now }
+        ensures within { IfSome result (λ k. k < length self.now) }
+    {
+        self.numbers.get(&(place, attr)).copied()
+    }
+
+    /// Lists an occurrence at the end, unless its place and name are listed already. Takes memory; where that is
+    /// refused, the list stays as it was.
+    pub fn list(
+        &mut self,
+        alloc: Global,
+        place: u16,
+        attr: &'t str,
+        at: usize,
+    ) -> Result<(), NoMemory>
+        ensures lists { OnOk result (self.new ≡ spec.listed_with self.old (record { place = place; attr = attr.now; at = at })) }
+        ensures stays { OnErr result (self.new ≡ self.old) }
+    {
+        if self.position(place, attr).is_some() {
+            return Ok(());
+        }
+        let copied = Text::from_string(String::from_str(alloc, attr)?);
+        self.listed.reserve(1)?;
+        let number = self.listed.len();
+        self.numbers.insert((place, attr), number)?;
+        self.listed.push_reserved(Occ {
+            place,
+            attr: copied,
+            at,
+        });
+        Ok(())
+    }
+
+    /// The listed occurrences. Takes no memory.
+    pub fn into_list(self) -> SmallVec<Occ, 4>
+        ensures { result.items ≡ self.entry }
+    {
+        self.listed
+    }
+}
