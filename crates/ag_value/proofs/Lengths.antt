@@ -1,11 +1,10 @@
 -- The length of a spelling is the weight of the value.
-use Rattle.std.proofs.Common.{◌≡◌, ℕ, zero, suc, ◌+◌, ◌≤◌, ℤ, List, [], ◌∷◌, ◌++◌, length, map, sum, refl, sym, ap, subst, ◌∙◌, arith}
+use Rattle.std.proofs.Common.{◌≡◌, ℕ, zero, suc, ◌≤◌, List, [], ◌∷◌, length, map, sum, refl, sym, ap, subst, ◌∙◌, arith}
 use Rattle.std.proofs.lemmas.List.{length-append}
 use Rattle.std.proofs.lemmas.List.Sums.{sum_by-cons}
-use Rattle.std.specs.Int.{w32, w64, to_be_bytes, cast_unsigned}
+use Rattle.std.specs.Int.{w32, to_be_bytes}
 use Rattle.ag_value.specs.declared.value.Value.{Value, out-Value, roll-Value, roll-out-Value}
 use Rattle.ag_value.specs.declared.value.Value.TheOpen.{Value-F}
-use Rattle.ag_value.specs.declared.value.Value.TheVariants as v
 use Rattle.ag_value.specs.declared.value.Value.TheVariants.{rolls-Num, rolls-Text, rolls-List, rolls-Table, rolls-Fault}
 use Rattle.ag_value.specs.Measure.{weight_of, weight_of_pair, depth_of, greatest}
 use Rattle.ag_value.specs.Spelling.{counted, joined, spelling_of, spelling_of_pair}

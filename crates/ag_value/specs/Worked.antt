@@ -1,5 +1,5 @@
 -- A value for worked examples.
-use Rattle.std.specs.Prelude.{ℕ, List, [], ◌∷◌, pos, negsuc, codes}
+use Rattle.std.specs.Prelude.{[], ◌∷◌, negsuc, codes}
 use Rattle.ag_value.specs.declared.value.Value.{Value}
 use Rattle.ag_value.specs.declared.value.Value.TheVariants as v
 

@@ -1,12 +1,12 @@
 -- Which texts read as no expression without occurrences.
-use Rattle.std.proofs.Common.{◌≡◌, ℕ, List, [], ap, ◌∙◌}
+use Rattle.std.proofs.Common.{◌≡◌, ℕ, List, [], ap}
 use Rattle.ag_expr.specs.declared.fault.ExprFault.{ExprFault}
 use Rattle.ag_expr.specs.declared.fault.ExprFault.TheVariants.{NoToken, Unexpected, NumberTooLarge, TooDeep, NoMemory}
 use Rattle.ag_expr.specs.declared.node.Node.{Node}
 use Rattle.ag_expr.specs.declared.occurrence.Occ.{Occ}
 use Rattle.ag_expr.specs.Expression.{IsRefused, ReadsAsExpr, ReadsAsNone}
 use Rattle.ag_expr.proofs.Texts.{one_expression}
-use Rattle.aggen.specs.Showing.{HasNone, HasValue, IsExprFault}
+use Rattle.aggen.specs.Showing.{HasNone, IsExprFault}
 use Rattle.aggen.specs.Status.{expr_fault_of}
 
 none_closed : (text : List ℕ) → ReadsAsNone text → HasNone text

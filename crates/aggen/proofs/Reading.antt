@@ -1,12 +1,12 @@
 -- The record in the file of a value is the one that was put.
-use Rattle.std.proofs.Common.{◌≡◌, ℕ, zero, suc, ◌≤◌, List, [], ◌∷◌, length, Result, Ok, Err, sym, ap, subst, ◌∙◌, arith, refl}
+use Rattle.std.proofs.Common.{◌≡◌, ℕ, zero, suc, List, [], ◌∷◌, Result, Ok, Err, sym, subst, ◌∙◌, arith}
 use Rattle.std.specs.Prelude.{All, MatchResult}
 use Rattle.ag_value.specs.declared.value.Value.{Value}
 use Rattle.ag_value.specs.Well.{IsWell}
 use Rattle.treefile.specs.declared.body.Kind.TheVariants.{Token}
 use Rattle.treefile.specs.declared.reading.FrameFault.{FrameFault}
 use Rattle.treefile.specs.declared.reading.FrameFault.TheVariants.{NotATreeFile, Damaged, Device, NoMemory}
-use Rattle.treefile.specs.Ending.{Told, least_body, last_body_of}
+use Rattle.treefile.specs.Ending.{Told, last_body_of}
 use Rattle.treefile.specs.TreeFile.{body_of}
 use Rattle.treefile.proofs.Files.{last_of_file}
 use Rattle.treefile.proofs.Sizes.{body_size}

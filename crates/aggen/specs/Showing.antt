@@ -1,6 +1,6 @@
 -- What it means to show a value: the expression of a text, the file that its value goes through, and the line that is
 -- written. All of this is this project's.
-use Rattle.std.specs.Prelude.{◌≡◌, ℕ, pos, List, [], ◌∷◌, ◌++◌, codes, Option, Result, Ok, Err}
+use Rattle.std.specs.Prelude.{◌≡◌, ℕ, pos, List, [], ◌∷◌, ◌++◌, codes, Option}
 use Rattle.std.specs.Io.KnownBytes.{Appends}
 use Rattle.ag_expr.specs.Evaluation.{value_of}
 use Rattle.ag_expr.specs.Expression.{ReadsAsExpr}

@@ -1,6 +1,6 @@
-use Rattle.std.proofs.Common.{◌≡◌, ◌+◌, ◌++◌, ◌<◌, ◌^◌, drop, length, map, sum}
+use Rattle.std.proofs.Common.{◌≡◌, ◌++◌, ◌<◌, ◌^◌, drop, map, sum}
 use Rattle.ag_value.specs.Measure.{weight_of, weight_of_pair}
-use Rattle.ag_value.specs.Spelling.{Extends, counted, joined, spelling_of, spelling_of_pair}
+use Rattle.ag_value.specs.Spelling.{Extends, joined, spelling_of, spelling_of_pair}
 use Rattle.ag_value.proofs.encoding.+encoding.Given as goal
 
 abbrev pub invariant-append_list-loop-item : goal.invariant-append_list-loop-item

@@ -1,4 +1,4 @@
-use Rattle.std.proofs.Common.{◌≡◌, ◌+◌, ◌-◌, ◌^◌, take, min, sum, map, length}
+use Rattle.std.proofs.Common.{◌≡◌, ◌-◌, ◌^◌, take, min, sum, map}
 use Rattle.ag_value.specs.Measure.{weight_of, weight_of_pair}
 use Rattle.ag_value.proofs.measuring.+weighing.Given as goal
 

@@ -1,4 +1,4 @@
-use Rattle.std.proofs.Common.{◌≡◌, true, ap, sym, subst, ◌∙◌}
+use Rattle.std.proofs.Common.{◌≡◌, true}
 use Rattle.ag_value.specs.Well.{is_before}
 use Rattle.ag_value.proofs.Keys.{last_key, next_key, not_ge}
 use Rattle.ag_value.proofs.Utf8.{is_text}

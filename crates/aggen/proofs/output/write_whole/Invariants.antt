@@ -1,5 +1,5 @@
-use Rattle.std.proofs.Common.{◌≡◌, length}
-use Rattle.aggen.specs.Output.{AppendsBeginning, HasWritten}
+use Rattle.std.proofs.Common.{length}
+use Rattle.aggen.specs.Output.{HasWritten}
 use Rattle.aggen.proofs.output.write_whole.Given as goal
 
 abbrev pub invariant-loop-rest : goal.invariant-loop-rest
