@@ -4,6 +4,8 @@ use std::alloc::{Alloc, Global};
 use std::process::Abort;
 use std::test::Fail;
 
+mod corners;
+
 /// Lends one value for every occurrence.
 #[derive(Drop)]
 struct Same<'a> {
