@@ -2,8 +2,8 @@
 use Rattle.std.proofs.Common.{◌≡◌, ℕ, zero, suc, ◌≤◌, List, [], ◌∷◌, ◌++◌, length, Option, Some, None, refl, ap, sym, ◌∙◌, subst, append_assoc, append-nil, arith, length-append, ◌↔◌}
 use Rattle.ag_expr.specs.declared.token.Sign.{Sign}
 use Rattle.ag_expr.specs.declared.token.Sign.TheVariants as sign
-use Rattle.ag_expr.specs.declared.token.Token.{Token}
-use Rattle.ag_expr.specs.declared.token.Token.TheVariants as token
+use Rattle.ag_expr.specs.Token.{Token}
+use Rattle.ag_expr.specs.Token as token
 use Rattle.ag_expr.specs.declared.node.Operator.{Operator}
 use Rattle.ag_expr.specs.declared.node.Node.{Node}
 use Rattle.ag_expr.specs.declared.node.Node.TheVariants as node
@@ -194,6 +194,19 @@ expr_complete : (listed : List Occ) (n : ℕ) → Complete Stops (IsExpr listed 
 unfolding expr_from
 expr_complete listed zero us rest e i h = absurd i
 expr_complete listed (suc n) us rest e i h = sum_complete listed (IsExpr listed n) (expr_from listed n) (expr_complete listed n) us rest e i h
+
+-- what is left is no longer
+shorter : (R : List Token → Node → Type 0) (read : Reader Node) → Sound R read → (ts rest : List Token) (e : Node) → read ts ≡ Some (e, rest) → length rest ≤ length ts
+shorter R read s ts rest e h = let found = s ts rest e h in omega (arith, ap length found.1, length-append found.0 rest)
+
+pub atom_shorter : (listed : List Occ) (n : ℕ) (ts rest : List Token) (e : Node) → atom_from listed (expr_from listed n) ts ≡ Some (e, rest) → length rest ≤ length ts
+atom_shorter listed n = shorter (IsAtom listed (IsExpr listed n)) (atom_from listed (expr_from listed n)) (atom_sound listed (IsExpr listed n) (expr_from listed n) (expr_sound listed n))
+
+pub product_shorter : (listed : List Occ) (n : ℕ) (ts rest : List Token) (e : Node) → product_from listed (expr_from listed n) ts ≡ Some (e, rest) → length rest ≤ length ts
+unfolding product_from
+product_shorter listed n =
+    shorter (IsProduct listed (IsExpr listed n)) (product_from listed (expr_from listed n))
+    (chain_sound product_operator (IsAtom listed (IsExpr listed n)) (atom_from listed (expr_from listed n)) (atom_sound listed (IsExpr listed n) (expr_from listed n) (expr_sound listed n)))
 
 ends_all : (p : Node × List Token) (e : Node) → at_end p ≡ Some e → p ≡ (e, [])
 ends_all (f, []) e h = ap (λ x. (x, [])) (some_same _ _ h)

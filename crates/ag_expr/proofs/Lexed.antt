@@ -1,5 +1,5 @@
 -- Tokens that are cut one after the other are the tokens of the text, and a text has one list of tokens.
-use Rattle.std.proofs.Common.{◌≡◌, ℕ, suc, ◌+◌, ◌-◌, ◌<◌, Bool, true, false, cond, List, [], ◌∷◌, ◌++◌, length, take, drop, Option, Some, None, Result, Ok, Err, IfOk, Bor, chars, IsUtf8, encode_utf8, encode_utf8_all, refl, ap, sym, ◌∙◌, subst, arith}
+use Rattle.std.proofs.Common.{◌≡◌, ℕ, suc, ◌+◌, ◌-◌, ◌<◌, Bool, true, false, cond, List, [], ◌∷◌, ◌++◌, length, take, drop, Option, Some, None, chars, IsUtf8, encode_utf8, encode_utf8_all, refl, ap, sym, ◌∙◌, subst, arith}
 use Rattle.std.proofs.lemmas.List.{length-append}
 use Rattle.std.proofs.lemmas.List.Folds.{list_all-append}
 use Rattle.std.proofs.Math.Seq.{take-append_seam}
@@ -7,11 +7,27 @@ use Rattle.std.proofs.lemmas.Bool.Decides.{nat_tests}
 use Rattle.std.specs.Char.{len_utf8}
 use Rattle.std.specs.List.{prefix_len, list_all}
 use Rattle.std.proofs.lemmas.Str.{length-encode, encodes-chars}
-use Rattle.ag_expr.specs.declared.fault.TokenFault.{TokenFault}
-use Rattle.ag_expr.specs.declared.token.Token.{Token}
+use Rattle.ag_expr.specs.Token.{Token}
 use Rattle.ag_expr.specs.Tokens.{is_separator, width, AreTokens, ended, separator, word, is_within, NoTokenAt, TooLargeAt}
-use Rattle.ag_expr.specs.Lexing.{token_from, GivesToken, IsTooLarge, IsBehind, StartsPlain, IsSoFar}
+use Rattle.ag_expr.specs.Lexing.{token_from, IsTooLarge}
 use Rattle.ag_expr.proofs.TokenLaws.{token_sound, cut_longest, cut_none}
+
+-- What stands behind a token that was cut, and how wide the token is.
+pub record IsBehind (cs rest : List ℕ) : Type 0 where
+  pub shorter : length rest < length cs
+  pub widths : width (take (length cs - length rest) cs) + width rest ≡ width cs
+
+-- no separator stands in front
+abbrev pub StartsPlain : List ℕ → Type 0
+StartsPlain [] = Unit {0}
+StartsPlain (c ∷ cs) = is_separator c ≡ false
+
+-- These tokens were cut so far, up to the offset `at`, where `rest` stands.
+pub record IsSoFar (cs : List ℕ) (ts : List Token) (ats : List ℕ) (at : ℕ) (rest : List ℕ) : Type 0 where
+  pub tokens : AreTokens 0 cs ts ats at rest
+  pub within : list_all is_within ts ≡ true
+  pub plain : StartsPlain rest
+  pub widths : at + width rest ≡ width cs
 
 width-append : (xs ys : List ℕ) → width (xs ++ ys) ≡ width xs + width ys
 width-append [] ys = omega arith
@@ -109,13 +125,6 @@ one_more cs ts ats at rest t after n so_far e within is =
       widths = omega arith;
     }
 
-pub spaces_of : (cs : List ℕ) (n : ℕ) → n ≡ prefix_len is_separator cs → n + width (drop n cs) ≡ width cs
-spaces_of cs n is = rw is (spaces cs)
-
-pub behind_of : (cs : List ℕ) (r : Result (Token × Bor (List ℕ)) TokenFault) → GivesToken (λ x. (x.0, x.1.now)) r (token_from cs) → IfOk r (λ x. IsBehind cs x.1.now)
-behind_of cs (Ok x) given = is_behind cs x.0 x.1.now given.0
-behind_of cs (Err e) given = tt
-
 pub nothing_here : (cs : List ℕ) (ts : List Token) (ats : List ℕ) (at : ℕ) (rest : List ℕ) → IsSoFar cs ts ats at rest → 0 < length rest → token_from rest ≡ None → NoTokenAt cs at
 nothing_here cs ts ats at [] so_far some e = let bad : ⊥ = omega arith in absurd bad
 nothing_here cs ts ats at (c ∷ rest) so_far some e = record {
@@ -153,11 +162,3 @@ width-encoded (c ∷ cs) = let more = width-encoded cs in omega (arith, length-a
 
 pub width-chars : (bs : List ℕ) → IsUtf8 bs → width (chars bs) ≡ length bs
 width-chars bs is = width-encoded (chars bs) ∙ ap length (encodes-chars bs is)
-
-same_count : {at : ℕ} {cs : List ℕ} {ts : List Token} {ats : List ℕ} {end : ℕ} {rest : List ℕ} → AreTokens at cs ts ats end rest → length ts ≡ length ats
-same_count (ended at cs) = refl
-same_count (separator at c cs ts ats end rest h is) = same_count is
-same_count (word at all w cs t ts ats end rest split token longest is) = ap suc (same_count is)
-
-pub counts : (cs : List ℕ) (ts : List Token) (ats : List ℕ) (at : ℕ) (rest : List ℕ) → IsSoFar cs ts ats at rest → length ts ≡ length ats
-counts cs ts ats at rest so_far = same_count so_far.tokens

@@ -1,6 +1,7 @@
 pub mod Agree
 pub mod Below
 pub mod Children
+pub mod Cuts
 pub mod Examples
 pub mod Expressions
 pub mod Fronts
@@ -10,9 +11,12 @@ pub mod Listing
 pub mod Members
 pub mod NumberSample
 pub mod Numbered
+pub mod Numerals
 pub mod OneSolution
 pub mod Productive
 pub mod Refused
+pub mod Spans
+pub mod States
 pub mod TextTurns
 pub mod Texts
 pub mod TokenLaws

@@ -1,11 +1,12 @@
 -- A map that follows a list follows it on with one more occurrence in both.
-use Rattle.std.proofs.Common.{ℕ, ◌≡◌, ◌+◌, Bool, true, false, cond, ◌||◌, List, [], ◌∷◌, ◌++◌, length, Option, Some, None, position, nat_lt, is_some, IfSome, ◌<◌, subst, refl, ap, sym, ◌∙◌, arith}
-use Rattle.std.proofs.lemmas.Bool.{ltb-true}
+use Rattle.std.proofs.Common.{ℕ, ◌≡◌, ◌+◌, Bool, true, false, cond, ◌||◌, List, [], ◌∷◌, ◌++◌, length, Some, None, position, nat_lt, is_some, IfSome, ◌<◌, subst, refl, ap, sym, ◌∙◌, arith}
+use Rattle.std.proofs.lemmas.Bool.{ltb-true, eq-eqb}
+use Rattle.std.proofs.lemmas.Slice.Eq.{bytes_eq-Decides}
 use Rattle.std.proofs.lemmas.Iterator.Adapters.{position_from-zero}
 use Rattle.std.specs.HashMap.{HashMap, get, Updates}
 use Rattle.std.specs.List.{list_any, position_from, position_or_len}
 use Rattle.ag_expr.specs.declared.occurrence.Occ.{Occ}
-use Rattle.ag_expr.specs.Occurrences.{is_of, position_of}
+use Rattle.ag_expr.specs.Occurrences.{is_of, position_of, listed_with, listed_with_all}
 use Rattle.ag_expr.specs.Numbers.{Key, same_key, Follows}
 use Rattle.ag_expr.proofs.Listing.{listed_alike}
 
@@ -57,9 +58,46 @@ within p xs = go (nat_lt (position_or_len p xs) (length xs)) refl
     go true e = ltb-true (position_or_len p xs) (length xs) e
     go false e = tt
 
--- one is listed where a number is answered
-pub is_listed_where : (listed : List Occ) (place : ℕ) (attr : List ℕ) {number : Option ℕ} {answer b : Bool} → number ≡ position_of listed place attr → answer ≡ is_some number → answer ≡ b → list_any (is_of place attr) listed ≡ b
-is_listed_where listed place attr value some e = sym (found (is_of place attr) listed) ∙ ap is_some (sym value) ∙ sym some ∙ e
+-- one is listed where a number is found, and none where none is
+pub listed_where : (listed : List Occ) (place : ℕ) (attr : List ℕ) (k : ℕ) → position_of listed place attr ≡ Some k → list_any (is_of place attr) listed ≡ true
+listed_where listed place attr k e = sym (found (is_of place attr) listed) ∙ ap is_some e
+
+pub unlisted_where : (listed : List Occ) (place : ℕ) (attr : List ℕ) → position_of listed place attr ≡ None → list_any (is_of place attr) listed ≡ false
+unlisted_where listed place attr e = sym (found (is_of place attr) listed) ∙ ap is_some e
+
+-- an occurrence has its own place and name
+is_own : (place : ℕ) (attr : List ℕ) (at : ℕ) → is_of place attr (record { place = place; attr = attr; at = at }) ≡ true
+is_own place attr at = rw (eq-eqb place place refl, (bytes_eq-Decides attr attr).1 refl) refl
+
+-- the number of one that is new
+pub number_pushed : (listed kept pushed : List Occ) (place number at : ℕ) (attr name : List ℕ) → position_of listed place attr ≡ None → kept ≡ listed → number ≡ length kept
+    → pushed ≡ kept ++ record { place = place; attr = name; at = at } ∷ [] → name ≡ attr → position_of pushed place attr ≡ Some number
+number_pushed listed kept pushed place number at attr name none same count more called =
+    let one : Occ = record { place = place; attr = attr; at = at } in
+    let pushed_is : pushed ≡ listed ++ one ∷ [] = rw (same, called) at more in
+    let count_is : number ≡ length listed = count ∙ ap length same in
+    ap (λ xs. position_of xs place attr) pushed_is ∙ new_at (is_of place attr) listed one (is_own place attr at) (unlisted_where listed place attr none) ∙ ap Some (sym count_is)
+
+stays_from : {X : Type 0} (p : X → Bool) (i k : ℕ) (xs : List X) (x : X) → position_from p i xs ≡ Some k → position_from p i (xs ++ x ∷ []) ≡ Some k
+stays_from p i k [] x e = cc
+stays_from p i k (y ∷ ys) x e = go (p y) e (stays_from p (i + 1) k ys x)
+  where
+    go : (b : Bool) → cond b (Some i) (position_from p (i + 1) ys) ≡ Some k → (position_from p (i + 1) ys ≡ Some k → position_from p (i + 1) (ys ++ x ∷ []) ≡ Some k)
+        → cond b (Some i) (position_from p (i + 1) (ys ++ x ∷ [])) ≡ Some k
+    go true e more = e
+    go false e more = more e
+
+stays_with : (listed : List Occ) (place : ℕ) (attr : List ℕ) (k : ℕ) (x : Occ) → position_of listed place attr ≡ Some k → position_of (listed_with listed x) place attr ≡ Some k
+stays_with listed place attr k x e = go (list_any (is_of x.place x.attr) listed)
+  where
+    go : (b : Bool) → position_of (cond b listed (listed ++ x ∷ [])) place attr ≡ Some k
+    go true = e
+    go false = position_from-zero (is_of place attr) (listed ++ x ∷ []) ∙ stays_from (is_of place attr) 0 k listed x (sym (position_from-zero (is_of place attr) listed) ∙ e)
+
+-- a number stays where more are listed
+pub position_stays : (listed : List Occ) (place : ℕ) (attr : List ℕ) (k : ℕ) (more : List Occ) → position_of listed place attr ≡ Some k → position_of (listed_with_all listed more) place attr ≡ Some k
+position_stays listed place attr k [] e = e
+position_stays listed place attr k (x ∷ more) e = position_stays (listed_with listed x) place attr k more (stays_with listed place attr k x e)
 
 -- an occurrence of a key
 abbrev at_key : Key → ℕ → Occ

@@ -1,98 +1,122 @@
 -- What is read is what the text reads as, and a text that is refused reads as nothing.
-use Rattle.std.proofs.Common.{◌≡◌, ℕ, List, [], length, Some, None, chars, IsUtf8, refl, ap, sym, ◌∙◌, subst}
+use Rattle.std.proofs.Common.{◌≡◌, ◌≢◌, ℕ, suc, ◌-◌, List, [], ◌∷◌, length, Some, None, Result, Ok, Err, IfErr, chars, IsUtf8, refl, ap, sym, ◌∙◌, subst, arith}
+use Rattle.std.specs.List.{prefix_len}
+use Rattle.std.specs.Result.{IsErrAnd}
 use Rattle.ag_expr.specs.declared.fault.ExprFault.{ExprFault}
 use Rattle.ag_expr.specs.declared.fault.ExprFault.TheVariants as fault
-use Rattle.ag_expr.specs.declared.fault.ParseFault.{ParseFault}
-use Rattle.ag_expr.specs.declared.fault.ParseFault.TheVariants as parse_fault
-use Rattle.ag_expr.specs.declared.lexer.Ending.{Ending}
-use Rattle.ag_expr.specs.declared.lexer.Ending.TheVariants as ending
-use Rattle.ag_expr.specs.declared.token.Token.{Token}
+use Rattle.ag_expr.specs.Token.{Token}
 use Rattle.ag_expr.specs.declared.node.Node.{Node}
 use Rattle.ag_expr.specs.declared.occurrence.Occ.{Occ}
-use Rattle.ag_expr.specs.Tokens.{AreTokens, width}
-use Rattle.ag_expr.specs.Lexing.{EndsAt}
-use Rattle.ag_expr.specs.Occurrences.{all_occurrences, different, listed_with_all}
+use Rattle.ag_expr.specs.Tokens.{AreTokens, width, is_separator}
+use Rattle.ag_expr.specs.Left.{Ending, whole, no_token, too_large, Left, State, Says, start_of, left_of, tokens, ending, everything, unspaced, Keeps, IsEnded}
+use Rattle.ag_expr.specs.Occurrences.{all_occurrences, different}
 use Rattle.ag_expr.specs.Grammar.{IsExpr}
-use Rattle.ag_expr.specs.Reading as reading
-use Rattle.ag_expr.specs.Reading.{expr_of}
+use Rattle.ag_expr.specs.Reading.{expr_from, expr_of, at_end}
 use Rattle.ag_expr.specs.Expression.{max_levels, ReadsAsExpr, ReadsAsNone, IsRefused, IsAt}
-use Rattle.ag_expr.specs.Faults.{IsFaultOf, fault_at_end}
 use Rattle.ag_expr.proofs.Agree as agree
-use Rattle.ag_expr.proofs.Lexed.{width-chars}
+use Rattle.ag_expr.proofs.Cuts.{EndsAt, ends_at}
+use Rattle.ag_expr.proofs.Lexed.{IsSoFar, begun, width-chars}
 use Rattle.ag_expr.proofs.Listing.{listed_are_different}
 use Rattle.ag_expr.proofs.Unique.{one_list, no_list, no_list_within}
 
 some_same : {A : Type 0} (x y : A) → Some x ≡ Some y → x ≡ y
 some_same x y e = cc
 
+-- a reader at the front has all tokens of the text before it
+start_ends : (text : List ℕ) → IsUtf8 text → EndsAt (chars text) (left_of (start_of text))
+start_ends text utf8 =
+    let cs = chars text in
+    let n = prefix_len is_separator cs in
+    let begins = begun cs n refl in
+    let sums = begins.widths in
+    let there = subst (λ m. IsSoFar cs [] [] m (unspaced cs)) (let place : n ≡ width cs - width (unspaced cs) = omega arith in place) begins in
+    let all = ends_at (suc (length (unspaced cs))) cs [] [] (unspaced cs) (omega arith) there in
+    subst (λ len. EndsAt cs (left_of ([], (len, unspaced cs)))) (width-chars text utf8) all
+
 -- all of the text was cut into tokens, and they were read
-pub read_whole : (text : List ℕ) (ts : List Token) (ats : List ℕ) (listed : List Occ) (e : Node) → IsUtf8 text → EndsAt (chars text) ts ats ending.Whole
-    → listed ≡ listed_with_all [] (all_occurrences ts ats) → expr_of listed 64 ts ≡ Some e → ReadsAsExpr text (e, listed)
-read_whole text ts ats listed e utf8 ends is read = record {
-  tokens = ts;
-  offsets = ats;
-  are_tokens = subst (λ n. AreTokens 0 (chars text) ts ats n []) (width-chars text utf8) ends.0;
-  within = ends.1;
-  listed = is ∙ listed_are_different (all_occurrences ts ats);
-  spells = (agree.exact listed max_levels ts e).0 read;
-}
+pub read_whole : (text : List ℕ) (e : Node) → IsUtf8 text → ending (start_of text) ≡ whole
+    → expr_of (everything (start_of text)) 64 (tokens (start_of text)) ≡ Some e → ReadsAsExpr text (e, everything (start_of text))
+unfolding tokens ending everything
+read_whole text e utf8 ends read =
+    let left = left_of (start_of text) in
+    let are : EndsAt (chars text) (record { tokens = left.tokens; offsets = left.offsets; ending = whole }) =
+    subst (λ x. EndsAt (chars text) (record { tokens = left.tokens; offsets = left.offsets; ending = x })) ends (start_ends text utf8) in
+    record {
+      tokens = left.tokens;
+      offsets = left.offsets;
+      are_tokens = subst (λ n. AreTokens 0 (chars text) left.tokens left.offsets n []) (width-chars text utf8) are.0;
+      within = are.1;
+      listed = listed_are_different (all_occurrences left.tokens left.offsets);
+      spells = (agree.exact (everything (start_of text)) max_levels left.tokens e).0 read;
+    }
 
--- they were read as nothing
-pub refused_whole : (text : List ℕ) (ts : List Token) (ats : List ℕ) (listed : List Occ) → EndsAt (chars text) ts ats ending.Whole
-    → listed ≡ listed_with_all [] (all_occurrences ts ats) → expr_of listed 64 ts ≡ None → ReadsAsNone text
-refused_whole text ts ats listed ends is read expr reads =
-    let same = one_list 0 (chars text) ts reads.tokens ats reads.offsets (width (chars text)) (length text) ends.0 reads.are_tokens in
-    let occurrences : expr.1 ≡ listed = reads.listed ∙ ap (λ us. different (all_occurrences us reads.offsets)) same.0 ∙ ap (λ uats. different (all_occurrences ts uats)) same.1 ∙ sym (is ∙ listed_are_different (all_occurrences ts ats)) in
-    let spells = subst (λ us. IsExpr listed max_levels us expr.0) same.0 (subst (λ os. IsExpr os max_levels reads.tokens expr.0) occurrences reads.spells) in
-    let found : expr_of listed max_levels ts ≡ Some expr.0 = (agree.exact listed max_levels ts expr.0).1 spells in
-    let bad : None ≡ Some expr.0 = sym read ∙ found in
-    cc
+-- a text that is read has no other ending, and nothing else is read
+none_read : (text : List ℕ) → IsUtf8 text → (ending (start_of text) ≡ whole → expr_of (everything (start_of text)) 64 (tokens (start_of text)) ≡ None) → ReadsAsNone text
+unfolding tokens ending everything
+none_read text utf8 none expr reads = go (left_of (start_of text)).ending refl
+  where
+    left : Left
+    left = left_of (start_of text)
 
--- the text was not cut to its end
-pub refused_at_end : (text : List ℕ) (ts : List Token) (ats : List ℕ) (ends : Ending) → EndsAt (chars text) ts ats ends → (ends ≡ ending.Whole → ⊥) → ReadsAsNone text
-refused_at_end text ts ats ending.Whole ends part expr reads = part refl
-refused_at_end text ts ats (ending.NoToken at) ends part expr reads = no_list (chars text) at reads.tokens reads.offsets (length text) ends reads.are_tokens
-refused_at_end text ts ats (ending.TooLarge at) ends part expr reads = no_list_within (chars text) at reads.tokens reads.offsets (length text) ends reads.are_tokens reads.within
+    ends : (x : Ending) → left.ending ≡ x → EndsAt (chars text) (record { tokens = left.tokens; offsets = left.offsets; ending = x })
+    ends x e = subst (λ x. EndsAt (chars text) (record { tokens = left.tokens; offsets = left.offsets; ending = x })) e (start_ends text utf8)
 
--- nothing is read, wherever the tokens end
-pub refused : (text : List ℕ) (ts : List Token) (ats : List ℕ) (listed : List Occ) (ends : Ending) → EndsAt (chars text) ts ats ends
-    → listed ≡ listed_with_all [] (all_occurrences ts ats) → expr_of listed 64 ts ≡ None → ReadsAsNone text
-refused text ts ats listed ending.Whole ends is read = refused_whole text ts ats listed ends is read
-refused text ts ats listed (ending.NoToken at) ends is read = refused_at_end text ts ats (ending.NoToken at) ends (λ e. cc)
-refused text ts ats listed (ending.TooLarge at) ends is read = refused_at_end text ts ats (ending.TooLarge at) ends (λ e. cc)
+    go : (x : Ending) → left.ending ≡ x → ⊥
+    go whole e =
+        let are = ends whole e in
+        let same = one_list 0 (chars text) left.tokens reads.tokens left.offsets reads.offsets (width (chars text)) (length text) are.0 reads.are_tokens in
+        let all = everything (start_of text) in
+        let occurrences : expr.1 ≡ all =
+        reads.listed ∙ ap (λ us. different (all_occurrences us reads.offsets)) same.0 ∙ ap (λ uats. different (all_occurrences left.tokens uats)) same.1 ∙ sym (listed_are_different (all_occurrences left.tokens left.offsets)) in
+        let spells = subst (λ us. IsExpr all max_levels us expr.0) same.0 (subst (λ os. IsExpr os max_levels reads.tokens expr.0) occurrences reads.spells) in
+        let found : expr_of all max_levels left.tokens ≡ Some expr.0 = (agree.exact all max_levels left.tokens expr.0).1 spells in
+        let bad : None ≡ Some expr.0 = sym (none e) ∙ found in
+        cc
+    go (no_token at) e = no_list (chars text) at reads.tokens reads.offsets (length text) (ends (no_token at) e) reads.are_tokens
+    go (too_large at) e = no_list_within (chars text) at reads.tokens reads.offsets (length text) (ends (too_large at) e) reads.are_tokens reads.within
 
--- the fault at the end says what stands there
-pub at_end_is : (text : List ℕ) (ts : List Token) (ats : List ℕ) (ends : Ending) (len : ℕ) → EndsAt (chars text) ts ats ends → IsAt text (fault_at_end ends len)
-at_end_is text ts ats ending.Whole len ends = tt
-at_end_is text ts ats (ending.NoToken at) len ends = ends
-at_end_is text ts ats (ending.TooLarge at) len ends = ends
+-- what a fault says of the text
+pub is_refused : (text : List ℕ) (e : ExprFault) → IsUtf8 text → (e ≢ fault.NoMemory → ending (start_of text) ≡ whole → expr_of (everything (start_of text)) 64 (tokens (start_of text)) ≡ None) → IsRefused text e
+is_refused text fault.NoMemory utf8 none = tt
+is_refused text (fault.NoToken at) utf8 none = none_read text utf8 (none (λ e. cc))
+is_refused text (fault.Unexpected at) utf8 none = none_read text utf8 (none (λ e. cc))
+is_refused text (fault.NumberTooLarge at) utf8 none = none_read text utf8 (none (λ e. cc))
+is_refused text (fault.TooDeep at) utf8 none = none_read text utf8 (none (λ e. cc))
 
--- what a fault of the parser says
-pub refused_fault : (text : List ℕ) (ts : List Token) (ats : List ℕ) (listed : List Occ) (ends : Ending) (len : ℕ) (p : ParseFault) (e : ExprFault) → EndsAt (chars text) ts ats ends
-    → listed ≡ listed_with_all [] (all_occurrences ts ats) → reading.Refuses p (expr_of listed 64 ts) → IsFaultOf p ends len e → IsRefused text e
-refused_fault text ts ats listed ends len p fault.NoMemory is all read same = tt
-refused_fault text ts ats listed ends len parse_fault.NoMemory e is all read same = subst (IsRefused text) (sym same) tt
-refused_fault text ts ats listed ends len (parse_fault.Unexpected left) (fault.Unexpected at) is all read same = refused text ts ats listed ends is all read
-refused_fault text ts ats listed ends len (parse_fault.Unexpected left) (fault.NoToken at) is all read same = refused text ts ats listed ends is all read
-refused_fault text ts ats listed ends len (parse_fault.Unexpected left) (fault.NumberTooLarge at) is all read same = refused text ts ats listed ends is all read
-refused_fault text ts ats listed ends len (parse_fault.Unexpected left) (fault.TooDeep at) is all read same = refused text ts ats listed ends is all read
-refused_fault text ts ats listed ends len (parse_fault.TooDeep left) (fault.Unexpected at) is all read same = refused text ts ats listed ends is all read
-refused_fault text ts ats listed ends len (parse_fault.TooDeep left) (fault.NoToken at) is all read same = refused text ts ats listed ends is all read
-refused_fault text ts ats listed ends len (parse_fault.TooDeep left) (fault.NumberTooLarge at) is all read same = refused text ts ats listed ends is all read
-refused_fault text ts ats listed ends len (parse_fault.TooDeep left) (fault.TooDeep at) is all read same = refused text ts ats listed ends is all read
+pub is_at : (text : List ℕ) (e : ExprFault) → IsUtf8 text → Says (ending (start_of text)) e → IsAt text e
+unfolding ending
+is_at text (fault.NoToken at) utf8 says =
+    let left = left_of (start_of text) in
+    subst (λ x. EndsAt (chars text) (record { tokens = left.tokens; offsets = left.offsets; ending = x })) says (start_ends text utf8)
+is_at text (fault.NumberTooLarge at) utf8 says =
+    let left = left_of (start_of text) in
+    subst (λ x. EndsAt (chars text) (record { tokens = left.tokens; offsets = left.offsets; ending = x })) says (start_ends text utf8)
+is_at text fault.NoMemory utf8 says = tt
+is_at text (fault.Unexpected at) utf8 says = tt
+is_at text (fault.TooDeep at) utf8 says = tt
 
-pub fault_is : (text : List ℕ) (ts : List Token) (ats : List ℕ) (ends : Ending) (len : ℕ) (p : ParseFault) (e : ExprFault) → EndsAt (chars text) ts ats ends → IsFaultOf p ends len e → IsAt text e
-fault_is text ts ats ends len parse_fault.NoMemory e is same = subst (IsAt text) (sym same) tt
-fault_is text ts ats ends len p (fault.Unexpected at) is same = tt
-fault_is text ts ats ends len p (fault.TooDeep at) is same = tt
-fault_is text ts ats ends len p fault.NoMemory is same = tt
-fault_is text ts ats ends len p e is same = subst (IsAt text) (sym same) (at_end_is text ts ats ends len is)
+-- what is read from all of the tokens
+pub whole_read : (s : State) (next : List Token) (e : Node) → next ≡ [] → expr_from (everything s) 64 (tokens s) ≡ Some (e, next) → expr_of (everything s) 64 (tokens s) ≡ Some e
+unfolding expr_of
+whole_read s next e none read = rw (read, none) refl
 
--- what the fault at the end says where the tokens were read
-pub refused_end : (text : List ℕ) (ts : List Token) (ats : List ℕ) (ends : Ending) (len : ℕ) → EndsAt (chars text) ts ats ends → (ends ≡ ending.Whole → ⊥) → IsRefused text (fault_at_end ends len)
-refused_end text ts ats ending.Whole len is part = let bad : ⊥ = part refl in absurd bad
-refused_end text ts ats (ending.NoToken at) len is part = refused_at_end text ts ats (ending.NoToken at) is part
-refused_end text ts ats (ending.TooLarge at) len is part = refused_at_end text ts ats (ending.TooLarge at) is part
+pub none_whole : (s : State) → expr_from (everything s) 64 (tokens s) ≡ None → expr_of (everything s) 64 (tokens s) ≡ None
+unfolding expr_of
+none_whole s read = rw read refl
+
+-- and where more is left
+pub left_over : (s next : State) (e : Node) → expr_from (everything s) 64 (tokens s) ≡ Some (e, tokens next) → Keeps s next → (IsEnded next → ⊥) → ending s ≡ whole → expr_of (everything s) 64 (tokens s) ≡ None
+unfolding expr_of
+left_over s next e read keeps more ends = rw read (go (tokens next) refl)
+  where
+    go : (ts : List Token) → tokens next ≡ ts → at_end (e, ts) ≡ None
+    go [] none = absurd (more (none, keeps.1 ∙ ends))
+    go (t ∷ ts) some = refl
+
+-- a fault that is answered
+pub answered : {X : Type 0} (r : Result X ExprFault) (e : ExprFault) (P : ExprFault → Type 0) → IsErrAnd r (λ x. x ≡ e) → P e → IfErr r P
+answered (Ok x) e P is says = absurd is
+answered (Err x) e P is says = subst P (sym is) says
 
 -- a text reads as one expression at most
 pub one_expression : (text : List ℕ) (one other : Node × List Occ) → ReadsAsExpr text one → ReadsAsExpr text other → one ≡ other

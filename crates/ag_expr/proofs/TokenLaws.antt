@@ -12,8 +12,8 @@ use Rattle.unicode_ident.specs.Ident.{is_xid_start, is_xid_continue}
 use Rattle.unicode_ident.proofs.IdentLemmas.{is_xid_start-ascii, is_xid_continue-ascii, is_xid_start-is_xid_continue}
 use Rattle.ag_expr.specs.declared.token.Sign.{Sign}
 use Rattle.ag_expr.specs.declared.token.Sign.TheVariants as sign
-use Rattle.ag_expr.specs.declared.token.Token.{Token}
-use Rattle.ag_expr.specs.declared.token.Token.TheVariants as token
+use Rattle.ag_expr.specs.Token.{Token}
+use Rattle.ag_expr.specs.Token as token
 use Rattle.ag_expr.specs.Reading.{and_then, where_some}
 use Rattle.ag_expr.specs.Tokens.{starts_name, is_separator, escaped, IsDigits, IsName, IsBody, empty, plain, escape, sign_text, IsToken, IsLongest, BeginsNoToken}
 use Rattle.ag_expr.specs.Lexing.{digits_from, name_from, single_sign, doubled, sign_from, escape_from, character_from, unquoted, undotted, text_from, occurrence_from, plain_from, token_from}

@@ -1,36 +1,80 @@
--- A recursion on a count of turns, beside a loop that counts up.
-use Rattle.std.proofs.Common.{◌≡◌, ℕ, suc, ◌+◌, ◌-◌, ◌<◌, List, [], ◌∷◌, ◌++◌, Option, Some, None, ◌∙◌, refl, sym, arith}
-use Rattle.ag_expr.specs.declared.fault.ParseFault.{ParseFault}
-use Rattle.ag_expr.specs.declared.fault.ParseFault.TheVariants as fault
-use Rattle.ag_expr.specs.declared.token.Token.{Token}
+-- Operators and operands that are taken one after the other, beside a loop.
+use Rattle.std.proofs.Common.{◌≡◌, ℕ, zero, suc, ◌≤◌, ◌<◌, List, [], ◌∷◌, ◌++◌, length, Option, Some, None, Result, Ok, Err, ◌∙◌, refl, sym, ap, subst, arith}
+use Rattle.std.specs.Result.{IsErrAnd}
+use Rattle.ag_expr.specs.Token.{Token}
+use Rattle.ag_expr.specs.declared.fault.ExprFault.{ExprFault}
 use Rattle.ag_expr.specs.declared.node.Operator.{Operator}
 use Rattle.ag_expr.specs.declared.node.Node.{Node}
-use Rattle.ag_expr.specs.Reading.{Reader, Refuses, operator_from, rest_from}
+use Rattle.ag_expr.specs.Left.{Ending, Refuses, Gives}
+use Rattle.ag_expr.specs.Reading.{Reader, and_then, operator_from, rest_from}
 
 abbrev pub Found : Type 0
 Found = Option (List (Operator × Node) × List Token)
 
-module _ (operator : Token → Option Operator) (operand : Reader Node) (n i : ℕ) (front : List (Operator × Node)) (ts : List Token) (total : Found) where
-  pub goes_on : (o : Operator) (us : List Token) (f : Node) (rest : List Token) → i < n → Some (o, us) ≡ operator_from operator ts → operand us ≡ Some (f, rest)
-      → rest_from operator operand (n - i) front ts ≡ total → rest_from operator operand (n - (i + 1)) (front ++ (o, f) ∷ []) rest ≡ total
-  unfolding rest_from
-  goes_on o us f rest lt is read so_far =
-      let k : n - i ≡ suc (n - (i + 1)) = omega arith in
-      sym (rw (k, sym is, read) refl) ∙ so_far
+-- Those in `front` were taken, `ts` are left, and with turns enough for them all the total is read.
+pub record Going (operator : Token → Option Operator) (operand : Reader Node) (front : List (Operator × Node)) (ts : List Token) (total : Found) : Type 0 where
+  pub turns : ℕ
+  pub enough : length ts ≤ turns
+  pub same : rest_from operator operand turns front ts ≡ total
 
-  pub stopped : i < n → None ≡ operator_from operator ts → rest_from operator operand (n - i) front ts ≡ total → total ≡ Some (front, ts)
-  unfolding rest_from
-  stopped lt is so_far =
-      let k : n - i ≡ suc (n - (i + 1)) = omega arith in
-      sym so_far ∙ rw (k, sym is) refl
+-- what a reader leaves is no longer than what it got
+abbrev pub Shortens : Reader Node → Type 0
+Shortens read = (ts rest : List Token) (e : Node) → read ts ≡ Some (e, rest) → length rest ≤ length ts
 
-  pub failed : (o : Operator) (us : List Token) (e : ParseFault) → i < n → Some (o, us) ≡ operator_from operator ts → Refuses e (operand us)
-      → rest_from operator operand (n - i) front ts ≡ total → Refuses e total
-  unfolding rest_from
-  failed o us fault.NoMemory lt is read so_far = tt
-  failed o us (fault.Unexpected left) lt is read so_far =
-      let k : n - i ≡ suc (n - (i + 1)) = omega arith in
-      sym so_far ∙ rw (k, sym is, read) refl
-  failed o us (fault.TooDeep left) lt is read so_far =
-      let k : n - i ≡ suc (n - (i + 1)) = omega arith in
-      sym so_far ∙ rw (k, sym is, read) refl
+some_same : {A : Type 0} (x y : A) → Some x ≡ Some y → x ≡ y
+some_same x y e = cc
+
+behind_operator : (operator : Token → Option Operator) (ts us : List Token) (o : Operator) → operator_from operator ts ≡ Some (o, us) → length us < length ts
+behind_operator operator [] us o e = let bad : ⊥ = cc in absurd bad
+behind_operator operator (t ∷ ts) us o e = go (operator t) e
+  where
+    go : (x : Option Operator) → and_then {B = Operator × List Token} x (λ p. Some (p, ts)) ≡ Some (o, us) → length us < length (t ∷ ts)
+    go None h = let bad : ⊥ = cc in absurd bad
+    go (Some p) h = let both : (p, ts) ≡ (o, us) = some_same _ _ h in omega (arith, ap (λ (x : Operator × List Token). length x.1) both)
+
+module _ (operator : Token → Option Operator) (operand : Reader Node) where
+  pub starts : (ts : List Token) → Going operator operand [] ts (rest_from operator operand (length ts) [] ts)
+  starts ts = record { turns = length ts; enough = omega arith; same = refl }
+
+  -- how far the loop has come, in tokens
+  pub nearer : (ts : List Token) → Shortens operand → (o : Operator) (us : List Token) (f : Node) (rest : List Token) → operator_from operator ts ≡ Some (o, us) → operand us ≡ Some (f, rest) → length rest < length ts
+  nearer ts short o us f rest is read = let less = behind_operator operator ts us o is in let shorter = short us rest f read in omega arith
+
+  module _ (front : List (Operator × Node)) (ts : List Token) (total : Found) where
+    pub goes_on : Shortens operand → (o : Operator) (us : List Token) (f : Node) (rest : List Token) → operator_from operator ts ≡ Some (o, us) → operand us ≡ Some (f, rest)
+        → Going operator operand front ts total → Going operator operand (front ++ (o, f) ∷ []) rest total
+    unfolding rest_from
+    goes_on short o us f rest is read so_far = go so_far.turns so_far.enough so_far.same
+      where
+        go : (n : ℕ) → length ts ≤ n → rest_from operator operand n front ts ≡ total → Going operator operand (front ++ (o, f) ∷ []) rest total
+        go zero enough same = let less = behind_operator operator ts us o is in let bad : ⊥ = omega arith in absurd bad
+        go (suc n) enough same =
+            let less = behind_operator operator ts us o is in
+            let shorter = short us rest f read in
+            record { turns = n; enough = omega arith; same = sym (rw (is, read) refl) ∙ same }
+
+    pub stopped : operator_from operator ts ≡ None → Going operator operand front ts total → total ≡ Some (front, ts)
+    unfolding rest_from
+    stopped is so_far = go so_far.turns so_far.same
+      where
+        go : (n : ℕ) → rest_from operator operand n front ts ≡ total → total ≡ Some (front, ts)
+        go zero same = sym same
+        go (suc n) same = sym same ∙ rw is refl
+
+    pub failed : (o : Operator) (us : List Token) → operator_from operator ts ≡ Some (o, us) → operand us ≡ None → Going operator operand front ts total → total ≡ None
+    unfolding rest_from
+    failed o us is read so_far = go so_far.turns so_far.enough so_far.same
+      where
+        go : (n : ℕ) → length ts ≤ n → rest_from operator operand n front ts ≡ total → total ≡ None
+        go zero enough same = let less = behind_operator operator ts us o is in let bad : ⊥ = omega arith in absurd bad
+        go (suc n) enough same = sym same ∙ rw (is, read) refl
+
+-- what an operand that is refused says of them all
+pub refused : (operator : Token → Option Operator) (operand : Reader Node) (front : List (Operator × Node)) (ts us : List Token) (total : Found) (o : Operator) (ends : Ending) (e : ExprFault)
+    → operator_from operator ts ≡ Some (o, us) → Refuses ends e (operand us) → Going operator operand front ts total → Refuses ends e total
+refused operator operand front ts us total o ends e is refuses so_far = (λ h. failed operator operand front ts total o us is (refuses.0 h) so_far, refuses.1)
+
+-- a fault that is answered
+pub answered : {X Y : Type 0} (view : X → Y) (r : Result X ExprFault) (ends : Ending) (e : ExprFault) (read : Option Y) → IsErrAnd r (λ x. x ≡ e) → Refuses ends e read → Gives view r ends read
+answered view (Ok x) ends e read is refuses = absurd is
+answered view (Err x) ends e read is refuses = subst (λ x. Refuses ends x read) (sym is) refuses

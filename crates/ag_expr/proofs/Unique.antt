@@ -2,7 +2,7 @@
 use Rattle.std.proofs.Common.{◌≡◌, ℕ, ◌+◌, ◌<◌, Bool, true, false, ◌&&◌, List, [], ◌∷◌, ◌++◌, length, refl, ap, sym, ◌∙◌, subst, arith, append-nil}
 use Rattle.std.proofs.lemmas.List.{length-append}
 use Rattle.std.specs.List.{list_all}
-use Rattle.ag_expr.specs.declared.token.Token.{Token}
+use Rattle.ag_expr.specs.Token.{Token}
 use Rattle.ag_expr.specs.Tokens.{is_separator, IsToken, IsLongest, BeginsNoToken, width, AreTokens, ended, separator, word, is_within, NoTokenAt, TooLargeAt}
 use Rattle.ag_expr.proofs.Fronts.{both_first}
 use Rattle.ag_expr.proofs.TokenLaws.{one_token, begins_plain}

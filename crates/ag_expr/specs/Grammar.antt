@@ -1,8 +1,8 @@
 -- Which tokens spell an expression, and of which tree, by levels: this project's grammar.
 use Rattle.std.specs.Prelude.{◌≡◌, ℕ, zero, suc, ℤ, List, [], ◌∷◌, ◌++◌, Option, Some, None, cond, bytes_eq, codes}
 use Rattle.ag_expr.specs.declared.token.Sign.TheVariants as sign
-use Rattle.ag_expr.specs.declared.token.Token.{Token}
-use Rattle.ag_expr.specs.declared.token.Token.TheVariants as token
+use Rattle.ag_expr.specs.Token.{Token}
+use Rattle.ag_expr.specs.Token as token
 use Rattle.ag_expr.specs.declared.node.Operator.{Operator}
 use Rattle.ag_expr.specs.declared.node.Operator.TheVariants as operator
 use Rattle.ag_expr.specs.declared.node.Node.{Node}

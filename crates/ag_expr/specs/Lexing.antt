@@ -1,19 +1,53 @@
 -- Cutting the token at the front of characters: the plain function, which agrees with the definition of tokens.
-use Rattle.std.specs.Prelude.{◌≡◌, ℕ, zero, suc, pos, ◌+◌, ◌-◌, ◌<◌, true, false, cond, ◌==◌, List, [], ◌∷◌, ◌++◌, length, take, drop, Option, Some, None, Result, Ok, Err, encode_utf8, encode_utf8_all}
+use Rattle.std.specs.Prelude.{◌≡◌, ℕ, zero, suc, pos, Bool, true, false, cond, ◌==◌, List, [], ◌∷◌, ◌++◌, length, take, drop, Option, Some, None, Result, Ok, Err, encode_utf8, encode_utf8_all, chars, is_some, option_map}
+use Rattle.std.specs.Borrow.{Bor}
 use Rattle.std.specs.Char.{is_ascii_digit}
-use Rattle.std.specs.List.{prefix_len, list_all}
+use Rattle.std.specs.List.{prefix_len}
 use Rattle.std.specs.Str.Parse.{digits_value}
 use Rattle.unicode_ident.specs.Ident.{is_xid_continue}
 use Rattle.ag_expr.specs.declared.fault.TokenFault.{TokenFault}
 use Rattle.ag_expr.specs.declared.fault.TokenFault.TheVariants as fault
 use Rattle.ag_expr.specs.declared.token.Sign.{Sign}
 use Rattle.ag_expr.specs.declared.token.Sign.TheVariants as sign
-use Rattle.ag_expr.specs.declared.token.Token.{Token}
-use Rattle.ag_expr.specs.declared.token.Token.TheVariants as token
+use Rattle.ag_expr.specs.Token.{Token}
+use Rattle.ag_expr.specs.Token as token
 use Rattle.ag_expr.specs.Reading.{and_then, where_some}
-use Rattle.ag_expr.specs.declared.lexer.Ending.{Ending}
-use Rattle.ag_expr.specs.declared.lexer.Ending.TheVariants as ending
-use Rattle.ag_expr.specs.Tokens.{escaped, starts_name, is_separator, is_within, width, AreTokens, NoTokenAt, TooLargeAt}
+use Rattle.ag_expr.specs.declared.lexer.Class.{Class}
+use Rattle.ag_expr.specs.declared.lexer.Class.TheVariants as class
+use Rattle.ag_expr.specs.declared.token.Token as lent
+use Rattle.ag_expr.specs.declared.token.Token.TheVariants as lent_token
+use Rattle.ag_expr.specs.Tokens.{escaped, starts_name, is_separator, is_within, IsBody}
+
+-- the characters of a class
+abbrev pub is_in : Class → ℕ → Bool
+is_in class.Separator = is_separator
+is_in class.Digit = is_ascii_digit
+is_in class.NamePart = is_xid_continue
+
+-- the longest front whose characters are of a class, and what stands behind it
+abbrev pub front_in : Class → List ℕ → List ℕ
+front_in c cs = take (prefix_len (is_in c) cs) cs
+
+abbrev pub back_of : Class → List ℕ → List ℕ
+back_of c cs = drop (prefix_len (is_in c) cs) cs
+
+-- the bytes of the text that the characters between the quotes of a text literal stand for
+abbrev mutual
+  pub unescaped : List ℕ → List ℕ
+  unescaped [] = []
+  unescaped (c ∷ cs) = cond (c == 92) (after_backslash cs) (encode_utf8 c ++ unescaped cs)
+
+  pub after_backslash : List ℕ → List ℕ
+  after_backslash [] = []
+  after_backslash (c ∷ cs) = where_some (escaped c) (unescaped cs) (λ d. encode_utf8 d ++ unescaped cs)
+
+-- the token that a lent one is
+abbrev pub token_of : lent.Token → Token
+token_of (lent_token.Number n) = token.Number n
+token_of (lent_token.Text body) = token.Text (unescaped (chars body.now))
+token_of (lent_token.Name name) = token.Name name.now
+token_of (lent_token.Occurrence place attr) = token.Occurrence place attr.now
+token_of (lent_token.Sign s) = token.Sign s
 
 -- the digits in front, where there are some, and what stands behind them
 abbrev pub digits_from : List ℕ → Option (List ℕ × List ℕ)
@@ -88,33 +122,31 @@ abbrev pub IsTooLarge : Option (Token × List ℕ) → Type 0
 IsTooLarge None = ⊥
 IsTooLarge (Some x) = is_within x.0 ≡ false
 
--- What a function returned, seen by view, is the token that is read, where its number is within the limits; nothing is read at Nothing;
--- memory may always run out.
-abbrev pub GivesToken : {X : Type 0} → (X → Token × List ℕ) → Result X TokenFault → Option (Token × List ℕ) → Type 0
-GivesToken view (Ok x) read = (read ≡ Some (view x)) × (is_within (view x).0 ≡ true)
-GivesToken view (Err fault.Nothing) read = read ≡ None
-GivesToken view (Err fault.TooLarge) read = IsTooLarge read
-GivesToken view (Err fault.NoMemory) read = Unit {0}
+-- A lent token with the text behind it is the token that is read, with the characters behind it, and its number is within the limits; nothing
+-- is read at Nothing, and a number above its limit at TooLarge.
+abbrev pub GivesToken : Result (lent.Token × Bor (List ℕ)) TokenFault → Option (Token × List ℕ) → Type 0
+GivesToken (Ok x) read = (read ≡ Some (token_of x.0, chars x.1.now)) × (is_within (token_of x.0) ≡ true)
+GivesToken (Err fault.Nothing) read = read ≡ None
+GivesToken (Err fault.TooLarge) read = IsTooLarge read
 
--- What stands behind a token that was cut, and how wide the token is.
-pub record IsBehind (cs rest : List ℕ) : Type 0 where
-  pub shorter : length rest < length cs
-  pub widths : width (take (length cs - length rest) cs) + width rest ≡ width cs
+-- a name with the text behind it is what is read, with the characters behind it
+abbrev pub GivesName : Option (Bor (List ℕ) × Bor (List ℕ)) → Option (List ℕ × List ℕ) → Type 0
+GivesName result read = option_map {U = List ℕ × List ℕ} (λ x. (x.0.now, chars x.1.now)) result ≡ option_map {U = List ℕ × List ℕ} (λ n. (encode_utf8_all n.0, n.1)) read
 
--- no separator stands in front
-abbrev pub StartsPlain : List ℕ → Type 0
-StartsPlain [] = Unit {0}
-StartsPlain (c ∷ cs) = is_separator c ≡ false
+-- what stands behind a first character of a class, and no character of the class stands in front where there is nothing
+abbrev pub PassesOne : Class → List ℕ → Option (Bor (List ℕ)) → Type 0
+PassesOne class text None = prefix_len (is_in class) (chars text) ≡ 0
+PassesOne class text (Some rest) = (c : ℕ) × (is_in class c ≡ true) × (chars text ≡ c ∷ chars rest.now) × (text ≡ encode_utf8 c ++ rest.now)
 
--- These tokens were cut so far, up to the offset `at`, where `rest` stands.
-pub record IsSoFar (cs : List ℕ) (ts : List Token) (ats : List ℕ) (at : ℕ) (rest : List ℕ) : Type 0 where
-  pub tokens : AreTokens 0 cs ts ats at rest
-  pub within : list_all is_within ts ≡ true
-  pub plain : StartsPlain rest
-  pub widths : at + width rest ≡ width cs
+-- what stands behind an escape whose backslash stood before
+abbrev pub PassesEscape : List ℕ → Option (Bor (List ℕ)) → Type 0
+PassesEscape text None = escape_from (chars text) ≡ None
+PassesEscape text (Some rest) = (c : ℕ) × (is_some (escaped c) ≡ true) × (chars text ≡ c ∷ chars rest.now) × (text ≡ encode_utf8 c ++ rest.now)
 
--- All of the characters were cut, each number within its limit; or they were cut up to an offset where no token stands, or one that is too large.
-abbrev pub EndsAt : List ℕ → List Token → List ℕ → Ending → Type 0
-EndsAt cs ts ats ending.Whole = AreTokens 0 cs ts ats (width cs) [] × (list_all is_within ts ≡ true)
-EndsAt cs ts ats (ending.NoToken at) = NoTokenAt cs at
-EndsAt cs ts ats (ending.TooLarge at) = TooLargeAt cs at
+-- One character of a text literal stands in front, written as `piece`, and `rest` stands behind it.
+pub record IsPast (text rest : List ℕ) : Type 0 where
+  pub character : ℕ
+  pub piece : List ℕ
+  pub cut : character_from (chars text) ≡ Some (character, chars rest)
+  pub is : IsBody piece (encode_utf8 character ++ [])
+  pub split : text ≡ encode_utf8_all piece ++ rest

@@ -5,6 +5,7 @@ pub mod Expression
 pub mod Faults
 pub mod Grammar
 pub mod GrammarLaws
+pub mod Left
 pub mod Lexing
 pub mod Lists
 pub mod Numbers
@@ -13,6 +14,7 @@ pub mod Passes
 pub mod Reading
 pub mod Sample
 pub mod Solution
+pub mod Token
 pub mod Tokens
 pub mod Tree
 pub mod Worked

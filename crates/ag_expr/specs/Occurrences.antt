@@ -1,8 +1,8 @@
 -- The different occurrences of attributes in a text. All of this is this project's.
 use Rattle.std.specs.Prelude.{ℕ, Bool, not, ◌&&◌, ◌==◌, cond, List, [], ◌∷◌, ◌++◌, filter, Option, position, bytes_eq}
 use Rattle.std.specs.List.{list_any}
-use Rattle.ag_expr.specs.declared.token.Token.{Token}
-use Rattle.ag_expr.specs.declared.token.Token.TheVariants as token
+use Rattle.ag_expr.specs.Token.{Token}
+use Rattle.ag_expr.specs.Token as token
 use Rattle.ag_expr.specs.declared.occurrence.Occ.{Occ}
 
 -- an occurrence has this place and this name

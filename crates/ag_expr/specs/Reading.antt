@@ -1,10 +1,8 @@
 -- Reading an expression from the front of tokens: the plain function, which agrees with the grammar.
-use Rattle.std.specs.Prelude.{◌≡◌, ℕ, zero, suc, List, [], ◌∷◌, ◌++◌, length, Option, Some, None, Result, Ok, Err}
-use Rattle.ag_expr.specs.declared.fault.ParseFault.{ParseFault}
-use Rattle.ag_expr.specs.declared.fault.ParseFault.TheVariants as fault
+use Rattle.std.specs.Prelude.{ℕ, zero, suc, List, [], ◌∷◌, ◌++◌, length, Option, Some, None}
 use Rattle.ag_expr.specs.declared.token.Sign.TheVariants as sign
-use Rattle.ag_expr.specs.declared.token.Token.{Token}
-use Rattle.ag_expr.specs.declared.token.Token.TheVariants as token
+use Rattle.ag_expr.specs.Token.{Token}
+use Rattle.ag_expr.specs.Token as token
 use Rattle.ag_expr.specs.declared.node.Operator.{Operator}
 use Rattle.ag_expr.specs.declared.node.Node.{Node}
 use Rattle.ag_expr.specs.declared.node.Node.TheVariants as node
@@ -49,11 +47,15 @@ closed_from (t ∷ ts) = None
 abbrev pub occurrence_from : List Occ → ℕ → List ℕ → List Token → Option (Node × List Token)
 occurrence_from listed place attr ts = and_then (position_of listed place attr) (λ k. Some (node.Occurrence k, ts))
 
+-- an expression whose opening parenthesis stood before, and the closing one
+abbrev pub parenthesized_from : Reader Node → Reader Node
+parenthesized_from inner ts = and_then (inner ts) (λ p. and_then (closed_from p.1) (λ us. Some (p.0, us)))
+
 unfoldable pub atom_from : List Occ → Reader Node → Reader Node
 atom_from listed inner [] = None
 atom_from listed inner (token.Number n ∷ ts) = Some (node.Number n, ts)
 atom_from listed inner (token.Occurrence place attr ∷ ts) = occurrence_from listed place attr ts
-atom_from listed inner (token.Sign sign.Open ∷ ts) = and_then (inner ts) (λ p. and_then (closed_from p.1) (λ us. Some (p.0, us)))
+atom_from listed inner (token.Sign sign.Open ∷ ts) = parenthesized_from inner ts
 atom_from listed inner (t ∷ ts) = None
 
 unfoldable pub product_from : List Occ → Reader Node → Reader Node
@@ -74,14 +76,3 @@ at_end (e, t ∷ ts) = None
 
 unfoldable pub expr_of : List Occ → ℕ → List Token → Option Node
 expr_of listed levels ts = and_then (expr_from listed levels ts) at_end
-
--- a fault is answered where nothing is read, and memory may always run out
-abbrev pub Refuses : {Y : Type 0} → ParseFault → Option Y → Type 0
-Refuses fault.NoMemory read = Unit {0}
-Refuses (fault.Unexpected left) read = read ≡ None
-Refuses (fault.TooDeep left) read = read ≡ None
-
--- what a function returned, seen by view, is what reading gives, unless memory ran out
-abbrev pub Gives : {X Y : Type 0} → (X → Y) → Result X ParseFault → Option Y → Type 0
-Gives view (Ok x) read = read ≡ Some (view x)
-Gives view (Err e) read = Refuses e read

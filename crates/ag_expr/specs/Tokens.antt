@@ -6,8 +6,8 @@ use Rattle.std.specs.Str.Parse.{digits_value}
 use Rattle.unicode_ident.specs.Ident.{is_xid_start, is_xid_continue}
 use Rattle.ag_expr.specs.declared.token.Sign.{Sign}
 use Rattle.ag_expr.specs.declared.token.Sign.TheVariants as sign
-use Rattle.ag_expr.specs.declared.token.Token.{Token}
-use Rattle.ag_expr.specs.declared.token.Token.TheVariants as token
+use Rattle.ag_expr.specs.Token.{Token}
+use Rattle.ag_expr.specs.Token as token
 
 -- space, tab, CR and LF separate tokens
 abbrev pub is_separator : ℕ → Bool

@@ -1,4 +1,4 @@
-ghost use Rattle.std.specs.Prelude.{◌≡◌, ◌<◌, [], length, IfSome, OnOk, OnErr};
+ghost use Rattle.std.specs.Prelude.{◌≡◌, [], Some, IfOk, OnOk, OnErr};
 ghost use Rattle.ag_expr.specs.Occurrences as spec;
 
 use crate::occurrence::Occ;
@@ -40,27 +40,27 @@ impl<'t> Directory<'t> {
     }
 
     /// The number of the listed occurrence with this place and name. Takes no memory.
-    pub fn position(&self, place: u16, attr: &'t str) -> Option<usize>
-        ensures value { result ≡ spec.position_of self.now place attr.now }
-        ensures within { IfSome result (λ k. k < length self.now) }
+    fn position(&self, place: u16, attr: &'t str) -> Option<usize>
+        ensures { result ≡ spec.position_of self.now place attr.now }
     {
         self.numbers.get(&(place, attr)).copied()
     }
 
-    /// Lists an occurrence at the end, unless its place and name are listed already. Takes memory; where that is
-    /// refused, the list stays as it was.
+    /// Lists an occurrence at the end, unless its place and name are listed already, and answers the number of the listed
+    /// one. Takes memory; where that is refused, the list stays as it was.
     pub fn list(
         &mut self,
         alloc: Global,
         place: u16,
         attr: &'t str,
         at: usize,
-    ) -> Result<(), NoMemory>
+    ) -> Result<usize, NoMemory>
         ensures lists { OnOk result (self.new ≡ spec.listed_with self.old (record { place = place; attr = attr.now; at = at })) }
+        ensures number { IfOk result (λ k. spec.position_of self.new place attr.now ≡ Some k) }
         ensures stays { OnErr result (self.new ≡ self.old) }
     {
-        if self.position(place, attr).is_some() {
-            return Ok(());
+        if let Some(number) = self.position(place, attr) {
+            return Ok(number);
         }
         let copied = Text::from_string(String::from_str(alloc, attr)?);
         self.listed.reserve(1)?;
@@ -71,7 +71,7 @@ impl<'t> Directory<'t> {
             attr: copied,
             at,
         });
-        Ok(())
+        Ok(number)
     }
 
     /// The listed occurrences. Takes no memory.

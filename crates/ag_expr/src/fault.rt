@@ -1,7 +1,5 @@
 ghost use Rattle.std.specs.Prelude.{◌≡◌};
 ghost use Rattle.ag_expr.specs.declared.fault.ExprFault.TheVariants as expr_fault;
-ghost use Rattle.ag_expr.specs.declared.fault.ParseFault.TheVariants as parse_fault;
-ghost use Rattle.ag_expr.specs.declared.fault.TokenFault.TheVariants as token_fault;
 
 use ag_value::NoMemory;
 use std::alloc::{AllocError, AllocFailed};
@@ -37,56 +35,19 @@ impl From<AllocError> for ExprFault {
     }
 }
 
-/// Why tokens are no expression. Places are told by how many tokens stand from there to the last one.
-#[derive(Clone, Copy, Debug, PartialEq, Eq)]
-pub enum ParseFault {
-    /// No expression goes on with the token there, or ends there, where none is left.
-    Unexpected(usize),
-    /// There an expression of one level too many begins.
-    TooDeep(usize),
-    /// A growth was refused.
-    NoMemory,
-}
+impl<T: Drop> From<AllocFailed<T>> for ExprFault {
+    ghost from_gives = { λ _ e. e ≡ expr_fault.NoMemory };
 
-impl From<NoMemory> for ParseFault {
-    ghost from_gives = { λ _ e. e ≡ parse_fault.NoMemory };
-
-    fn from(_error: NoMemory) -> ParseFault {
-        ParseFault::NoMemory
+    fn from(_error: AllocFailed<T>) -> ExprFault {
+        ExprFault::NoMemory
     }
 }
 
-impl<T: Drop> From<AllocFailed<T>> for ParseFault {
-    ghost from_gives = { λ _ e. e ≡ parse_fault.NoMemory };
-
-    fn from(_error: AllocFailed<T>) -> ParseFault {
-        ParseFault::NoMemory
-    }
-}
-
-/// Why no token is cut from the front of characters.
+/// Why no token is cut from the front of a text.
 #[derive(Clone, Copy, Debug, PartialEq, Eq)]
 pub enum TokenFault {
     /// No token begins there.
     Nothing,
     /// The token there has a number above its limit.
     TooLarge,
-    /// A growth was refused.
-    NoMemory,
-}
-
-impl From<NoMemory> for TokenFault {
-    ghost from_gives = { λ _ e. e ≡ token_fault.NoMemory };
-
-    fn from(_error: NoMemory) -> TokenFault {
-        TokenFault::NoMemory
-    }
-}
-
-impl From<AllocError> for TokenFault {
-    ghost from_gives = { λ _ e. e ≡ token_fault.NoMemory };
-
-    fn from(_error: AllocError) -> TokenFault {
-        TokenFault::NoMemory
-    }
 }

@@ -14,8 +14,8 @@ ghost use Rattle.ag_expr.specs.declared.node.Node.{Node};
 ghost use Rattle.ag_expr.specs.declared.node.Operator.TheVariants as operator;
 ghost use Rattle.ag_expr.specs.declared.occurrence.Occ.{Occ};
 ghost use Rattle.ag_expr.specs.declared.token.Sign.TheVariants as sign;
-ghost use Rattle.ag_expr.specs.declared.token.Token.{Token};
-ghost use Rattle.ag_expr.specs.declared.token.Token.TheVariants as token;
+ghost use Rattle.ag_expr.specs.Token.{Token};
+ghost use Rattle.ag_expr.specs.Token as token;
 
 /// What is read from tokens is what the grammar relates to them, and the other way round.
 pub fn reading_agrees_with_the_grammar()

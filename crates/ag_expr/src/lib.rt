@@ -15,6 +15,7 @@ mod meter;
 mod node;
 mod occurrence;
 mod parser;
+mod reader;
 pub mod samples;
 #[cfg(test)]
 mod tests;

@@ -1,9 +1,4 @@
-ghost use Rattle.std.specs.Prelude.{◌≡◌, [], length, IfOk, OnOk};
-ghost use Rattle.ag_expr.specs.Occurrences as spec;
-
-use crate::directory::Directory;
-use crate::token::Token;
-use ag_value::{NoMemory, Text};
+use ag_value::Text;
 use std::alloc::Global;
 use std::default::MadeWith;
 
@@ -27,35 +22,4 @@ impl MadeWith<Global> for Occ {
             at: 0,
         }
     }
-}
-
-/// Lists the occurrence that a token is, if it is one.
-fn list_token<'t>(
-    alloc: Global,
-    listed: &mut Directory<'t>,
-    token: &'t Token,
-    at: usize,
-) -> Result<(), NoMemory>
-    ensures { OnOk result (listed.new ≡ spec.listed_with_all listed.old (spec.occurrence_in token.now at)) }
-{
-    match token {
-        Token::Occurrence(place, attr) => listed.list(alloc, *place, attr.as_str(), at),
-        _ => Ok(()),
-    }
-}
-
-/// The different occurrences among tokens, in the order of their first appearance.
-pub fn list_occurrences<'t>(
-    alloc: Global,
-    tokens: &'t [Token],
-    offsets: &[usize],
-) -> Result<Directory<'t>, NoMemory>
-    requires { length tokens.now ≡ length offsets.now }
-    ensures { IfOk result (λ listed. listed ≡ spec.listed_with_all [] (spec.all_occurrences tokens.now offsets.now)) }
-{
-    let mut listed = Directory::new(alloc);
-    for i in 0..tokens.len() {
-        list_token(alloc, &mut listed, &tokens[i], offsets[i])?;
-    }
-    Ok(listed)
 }

@@ -1,11 +1,13 @@
-ghost use Rattle.std.specs.Prelude.{◌≡◌, [], length, Some, IfOk, true, option_map};
+ghost use Rattle.std.specs.Prelude.{◌≡◌, ◌≢◌, [], length, Some, None, IfErr, IfNone, IfOk, OnOk, option_map};
 ghost use Rattle.ag_expr.specs.Grammar as grammar;
-ghost use Rattle.ag_expr.specs.Reading.{Gives, atom_from, product_from, sum_from, expr_from, expr_of, operator_from, rest_from, closed_from};
-ghost use Rattle.ag_expr.specs.Evaluation.{is_below, all_below};
+ghost use Rattle.ag_expr.specs.Left.{Gives, Keeps, Says, tokens, ending, everything, front_of};
+ghost use Rattle.ag_expr.specs.Lexing.{token_of};
+ghost use Rattle.ag_expr.specs.Reading.{atom_from, product_from, sum_from, expr_from, operator_from, rest_from, closed_from, parenthesized_from};
+ghost use Rattle.ag_expr.specs.declared.fault.ExprFault.TheVariants as fault;
 
-use crate::directory::Directory;
-use crate::fault::ParseFault;
+use crate::fault::ExprFault;
 use crate::node::{Node, Operator};
+use crate::reader::Reader;
 use crate::token::{Sign, Token};
 use ag_value::{Boxed, Items, NoMemory};
 use std::alloc::Global;
@@ -13,27 +15,24 @@ use std::alloc::Global;
 /// How many levels an expression has at most.
 const LEVELS: usize = 64;
 
-/// The operator of a sum in front, and what stands behind it.
-fn sum_operator(tokens: &[Token]) -> Option<(Operator, &[Token])>
-    ensures { option_map (λ x. (x.0, x.1.now)) result ≡ operator_from grammar.sum_operator tokens.now }
+/// The operator of a sum that a token is.
+fn sum_operator(token: Token<'_>) -> Option<Operator>
+    ensures { result ≡ grammar.sum_operator (token_of token.entry) }
 {
-    match tokens {
-        [Token::Sign(Sign::Plus), rest @ ..] => Some((Operator::Add, rest)),
-        [Token::Sign(Sign::Minus), rest @ ..] => Some((Operator::Subtract, rest)),
+    match token {
+        Token::Sign(Sign::Plus) => Some(Operator::Add),
+        Token::Sign(Sign::Minus) => Some(Operator::Subtract),
         _ => None,
     }
 }
 
-/// The operator of a product in front, and what stands behind it.
-fn product_operator(tokens: &[Token]) -> Option<(Operator, &[Token])>
-    ensures { option_map (λ x. (x.0, x.1.now)) result ≡ operator_from grammar.product_operator tokens.now }
+/// The operator of a product that a token is.
+fn product_operator(token: Token<'_>) -> Option<Operator>
+    ensures { result ≡ grammar.product_operator (token_of token.entry) }
 {
-    match tokens {
-        [Token::Sign(Sign::Times), rest @ ..] => Some((Operator::Multiply, rest)),
-        [Token::Name(name), rest @ ..] => match named_operator(name.as_str()) {
-            Some(operator) => Some((operator, rest)),
-            None => None,
-        },
+    match token {
+        Token::Sign(Sign::Times) => Some(Operator::Multiply),
+        Token::Name(name) => named_operator(name),
         _ => None,
     }
 }
@@ -51,12 +50,26 @@ fn named_operator(name: &str) -> Option<Operator>
     }
 }
 
-/// Whether an expression begins with the token.
-fn begins_expression(token: &Token) -> bool {
-    matches!(
-        token,
-        Token::Number(_) | Token::Occurrence(_, _) | Token::Sign(Sign::Open)
-    )
+/// Passes the operator of a sum that stands in front, where one does.
+fn take_sum_operator(reader: &mut Reader<'_>) -> Option<Operator>
+    ensures takes { option_map (λ o. (o, tokens reader.new)) result ≡ operator_from grammar.sum_operator (tokens reader.old) }
+    ensures stays { IfNone result (reader.new ≡ reader.old) }
+    ensures keeps { Keeps reader.old reader.new }
+{
+    let operator = sum_operator(reader.front()?)?;
+    reader.advance();
+    Some(operator)
+}
+
+/// Passes the operator of a product that stands in front, where one does.
+fn take_product_operator(reader: &mut Reader<'_>) -> Option<Operator>
+    ensures takes { option_map (λ o. (o, tokens reader.new)) result ≡ operator_from grammar.product_operator (tokens reader.old) }
+    ensures stays { IfNone result (reader.new ≡ reader.old) }
+    ensures keeps { Keeps reader.old reader.new }
+{
+    let operator = product_operator(reader.front()?)?;
+    reader.advance();
+    Some(operator)
 }
 
 /// One operand alone, or a chain.
@@ -69,163 +82,143 @@ fn chained(alloc: Global, first: Node, others: Vec<(Operator, Node)>) -> Result<
     Ok(Node::Chain(Boxed::new(alloc, first)?, Items::from_vec(others)))
 }
 
-/// What stands behind a closing parenthesis.
-fn after_close(tokens: &[Token]) -> Result<&[Token], ParseFault>
-    ensures { Gives (λ rest. rest.now) result (closed_from tokens.now) }
+/// Passes the closing parenthesis in front.
+fn close(reader: &mut Reader<'_>) -> Result<(), ExprFault>
+    ensures gives { Gives (λ _. tokens reader.new) result (ending reader.old) (closed_from (tokens reader.old)) }
+    ensures keeps { OnOk result (Keeps reader.old reader.new) }
 {
-    match tokens {
-        [Token::Sign(Sign::Close), rest @ ..] => Ok(rest),
-        _ => Err(ParseFault::Unexpected(tokens.len())),
+    match reader.front() {
+        Some(Token::Sign(Sign::Close)) => {
+            reader.advance();
+            Ok(())
+        }
+        _ => Err(reader.refusal()),
     }
 }
 
 /// The fault of an expression that has no level left.
-fn no_level(tokens: &[Token]) -> ParseFault {
-    match tokens {
-        [token, ..] if begins_expression(token) => ParseFault::TooDeep(tokens.len()),
-        _ => ParseFault::Unexpected(tokens.len()),
+fn no_level(reader: &Reader<'_>) -> ExprFault
+    ensures { Says (ending reader.now) result }
+{
+    match reader.front() {
+        Some(Token::Number(_) | Token::Occurrence(_, _) | Token::Sign(Sign::Open)) => {
+            ExprFault::TooDeep(reader.offset())
+        }
+        _ => reader.refusal(),
     }
 }
 
-/// An expression of at most so many levels, and what stands behind it.
+/// Passes an expression of at most so many levels, and answers its tree.
 #[cycle(parsing)]
 #[tactic(auto, unfolding(crate::specs::Reading::expr_from))]
-fn expression<'a>(
-    alloc: Global,
-    listed: &Directory<'a>,
-    levels: usize,
-    tokens: &'a [Token],
-) -> Result<(Node, &'a [Token]), ParseFault>
-    ensures gives { Gives (λ x. (x.0, x.1.now)) result (expr_from listed.now levels tokens.now) }
-    ensures below { IfOk result (λ x. is_below (length listed.now) x.0 ≡ true) }
+fn expression(alloc: Global, reader: &mut Reader<'_>, levels: usize) -> Result<Node, ExprFault>
+    ensures gives { Gives (λ e. (e, tokens reader.new)) result (ending reader.old) (expr_from (everything reader.old) levels (tokens reader.old)) }
+    ensures keeps { OnOk result (Keeps reader.old reader.new) }
 {
     if levels == 0 {
-        return Err(no_level(tokens));
+        return Err(no_level(reader));
     }
-    sum(alloc, listed, levels - 1, tokens)
+    sum(alloc, reader, levels - 1)
 }
 
-/// A sum whose parentheses have at most so many levels.
+/// Passes a sum whose parentheses have at most so many levels.
 #[cycle(parsing)]
-#[tactic(auto, using(crate::proofs::Below::in_chain), unfolding(crate::specs::Reading::sum_from))]
-fn sum<'a>(
-    alloc: Global,
-    listed: &Directory<'a>,
-    levels: usize,
-    tokens: &'a [Token],
-) -> Result<(Node, &'a [Token]), ParseFault>
-    ensures gives { Gives (λ x. (x.0, x.1.now)) result (sum_from listed.now (expr_from listed.now levels) tokens.now) }
-    ensures below { IfOk result (λ x. is_below (length listed.now) x.0 ≡ true) }
+#[tactic(auto, unfolding(crate::specs::Reading::sum_from))]
+fn sum(alloc: Global, reader: &mut Reader<'_>, levels: usize) -> Result<Node, ExprFault>
+    ensures gives { Gives (λ e. (e, tokens reader.new)) result (ending reader.old) (sum_from (everything reader.old) (expr_from (everything reader.old) levels) (tokens reader.old)) }
+    ensures keeps { OnOk result (Keeps reader.old reader.new) }
 {
-    let (first, rest) = product(alloc, listed, levels, tokens)?;
-    let (others, rest) = further_products(alloc, listed, levels, rest)?;
-    Ok((chained(alloc, first, others)?, rest))
+    let first = product(alloc, reader, levels)?;
+    let others = further_products(alloc, reader, levels)?;
+    Ok(chained(alloc, first, others)?)
 }
 
+/// Passes the terms behind the first, each with its operator, and answers their trees.
 #[cycle(parsing)]
-#[tactic(auto, using(crate::proofs::Turns::goes_on, crate::proofs::Turns::stopped, crate::proofs::Turns::failed, crate::proofs::Below::pushed), unfolding(crate::specs::Reading::rest_from))]
-fn further_products<'a>(
+fn further_products(
     alloc: Global,
-    listed: &Directory<'a>,
+    reader: &mut Reader<'_>,
     levels: usize,
-    tokens: &'a [Token],
-) -> Result<(Vec<(Operator, Node)>, &'a [Token]), ParseFault>
-    ensures gives { Gives (λ x. (x.0.items, x.1.now)) result (rest_from grammar.sum_operator (product_from listed.now (expr_from listed.now levels)) (length tokens.now) [] tokens.now) }
-    ensures below { IfOk result (λ x. all_below (length listed.now) x.0.items ≡ true) }
+) -> Result<Vec<(Operator, Node)>, ExprFault>
+    ensures gives { Gives (λ others. (others.items, tokens reader.new)) result (ending reader.old) (rest_from grammar.sum_operator (product_from (everything reader.old) (expr_from (everything reader.old) levels)) (length (tokens reader.old)) [] (tokens reader.old)) }
+    ensures keeps { OnOk result (Keeps reader.old reader.new) }
 {
     let mut others = Vec::new(alloc);
-    let mut rest = tokens;
-    for _turn in 0..tokens.len() {
-        let Some((operator, after)) = sum_operator(rest) else {
-            return Ok((others, rest));
-        };
-        let (operand, after) = product(alloc, listed, levels, after)?;
+    while let Some(operator) = take_sum_operator(reader) {
+        let operand = product(alloc, reader, levels)?;
         others.push((operator, operand))?;
-        rest = after;
     }
-    Ok((others, rest))
+    Ok(others)
 }
 
+/// Passes a product whose parentheses have at most so many levels.
 #[cycle(parsing)]
-#[tactic(auto, using(crate::proofs::Below::in_chain), unfolding(crate::specs::Reading::product_from))]
-fn product<'a>(
-    alloc: Global,
-    listed: &Directory<'a>,
-    levels: usize,
-    tokens: &'a [Token],
-) -> Result<(Node, &'a [Token]), ParseFault>
-    ensures gives { Gives (λ x. (x.0, x.1.now)) result (product_from listed.now (expr_from listed.now levels) tokens.now) }
-    ensures below { IfOk result (λ x. is_below (length listed.now) x.0 ≡ true) }
+#[tactic(auto, unfolding(crate::specs::Reading::product_from))]
+fn product(alloc: Global, reader: &mut Reader<'_>, levels: usize) -> Result<Node, ExprFault>
+    ensures gives { Gives (λ e. (e, tokens reader.new)) result (ending reader.old) (product_from (everything reader.old) (expr_from (everything reader.old) levels) (tokens reader.old)) }
+    ensures keeps { OnOk result (Keeps reader.old reader.new) }
 {
-    let (first, rest) = atom(alloc, listed, levels, tokens)?;
-    let (others, rest) = further_atoms(alloc, listed, levels, rest)?;
-    Ok((chained(alloc, first, others)?, rest))
+    let first = atom(alloc, reader, levels)?;
+    let others = further_atoms(alloc, reader, levels)?;
+    Ok(chained(alloc, first, others)?)
 }
 
+/// Passes the factors behind the first, each with its operator, and answers their trees.
 #[cycle(parsing)]
-#[tactic(auto, using(crate::proofs::Turns::goes_on, crate::proofs::Turns::stopped, crate::proofs::Turns::failed, crate::proofs::Below::pushed), unfolding(crate::specs::Reading::rest_from))]
-fn further_atoms<'a>(
+fn further_atoms(
     alloc: Global,
-    listed: &Directory<'a>,
+    reader: &mut Reader<'_>,
     levels: usize,
-    tokens: &'a [Token],
-) -> Result<(Vec<(Operator, Node)>, &'a [Token]), ParseFault>
-    ensures gives { Gives (λ x. (x.0.items, x.1.now)) result (rest_from grammar.product_operator (atom_from listed.now (expr_from listed.now levels)) (length tokens.now) [] tokens.now) }
-    ensures below { IfOk result (λ x. all_below (length listed.now) x.0.items ≡ true) }
+) -> Result<Vec<(Operator, Node)>, ExprFault>
+    ensures gives { Gives (λ others. (others.items, tokens reader.new)) result (ending reader.old) (rest_from grammar.product_operator (atom_from (everything reader.old) (expr_from (everything reader.old) levels)) (length (tokens reader.old)) [] (tokens reader.old)) }
+    ensures keeps { OnOk result (Keeps reader.old reader.new) }
 {
     let mut others = Vec::new(alloc);
-    let mut rest = tokens;
-    for _turn in 0..tokens.len() {
-        let Some((operator, after)) = product_operator(rest) else {
-            return Ok((others, rest));
-        };
-        let (operand, after) = atom(alloc, listed, levels, after)?;
+    while let Some(operator) = take_product_operator(reader) {
+        let operand = atom(alloc, reader, levels)?;
         others.push((operator, operand))?;
-        rest = after;
     }
-    Ok((others, rest))
+    Ok(others)
 }
 
+/// Passes a number, an occurrence or an expression in parentheses, which has at most so many levels.
 #[cycle(parsing)]
 #[tactic(auto, unfolding(crate::specs::Reading::atom_from))]
-fn atom<'a>(
-    alloc: Global,
-    listed: &Directory<'a>,
-    levels: usize,
-    tokens: &'a [Token],
-) -> Result<(Node, &'a [Token]), ParseFault>
-    ensures gives { Gives (λ x. (x.0, x.1.now)) result (atom_from listed.now (expr_from listed.now levels) tokens.now) }
-    ensures below { IfOk result (λ x. is_below (length listed.now) x.0 ≡ true) }
+fn atom(alloc: Global, reader: &mut Reader<'_>, levels: usize) -> Result<Node, ExprFault>
+    ensures gives { Gives (λ e. (e, tokens reader.new)) result (ending reader.old) (atom_from (everything reader.old) (expr_from (everything reader.old) levels) (tokens reader.old)) }
+    ensures keeps { OnOk result (Keeps reader.old reader.new) }
 {
-    match tokens {
-        [Token::Number(number), rest @ ..] => Ok((Node::Number(*number), rest)),
-        [Token::Occurrence(place, attr), rest @ ..] => {
-            match listed.position(*place, attr.as_str()) {
-                Some(k) => Ok((Node::Occurrence(k), rest)),
-                None => Err(ParseFault::Unexpected(tokens.len())),
-            }
+    match reader.front() {
+        Some(Token::Number(number)) => {
+            reader.advance();
+            Ok(Node::Number(number))
         }
-        [Token::Sign(Sign::Open), rest @ ..] => {
-            let (inner, rest) = expression(alloc, listed, levels, rest)?;
-            Ok((inner, after_close(rest)?))
+        Some(Token::Occurrence(place, attr)) => {
+            Ok(Node::Occurrence(reader.take_occurrence(alloc, place, attr)?))
         }
-        _ => Err(ParseFault::Unexpected(tokens.len())),
+        Some(Token::Sign(Sign::Open)) => {
+            reader.advance();
+            parenthesized(alloc, reader, levels)
+        }
+        _ => Err(reader.refusal()),
     }
 }
 
-/// The expression that the tokens spell, all of the tokens.
-#[tactic(auto, unfolding(crate::specs::Reading::expr_of))]
-pub fn parse<'a>(
-    alloc: Global,
-    listed: &Directory<'a>,
-    tokens: &'a [Token],
-) -> Result<Node, ParseFault>
-    ensures gives { Gives (λ e. e) result (expr_of listed.now 64 tokens.now) }
-    ensures below { IfOk result (λ e. is_below (length listed.now) e ≡ true) }
+/// Passes an expression whose opening parenthesis stood before, and the closing one.
+#[cycle(parsing)]
+fn parenthesized(alloc: Global, reader: &mut Reader<'_>, levels: usize) -> Result<Node, ExprFault>
+    ensures gives { Gives (λ e. (e, tokens reader.new)) result (ending reader.old) (parenthesized_from (expr_from (everything reader.old) levels) (tokens reader.old)) }
+    ensures keeps { OnOk result (Keeps reader.old reader.new) }
 {
-    let (node, rest) = expression(alloc, listed, LEVELS, tokens)?;
-    if !rest.is_empty() {
-        return Err(ParseFault::Unexpected(rest.len()));
-    }
-    Ok(node)
+    let inner = expression(alloc, reader, levels)?;
+    close(reader)?;
+    Ok(inner)
+}
+
+/// Passes an expression, and answers its tree.
+pub fn parse(alloc: Global, reader: &mut Reader<'_>) -> Result<Node, ExprFault>
+    ensures gives { Gives (λ e. (e, tokens reader.new)) result (ending reader.old) (expr_from (everything reader.old) 64 (tokens reader.old)) }
+    ensures keeps { OnOk result (Keeps reader.old reader.new) }
+{
+    expression(alloc, reader, LEVELS)
 }

@@ -1,5 +1,3 @@
-use ag_value::Text;
-
 /// A sign of the language.
 #[derive(Clone, Copy, Debug, PartialEq, Eq)]
 pub enum Sign {
@@ -35,17 +33,17 @@ pub enum Sign {
     Semicolon,
 }
 
-/// A word of the language.
-#[derive(Debug, Drop)]
-pub enum Token {
+/// A word of the language, lent from the text.
+#[derive(Clone, Copy, Debug, PartialEq, Eq)]
+pub enum Token<'t> {
     /// A number literal.
     Number(i64),
-    /// A text literal, as the text that it stands for.
-    Text(Text),
+    /// A text literal, as it stands between its quotes.
+    Text(&'t str),
     /// A name, a reserved one too.
-    Name(Text),
+    Name(&'t str),
     /// An occurrence of an attribute: `$`, a place, `.`, a name.
-    Occurrence(u16, Text),
+    Occurrence(u16, &'t str),
     /// A sign.
     Sign(Sign),
 }

@@ -1,35 +1,39 @@
-use Rattle.std.proofs.Common.{arith}
-use Rattle.ag_expr.proofs.Lexed.{width-chars}
-use Rattle.ag_expr.proofs.Texts.{read_whole, refused_end, refused_fault, at_end_is, fault_is}
+use Rattle.std.proofs.Common.{sym, ◌∙◌}
+use Rattle.ag_expr.specs.Expression.{IsRefused, IsAt}
+use Rattle.ag_expr.specs.Left.{start_of}
+use Rattle.ag_expr.proofs.Below.{expr_below}
+use Rattle.ag_expr.proofs.Texts.{read_whole, is_refused, is_at, whole_read, none_whole, left_over, answered}
 use Rattle.ag_expr.proofs.expression.read_expr.Goals as goal
 
-pub lex-requires : goal.lex-requires
-lex-requires c = rw (c.as_slice.ensures.value, c.in_ok-characters.ensures, width-chars c.args.text.now c.utf8.text) (omega arith)
+pub returns-in_err-node-clause-refuses : goal.returns-in_err-node-clause-refuses
+returns-in_err-node-clause-refuses c =
+    let refuses = rw c.new-reader.ensures at c.in_err-node.ensures.gives in
+    answered _ _ (IsRefused c.args.text.now) c.from_residual.ensures.1 (is_refused c.args.text.now _ c.utf8.text (λ memory ends. none_whole (start_of c.args.text.now) (refuses.0 memory)))
 
-pub returns-in-Whole-clause-reads : goal.returns-in-Whole-clause-reads
-returns-in-Whole-clause-reads c =
-    let ends = rw (c.as_slice.ensures.value, c.in_ok-characters.ensures, c.in-Whole.is) at c.in_ok-lexed.ensures.ends in
-    let listed = rw (c.as_slice-tokens.ensures.value, c.as_slice-2.ensures.value) at c.in_ok-listed.ensures in
-    let read = rw c.as_slice-tokens.ensures.value at c.in-Ok.ensures.gives in
-    rw c.into_list.ensures (read_whole c.args.text.now _ _ _ _ c.utf8.text ends listed read)
+pub returns-in_err-node-clause-places : goal.returns-in_err-node-clause-places
+returns-in_err-node-clause-places c =
+    let refuses = rw c.new-reader.ensures at c.in_err-node.ensures.gives in
+    answered _ _ (IsAt c.args.text.now) c.from_residual.ensures.1 (is_at c.args.text.now _ c.utf8.text refuses.1)
 
-pub returns-in-Ok : goal.returns-in-Ok
-returns-in-Ok c =
-    let ends = rw (c.as_slice.ensures.value, c.in_ok-characters.ensures) at c.in_ok-lexed.ensures.ends in
-    record {
-      reads = tt;
-      refuses = rw c.ending_fault.ensures (refused_end c.args.text.now _ _ _ _ ends c.in_default.not-Whole);
-      places = rw c.ending_fault.ensures (at_end_is c.args.text.now _ _ _ _ ends);
-    }
+pub returns-in_err-occurrences-clause-refuses : goal.returns-in_err-occurrences-clause-refuses
+returns-in_err-occurrences-clause-refuses c =
+    let read = rw c.new-reader.ensures at c.in_ok-node.ensures.gives in
+    let keeps = rw c.new-reader.ensures at c.in_ok-node.ensures.keeps in
+    answered _ _ (IsRefused c.args.text.now) c.from_residual-in_err-occurrences.ensures.1
+    (is_refused c.args.text.now _ c.utf8.text (λ memory ends. left_over (start_of c.args.text.now) _ _ read keeps (c.in_err-occurrences.ensures.left memory) ends))
 
-pub returns-clause-refuses : goal.returns-clause-refuses
-returns-clause-refuses c =
-    let ends = rw (c.as_slice.ensures.value, c.in_ok-characters.ensures) at c.in_ok-lexed.ensures.ends in
-    let listed = rw (c.as_slice-tokens.ensures.value, c.as_slice-2.ensures.value) at c.in_ok-listed.ensures in
-    let read = rw c.as_slice-tokens.ensures.value at c.in-Err.ensures.gives in
-    refused_fault c.args.text.now _ _ _ _ _ _ c.fault_of.result ends listed read c.fault_of.ensures
+pub returns-in_err-occurrences-clause-places : goal.returns-in_err-occurrences-clause-places
+returns-in_err-occurrences-clause-places c =
+    let keeps = rw c.new-reader.ensures at c.in_ok-node.ensures.keeps in
+    let says = rw keeps.1 at c.in_err-occurrences.ensures.says in
+    answered _ _ (IsAt c.args.text.now) c.from_residual-in_err-occurrences.ensures.1 (is_at c.args.text.now _ c.utf8.text says)
 
-pub returns-clause-places : goal.returns-clause-places
-returns-clause-places c =
-    let ends = rw (c.as_slice.ensures.value, c.in_ok-characters.ensures) at c.in_ok-lexed.ensures.ends in
-    fault_is c.args.text.now _ _ _ _ _ c.fault_of.result ends c.fault_of.ensures
+pub returns-clause-reads : goal.returns-clause-reads
+returns-clause-reads c =
+    let read = rw c.new-reader.ensures at c.in_ok-node.ensures.gives in
+    let keeps = rw c.new-reader.ensures at c.in_ok-node.ensures.keeps in
+    let ended = c.in_ok-occurrences.ensures.ended in
+    rw (c.in_ok-occurrences.ensures.listed, keeps.0) (read_whole c.args.text.now c.in_ok-node.node c.utf8.text (sym keeps.1 ∙ ended.1) (whole_read (start_of c.args.text.now) _ _ ended.0 read))
+
+pub invariant_of-result : goal.invariant_of-result
+invariant_of-result c = expr_below c.in_ok-occurrences.occurrences.items 64 _ _ (returns-clause-reads c).spells

@@ -1,6 +1,12 @@
-use Rattle.std.proofs.Common.{◌≡◌, ◌-◌, [], length, string_bytes}
+use Rattle.std.proofs.Common.{[], length, chars}
+use denote.Text.{Utf8}
+use denote.Shadow.{shadow}
 use Rattle.ag_expr.specs.Lexing.{text_from}
+use Rattle.ag_expr.proofs.TextTurns.{Within}
 use Rattle.ag_expr.proofs.lexer.text_literal.Given as goal
 
-abbrev pub invariant-loop-turn : goal.invariant-loop-turn
-invariant-loop-turn l = text_from (length l.characters - l._turn) (string_bytes l.content) l.rest ≡ text_from (length l.characters) [] l.characters
+abbrev pub invariant-loop-after : goal.invariant-loop-after
+invariant-loop-after l = shadow (Utf8 l.rest) × Within l.text l.rest (text_from (length (chars l.text)) [] (chars l.text))
+
+abbrev pub decreases-loop-after : goal.decreases-loop-after
+decreases-loop-after l = length (chars l.rest)

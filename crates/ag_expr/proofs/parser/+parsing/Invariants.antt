@@ -1,35 +1,47 @@
-use Rattle.std.proofs.Common.{◌≡◌, ◌+◌, ◌*◌, ◌-◌, [], length, true}
-use Rattle.ag_expr.specs.Evaluation.{all_below}
+use Rattle.std.proofs.Common.{◌≡◌, ◌+◌, ◌*◌, [], length}
 use Rattle.ag_expr.specs.Grammar.{sum_operator, product_operator}
+use Rattle.ag_expr.specs.Left.{Keeps, tokens, everything}
 use Rattle.ag_expr.specs.Reading.{expr_from, product_from, atom_from, rest_from}
+use Rattle.ag_expr.proofs.Turns.{Going}
 use Rattle.ag_expr.proofs.parser.+parsing.Given as goal
 
 abbrev pub decreases-expression : goal.decreases-expression
-decreases-expression l = 6 * l.levels
+decreases-expression l = 7 * l.levels
 
 abbrev pub decreases-sum : goal.decreases-sum
-decreases-sum l = 6 * l.levels + 5
+decreases-sum l = 7 * l.levels + 6
 
 abbrev pub decreases-further_products : goal.decreases-further_products
-decreases-further_products l = 6 * l.levels + 4
+decreases-further_products l = 7 * l.levels + 5
 
 abbrev pub decreases-product : goal.decreases-product
-decreases-product l = 6 * l.levels + 3
+decreases-product l = 7 * l.levels + 4
 
 abbrev pub decreases-further_atoms : goal.decreases-further_atoms
-decreases-further_atoms l = 6 * l.levels + 2
+decreases-further_atoms l = 7 * l.levels + 3
 
 abbrev pub decreases-atom : goal.decreases-atom
-decreases-atom l = 6 * l.levels + 1
+decreases-atom l = 7 * l.levels + 2
 
-abbrev pub invariant-further_products-loop-turn : goal.invariant-further_products-loop-turn
-invariant-further_products-loop-turn l = record {
-  same : rest_from sum_operator (product_from l.listed (expr_from l.listed l.levels)) (length l.tokens - l._turn) l.others.items l.rest ≡ rest_from sum_operator (product_from l.listed (expr_from l.listed l.levels)) (length l.tokens) [] l.tokens;
-  below : all_below (length l.listed) l.others.items ≡ true;
+abbrev pub decreases-parenthesized : goal.decreases-parenthesized
+decreases-parenthesized l = 7 * l.levels + 1
+
+abbrev pub invariant-further_products-loop-operator : goal.invariant-further_products-loop-operator
+invariant-further_products-loop-operator l = record {
+  keeps : Keeps l.fn.reader l.reader;
+  going : Going sum_operator (product_from (everything l.fn.reader) (expr_from (everything l.fn.reader) l.fn.levels)) l.others.items (tokens l.reader) (rest_from sum_operator (product_from (everything l.fn.reader) (expr_from (everything l.fn.reader) l.fn.levels)) (length (tokens l.fn.reader)) [] (tokens l.fn.reader));
+  same : l.levels ≡ l.fn.levels;
 }
 
-abbrev pub invariant-further_atoms-loop-turn : goal.invariant-further_atoms-loop-turn
-invariant-further_atoms-loop-turn l = record {
-  same : rest_from product_operator (atom_from l.listed (expr_from l.listed l.levels)) (length l.tokens - l._turn) l.others.items l.rest ≡ rest_from product_operator (atom_from l.listed (expr_from l.listed l.levels)) (length l.tokens) [] l.tokens;
-  below : all_below (length l.listed) l.others.items ≡ true;
+abbrev pub decreases-further_products-loop-operator : goal.decreases-further_products-loop-operator
+decreases-further_products-loop-operator l = length (tokens l.reader)
+
+abbrev pub invariant-further_atoms-loop-operator : goal.invariant-further_atoms-loop-operator
+invariant-further_atoms-loop-operator l = record {
+  keeps : Keeps l.fn.reader l.reader;
+  going : Going product_operator (atom_from (everything l.fn.reader) (expr_from (everything l.fn.reader) l.fn.levels)) l.others.items (tokens l.reader) (rest_from product_operator (atom_from (everything l.fn.reader) (expr_from (everything l.fn.reader) l.fn.levels)) (length (tokens l.fn.reader)) [] (tokens l.fn.reader));
+  same : l.levels ≡ l.fn.levels;
 }
+
+abbrev pub decreases-further_atoms-loop-operator : goal.decreases-further_atoms-loop-operator
+decreases-further_atoms-loop-operator l = length (tokens l.reader)

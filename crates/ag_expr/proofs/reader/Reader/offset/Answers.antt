@@ -1,0 +1,5 @@
+use Rattle.std.proofs.Common.{refl}
+use Rattle.ag_expr.proofs.reader.Reader.offset.Goals as goal
+
+pub returns : goal.returns
+returns c = rw (← c.self.view_is, c.self.invariant.2) refl

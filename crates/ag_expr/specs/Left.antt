@@ -1,0 +1,128 @@
+-- What is left of a text that is read from its front: the tokens from there on, and how they end. All of this is this project's.
+use Rattle.std.specs.Prelude.{◌≡◌, ◌≢◌, ℕ, zero, suc, ◌-◌, ◌≤◌, Bool, true, false, cond, List, [], ◌∷◌, drop, length, Option, Some, None, Result, Ok, Err, chars}
+use Rattle.std.specs.List.{prefix_len}
+use Rattle.ag_expr.specs.Token.{Token}
+use Rattle.ag_expr.specs.Token as token
+use Rattle.ag_expr.specs.declared.fault.ExprFault.{ExprFault}
+use Rattle.ag_expr.specs.declared.fault.ExprFault.TheVariants as fault
+use Rattle.ag_expr.specs.declared.occurrence.Occ.{Occ}
+use Rattle.ag_expr.specs.Tokens.{is_separator, is_within, width}
+use Rattle.ag_expr.specs.Lexing.{token_from, GivesToken}
+use Rattle.ag_expr.specs.declared.fault.TokenFault.{TokenFault}
+use Rattle.ag_expr.specs.declared.fault.TokenFault.TheVariants as token_fault
+use Rattle.ag_expr.specs.declared.token.Token as lent
+use Rattle.std.specs.Borrow.{Bor}
+use Rattle.ag_expr.specs.Occurrences.{all_occurrences, listed_with_all}
+
+-- where the tokens of a text end: at its end, at an offset where no token stands, or at one whose token has a number above its limit
+pub data Ending : Type 0 where
+  whole : Ending
+  no_token : ℕ → Ending
+  too_large : ℕ → Ending
+
+-- tokens, their offsets, and where they end
+pub record Left : Type 0 where
+  pub tokens : List Token
+  pub offsets : List ℕ
+  pub ending : Ending
+
+-- what stands behind the separators in front
+abbrev pub unspaced : List ℕ → List ℕ
+unspaced cs = drop (prefix_len is_separator cs) cs
+
+abbrev pub none_left : Ending → Left
+none_left ends = record { tokens = []; offsets = []; ending = ends }
+
+abbrev pub one_before : Token → ℕ → Left → Left
+one_before t at left = record { tokens = t ∷ left.tokens; offsets = at ∷ left.offsets; ending = left.ending }
+
+-- where no token stands at the offset `at`, in front of `cs`
+abbrev pub ending_at : ℕ → List ℕ → Ending
+ending_at at [] = whole
+ending_at at (c ∷ cs) = no_token at
+
+-- the same by why none does
+abbrev pub ending_by : TokenFault → ℕ → List ℕ → Ending
+ending_by token_fault.Nothing at cs = ending_at at cs
+ending_by token_fault.TooLarge at cs = too_large at
+
+-- what is left, by the token that is read at the offset `at` in front of `cs`, and what is left behind it
+abbrev pub left_by : (List ℕ → Left) → ℕ → List ℕ → Option (Token × List ℕ) → Left
+left_by more at cs None = none_left (ending_at at cs)
+left_by more at cs (Some p) = cond (is_within p.0) (one_before p.0 at (more (unspaced p.1))) (none_left (too_large at))
+
+-- The tokens of the last characters of a text that is `len` bytes long, in so many turns; no separator stands in front of them.
+unfoldable pub cut : ℕ → ℕ → List ℕ → Left
+cut zero len cs = none_left whole
+cut (suc turns) len cs = left_by (cut turns len) (len - width cs) cs (token_from cs)
+
+-- Where a reader stands: the different occurrences before, how many bytes the whole text has, and the characters that are left.
+abbrev pub State : Type 0
+State = List Occ × (ℕ × List ℕ)
+
+abbrev pub start_of : List ℕ → State
+start_of text = ([], (length text, unspaced (chars text)))
+
+abbrev pub left_of : State → Left
+left_of s = cut (suc (length s.1.1)) s.1.0 s.1.1
+
+-- the offset of what is left
+abbrev pub offset : State → ℕ
+offset s = s.1.0 - width s.1.1
+
+-- the token in front is cut, no more bytes are left than the text has, and they are the characters that are left
+abbrev pub IsReady : ℕ → List ℕ → Result (lent.Token × Bor (List ℕ)) TokenFault → Type 0
+IsReady len rest front = GivesToken front (token_from (chars rest)) × (length rest ≤ len) × (width (chars rest) ≡ length rest)
+
+-- the tokens that are left
+unfoldable pub tokens : State → List Token
+tokens s = (left_of s).tokens
+
+-- where the tokens end
+unfoldable pub ending : State → Ending
+ending s = (left_of s).ending
+
+-- nothing is left
+abbrev pub IsEnded : State → Type 0
+IsEnded s = (tokens s ≡ []) × (ending s ≡ whole)
+
+-- the different occurrences before, and then those that are left
+unfoldable pub everything : State → List Occ
+everything s = listed_with_all s.0 (all_occurrences (left_of s).tokens (left_of s).offsets)
+
+-- what stands behind the token in front, where one does
+abbrev pub behind_front : List ℕ → Option (Token × List ℕ) → List ℕ
+behind_front cs None = cs
+behind_front cs (Some p) = cond (is_within p.0) (unspaced p.1) cs
+
+-- one token further
+unfoldable pub behind : State → State
+behind s = (s.0, (s.1.0, behind_front s.1.1 (token_from s.1.1)))
+
+-- reading goes on in the same text
+abbrev pub Keeps : State → State → Type 0
+Keeps old new = (everything new ≡ everything old) × (ending new ≡ ending old)
+
+-- the token in front
+abbrev pub front_of : List Token → Option Token
+front_of [] = None
+front_of (t ∷ ts) = Some t
+
+abbrev pub is_occurrence : Option Token → Bool
+is_occurrence (Some (token.Occurrence place attr)) = true
+is_occurrence _ = false
+
+-- what a fault says of where the tokens end
+abbrev pub Says : Ending → ExprFault → Type 0
+Says ends (fault.NoToken at) = ends ≡ no_token at
+Says ends (fault.NumberTooLarge at) = ends ≡ too_large at
+Says ends _ = Unit {0}
+
+-- a fault other than for memory is answered where nothing is read, and says the truth of where the tokens end
+abbrev pub Refuses : {Y : Type 0} → Ending → ExprFault → Option Y → Type 0
+Refuses ends e read = (e ≢ fault.NoMemory → read ≡ None) × Says ends e
+
+-- what a function returned, seen by view, is what reading gives, unless memory ran out
+abbrev pub Gives : {X Y : Type 0} → (X → Y) → Result X ExprFault → Ending → Option Y → Type 0
+Gives view (Ok x) ends read = read ≡ Some (view x)
+Gives view (Err e) ends read = Refuses ends e read
