@@ -10,7 +10,7 @@ use Rattle.ag_expr.specs.declared.node.Node.TheVariants as node
 use Rattle.ag_expr.specs.declared.occurrence.Occ.{Occ}
 use Rattle.ag_expr.specs.Occurrences.{position_of}
 use Rattle.ag_expr.specs.Grammar.{sum_operator, product_operator, chained, IsRest, stop, next, IsChain, IsAtom, number, occurrence, parentheses, IsProduct, IsSum, IsExpr}
-use Rattle.ag_expr.specs.Reading.{Reader, and_then, where_some, operator_from, rest_from, chain_from, closed_from, atom_from, product_from, sum_from, expr_from, at_end, expr_of}
+use Rattle.ag_expr.specs.Reading.{Reader, and_then, where_some, operator_from, rest_from, chain_from, close_from, atom_from, product_from, sum_from, expr_from, at_end, expr_of}
 
 -- what was read is spelled at the front
 abbrev Sound : (List Token → Node → Type 0) → Reader Node → Type 0
@@ -132,7 +132,7 @@ sum_ends _ o ts e = refl
 
 module _ (listed : List Occ) (inner : List Token → Node → Type 0) (read : Reader Node) where
   module _ (s : Sound inner read) where
-    closes : (ts us ws rest : List Token) (f e : Node) → ts ≡ ws ++ us → inner ws f → and_then {B = Node × List Token} (closed_from us) (λ vs. Some (f, vs)) ≡ Some (e, rest)
+    closes : (ts us ws rest : List Token) (f e : Node) → ts ≡ ws ++ us → inner ws f → and_then {B = Node × List Token} (close_from us) (λ q. Some (f, q.1)) ≡ Some (e, rest)
         → (us : List Token) × (token.Sign sign.Open ∷ ts ≡ us ++ rest) × IsAtom listed inner us e
     closes ts [] ws rest f e t i h = let bad : ⊥ = cc in absurd bad
     closes ts (token.Sign sign.Close ∷ us) ws rest f e t i h =

@@ -9,6 +9,7 @@ use Rattle.std.specs.List.{prefix_len, list_all}
 use Rattle.std.proofs.lemmas.Str.{length-encode, encodes-chars}
 use Rattle.ag_expr.specs.Token.{Token}
 use Rattle.ag_expr.specs.Tokens.{is_separator, width, AreTokens, ended, separator, word, is_within, NoTokenAt, TooLargeAt}
+use Rattle.ag_expr.specs.Left.{StartsPlain, IsSoFar}
 use Rattle.ag_expr.specs.Lexing.{token_from, IsTooLarge}
 use Rattle.ag_expr.proofs.TokenLaws.{token_sound, cut_longest, cut_none}
 
@@ -16,18 +17,6 @@ use Rattle.ag_expr.proofs.TokenLaws.{token_sound, cut_longest, cut_none}
 pub record IsBehind (cs rest : List ℕ) : Type 0 where
   pub shorter : length rest < length cs
   pub widths : width (take (length cs - length rest) cs) + width rest ≡ width cs
-
--- no separator stands in front
-abbrev pub StartsPlain : List ℕ → Type 0
-StartsPlain [] = Unit {0}
-StartsPlain (c ∷ cs) = is_separator c ≡ false
-
--- These tokens were cut so far, up to the offset `at`, where `rest` stands.
-pub record IsSoFar (cs : List ℕ) (ts : List Token) (ats : List ℕ) (at : ℕ) (rest : List ℕ) : Type 0 where
-  pub tokens : AreTokens 0 cs ts ats at rest
-  pub within : list_all is_within ts ≡ true
-  pub plain : StartsPlain rest
-  pub widths : at + width rest ≡ width cs
 
 width-append : (xs ys : List ℕ) → width (xs ++ ys) ≡ width xs + width ys
 width-append [] ys = omega arith

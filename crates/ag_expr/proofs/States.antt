@@ -1,17 +1,18 @@
 -- A reader's state, by the token in front.
 use Rattle.std.proofs.Common.{◌≡◌, ◌==◌, ℕ, zero, suc, ◌<◌, ◌≤◌, true, false, List, [], ◌∷◌, ◌++◌, length, drop, Option, Some, None, Result, Ok, Err, Bor, IsUtf8, chars, refl, ap, sym, ◌∙◌, subst, arith}
-use Rattle.std.proofs.lemmas.Bool.{eqb-false}
+use Rattle.std.proofs.lemmas.Bool.{eqb-false, eqb-true}
 use Rattle.std.proofs.lemmas.Str.{len_utf8_bounds}
 use Rattle.ag_expr.specs.Token.{Token}
 use Rattle.ag_expr.specs.Token as token
 use Rattle.ag_expr.specs.declared.token.Token as lent
 use Rattle.ag_expr.specs.declared.fault.TokenFault.{TokenFault}
 use Rattle.ag_expr.specs.declared.fault.TokenFault.TheVariants as token_fault
+use Rattle.ag_expr.specs.declared.fault.ExprFault.TheVariants as fault
 use Rattle.ag_expr.specs.declared.occurrence.Occ.{Occ}
 use Rattle.ag_expr.specs.Tokens.{width, is_within}
 use Rattle.ag_expr.specs.Lexing.{token_from, token_of, GivesToken, IsTooLarge}
 use Rattle.ag_expr.specs.Occurrences.{occurrence_in, all_occurrences, listed_with, listed_with_all, position_of}
-use Rattle.ag_expr.specs.Left.{State, whole, no_token, too_large, unspaced, one_before, ending_at, ending_by, left_by, cut, left_of, offset, tokens, ending, everything, behind, behind_front, Keeps, front_of, is_occurrence, IsEnded}
+use Rattle.ag_expr.specs.Left.{State, whole, no_token, too_large, unspaced, one_before, ending_at, ending_by, fault_of, left_by, cut, left_of, offset, tokens, ending, everything, behind, behind_front, Keeps, front_of, is_occurrence, IsEnded}
 use Rattle.ag_expr.proofs.Cuts.{same_cut, shorter, narrower}
 use Rattle.ag_expr.proofs.Lexed.{width-chars}
 use Rattle.ag_expr.proofs.Numbered.{position_stays}
@@ -47,7 +48,7 @@ module _ (s : State) (t : Token) (st : Stands s t) where
   unfolding cut
   left_is =
       let less = shorter s.1.1 t st.rest st.cut in
-      let same = same_cut (length s.1.1) (suc (length (unspaced st.rest))) s.1.0 (unspaced st.rest) less (omega arith) in
+      let same = same_cut (length s.1.1) (suc (length (unspaced st.rest))) (width s.1.0) (unspaced st.rest) less (omega arith) in
       rw (st.cut, st.within, same) (ap (λ b. one_before t (offset s) (left_of b)) (sym behind_is))
 
   pub first_is : tokens s ≡ t ∷ tokens (behind s)
@@ -78,7 +79,7 @@ unfolding everything behind
 passed_keeps s t st other =
     let here : is_occurrence (Some t) ≡ false = sym (ap (λ ts. is_occurrence (front_of ts)) (first_is s t st)) ∙ other in
     let left = left_of (behind s) in
-    (sym (all_is s t st ∙ ap (λ os. listed_with_all s.0 (os ++ all_occurrences left.tokens left.offsets)) (other_lists_none t (offset s) here)), same_ending s t st)
+    (sym (all_is s t st ∙ ap (λ os. listed_with_all s.0 (os ++ all_occurrences left.tokens left.offsets)) (other_lists_none t (offset s) here)), same_ending s t st, refl)
 
 -- an occurrence that is passed is listed
 module _ (s : State) (place : ℕ) (attr : List ℕ) (listed : List Occ) where
@@ -90,7 +91,7 @@ module _ (s : State) (place : ℕ) (attr : List ℕ) (listed : List Occ) where
   taken_keeps st is =
       let t = token.Occurrence place attr in
       let left = left_of (behind s) in
-      (ap (λ os. listed_with_all os (all_occurrences left.tokens left.offsets)) is ∙ sym (all_is s t st), same_ending s t st)
+      (ap (λ os. listed_with_all os (all_occurrences left.tokens left.offsets)) is ∙ sym (all_is s t st), same_ending s t st, refl)
 
   pub taken_number : Stands s (token.Occurrence place attr) → listed ≡ listed_with s.0 one → (k : ℕ) → position_of listed place attr ≡ Some k → position_of (everything s) place attr ≡ Some k
   unfolding everything behind
@@ -107,10 +108,10 @@ module _ (s : State) (place : ℕ) (attr : List ℕ) (listed : List Occ) where
 -- where none stands in front
 pub none_stands : (s : State) (e : TokenFault) → GivesToken (Err e) (token_from s.1.1) → tokens s ≡ []
 unfolding tokens cut
-none_stands s token_fault.Nothing given = ap (λ o. (left_by (cut (length s.1.1) s.1.0) (offset s) s.1.1 o).tokens) given
+none_stands s token_fault.Nothing given = ap (λ o. (left_by (cut (length s.1.1) (width s.1.0)) (offset s) s.1.1 o).tokens) given
 none_stands s token_fault.TooLarge given = go (token_from s.1.1) given
   where
-    go : (o : Option (Token × List ℕ)) → IsTooLarge o → (left_by (cut (length s.1.1) s.1.0) (offset s) s.1.1 o).tokens ≡ []
+    go : (o : Option (Token × List ℕ)) → IsTooLarge o → (left_by (cut (length s.1.1) (width s.1.0)) (offset s) s.1.1 o).tokens ≡ []
     go None h = absurd h
     go (Some p) h = rw h refl
 
@@ -125,10 +126,10 @@ none_behind s token_fault.TooLarge given = go (token_from s.1.1) given
 
 pub ends_by : (s : State) (e : TokenFault) → GivesToken (Err e) (token_from s.1.1) → ending s ≡ ending_by e (offset s) s.1.1
 unfolding ending cut
-ends_by s token_fault.Nothing given = ap (λ o. (left_by (cut (length s.1.1) s.1.0) (offset s) s.1.1 o).ending) given
+ends_by s token_fault.Nothing given = ap (λ o. (left_by (cut (length s.1.1) (width s.1.0)) (offset s) s.1.1 o).ending) given
 ends_by s token_fault.TooLarge given = go (token_from s.1.1) given
   where
-    go : (o : Option (Token × List ℕ)) → IsTooLarge o → (left_by (cut (length s.1.1) s.1.0) (offset s) s.1.1 o).ending ≡ too_large (offset s)
+    go : (o : Option (Token × List ℕ)) → IsTooLarge o → (left_by (cut (length s.1.1) (width s.1.0)) (offset s) s.1.1 o).ending ≡ too_large (offset s)
     go None h = absurd h
     go (Some p) h = rw h refl
 
@@ -183,3 +184,10 @@ no_token_at at rest utf8 some = go (chars rest) refl
     go : (cs : List ℕ) → chars rest ≡ cs → ending_at at cs ≡ no_token at
     go [] e = let bad : ⊥ = eqb-false (length rest) 0 some (sym (width-chars rest utf8) ∙ ap width e) in absurd bad
     go (c ∷ cs) e = refl
+
+-- the fault where bytes are left and no token
+pub fault_is : (f : TokenFault) (at : ℕ) (rest : List ℕ) → f ≡ token_fault.Nothing → ending_at at (chars rest) ≡ no_token at → fault.NoToken at ≡ fault_of (ending_by f at (chars rest)) at
+fault_is f at rest is ends = rw (is, ends) refl
+
+pub fault_at_end : (f : TokenFault) (at : ℕ) (rest : List ℕ) → f ≡ token_fault.Nothing → IsUtf8 rest → (length rest == 0) ≡ true → fault.Unexpected at ≡ fault_of (ending_by f at (chars rest)) at
+fault_at_end f at rest is utf8 none = rw (is, no_width (chars rest) (width-chars rest utf8 ∙ eqb-true (length rest) 0 none)) refl

@@ -1,21 +1,20 @@
 -- What is read is what the text reads as, and a text that is refused reads as nothing.
-use Rattle.std.proofs.Common.{◌≡◌, ◌≢◌, ℕ, suc, ◌-◌, List, [], ◌∷◌, length, Some, None, Result, Ok, Err, IfErr, chars, IsUtf8, refl, ap, sym, ◌∙◌, subst, arith}
-use Rattle.std.specs.List.{prefix_len}
+use Rattle.std.proofs.Common.{◌≡◌, ◌≢◌, ℕ, suc, List, [], ◌∷◌, length, Some, None, Result, Ok, Err, IfErr, chars, IsUtf8, refl, ap, sym, ◌∙◌, subst, arith}
 use Rattle.std.specs.Result.{IsErrAnd}
 use Rattle.ag_expr.specs.declared.fault.ExprFault.{ExprFault}
 use Rattle.ag_expr.specs.declared.fault.ExprFault.TheVariants as fault
 use Rattle.ag_expr.specs.Token.{Token}
 use Rattle.ag_expr.specs.declared.node.Node.{Node}
 use Rattle.ag_expr.specs.declared.occurrence.Occ.{Occ}
-use Rattle.ag_expr.specs.Tokens.{AreTokens, width, is_separator}
-use Rattle.ag_expr.specs.Left.{Ending, whole, no_token, too_large, Left, State, Says, start_of, left_of, tokens, ending, everything, unspaced, Keeps, IsEnded}
+use Rattle.ag_expr.specs.Tokens.{AreTokens, width}
+use Rattle.ag_expr.specs.Left.{Ending, whole, no_token, too_large, Left, State, start_of, left_of, tokens, ending, everything, unspaced, Keeps, IsEnded}
 use Rattle.ag_expr.specs.Occurrences.{all_occurrences, different}
 use Rattle.ag_expr.specs.Grammar.{IsExpr}
 use Rattle.ag_expr.specs.Reading.{expr_from, expr_of, at_end}
-use Rattle.ag_expr.specs.Expression.{max_levels, ReadsAsExpr, ReadsAsNone, IsRefused, IsAt}
+use Rattle.ag_expr.specs.Expression.{max_levels, ReadsAsExpr, ReadsAsNone, IsRefused}
 use Rattle.ag_expr.proofs.Agree as agree
-use Rattle.ag_expr.proofs.Cuts.{EndsAt, ends_at}
-use Rattle.ag_expr.proofs.Lexed.{IsSoFar, begun, width-chars}
+use Rattle.ag_expr.proofs.Cuts.{IsCut, begins_at, ends_at}
+use Rattle.ag_expr.proofs.Lexed.{width-chars}
 use Rattle.ag_expr.proofs.Listing.{listed_are_different}
 use Rattle.ag_expr.proofs.Unique.{one_list, no_list, no_list_within}
 
@@ -23,15 +22,8 @@ some_same : {A : Type 0} (x y : A) → Some x ≡ Some y → x ≡ y
 some_same x y e = cc
 
 -- a reader at the front has all tokens of the text before it
-start_ends : (text : List ℕ) → IsUtf8 text → EndsAt (chars text) (left_of (start_of text))
-start_ends text utf8 =
-    let cs = chars text in
-    let n = prefix_len is_separator cs in
-    let begins = begun cs n refl in
-    let sums = begins.widths in
-    let there = subst (λ m. IsSoFar cs [] [] m (unspaced cs)) (let place : n ≡ width cs - width (unspaced cs) = omega arith in place) begins in
-    let all = ends_at (suc (length (unspaced cs))) cs [] [] (unspaced cs) (omega arith) there in
-    subst (λ len. EndsAt cs (left_of ([], (len, unspaced cs)))) (width-chars text utf8) all
+start_ends : (text : List ℕ) → IsCut (chars text) (left_of (start_of text))
+start_ends text = let cs = chars text in ends_at (suc (length (unspaced cs))) cs [] [] (unspaced cs) (omega arith) (begins_at cs)
 
 -- all of the text was cut into tokens, and they were read
 pub read_whole : (text : List ℕ) (e : Node) → IsUtf8 text → ending (start_of text) ≡ whole
@@ -39,8 +31,8 @@ pub read_whole : (text : List ℕ) (e : Node) → IsUtf8 text → ending (start_
 unfolding tokens ending everything
 read_whole text e utf8 ends read =
     let left = left_of (start_of text) in
-    let are : EndsAt (chars text) (record { tokens = left.tokens; offsets = left.offsets; ending = whole }) =
-    subst (λ x. EndsAt (chars text) (record { tokens = left.tokens; offsets = left.offsets; ending = x })) ends (start_ends text utf8) in
+    let are : IsCut (chars text) (record { tokens = left.tokens; offsets = left.offsets; ending = whole }) =
+    subst (λ x. IsCut (chars text) (record { tokens = left.tokens; offsets = left.offsets; ending = x })) ends (start_ends text) in
     record {
       tokens = left.tokens;
       offsets = left.offsets;
@@ -51,15 +43,15 @@ read_whole text e utf8 ends read =
     }
 
 -- a text that is read has no other ending, and nothing else is read
-none_read : (text : List ℕ) → IsUtf8 text → (ending (start_of text) ≡ whole → expr_of (everything (start_of text)) 64 (tokens (start_of text)) ≡ None) → ReadsAsNone text
+none_read : (text : List ℕ) → (ending (start_of text) ≡ whole → expr_of (everything (start_of text)) 64 (tokens (start_of text)) ≡ None) → ReadsAsNone text
 unfolding tokens ending everything
-none_read text utf8 none expr reads = go (left_of (start_of text)).ending refl
+none_read text none expr reads = go (left_of (start_of text)).ending refl
   where
     left : Left
     left = left_of (start_of text)
 
-    ends : (x : Ending) → left.ending ≡ x → EndsAt (chars text) (record { tokens = left.tokens; offsets = left.offsets; ending = x })
-    ends x e = subst (λ x. EndsAt (chars text) (record { tokens = left.tokens; offsets = left.offsets; ending = x })) e (start_ends text utf8)
+    ends : (x : Ending) → left.ending ≡ x → IsCut (chars text) (record { tokens = left.tokens; offsets = left.offsets; ending = x })
+    ends x e = subst (λ x. IsCut (chars text) (record { tokens = left.tokens; offsets = left.offsets; ending = x })) e (start_ends text)
 
     go : (x : Ending) → left.ending ≡ x → ⊥
     go whole e =
@@ -76,24 +68,12 @@ none_read text utf8 none expr reads = go (left_of (start_of text)).ending refl
     go (too_large at) e = no_list_within (chars text) at reads.tokens reads.offsets (length text) (ends (too_large at) e) reads.are_tokens reads.within
 
 -- what a fault says of the text
-pub is_refused : (text : List ℕ) (e : ExprFault) → IsUtf8 text → (e ≢ fault.NoMemory → ending (start_of text) ≡ whole → expr_of (everything (start_of text)) 64 (tokens (start_of text)) ≡ None) → IsRefused text e
-is_refused text fault.NoMemory utf8 none = tt
-is_refused text (fault.NoToken at) utf8 none = none_read text utf8 (none (λ e. cc))
-is_refused text (fault.Unexpected at) utf8 none = none_read text utf8 (none (λ e. cc))
-is_refused text (fault.NumberTooLarge at) utf8 none = none_read text utf8 (none (λ e. cc))
-is_refused text (fault.TooDeep at) utf8 none = none_read text utf8 (none (λ e. cc))
-
-pub is_at : (text : List ℕ) (e : ExprFault) → IsUtf8 text → Says (ending (start_of text)) e → IsAt text e
-unfolding ending
-is_at text (fault.NoToken at) utf8 says =
-    let left = left_of (start_of text) in
-    subst (λ x. EndsAt (chars text) (record { tokens = left.tokens; offsets = left.offsets; ending = x })) says (start_ends text utf8)
-is_at text (fault.NumberTooLarge at) utf8 says =
-    let left = left_of (start_of text) in
-    subst (λ x. EndsAt (chars text) (record { tokens = left.tokens; offsets = left.offsets; ending = x })) says (start_ends text utf8)
-is_at text fault.NoMemory utf8 says = tt
-is_at text (fault.Unexpected at) utf8 says = tt
-is_at text (fault.TooDeep at) utf8 says = tt
+pub is_refused : (text : List ℕ) (e : ExprFault) → (e ≢ fault.NoMemory → ending (start_of text) ≡ whole → expr_of (everything (start_of text)) 64 (tokens (start_of text)) ≡ None) → IsRefused text e
+is_refused text fault.NoMemory none = tt
+is_refused text (fault.NoToken at) none = none_read text (none (λ e. cc))
+is_refused text (fault.Unexpected at) none = none_read text (none (λ e. cc))
+is_refused text (fault.NumberTooLarge at) none = none_read text (none (λ e. cc))
+is_refused text (fault.TooDeep at) none = none_read text (none (λ e. cc))
 
 -- what is read from all of the tokens
 pub whole_read : (s : State) (next : List Token) (e : Node) → next ≡ [] → expr_from (everything s) 64 (tokens s) ≡ Some (e, next) → expr_of (everything s) 64 (tokens s) ≡ Some e

@@ -1,12 +1,14 @@
 -- Operators and operands that are taken one after the other, beside a loop.
-use Rattle.std.proofs.Common.{◌≡◌, ℕ, zero, suc, ◌≤◌, ◌<◌, List, [], ◌∷◌, ◌++◌, length, Option, Some, None, Result, Ok, Err, ◌∙◌, refl, sym, ap, subst, arith}
+use Rattle.std.proofs.Common.{◌≡◌, ℕ, zero, suc, ◌-◌, ◌≤◌, ◌<◌, List, [], ◌∷◌, ◌++◌, length, Option, Some, None, Result, Ok, Err, ◌∙◌, refl, sym, ap, subst, arith}
 use Rattle.std.specs.Result.{IsErrAnd}
 use Rattle.ag_expr.specs.Token.{Token}
 use Rattle.ag_expr.specs.declared.fault.ExprFault.{ExprFault}
 use Rattle.ag_expr.specs.declared.node.Operator.{Operator}
 use Rattle.ag_expr.specs.declared.node.Node.{Node}
-use Rattle.ag_expr.specs.Left.{Ending, Refuses, Gives}
-use Rattle.ag_expr.specs.Reading.{Reader, and_then, operator_from, rest_from}
+use Rattle.ag_expr.specs.declared.occurrence.Occ.{Occ}
+use Rattle.ag_expr.specs.Expression.{Says}
+use Rattle.ag_expr.specs.Left.{State, Refuses, Takes, TakesAs, characters, everything, tokens}
+use Rattle.ag_expr.specs.Reading.{Reader, and_then, expr_from, operator_from, rest_from, sum_from}
 
 abbrev pub Found : Type 0
 Found = Option (List (Operator × Node) × List Token)
@@ -70,11 +72,22 @@ module _ (operator : Token → Option Operator) (operand : Reader Node) where
         go (suc n) enough same = sym same ∙ rw (is, read) refl
 
 -- what an operand that is refused says of them all
-pub refused : (operator : Token → Option Operator) (operand : Reader Node) (front : List (Operator × Node)) (ts us : List Token) (total : Found) (o : Operator) (ends : Ending) (e : ExprFault)
-    → operator_from operator ts ≡ Some (o, us) → Refuses ends e (operand us) → Going operator operand front ts total → Refuses ends e total
-refused operator operand front ts us total o ends e is refuses so_far = (λ h. failed operator operand front ts total o us is (refuses.0 h) so_far, refuses.1)
+pub refused : (operator : Token → Option Operator) (operand : List Occ → Reader Node) (front : List (Operator × Node)) (total : Found) (old before between : State) (o : Operator) (e : ExprFault)
+    → everything between ≡ everything old → characters between ≡ characters old → operator_from operator (tokens before) ≡ Some (o, tokens between)
+    → Refuses (characters between) e (operand (everything between) (tokens between)) → Going operator (operand (everything old)) front (tokens before) total → Refuses (characters old) e total
+refused operator operand front total old before between o e all same is refuses so_far = (
+  λ h. failed operator (operand (everything old)) front (tokens before) total o (tokens between) is (ap (λ listed. operand listed (tokens between)) (sym all) ∙ refuses.0 h) so_far,
+  subst (λ cs. Says cs e) same refuses.1,
+)
 
 -- a fault that is answered
-pub answered : {X Y : Type 0} (view : X → Y) (r : Result X ExprFault) (ends : Ending) (e : ExprFault) (read : Option Y) → IsErrAnd r (λ x. x ≡ e) → Refuses ends e read → Gives view r ends read
-answered view (Ok x) ends e read is refuses = absurd is
-answered view (Err x) ends e read is refuses = subst (λ x. Refuses ends x read) (sym is) refuses
+pub answered : {X Y : Type 0} (view : X → Y) (read : List Occ → Reader Y) (old new : State) (r : Result X ExprFault) (e : ExprFault) → IsErrAnd r (λ x. x ≡ e)
+    → Refuses (characters old) e (read (everything old) (tokens old)) → TakesAs view read old r new
+answered view read old new (Ok x) e is refuses = absurd is
+answered view read old new (Err x) e is refuses = subst (λ x. Refuses (characters old) x (read (everything old) (tokens old))) (sym is) refuses
+
+-- one level more
+pub one_level : (n : ℕ) → 0 < n → (old new : State) (r : Result Node ExprFault) → Takes (λ all. sum_from all (expr_from all (n - 1))) old r new → Takes (λ all. expr_from all n) old r new
+unfolding expr_from
+one_level zero some old new r is = let bad : ⊥ = omega arith in absurd bad
+one_level (suc n) some old new r is = subst (λ k. Takes (λ all. sum_from all (expr_from all k)) old r new) (let one : suc n - 1 ≡ n = omega arith in one) is

@@ -1,12 +1,14 @@
 -- Which texts read as which expressions: this project's language.
-use Rattle.std.specs.Prelude.{◌≡◌, ℕ, true, List, [], length, chars}
+use Rattle.std.specs.Prelude.{◌≡◌, ◌⊎◌, ℕ, Bool, true, false, List, [], length, chars}
 use Rattle.std.specs.List.{list_all}
 use Rattle.ag_expr.specs.declared.fault.ExprFault.{ExprFault}
 use Rattle.ag_expr.specs.declared.fault.ExprFault.TheVariants as fault
+use Rattle.ag_expr.specs.declared.token.Sign.TheVariants as sign
 use Rattle.ag_expr.specs.Token.{Token}
+use Rattle.ag_expr.specs.Token as token
 use Rattle.ag_expr.specs.declared.node.Node.{Node}
 use Rattle.ag_expr.specs.declared.occurrence.Occ.{Occ}
-use Rattle.ag_expr.specs.Tokens.{AreTokens, is_within, NoTokenAt, TooLargeAt}
+use Rattle.ag_expr.specs.Tokens.{AreTokens, is_within, NoTokenAt, TooLargeAt, TokenAt, EndsAt}
 use Rattle.ag_expr.specs.Occurrences.{all_occurrences, different}
 use Rattle.ag_expr.specs.Grammar.{IsExpr}
 
@@ -33,8 +35,21 @@ abbrev pub IsRefused : List ℕ → ExprFault → Type 0
 IsRefused text fault.NoMemory = Unit {0}
 IsRefused text e = ReadsAsNone text
 
--- what a fault says of its offset
+-- an expression begins with a number, an occurrence or `(`
+abbrev pub begins_expression : Token → Bool
+begins_expression (token.Number n) = true
+begins_expression (token.Occurrence place attr) = true
+begins_expression (token.Sign sign.Open) = true
+begins_expression _ = false
+
+-- What a fault says of its offset in a text of these characters: X1, no token begins there; X3, the token there has a number above its limit;
+-- X2, a token stands there, or the text ends there; X4, a token stands there with which an expression begins.
+abbrev pub Says : List ℕ → ExprFault → Type 0
+Says cs (fault.NoToken at) = NoTokenAt cs at
+Says cs (fault.NumberTooLarge at) = TooLargeAt cs at
+Says cs (fault.Unexpected at) = TokenAt cs at ⊎ EndsAt cs at
+Says cs (fault.TooDeep at) = (t : TokenAt cs at) × (begins_expression t.token ≡ true)
+Says cs fault.NoMemory = Unit {0}
+
 abbrev pub IsAt : List ℕ → ExprFault → Type 0
-IsAt text (fault.NoToken at) = NoTokenAt (chars text) at
-IsAt text (fault.NumberTooLarge at) = TooLargeAt (chars text) at
-IsAt text _ = Unit {0}
+IsAt text e = Says (chars text) e

@@ -34,22 +34,26 @@ rest_from operator operand zero front ts = Some (front, ts)
 rest_from operator operand (suc turns) front ts =
     where_some (operator_from operator ts) (Some (front, ts)) (λ o. and_then (operand o.1) (λ p. rest_from operator operand turns (front ++ (o.0, p.0) ∷ []) p.1))
 
+-- as many as there are
+abbrev pub further_from : (Token → Option Operator) → Reader Node → Reader (List (Operator × Node))
+further_from operator operand ts = rest_from operator operand (length ts) [] ts
+
 abbrev pub chain_from : (Token → Option Operator) → Reader Node → Reader Node
 chain_from operator operand ts =
-    and_then (operand ts) (λ p. and_then (rest_from operator operand (length p.1) [] p.1) (λ q. Some (chained p.0 q.0, q.1)))
+    and_then (operand ts) (λ p. and_then (further_from operator operand p.1) (λ q. Some (chained p.0 q.0, q.1)))
 
--- what stands behind a closing parenthesis
-abbrev pub closed_from : List Token → Option (List Token)
-closed_from [] = None
-closed_from (token.Sign sign.Close ∷ ts) = Some ts
-closed_from (t ∷ ts) = None
+-- a closing parenthesis
+abbrev pub close_from : Reader (Unit {0})
+close_from [] = None
+close_from (token.Sign sign.Close ∷ ts) = Some (tt, ts)
+close_from (t ∷ ts) = None
 
 abbrev pub occurrence_from : List Occ → ℕ → List ℕ → List Token → Option (Node × List Token)
 occurrence_from listed place attr ts = and_then (position_of listed place attr) (λ k. Some (node.Occurrence k, ts))
 
 -- an expression whose opening parenthesis stood before, and the closing one
 abbrev pub parenthesized_from : Reader Node → Reader Node
-parenthesized_from inner ts = and_then (inner ts) (λ p. and_then (closed_from p.1) (λ us. Some (p.0, us)))
+parenthesized_from inner ts = and_then (inner ts) (λ p. and_then (close_from p.1) (λ q. Some (p.0, q.1)))
 
 unfoldable pub atom_from : List Occ → Reader Node → Reader Node
 atom_from listed inner [] = None

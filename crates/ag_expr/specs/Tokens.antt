@@ -111,3 +111,21 @@ pub record TooLargeAt (cs : List ℕ) (at : ℕ) : Type 0 where
   pub is : IsToken word token
   pub longest : IsLongest word rest
   pub large : is_within token ≡ false
+
+-- What stands before the offset `at` is whole tokens and separators, and there stands a token whose number is within its limit.
+pub record TokenAt (cs : List ℕ) (at : ℕ) : Type 0 where
+  pub tokens : List Token
+  pub offsets : List ℕ
+  pub word : List ℕ
+  pub token : Token
+  pub rest : List ℕ
+  pub before : AreTokens 0 cs tokens offsets at (word ++ rest)
+  pub is : IsToken word token
+  pub longest : IsLongest word rest
+  pub within : is_within token ≡ true
+
+-- The characters are whole tokens and separators, and end at the offset `at`.
+pub record EndsAt (cs : List ℕ) (at : ℕ) : Type 0 where
+  pub tokens : List Token
+  pub offsets : List ℕ
+  pub before : AreTokens 0 cs tokens offsets at []

@@ -1,9 +1,8 @@
-ghost use Rattle.std.specs.Prelude.{◌≡◌, ◌≢◌, [], length, Some, None, IfErr, IfNone, IfOk, OnOk, option_map};
+ghost use Rattle.std.specs.Prelude.{◌≡◌, IfNone, IfOk, option_map};
 ghost use Rattle.ag_expr.specs.Grammar as grammar;
-ghost use Rattle.ag_expr.specs.Left.{Gives, Keeps, Says, tokens, ending, everything, front_of};
+ghost use Rattle.ag_expr.specs.Left.{Keeps, Takes, TakesAs, tokens};
 ghost use Rattle.ag_expr.specs.Lexing.{token_of};
-ghost use Rattle.ag_expr.specs.Reading.{atom_from, product_from, sum_from, expr_from, operator_from, rest_from, closed_from, parenthesized_from};
-ghost use Rattle.ag_expr.specs.declared.fault.ExprFault.TheVariants as fault;
+ghost use Rattle.ag_expr.specs.Reading.{atom_from, close_from, expr_from, further_from, operator_from, parenthesized_from, product_from, sum_from};
 
 use crate::fault::ExprFault;
 use crate::node::{Node, Operator};
@@ -84,8 +83,7 @@ fn chained(alloc: Global, first: Node, others: Vec<(Operator, Node)>) -> Result<
 
 /// Passes the closing parenthesis in front.
 fn close(reader: &mut Reader<'_>) -> Result<(), ExprFault>
-    ensures gives { Gives (λ _. tokens reader.new) result (ending reader.old) (closed_from (tokens reader.old)) }
-    ensures keeps { OnOk result (Keeps reader.old reader.new) }
+    ensures { Takes (λ _. close_from) reader.old result reader.new }
 {
     match reader.front() {
         Some(Token::Sign(Sign::Close)) => {
@@ -96,27 +94,14 @@ fn close(reader: &mut Reader<'_>) -> Result<(), ExprFault>
     }
 }
 
-/// The fault of an expression that has no level left.
-fn no_level(reader: &Reader<'_>) -> ExprFault
-    ensures { Says (ending reader.now) result }
-{
-    match reader.front() {
-        Some(Token::Number(_) | Token::Occurrence(_, _) | Token::Sign(Sign::Open)) => {
-            ExprFault::TooDeep(reader.offset())
-        }
-        _ => reader.refusal(),
-    }
-}
-
 /// Passes an expression of at most so many levels, and answers its tree.
 #[cycle(parsing)]
-#[tactic(auto, unfolding(crate::specs::Reading::expr_from))]
+#[tactic(auto, using(crate::proofs::Turns::one_level), unfolding(crate::specs::Reading::expr_from))]
 fn expression(alloc: Global, reader: &mut Reader<'_>, levels: usize) -> Result<Node, ExprFault>
-    ensures gives { Gives (λ e. (e, tokens reader.new)) result (ending reader.old) (expr_from (everything reader.old) levels (tokens reader.old)) }
-    ensures keeps { OnOk result (Keeps reader.old reader.new) }
+    ensures { Takes (λ all. expr_from all levels) reader.old result reader.new }
 {
     if levels == 0 {
-        return Err(no_level(reader));
+        return Err(reader.no_level());
     }
     sum(alloc, reader, levels - 1)
 }
@@ -125,8 +110,7 @@ fn expression(alloc: Global, reader: &mut Reader<'_>, levels: usize) -> Result<N
 #[cycle(parsing)]
 #[tactic(auto, unfolding(crate::specs::Reading::sum_from))]
 fn sum(alloc: Global, reader: &mut Reader<'_>, levels: usize) -> Result<Node, ExprFault>
-    ensures gives { Gives (λ e. (e, tokens reader.new)) result (ending reader.old) (sum_from (everything reader.old) (expr_from (everything reader.old) levels) (tokens reader.old)) }
-    ensures keeps { OnOk result (Keeps reader.old reader.new) }
+    ensures { Takes (λ all. sum_from all (expr_from all levels)) reader.old result reader.new }
 {
     let first = product(alloc, reader, levels)?;
     let others = further_products(alloc, reader, levels)?;
@@ -140,8 +124,7 @@ fn further_products(
     reader: &mut Reader<'_>,
     levels: usize,
 ) -> Result<Vec<(Operator, Node)>, ExprFault>
-    ensures gives { Gives (λ others. (others.items, tokens reader.new)) result (ending reader.old) (rest_from grammar.sum_operator (product_from (everything reader.old) (expr_from (everything reader.old) levels)) (length (tokens reader.old)) [] (tokens reader.old)) }
-    ensures keeps { OnOk result (Keeps reader.old reader.new) }
+    ensures { TakesAs (λ others. others.items) (λ all. further_from grammar.sum_operator (product_from all (expr_from all levels))) reader.old result reader.new }
 {
     let mut others = Vec::new(alloc);
     while let Some(operator) = take_sum_operator(reader) {
@@ -155,8 +138,7 @@ fn further_products(
 #[cycle(parsing)]
 #[tactic(auto, unfolding(crate::specs::Reading::product_from))]
 fn product(alloc: Global, reader: &mut Reader<'_>, levels: usize) -> Result<Node, ExprFault>
-    ensures gives { Gives (λ e. (e, tokens reader.new)) result (ending reader.old) (product_from (everything reader.old) (expr_from (everything reader.old) levels) (tokens reader.old)) }
-    ensures keeps { OnOk result (Keeps reader.old reader.new) }
+    ensures { Takes (λ all. product_from all (expr_from all levels)) reader.old result reader.new }
 {
     let first = atom(alloc, reader, levels)?;
     let others = further_atoms(alloc, reader, levels)?;
@@ -170,8 +152,7 @@ fn further_atoms(
     reader: &mut Reader<'_>,
     levels: usize,
 ) -> Result<Vec<(Operator, Node)>, ExprFault>
-    ensures gives { Gives (λ others. (others.items, tokens reader.new)) result (ending reader.old) (rest_from grammar.product_operator (atom_from (everything reader.old) (expr_from (everything reader.old) levels)) (length (tokens reader.old)) [] (tokens reader.old)) }
-    ensures keeps { OnOk result (Keeps reader.old reader.new) }
+    ensures { TakesAs (λ others. others.items) (λ all. further_from grammar.product_operator (atom_from all (expr_from all levels))) reader.old result reader.new }
 {
     let mut others = Vec::new(alloc);
     while let Some(operator) = take_product_operator(reader) {
@@ -185,8 +166,7 @@ fn further_atoms(
 #[cycle(parsing)]
 #[tactic(auto, unfolding(crate::specs::Reading::atom_from))]
 fn atom(alloc: Global, reader: &mut Reader<'_>, levels: usize) -> Result<Node, ExprFault>
-    ensures gives { Gives (λ e. (e, tokens reader.new)) result (ending reader.old) (atom_from (everything reader.old) (expr_from (everything reader.old) levels) (tokens reader.old)) }
-    ensures keeps { OnOk result (Keeps reader.old reader.new) }
+    ensures { Takes (λ all. atom_from all (expr_from all levels)) reader.old result reader.new }
 {
     match reader.front() {
         Some(Token::Number(number)) => {
@@ -207,8 +187,7 @@ fn atom(alloc: Global, reader: &mut Reader<'_>, levels: usize) -> Result<Node, E
 /// Passes an expression whose opening parenthesis stood before, and the closing one.
 #[cycle(parsing)]
 fn parenthesized(alloc: Global, reader: &mut Reader<'_>, levels: usize) -> Result<Node, ExprFault>
-    ensures gives { Gives (λ e. (e, tokens reader.new)) result (ending reader.old) (parenthesized_from (expr_from (everything reader.old) levels) (tokens reader.old)) }
-    ensures keeps { OnOk result (Keeps reader.old reader.new) }
+    ensures { Takes (λ all. parenthesized_from (expr_from all levels)) reader.old result reader.new }
 {
     let inner = expression(alloc, reader, levels)?;
     close(reader)?;
@@ -217,8 +196,7 @@ fn parenthesized(alloc: Global, reader: &mut Reader<'_>, levels: usize) -> Resul
 
 /// Passes an expression, and answers its tree.
 pub fn parse(alloc: Global, reader: &mut Reader<'_>) -> Result<Node, ExprFault>
-    ensures gives { Gives (λ e. (e, tokens reader.new)) result (ending reader.old) (expr_from (everything reader.old) 64 (tokens reader.old)) }
-    ensures keeps { OnOk result (Keeps reader.old reader.new) }
+    ensures { Takes (λ all. expr_from all 64) reader.old result reader.new }
 {
     expression(alloc, reader, LEVELS)
 }

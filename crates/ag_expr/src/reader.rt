@@ -1,6 +1,8 @@
 ghost use Rattle.std.specs.Prelude.{◌≡◌, ◌≢◌, chars, drop, Some, false, option_map, IfErr, IfOk, OnOk};
 ghost use Rattle.ag_expr.specs.Left as left;
-ghost use Rattle.ag_expr.specs.Left.{Keeps, Says};
+ghost use Rattle.ag_expr.specs.Expression as spec;
+ghost use Rattle.ag_expr.specs.Expression.{Says};
+ghost use Rattle.ag_expr.specs.Left.{Keeps};
 ghost use Rattle.ag_expr.specs.Lexing.{token_of};
 ghost use Rattle.ag_expr.specs.Occurrences.{position_of};
 ghost use Rattle.ag_expr.specs.Token as token;
@@ -10,7 +12,7 @@ use crate::directory::Directory;
 use crate::fault::{ExprFault, TokenFault};
 use crate::lexer::{skip_separators, token_in_front};
 use crate::occurrence::Occ;
-use crate::token::Token;
+use crate::token::{Sign, Token};
 use ag_value::NoMemory;
 use smallvec::SmallVec;
 use std::alloc::Global;
@@ -20,9 +22,8 @@ use std::marker::Model;
 /// is cut when the one before it is passed.
 #[derive(Drop)]
 pub struct Reader<'t> {
-    /// How many bytes the whole text has.
-    len: usize,
-    /// What is left of it.
+    text: &'t str,
+    /// What is left of the text.
     rest: &'t str,
     /// The token in front, and what stands behind it.
     front: Result<(Token<'t>, &'t str), TokenFault>,
@@ -34,16 +35,26 @@ impl<'t> Model for Reader<'t> {
     ghost use Rattle.ag_expr.specs.declared.occurrence.Occ.{Occ};
     ghost use Rattle.ag_expr.specs.Left.{IsReady};
 
-    ghost Value = { List Occ × (ℕ × List ℕ) };
+    ghost Value = { List Occ × (List ℕ × List ℕ) };
 
-    ghost view = { λ r. (r.listed, (r.len, chars r.rest.now)) };
+    ghost view = { λ r. (r.listed, (chars r.text.now, chars r.rest.now)) };
 
-    ghost invariant = { λ r. IsReady r.len r.rest.now r.front };
+    ghost invariant = { λ r. IsReady r.text.now r.rest.now r.front };
+}
+
+/// Whether an expression begins with the token.
+fn begins_expression(token: Token<'_>) -> bool
+    ensures { result ≡ spec.begins_expression (token_of token.entry) }
+{
+    matches!(
+        token,
+        Token::Number(_) | Token::Occurrence(_, _) | Token::Sign(Sign::Open)
+    )
 }
 
 /// The fault of a text with no token in front of `rest`, which stands at this offset.
 fn fault_at(fault: TokenFault, at: usize, rest: &str) -> ExprFault
-    ensures { Says (left.ending_by fault at (chars rest.now)) result }
+    ensures { result ≡ left.fault_of (left.ending_by fault at (chars rest.now)) at }
 {
     match fault {
         TokenFault::TooLarge => ExprFault::NumberTooLarge(at),
@@ -59,7 +70,7 @@ impl<'t> Reader<'t> {
     {
         let rest = skip_separators(text);
         Reader {
-            len: text.len(),
+            text,
             rest,
             front: token_in_front(rest),
             listed: Directory::new(alloc),
@@ -80,16 +91,26 @@ impl<'t> Reader<'t> {
     pub fn offset(&self) -> usize
         ensures { result ≡ left.offset self.now }
     {
-        self.len - self.rest.len()
+        self.text.len() - self.rest.len()
     }
 
     /// Why the token in front cannot be taken, or why none is there.
     pub fn refusal(&self) -> ExprFault
-        ensures { Says (left.ending self.now) result }
+        ensures { Says (left.characters self.now) result }
     {
         match self.front {
             Ok(_) => ExprFault::Unexpected(self.offset()),
             Err(fault) => fault_at(fault, self.offset(), self.rest),
+        }
+    }
+
+    /// Why an expression that has no level left cannot begin here.
+    pub fn no_level(&self) -> ExprFault
+        ensures { Says (left.characters self.now) result }
+    {
+        match self.front {
+            Ok((token, _)) if begins_expression(token) => ExprFault::TooDeep(self.offset()),
+            _ => self.refusal(),
         }
     }
 
@@ -128,7 +149,7 @@ impl<'t> Reader<'t> {
     pub fn finish(self) -> Result<SmallVec<Occ, 4>, ExprFault>
         ensures ended { IfOk result (λ _. left.IsEnded self.entry) }
         ensures listed { IfOk result (λ list. list.items ≡ left.everything self.entry) }
-        ensures says { IfErr result (λ e. Says (left.ending self.entry) e) }
+        ensures says { IfErr result (λ e. Says (left.characters self.entry) e) }
         ensures left { IfErr result (λ e. e ≢ fault.NoMemory → left.IsEnded self.entry → ⊥) }
     {
         if !self.rest.is_empty() {

@@ -1,7 +1,7 @@
-use Rattle.std.proofs.Common.{◌≡◌, ◌+◌, ◌*◌, [], length}
+use Rattle.std.proofs.Common.{◌≡◌, ◌+◌, ◌*◌, length}
 use Rattle.ag_expr.specs.Grammar.{sum_operator, product_operator}
 use Rattle.ag_expr.specs.Left.{Keeps, tokens, everything}
-use Rattle.ag_expr.specs.Reading.{expr_from, product_from, atom_from, rest_from}
+use Rattle.ag_expr.specs.Reading.{expr_from, product_from, atom_from, further_from}
 use Rattle.ag_expr.proofs.Turns.{Going}
 use Rattle.ag_expr.proofs.parser.+parsing.Given as goal
 
@@ -29,7 +29,7 @@ decreases-parenthesized l = 7 * l.levels + 1
 abbrev pub invariant-further_products-loop-operator : goal.invariant-further_products-loop-operator
 invariant-further_products-loop-operator l = record {
   keeps : Keeps l.fn.reader l.reader;
-  going : Going sum_operator (product_from (everything l.fn.reader) (expr_from (everything l.fn.reader) l.fn.levels)) l.others.items (tokens l.reader) (rest_from sum_operator (product_from (everything l.fn.reader) (expr_from (everything l.fn.reader) l.fn.levels)) (length (tokens l.fn.reader)) [] (tokens l.fn.reader));
+  going : Going sum_operator (product_from (everything l.fn.reader) (expr_from (everything l.fn.reader) l.fn.levels)) l.others.items (tokens l.reader) (further_from sum_operator (product_from (everything l.fn.reader) (expr_from (everything l.fn.reader) l.fn.levels)) (tokens l.fn.reader));
   same : l.levels ≡ l.fn.levels;
 }
 
@@ -39,7 +39,7 @@ decreases-further_products-loop-operator l = length (tokens l.reader)
 abbrev pub invariant-further_atoms-loop-operator : goal.invariant-further_atoms-loop-operator
 invariant-further_atoms-loop-operator l = record {
   keeps : Keeps l.fn.reader l.reader;
-  going : Going product_operator (atom_from (everything l.fn.reader) (expr_from (everything l.fn.reader) l.fn.levels)) l.others.items (tokens l.reader) (rest_from product_operator (atom_from (everything l.fn.reader) (expr_from (everything l.fn.reader) l.fn.levels)) (length (tokens l.fn.reader)) [] (tokens l.fn.reader));
+  going : Going product_operator (atom_from (everything l.fn.reader) (expr_from (everything l.fn.reader) l.fn.levels)) l.others.items (tokens l.reader) (further_from product_operator (atom_from (everything l.fn.reader) (expr_from (everything l.fn.reader) l.fn.levels)) (tokens l.fn.reader));
   same : l.levels ≡ l.fn.levels;
 }
 

@@ -6,14 +6,14 @@ use Rattle.ag_expr.proofs.reader.Reader.finish.Goals as goal
 
 pub returns-then-not-is_empty-clause-left : goal.returns-then-not-is_empty-clause-left
 returns-then-not-is_empty-clause-left c memory =
-    let given = rw (ap (λ s. s.1.1) c.self.view_is) at c.self.invariant.0 in
-    let wide = ap (λ s. width s.1.1) (sym c.self.view_is) ∙ c.self.invariant.2 in
+    let given = rw (ap (λ s. s.1.1) c.self.view_is) at c.self.invariant.cut_front in
+    let wide = ap (λ s. width s.1.1) (sym c.self.view_is) ∙ c.self.invariant.rest_wide in
     before_end c.args.self c.self.inside.front given (not_empty _ _ wide (sym c.if-not-is_empty.ensures))
 
 pub returns-clause-ended : goal.returns-clause-ended
 returns-clause-ended c =
-    let given = rw (ap (λ s. s.1.1) c.self.view_is) at c.self.invariant.0 in
-    let wide = ap (λ s. width s.1.1) (sym c.self.view_is) ∙ c.self.invariant.2 in
+    let given = rw (ap (λ s. s.1.1) c.self.view_is) at c.self.invariant.cut_front in
+    let wide = ap (λ s. width s.1.1) (sym c.self.view_is) ∙ c.self.invariant.rest_wide in
     at_end c.args.self c.self.inside.front given (wide ∙ eqb-true _ _ (sym c.if-not-is_empty.ensures))
 
 pub returns-clause-listed : goal.returns-clause-listed

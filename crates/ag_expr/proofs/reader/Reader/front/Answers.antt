@@ -5,10 +5,10 @@ use Rattle.ag_expr.proofs.reader.Reader.front.Goals as goal
 
 pub returns-in-Ok : goal.returns-in-Ok
 returns-in-Ok c =
-    let given = rw c.in-Ok.is at c.self.invariant.0 in
+    let given = rw c.in-Ok.is at c.self.invariant.cut_front in
     rw (← c.self.view_is) (sym (ap front_of (first_is _ _ (stands _ (c.in-Ok.token, c.in-Ok.field-0-1) given))))
 
 pub returns-in-Err : goal.returns-in-Err
 returns-in-Err c =
-    let given = rw c.in-Err.is at c.self.invariant.0 in
+    let given = rw c.in-Err.is at c.self.invariant.cut_front in
     rw (← c.self.view_is) (sym (ap front_of (none_stands _ c.in-Err.field-0 given)))

@@ -1,9 +1,13 @@
-use Rattle.std.proofs.Common.{ap}
-use Rattle.ag_expr.proofs.States.{ends_by}
+use Rattle.std.proofs.Common.{inl}
+use Rattle.ag_expr.proofs.Cuts.{token_there, refused_there}
 use Rattle.ag_expr.proofs.reader.Reader.refusal.Goals as goal
+
+pub returns-in-Ok : goal.returns-in-Ok
+returns-in-Ok c =
+    let given = rw c.in-Ok.is at c.self.invariant.cut_front in
+    rw (c.offset.ensures, ← c.self.view_is) (inl (token_there _ _ _ _ c.self.invariant.reached given.0 given.1))
 
 pub returns-in-Err : goal.returns-in-Err
 returns-in-Err c =
-    let characters = ap (λ s. s.1.1) c.self.view_is in
-    let given = rw (c.in-Err.is, characters) at c.self.invariant.0 in
-    rw (ends_by c.args.self.now c.in-Err.fault given, ← c.offset-in-Err.ensures, ← characters) c.fault_at.ensures
+    let given = rw c.in-Err.is at c.self.invariant.cut_front in
+    rw (c.fault_at.ensures, c.offset-in-Err.ensures, ← c.self.view_is) (refused_there _ _ c.in-Err.fault c.self.invariant.reached given)

@@ -5,7 +5,7 @@ use Rattle.ag_expr.proofs.reader.Reader.take_occurrence.Goals as goal
 pub returns-clause-number : goal.returns-clause-number
 returns-clause-number c =
     let front = rw (← c.self.view_is) at c.requires in
-    let st = first_stands _ c.self.inside.front _ c.self.invariant.0 front in
+    let st = first_stands _ c.self.inside.front _ c.self.invariant.cut_front front in
     let listed = rw (c.offset-at.ensures, ← c.self.view_is) at c.in_ok-number.ensures.lists in
     rw (← c.self.view_is) (taken_number _ c.args.place c.args.attr.now c.list.new.self st listed c.in_ok-number.number c.in_ok-number.ensures.number)
 
@@ -15,6 +15,6 @@ returns-clause-tokens c = rw (← c.self.view_is) (c.advance.ensures.tokens ∙ 
 pub returns-clause-keeps : goal.returns-clause-keeps
 returns-clause-keeps c =
     let front = rw (← c.self.view_is) at c.requires in
-    let st = first_stands _ c.self.inside.front _ c.self.invariant.0 front in
+    let st = first_stands _ c.self.inside.front _ c.self.invariant.cut_front front in
     let listed = rw (c.offset-at.ensures, ← c.self.view_is) at c.in_ok-number.ensures.lists in
     rw (c.advance.ensures.exact, ← c.self.view_is) (taken_keeps _ c.args.place c.args.attr.now c.list.new.self st listed)
