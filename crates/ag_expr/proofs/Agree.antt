@@ -10,7 +10,9 @@ use Rattle.ag_expr.specs.declared.node.Node.TheVariants as node
 use Rattle.ag_expr.specs.declared.occurrence.Occ.{Occ}
 use Rattle.ag_expr.specs.Occurrences.{position_of}
 use Rattle.ag_expr.specs.Grammar.{sum_operator, product_operator, chained, IsRest, stop, next, IsChain, IsAtom, number, occurrence, parentheses, IsProduct, IsSum, IsExpr}
-use Rattle.ag_expr.specs.Reading.{Reader, and_then, where_some, operator_from, rest_from, chain_from, close_from, atom_from, product_from, sum_from, expr_from, at_end, expr_of}
+use Rattle.ag_expr.specs.declared.parser.Rank.{Rank}
+use Rattle.ag_expr.specs.declared.parser.Rank.TheVariants as rank
+use Rattle.ag_expr.specs.Reading.{operand_from, Reader, and_then, where_some, operator_from, rest_from, chain_from, close_from, atom_from, product_from, sum_from, expr_from, at_end, expr_of}
 
 -- what was read is spelled at the front
 abbrev Sound : (List Token → Node → Type 0) → Reader Node → Type 0
@@ -199,14 +201,18 @@ expr_complete listed (suc n) us rest e i h = sum_complete listed (IsExpr listed 
 shorter : (R : List Token → Node → Type 0) (read : Reader Node) → Sound R read → (ts rest : List Token) (e : Node) → read ts ≡ Some (e, rest) → length rest ≤ length ts
 shorter R read s ts rest e h = let found = s ts rest e h in omega (arith, ap length found.1, length-append found.0 rest)
 
-pub atom_shorter : (listed : List Occ) (n : ℕ) (ts rest : List Token) (e : Node) → atom_from listed (expr_from listed n) ts ≡ Some (e, rest) → length rest ≤ length ts
+atom_shorter : (listed : List Occ) (n : ℕ) (ts rest : List Token) (e : Node) → atom_from listed (expr_from listed n) ts ≡ Some (e, rest) → length rest ≤ length ts
 atom_shorter listed n = shorter (IsAtom listed (IsExpr listed n)) (atom_from listed (expr_from listed n)) (atom_sound listed (IsExpr listed n) (expr_from listed n) (expr_sound listed n))
 
-pub product_shorter : (listed : List Occ) (n : ℕ) (ts rest : List Token) (e : Node) → product_from listed (expr_from listed n) ts ≡ Some (e, rest) → length rest ≤ length ts
+product_shorter : (listed : List Occ) (n : ℕ) (ts rest : List Token) (e : Node) → product_from listed (expr_from listed n) ts ≡ Some (e, rest) → length rest ≤ length ts
 unfolding product_from
 product_shorter listed n =
     shorter (IsProduct listed (IsExpr listed n)) (product_from listed (expr_from listed n))
     (chain_sound product_operator (IsAtom listed (IsExpr listed n)) (atom_from listed (expr_from listed n)) (atom_sound listed (IsExpr listed n) (expr_from listed n) (expr_sound listed n)))
+
+pub operand_shorter : (r : Rank) (listed : List Occ) (n : ℕ) (ts rest : List Token) (e : Node) → operand_from r listed (expr_from listed n) ts ≡ Some (e, rest) → length rest ≤ length ts
+operand_shorter rank.Sum listed n = product_shorter listed n
+operand_shorter rank.Product listed n = atom_shorter listed n
 
 ends_all : (p : Node × List Token) (e : Node) → at_end p ≡ Some e → p ≡ (e, [])
 ends_all (f, []) e h = ap (λ x. (x, [])) (some_same _ _ h)

@@ -8,7 +8,8 @@ use Rattle.ag_expr.specs.declared.node.Node.{Node}
 use Rattle.ag_expr.specs.declared.occurrence.Occ.{Occ}
 use Rattle.ag_expr.specs.Expression.{Says}
 use Rattle.ag_expr.specs.Left.{State, Refuses, Takes, TakesAs, characters, everything, tokens}
-use Rattle.ag_expr.specs.Reading.{Reader, and_then, expr_from, operator_from, rest_from, sum_from}
+use Rattle.ag_expr.specs.declared.parser.Rank.TheVariants as rank
+use Rattle.ag_expr.specs.Reading.{Reader, and_then, chain_from, expr_from, operand_from, operator_from, operator_of, rest_from, sum_from}
 
 abbrev pub Found : Type 0
 Found = Option (List (Operator × Node) × List Token)
@@ -87,7 +88,7 @@ answered view read old new (Ok x) e is refuses = absurd is
 answered view read old new (Err x) e is refuses = subst (λ x. Refuses (characters old) x (read (everything old) (tokens old))) (sym is) refuses
 
 -- one level more
-pub one_level : (n : ℕ) → 0 < n → (old new : State) (r : Result Node ExprFault) → Takes (λ all. sum_from all (expr_from all (n - 1))) old r new → Takes (λ all. expr_from all n) old r new
-unfolding expr_from
+pub one_level : (n : ℕ) → 0 < n → (old new : State) (r : Result Node ExprFault) → Takes (λ all. chain_from (operator_of rank.Sum) (operand_from rank.Sum all (expr_from all (n - 1)))) old r new → Takes (λ all. expr_from all n) old r new
+unfolding expr_from sum_from
 one_level zero some old new r is = let bad : ⊥ = omega arith in absurd bad
-one_level (suc n) some old new r is = subst (λ k. Takes (λ all. sum_from all (expr_from all k)) old r new) (let one : suc n - 1 ≡ n = omega arith in one) is
+one_level (suc n) some old new r is = subst (λ k. Takes (λ all. chain_from (operator_of rank.Sum) (operand_from rank.Sum all (expr_from all k))) old r new) (let one : suc n - 1 ≡ n = omega arith in one) is

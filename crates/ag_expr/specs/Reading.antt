@@ -7,6 +7,8 @@ use Rattle.ag_expr.specs.declared.node.Operator.{Operator}
 use Rattle.ag_expr.specs.declared.node.Node.{Node}
 use Rattle.ag_expr.specs.declared.node.Node.TheVariants as node
 use Rattle.ag_expr.specs.declared.occurrence.Occ.{Occ}
+use Rattle.ag_expr.specs.declared.parser.Rank.{Rank}
+use Rattle.ag_expr.specs.declared.parser.Rank.TheVariants as rank
 use Rattle.ag_expr.specs.Occurrences.{position_of}
 use Rattle.ag_expr.specs.Grammar.{sum_operator, product_operator, chained}
 
@@ -67,6 +69,15 @@ product_from listed inner = chain_from product_operator (atom_from listed inner)
 
 unfoldable pub sum_from : List Occ → Reader Node → Reader Node
 sum_from listed inner = chain_from sum_operator (product_from listed inner)
+
+-- the operators of a rank, and its operands
+abbrev pub operator_of : Rank → Token → Option Operator
+operator_of rank.Sum = sum_operator
+operator_of rank.Product = product_operator
+
+abbrev pub operand_from : Rank → List Occ → Reader Node → Reader Node
+operand_from rank.Sum = product_from
+operand_from rank.Product = atom_from
 
 -- an expression of at most so many levels
 unfoldable pub expr_from : List Occ → ℕ → Reader Node

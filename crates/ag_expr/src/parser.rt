@@ -2,7 +2,8 @@ ghost use Rattle.std.specs.Prelude.{◌≡◌, IfNone, IfOk, option_map};
 ghost use Rattle.ag_expr.specs.Grammar as grammar;
 ghost use Rattle.ag_expr.specs.Left.{Keeps, Takes, TakesAs, tokens};
 ghost use Rattle.ag_expr.specs.Lexing.{token_of};
-ghost use Rattle.ag_expr.specs.Reading.{atom_from, close_from, expr_from, further_from, operator_from, parenthesized_from, product_from, sum_from};
+ghost use Rattle.ag_expr.specs.Reading as reading;
+ghost use Rattle.ag_expr.specs.Reading.{atom_from, chain_from, close_from, expr_from, further_from, operand_from, operator_from, parenthesized_from};
 
 use crate::fault::ExprFault;
 use crate::node::{Node, Operator};
@@ -13,6 +14,15 @@ use std::alloc::Global;
 
 /// How many levels an expression has at most.
 const LEVELS: usize = 64;
+
+/// A rank of operators, by how strongly they bind: the operands of a chain are chains of the next rank.
+#[derive(Clone, Copy, Debug, PartialEq, Eq)]
+enum Rank {
+    /// `+` and `-`, which join terms.
+    Sum,
+    /// `*`, `div` and `mod`, which join factors.
+    Product,
+}
 
 /// The operator of a sum that a token is.
 fn sum_operator(token: Token<'_>) -> Option<Operator>
@@ -49,24 +59,23 @@ fn named_operator(name: &str) -> Option<Operator>
     }
 }
 
-/// Passes the operator of a sum that stands in front, where one does.
-fn take_sum_operator(reader: &mut Reader<'_>) -> Option<Operator>
-    ensures takes { option_map (λ o. (o, tokens reader.new)) result ≡ operator_from grammar.sum_operator (tokens reader.old) }
-    ensures stays { IfNone result (reader.new ≡ reader.old) }
-    ensures keeps { Keeps reader.old reader.new }
+/// The operator of a rank that a token is.
+fn operator_of(rank: Rank, token: Token<'_>) -> Option<Operator>
+    ensures { result ≡ reading.operator_of rank (token_of token.entry) }
 {
-    let operator = sum_operator(reader.front()?)?;
-    reader.advance();
-    Some(operator)
+    match rank {
+        Rank::Sum => sum_operator(token),
+        Rank::Product => product_operator(token),
+    }
 }
 
-/// Passes the operator of a product that stands in front, where one does.
-fn take_product_operator(reader: &mut Reader<'_>) -> Option<Operator>
-    ensures takes { option_map (λ o. (o, tokens reader.new)) result ≡ operator_from grammar.product_operator (tokens reader.old) }
+/// Passes the operator of a rank that stands in front, where one does.
+fn take_operator(reader: &mut Reader<'_>, rank: Rank) -> Option<Operator>
+    ensures takes { option_map (λ o. (o, tokens reader.new)) result ≡ operator_from (reading.operator_of rank) (tokens reader.old) }
     ensures stays { IfNone result (reader.new ≡ reader.old) }
     ensures keeps { Keeps reader.old reader.new }
 {
-    let operator = product_operator(reader.front()?)?;
+    let operator = operator_of(rank, reader.front()?)?;
     reader.advance();
     Some(operator)
 }
@@ -103,60 +112,54 @@ fn expression(alloc: Global, reader: &mut Reader<'_>, levels: usize) -> Result<N
     if levels == 0 {
         return Err(reader.no_level());
     }
-    sum(alloc, reader, levels - 1)
+    chain(alloc, reader, levels - 1, Rank::Sum)
 }
 
-/// Passes a sum whose parentheses have at most so many levels.
+/// Passes a chain of a rank, whose parentheses have at most so many levels.
 #[cycle(parsing)]
-#[tactic(auto, unfolding(crate::specs::Reading::sum_from))]
-fn sum(alloc: Global, reader: &mut Reader<'_>, levels: usize) -> Result<Node, ExprFault>
-    ensures { Takes (λ all. sum_from all (expr_from all levels)) reader.old result reader.new }
-{
-    let first = product(alloc, reader, levels)?;
-    let others = further_products(alloc, reader, levels)?;
-    Ok(chained(alloc, first, others)?)
-}
-
-/// Passes the terms behind the first, each with its operator, and answers their trees.
-#[cycle(parsing)]
-fn further_products(
+fn chain(
     alloc: Global,
     reader: &mut Reader<'_>,
     levels: usize,
-) -> Result<Vec<(Operator, Node)>, ExprFault>
-    ensures { TakesAs (λ others. others.items) (λ all. further_from grammar.sum_operator (product_from all (expr_from all levels))) reader.old result reader.new }
+    rank: Rank,
+) -> Result<Node, ExprFault>
+    ensures { Takes (λ all. chain_from (reading.operator_of rank) (operand_from rank all (expr_from all levels))) reader.old result reader.new }
 {
-    let mut others = Vec::new(alloc);
-    while let Some(operator) = take_sum_operator(reader) {
-        let operand = product(alloc, reader, levels)?;
-        others.push((operator, operand))?;
-    }
-    Ok(others)
+    let first = operand(alloc, reader, levels, rank)?;
+    let others = further(alloc, reader, levels, rank)?;
+    Ok(chained(alloc, first, others)?)
 }
 
-/// Passes a product whose parentheses have at most so many levels.
+/// Passes an operand of a rank: a chain of the next rank, or behind the last an atom.
 #[cycle(parsing)]
 #[tactic(auto, unfolding(crate::specs::Reading::product_from))]
-fn product(alloc: Global, reader: &mut Reader<'_>, levels: usize) -> Result<Node, ExprFault>
-    ensures { Takes (λ all. product_from all (expr_from all levels)) reader.old result reader.new }
-{
-    let first = atom(alloc, reader, levels)?;
-    let others = further_atoms(alloc, reader, levels)?;
-    Ok(chained(alloc, first, others)?)
-}
-
-/// Passes the factors behind the first, each with its operator, and answers their trees.
-#[cycle(parsing)]
-fn further_atoms(
+fn operand(
     alloc: Global,
     reader: &mut Reader<'_>,
     levels: usize,
+    rank: Rank,
+) -> Result<Node, ExprFault>
+    ensures { Takes (λ all. operand_from rank all (expr_from all levels)) reader.old result reader.new }
+{
+    match rank {
+        Rank::Sum => chain(alloc, reader, levels, Rank::Product),
+        Rank::Product => atom(alloc, reader, levels),
+    }
+}
+
+/// Passes the operands behind the first, each with its operator, and answers their trees.
+#[cycle(parsing)]
+fn further(
+    alloc: Global,
+    reader: &mut Reader<'_>,
+    levels: usize,
+    rank: Rank,
 ) -> Result<Vec<(Operator, Node)>, ExprFault>
-    ensures { TakesAs (λ others. others.items) (λ all. further_from grammar.product_operator (atom_from all (expr_from all levels))) reader.old result reader.new }
+    ensures { TakesAs (λ others. others.items) (λ all. further_from (reading.operator_of rank) (operand_from rank all (expr_from all levels))) reader.old result reader.new }
 {
     let mut others = Vec::new(alloc);
-    while let Some(operator) = take_product_operator(reader) {
-        let operand = atom(alloc, reader, levels)?;
+    while let Some(operator) = take_operator(reader, rank) {
+        let operand = operand(alloc, reader, levels, rank)?;
         others.push((operator, operand))?;
     }
     Ok(others)

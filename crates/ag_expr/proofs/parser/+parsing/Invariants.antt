@@ -1,47 +1,42 @@
-use Rattle.std.proofs.Common.{◌≡◌, ◌+◌, ◌*◌, length}
-use Rattle.ag_expr.specs.Grammar.{sum_operator, product_operator}
+use Rattle.std.proofs.Common.{◌≡◌, ℕ, ◌+◌, ◌*◌, length}
 use Rattle.ag_expr.specs.Left.{Keeps, tokens, everything}
-use Rattle.ag_expr.specs.Reading.{expr_from, product_from, atom_from, further_from}
+use Rattle.ag_expr.specs.Reading.{expr_from, further_from, operand_from, operator_of}
+use Rattle.ag_expr.specs.declared.parser.Rank.{Rank}
+use Rattle.ag_expr.specs.declared.parser.Rank.TheVariants as rank
 use Rattle.ag_expr.proofs.Turns.{Going}
 use Rattle.ag_expr.proofs.parser.+parsing.Given as goal
 
+-- how many calls lie between a rank and an atom
+abbrev above : Rank → ℕ
+above rank.Sum = 3
+above rank.Product = 0
+
 abbrev pub decreases-expression : goal.decreases-expression
-decreases-expression l = 7 * l.levels
+decreases-expression l = 9 * l.levels
 
-abbrev pub decreases-sum : goal.decreases-sum
-decreases-sum l = 7 * l.levels + 6
+abbrev pub decreases-chain : goal.decreases-chain
+decreases-chain l = 9 * l.levels + (above l.rank + 5)
 
-abbrev pub decreases-further_products : goal.decreases-further_products
-decreases-further_products l = 7 * l.levels + 5
+abbrev pub decreases-further : goal.decreases-further
+decreases-further l = 9 * l.levels + (above l.rank + 4)
 
-abbrev pub decreases-product : goal.decreases-product
-decreases-product l = 7 * l.levels + 4
-
-abbrev pub decreases-further_atoms : goal.decreases-further_atoms
-decreases-further_atoms l = 7 * l.levels + 3
+abbrev pub decreases-operand : goal.decreases-operand
+decreases-operand l = 9 * l.levels + (above l.rank + 3)
 
 abbrev pub decreases-atom : goal.decreases-atom
-decreases-atom l = 7 * l.levels + 2
+decreases-atom l = 9 * l.levels + 2
 
 abbrev pub decreases-parenthesized : goal.decreases-parenthesized
-decreases-parenthesized l = 7 * l.levels + 1
+decreases-parenthesized l = 9 * l.levels + 1
 
-abbrev pub invariant-further_products-loop-operator : goal.invariant-further_products-loop-operator
-invariant-further_products-loop-operator l = record {
+abbrev pub invariant-further-loop-operator : goal.invariant-further-loop-operator
+invariant-further-loop-operator l = record {
   keeps : Keeps l.fn.reader l.reader;
-  going : Going sum_operator (product_from (everything l.fn.reader) (expr_from (everything l.fn.reader) l.fn.levels)) l.others.items (tokens l.reader) (further_from sum_operator (product_from (everything l.fn.reader) (expr_from (everything l.fn.reader) l.fn.levels)) (tokens l.fn.reader));
+  going : Going (operator_of l.fn.rank) (operand_from l.fn.rank (everything l.fn.reader) (expr_from (everything l.fn.reader) l.fn.levels)) l.others.items (tokens l.reader)
+      (further_from (operator_of l.fn.rank) (operand_from l.fn.rank (everything l.fn.reader) (expr_from (everything l.fn.reader) l.fn.levels)) (tokens l.fn.reader));
   same : l.levels ≡ l.fn.levels;
+  ranked : l.rank ≡ l.fn.rank;
 }
 
-abbrev pub decreases-further_products-loop-operator : goal.decreases-further_products-loop-operator
-decreases-further_products-loop-operator l = length (tokens l.reader)
-
-abbrev pub invariant-further_atoms-loop-operator : goal.invariant-further_atoms-loop-operator
-invariant-further_atoms-loop-operator l = record {
-  keeps : Keeps l.fn.reader l.reader;
-  going : Going product_operator (atom_from (everything l.fn.reader) (expr_from (everything l.fn.reader) l.fn.levels)) l.others.items (tokens l.reader) (further_from product_operator (atom_from (everything l.fn.reader) (expr_from (everything l.fn.reader) l.fn.levels)) (tokens l.fn.reader));
-  same : l.levels ≡ l.fn.levels;
-}
-
-abbrev pub decreases-further_atoms-loop-operator : goal.decreases-further_atoms-loop-operator
-decreases-further_atoms-loop-operator l = length (tokens l.reader)
+abbrev pub decreases-further-loop-operator : goal.decreases-further-loop-operator
+decreases-further-loop-operator l = length (tokens l.reader)
