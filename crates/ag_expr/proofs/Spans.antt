@@ -19,9 +19,6 @@ pub record Passed (p : ℕ → Bool) (text rest : List ℕ) : Type 0 where
   pub split : text ≡ encode_utf8_all front ++ rest
   pub characters : chars text ≡ front ++ chars rest
 
-pub starts : (p : ℕ → Bool) (text : List ℕ) → Passed p text text
-starts p text = record { front = []; all = refl; split = refl; characters = refl }
-
 pub goes_on : (class : Class) (text rest : List ℕ) (after : Bor (List ℕ)) → PassesOne class rest (Some after) → Passed (is_in class) text rest → Passed (is_in class) text after.now
 goes_on class text rest after (c, passes, characters, split) so_far = record {
   front = so_far.front ++ c ∷ [];

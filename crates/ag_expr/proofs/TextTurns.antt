@@ -76,9 +76,6 @@ goes_on text rest after total past so_far = go so_far.turns so_far.enough so_far
           same = sym (rw past.cut refl) ∙ same;
         }
 
-pub nearer : (rest after : List ℕ) → IsPast rest after → length (chars after) < length (chars rest)
-nearer rest after past = shorter (chars rest) (chars after) past.character past.cut
-
 none_unquoted : (cs : List ℕ) → length cs ≤ 0 → unquoted cs ≡ None
 none_unquoted [] h = refl
 none_unquoted (c ∷ cs) h = let bad : ⊥ = omega arith in absurd bad

@@ -36,9 +36,6 @@ behind_operator operator (t ∷ ts) us o e = go (operator t) e
     go (Some p) h = let both : (p, ts) ≡ (o, us) = some_same _ _ h in omega (arith, ap (λ (x : Operator × List Token). length x.1) both)
 
 module _ (operator : Token → Option Operator) (operand : Reader Node) where
-  pub starts : (ts : List Token) → Going operator operand [] ts (rest_from operator operand (length ts) [] ts)
-  starts ts = record { turns = length ts; enough = omega arith; same = refl }
-
   -- how far the loop has come, in tokens
   pub nearer : (ts : List Token) → Shortens operand → (o : Operator) (us : List Token) (f : Node) (rest : List Token) → operator_from operator ts ≡ Some (o, us) → operand us ≡ Some (f, rest) → length rest < length ts
   nearer ts short o us f rest is read = let less = behind_operator operator ts us o is in let shorter = short us rest f read in omega arith

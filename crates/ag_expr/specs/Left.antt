@@ -141,6 +141,7 @@ abbrev pub front_of : List Token → Option Token
 front_of [] = None
 front_of (t ∷ ts) = Some t
 
+-- whether it is an occurrence
 abbrev pub is_occurrence : Option Token → Bool
 is_occurrence (Some (token.Occurrence place attr)) = true
 is_occurrence _ = false
