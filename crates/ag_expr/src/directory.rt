@@ -1,5 +1,5 @@
 ghost use Rattle.std.specs.Prelude.{◌≡◌, [], Some, IfOk, OnOk, OnErr};
-ghost use Rattle.ag_expr.specs.Occurrences as spec;
+ghost use Rattle.ag_expr.specs.language.Occurrences as spec;
 
 use crate::occurrence::Occ;
 use ag_value::{NoMemory, Text};
@@ -21,7 +21,7 @@ impl<'t> Model for Directory<'t> {
 
     ghost Value = { List Occ };
 
-    ghost use Rattle.ag_expr.specs.Numbers.{Follows};
+    ghost use Rattle.ag_expr.specs.language.Numbers.{Follows};
 
     ghost view = { λ directory. directory.listed.items };
 

@@ -5,7 +5,7 @@ use std::fmt;
 /// The number of the fault, and where it has one its offset: `X2 at 13`.
 impl fmt::Display for ExprFault {
     ghost use Rattle.std.specs.Prelude.{Some};
-    ghost use Rattle.ag_expr.specs.Faults.{printed};
+    ghost use Rattle.ag_expr.specs.language.Faults.{printed};
 
     ghost output = { λ fault. Some (printed fault) };
 

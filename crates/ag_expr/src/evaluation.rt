@@ -1,6 +1,6 @@
 ghost use Rattle.std.specs.Prelude.{◌≡◌, ◌+◌, ◌-◌, ◌^◌, ◌<◌, ◌≤◌, length, true, IfOk};
 ghost use Rattle.ag_value.specs.Well.{IsWell};
-ghost use Rattle.ag_expr.specs.Evaluation.{AreWell, is_below, value_of};
+ghost use Rattle.ag_expr.specs.language.Evaluation.{AreWell, is_below, value_of};
 
 use crate::arithmetic::apply;
 use crate::environment::Env;

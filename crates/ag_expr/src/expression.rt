@@ -1,6 +1,6 @@
 ghost use Rattle.std.specs.Prelude.{◌≡◌, length, true, IfOk, IfErr};
-ghost use Rattle.ag_expr.specs.Evaluation.{is_below};
-ghost use Rattle.ag_expr.specs.Expression.{ReadsAsExpr, IsRefused, IsAt};
+ghost use Rattle.ag_expr.specs.language.Evaluation.{is_below};
+ghost use Rattle.ag_expr.specs.language.Expression.{ReadsAsExpr, IsRefused, IsAt};
 
 use crate::fault::ExprFault;
 use crate::node::Node;
@@ -20,7 +20,7 @@ pub struct Expr {
 
 impl Model for Expr {
     ghost use Rattle.std.specs.Prelude.{◌≡◌, List, length, true};
-    ghost use Rattle.ag_expr.specs.Evaluation.{is_below};
+    ghost use Rattle.ag_expr.specs.language.Evaluation.{is_below};
     ghost use Rattle.std.specs.Coded.{codes};
     ghost use Rattle.ag_expr.specs.declared.node.Node.{Node};
     ghost use Rattle.ag_expr.specs.declared.occurrence.Occ.{Occ};

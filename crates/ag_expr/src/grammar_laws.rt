@@ -1,6 +1,6 @@
 //! Laws about the definitions alone.
 
-ghost use Rattle.ag_expr.specs.GrammarLaws.{ProductiveByTrees, OneSolution, OneTranslation, EquationsKept, PassesSolve};
+ghost use Rattle.ag_expr.specs.grammars.Laws.{ProductiveByTrees, OneSolution, OneTranslation, EquationsKept, PassesSolve};
 
 /// A symbol derives a list of terminals exactly where there is a tree of it.
 pub fn productive_by_trees()

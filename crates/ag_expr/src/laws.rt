@@ -3,19 +3,19 @@ ghost use Rattle.std.specs.Prelude.{◌≡◌, ◌↔◌, ◌++◌, ◌∷◌, [
 ghost use Rattle.ag_value.specs.declared.value.ErrorCode.TheVariants as code;
 ghost use Rattle.ag_value.specs.declared.value.Value.{Value};
 ghost use Rattle.ag_value.specs.declared.value.Value.TheVariants as value;
-ghost use Rattle.ag_expr.specs.Evaluation.{calculated, is_plain, value_of};
-ghost use Rattle.ag_expr.specs.Expression.{ReadsAsExpr};
-ghost use Rattle.ag_expr.specs.Grammar.{IsExpr};
-ghost use Rattle.ag_expr.specs.Lexing.{token_from};
-ghost use Rattle.ag_expr.specs.Reading.{expr_of};
-ghost use Rattle.ag_expr.specs.Tokens.{AreTokens, BeginsNoToken, IsLongest, IsToken};
-ghost use Rattle.ag_expr.specs.Worked.{by_zero, past_the_greatest, sum_and_product, two_differences};
+ghost use Rattle.ag_expr.specs.language.Evaluation.{calculated, is_plain, value_of};
+ghost use Rattle.ag_expr.specs.language.Expression.{ReadsAsExpr};
+ghost use Rattle.ag_expr.specs.language.Syntax.{IsExpr};
+ghost use Rattle.ag_expr.specs.language.Lexing.{token_from};
+ghost use Rattle.ag_expr.specs.language.Reading.{expr_of};
+ghost use Rattle.ag_expr.specs.language.Tokens.{AreTokens, BeginsNoToken, IsLongest, IsToken};
+ghost use Rattle.ag_expr.specs.language.Worked.{by_zero, past_the_greatest, sum_and_product, two_differences};
 ghost use Rattle.ag_expr.specs.declared.node.Node.{Node};
 ghost use Rattle.ag_expr.specs.declared.node.Operator.TheVariants as operator;
 ghost use Rattle.ag_expr.specs.declared.occurrence.Occ.{Occ};
 ghost use Rattle.ag_expr.specs.declared.token.Sign.TheVariants as sign;
-ghost use Rattle.ag_expr.specs.Token.{Token};
-ghost use Rattle.ag_expr.specs.Token as token;
+ghost use Rattle.ag_expr.specs.language.Token.{Token};
+ghost use Rattle.ag_expr.specs.language.Token as token;
 
 /// What is read from tokens is what the grammar relates to them, and the other way round.
 pub fn reading_agrees_with_the_grammar()

@@ -1,11 +1,11 @@
 ghost use Rattle.std.specs.Prelude.{◌≡◌, ◌++◌, ◌∷◌, [], pos, length, chars, is_some, option_map, IfSome, MatchOption, encode_utf8, encode_utf8_all};
 ghost use Rattle.std.specs.Str.Parse.{digits_value};
-ghost use Rattle.ag_expr.specs.Left.{unspaced};
-ghost use Rattle.ag_expr.specs.Lexing as lexing;
-ghost use Rattle.ag_expr.specs.Lexing.{GivesToken, IsPast, back_of, front_in};
-ghost use Rattle.ag_expr.specs.Token as token;
-ghost use Rattle.ag_expr.specs.Tokens as tokens_spec;
-ghost use Rattle.ag_expr.specs.Tokens.{IsDigits};
+ghost use Rattle.ag_expr.specs.language.Left.{unspaced};
+ghost use Rattle.ag_expr.specs.language.Lexing as lexing;
+ghost use Rattle.ag_expr.specs.language.Lexing.{GivesToken, IsPast, back_of, front_in};
+ghost use Rattle.ag_expr.specs.language.Token as token;
+ghost use Rattle.ag_expr.specs.language.Tokens as tokens_spec;
+ghost use Rattle.ag_expr.specs.language.Tokens.{IsDigits};
 
 use crate::fault::TokenFault;
 use crate::token::{Sign, Token};
@@ -160,7 +160,7 @@ fn past_escape(text: &str) -> Option<&str>
 }
 
 /// What stands behind one character of a text literal: None at a quote, at an escape that is none, and at the end.
-#[tactic(auto, using(crate::proofs::TextTurns::past_escape, crate::proofs::TextTurns::past_plain))]
+#[tactic(auto, using(crate::proofs::language::TextTurns::past_escape, crate::proofs::language::TextTurns::past_plain))]
 fn past_character(text: &str) -> Option<&str>
     ensures { MatchOption result (lexing.character_from (chars text.now) ≡ None) (λ rest. IsPast text.now rest.now) }
 {
@@ -261,7 +261,7 @@ fn plain_token(text: &str) -> Result<(Token<'_>, &str), TokenFault>
 }
 
 /// The token in front, and what stands behind it. Takes no memory.
-#[tactic(auto, unfolding(crate::specs::Lexing::token_from))]
+#[tactic(auto, unfolding(crate::specs::language::Lexing::token_from))]
 pub fn token_in_front(text: &str) -> Result<(Token<'_>, &str), TokenFault>
     ensures { GivesToken result (lexing.token_from (chars text.now)) }
 {

@@ -1,9 +1,9 @@
 ghost use Rattle.std.specs.Prelude.{◌≡◌, IfNone, IfOk, option_map};
-ghost use Rattle.ag_expr.specs.Grammar as grammar;
-ghost use Rattle.ag_expr.specs.Left.{Keeps, Takes, TakesAs, tokens};
-ghost use Rattle.ag_expr.specs.Lexing.{token_of};
-ghost use Rattle.ag_expr.specs.Reading as reading;
-ghost use Rattle.ag_expr.specs.Reading.{atom_from, chain_from, close_from, expr_from, further_from, operand_from, operator_from, parenthesized_from};
+ghost use Rattle.ag_expr.specs.language.Syntax as syntax;
+ghost use Rattle.ag_expr.specs.language.Left.{Keeps, Takes, TakesAs, tokens};
+ghost use Rattle.ag_expr.specs.language.Lexing.{token_of};
+ghost use Rattle.ag_expr.specs.language.Reading as reading;
+ghost use Rattle.ag_expr.specs.language.Reading.{atom_from, chain_from, close_from, expr_from, further_from, operand_from, operator_from, parenthesized_from};
 
 use crate::fault::ExprFault;
 use crate::node::{Node, Operator};
@@ -26,7 +26,7 @@ enum Rank {
 
 /// The operator of a sum that a token is.
 fn sum_operator(token: Token<'_>) -> Option<Operator>
-    ensures { result ≡ grammar.sum_operator (token_of token.entry) }
+    ensures { result ≡ syntax.sum_operator (token_of token.entry) }
 {
     match token {
         Token::Sign(Sign::Plus) => Some(Operator::Add),
@@ -37,7 +37,7 @@ fn sum_operator(token: Token<'_>) -> Option<Operator>
 
 /// The operator of a product that a token is.
 fn product_operator(token: Token<'_>) -> Option<Operator>
-    ensures { result ≡ grammar.product_operator (token_of token.entry) }
+    ensures { result ≡ syntax.product_operator (token_of token.entry) }
 {
     match token {
         Token::Sign(Sign::Times) => Some(Operator::Multiply),
@@ -48,7 +48,7 @@ fn product_operator(token: Token<'_>) -> Option<Operator>
 
 /// The operator that is a reserved name.
 fn named_operator(name: &str) -> Option<Operator>
-    ensures { result ≡ grammar.named_operator name.now }
+    ensures { result ≡ syntax.named_operator name.now }
 {
     if name == "div" {
         Some(Operator::Divide)
@@ -82,7 +82,7 @@ fn take_operator(reader: &mut Reader<'_>, rank: Rank) -> Option<Operator>
 
 /// One operand alone, or a chain.
 fn chained(alloc: Global, first: Node, others: Vec<(Operator, Node)>) -> Result<Node, NoMemory>
-    ensures { IfOk result (λ e. e ≡ grammar.chained first others.items) }
+    ensures { IfOk result (λ e. e ≡ syntax.chained first others.items) }
 {
     if others.is_empty() {
         return Ok(first);
@@ -105,7 +105,7 @@ fn close(reader: &mut Reader<'_>) -> Result<(), ExprFault>
 
 /// Passes an expression of at most so many levels, and answers its tree.
 #[cycle(parsing)]
-#[tactic(auto, using(crate::proofs::Turns::one_level), unfolding(crate::specs::Reading::expr_from))]
+#[tactic(auto, using(crate::proofs::language::Turns::one_level), unfolding(crate::specs::language::Reading::expr_from))]
 fn expression(alloc: Global, reader: &mut Reader<'_>, levels: usize) -> Result<Node, ExprFault>
     ensures { Takes (λ all. expr_from all levels) reader.old result reader.new }
 {
@@ -132,7 +132,7 @@ fn chain(
 
 /// Passes an operand of a rank: a chain of the next rank, or behind the last an atom.
 #[cycle(parsing)]
-#[tactic(auto, unfolding(crate::specs::Reading::product_from))]
+#[tactic(auto, unfolding(crate::specs::language::Reading::product_from))]
 fn operand(
     alloc: Global,
     reader: &mut Reader<'_>,
@@ -167,7 +167,7 @@ fn further(
 
 /// Passes a number, an occurrence or an expression in parentheses, which has at most so many levels.
 #[cycle(parsing)]
-#[tactic(auto, unfolding(crate::specs::Reading::atom_from))]
+#[tactic(auto, unfolding(crate::specs::language::Reading::atom_from))]
 fn atom(alloc: Global, reader: &mut Reader<'_>, levels: usize) -> Result<Node, ExprFault>
     ensures { Takes (λ all. atom_from all (expr_from all levels)) reader.old result reader.new }
 {

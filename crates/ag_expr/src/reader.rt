@@ -1,11 +1,11 @@
 ghost use Rattle.std.specs.Prelude.{◌≡◌, ◌≢◌, chars, drop, Some, false, option_map, IfErr, IfOk, OnOk};
-ghost use Rattle.ag_expr.specs.Left as left;
-ghost use Rattle.ag_expr.specs.Expression as spec;
-ghost use Rattle.ag_expr.specs.Expression.{Says};
-ghost use Rattle.ag_expr.specs.Left.{Keeps};
-ghost use Rattle.ag_expr.specs.Lexing.{token_of};
-ghost use Rattle.ag_expr.specs.Occurrences.{position_of};
-ghost use Rattle.ag_expr.specs.Token as token;
+ghost use Rattle.ag_expr.specs.language.Left as left;
+ghost use Rattle.ag_expr.specs.language.Expression as spec;
+ghost use Rattle.ag_expr.specs.language.Expression.{Says};
+ghost use Rattle.ag_expr.specs.language.Left.{Keeps};
+ghost use Rattle.ag_expr.specs.language.Lexing.{token_of};
+ghost use Rattle.ag_expr.specs.language.Occurrences.{position_of};
+ghost use Rattle.ag_expr.specs.language.Token as token;
 ghost use Rattle.ag_expr.specs.declared.fault.ExprFault.TheVariants as fault;
 
 use crate::directory::Directory;
@@ -33,7 +33,7 @@ pub struct Reader<'t> {
 impl<'t> Model for Reader<'t> {
     ghost use Rattle.std.specs.Prelude.{ℕ, List, chars};
     ghost use Rattle.ag_expr.specs.declared.occurrence.Occ.{Occ};
-    ghost use Rattle.ag_expr.specs.Left.{IsReady};
+    ghost use Rattle.ag_expr.specs.language.Left.{IsReady};
 
     ghost Value = { List Occ × (List ℕ × List ℕ) };
 

@@ -2,13 +2,13 @@
 
 ghost use Rattle.std.specs.Prelude.{ℕ, ◌≡◌, [], ◌∷◌, pos};
 ghost use Rattle.ag_value.specs.declared.value.Value.{Num, Text};
-ghost use Rattle.ag_expr.specs.AttributeGrammar.{Literal, Class};
-ghost use Rattle.ag_expr.specs.Accepted.{IsAccepted, IsComplete, IsNormal, IsProductive, IsReached};
-ghost use Rattle.ag_expr.specs.Tree.{node, none, more, IsTreeOf, depth_of, node_count, IsWithinLimits, most_depth, most_nodes};
-ghost use Rattle.ag_expr.specs.Yield.{yield_of};
-ghost use Rattle.ag_expr.specs.Passes.{IsLegal};
-ghost use Rattle.ag_expr.specs.Solution.{Solves, AnyRule, IsTranslation};
-ghost use Rattle.ag_expr.specs.Sample.{sample, without_out, production_r, rule_out, rule_first, rule_second, rule_inherited, later_passes, endless, with_unreached, sample_tree, sample_values, sample_passes, token_sample, token_tree, token_values, iffy};
+ghost use Rattle.ag_expr.specs.declared.grammar.Terminal.TheVariants.{Literal, Class};
+ghost use Rattle.ag_expr.specs.grammars.Accepted.{IsAccepted, IsComplete, IsNormal, IsProductive, IsReached};
+ghost use Rattle.ag_expr.specs.grammars.Tree.{node, none, more, IsTreeOf, depth_of, node_count, IsWithinLimits, most_depth, most_nodes};
+ghost use Rattle.ag_expr.specs.grammars.Yield.{yield_of};
+ghost use Rattle.ag_expr.specs.grammars.Passes.{IsLegal, Passes};
+ghost use Rattle.ag_expr.specs.grammars.Solution.{Solves, AnyRule, IsTranslation};
+ghost use Rattle.ag_expr.specs.grammars.Sample.{bare, both_ways, doubled, sample, without_out, production_r, rule_out, rule_first, rule_second, rule_inherited, later_passes, endless, with_unreached, sample_tree, sample_values, sample_passes, token_sample, token_tree, token_values, iffy};
 
 /// The first grammar is accepted.
 pub fn sample_accepted()
@@ -23,6 +23,16 @@ pub fn rule_missing()
 /// Without that rule the grammar is not accepted.
 pub fn missing_refused()
     ensures { IsAccepted without_out → ⊥ }
+{}
+
+/// With the rule for the second child's `i` twice it is not accepted.
+pub fn doubled_refused()
+    ensures { IsAccepted doubled → ⊥ }
+{}
+
+/// With a rule whose expression has an occurrence, but without its argument, it is not accepted.
+pub fn bare_refused()
+    ensures { IsAccepted bare → ⊥ }
 {}
 
 /// Its tree of `x x` is one of the grammar.
@@ -77,6 +87,12 @@ pub fn not_legal()
     ensures { IsLegal sample later_passes → ⊥ }
 {}
 
+/// With a production more, in which the first child's `s` goes into the second, no assignment is legal, whatever the
+/// number of passes: each direction is wrong for one of the two productions.
+pub fn none_legal()
+    ensures { (m : Passes) → IsLegal both_ways m → ⊥ }
+{}
+
 /// A symbol with the production `R = R` alone derives no list of terminals.
 pub fn not_productive()
     ensures { IsProductive endless 0 → ⊥ }
@@ -85,6 +101,11 @@ pub fn not_productive()
 /// A symbol that stands on no right side, and is not the start symbol, is not reached.
 pub fn not_reached()
     ensures { IsReached with_unreached 2 → ⊥ }
+{}
+
+/// The second grammar, with a token, is accepted.
+pub fn token_accepted()
+    ensures { IsAccepted token_sample }
 {}
 
 /// The tree of `iffy if`, with a token, is one of the second grammar.

@@ -25,7 +25,7 @@ impl<'a> Env for Same<'a> {
 }
 
 /// The value of a text where every occurrence has this value.
-#[tactic(auto, using(crate::proofs::Values::are_well))]
+#[tactic(auto, using(crate::proofs::language::Values::are_well))]
 fn value_where(
     rt: &(impl Abort + Alloc<A = Global>),
     text: &str,

@@ -1,8 +1,8 @@
 use Rattle.std.proofs.Common.{sym, ◌∙◌}
-use Rattle.ag_expr.specs.Expression.{IsRefused, IsAt}
-use Rattle.ag_expr.specs.Left.{start_of}
-use Rattle.ag_expr.proofs.Below.{expr_below}
-use Rattle.ag_expr.proofs.Texts.{read_whole, is_refused, whole_read, none_whole, left_over, answered}
+use Rattle.ag_expr.specs.language.Expression.{IsRefused, IsAt}
+use Rattle.ag_expr.specs.language.Left.{start_of}
+use Rattle.ag_expr.proofs.language.Below.{expr_below}
+use Rattle.ag_expr.proofs.language.Texts.{read_whole, is_refused, whole_read, none_whole, left_over, answered}
 use Rattle.ag_expr.proofs.expression.read_expr.Goals as goal
 
 pub returns-in_err-node-clause-refuses : goal.returns-in_err-node-clause-refuses

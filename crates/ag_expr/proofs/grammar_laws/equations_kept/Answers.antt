@@ -1,4 +1,4 @@
-use Rattle.ag_expr.proofs.Kept.{equations_kept}
+use Rattle.ag_expr.proofs.grammars.Kept.{equations_kept}
 use Rattle.ag_expr.proofs.grammar_laws.equations_kept.Goals as goal
 
 pub returns : goal.returns

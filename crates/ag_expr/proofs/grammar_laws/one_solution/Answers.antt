@@ -1,4 +1,4 @@
-use Rattle.ag_expr.proofs.OneSolution.{one_solution}
+use Rattle.ag_expr.proofs.grammars.OneSolution.{one_solution}
 use Rattle.ag_expr.proofs.grammar_laws.one_solution.Goals as goal
 
 pub returns : goal.returns

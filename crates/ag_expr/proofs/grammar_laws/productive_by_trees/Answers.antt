@@ -1,4 +1,4 @@
-use Rattle.ag_expr.proofs.Productive.{by_trees}
+use Rattle.ag_expr.proofs.grammars.Productive.{by_trees}
 use Rattle.ag_expr.proofs.grammar_laws.productive_by_trees.Goals as goal
 
 pub returns : goal.returns

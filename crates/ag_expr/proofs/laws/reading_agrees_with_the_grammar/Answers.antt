@@ -1,4 +1,4 @@
-use Rattle.ag_expr.proofs.Agree as agree
+use Rattle.ag_expr.proofs.language.Agree as agree
 use Rattle.ag_expr.proofs.laws.reading_agrees_with_the_grammar.Goals as goal
 
 pub returns : goal.returns

@@ -1,4 +1,4 @@
-use Rattle.ag_expr.proofs.Examples.{sum_is_read}
+use Rattle.ag_expr.proofs.language.Examples.{sum_is_read}
 use Rattle.ag_expr.proofs.laws.worked_expression.Goals as goal
 
 pub returns : goal.returns

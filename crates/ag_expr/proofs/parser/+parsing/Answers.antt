@@ -1,10 +1,10 @@
 use Rattle.std.proofs.Common.{List, ◌∙◌, refl, sym}
 use Rattle.ag_expr.specs.declared.node.Node.{Node}
 use Rattle.ag_expr.specs.declared.occurrence.Occ.{Occ}
-use Rattle.ag_expr.specs.Left.{everything}
-use Rattle.ag_expr.specs.Reading.{Reader, expr_from, further_from, operand_from, operator_of}
-use Rattle.ag_expr.proofs.Agree.{operand_shorter}
-use Rattle.ag_expr.proofs.Turns.{goes_on, nearer, stopped, refused, answered}
+use Rattle.ag_expr.specs.language.Left.{everything}
+use Rattle.ag_expr.specs.language.Reading.{Reader, expr_from, further_from, operand_from, operator_of}
+use Rattle.ag_expr.proofs.language.Agree.{operand_shorter}
+use Rattle.ag_expr.proofs.language.Turns.{goes_on, nearer, stopped, refused, answered}
 use Rattle.ag_expr.proofs.parser.+parsing.Goals as goal
 
 pub further-returns-in_err-operand : goal.further-returns-in_err-operand

@@ -1,9 +1,9 @@
 use Rattle.std.proofs.Common.{◌≡◌, ℕ, ◌+◌, ◌*◌, length}
-use Rattle.ag_expr.specs.Left.{Keeps, tokens, everything}
-use Rattle.ag_expr.specs.Reading.{expr_from, further_from, operand_from, operator_of}
+use Rattle.ag_expr.specs.language.Left.{Keeps, tokens, everything}
+use Rattle.ag_expr.specs.language.Reading.{expr_from, further_from, operand_from, operator_of}
 use Rattle.ag_expr.specs.declared.parser.Rank.{Rank}
 use Rattle.ag_expr.specs.declared.parser.Rank.TheVariants as rank
-use Rattle.ag_expr.proofs.Turns.{Going}
+use Rattle.ag_expr.proofs.language.Turns.{Going}
 use Rattle.ag_expr.proofs.parser.+parsing.Given as goal
 
 -- how many calls lie between a rank and an atom

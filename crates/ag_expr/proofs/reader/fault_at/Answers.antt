@@ -1,5 +1,5 @@
 use Rattle.std.proofs.Common.{sym}
-use Rattle.ag_expr.proofs.States.{fault_is, fault_at_end, no_token_at}
+use Rattle.ag_expr.proofs.language.States.{fault_is, fault_at_end, no_token_at}
 use Rattle.ag_expr.proofs.reader.fault_at.Goals as goal
 
 pub returns-in-Nothing : goal.returns-in-Nothing

@@ -1,4 +1,4 @@
-use Rattle.ag_expr.proofs.Refused.{child_missing}
+use Rattle.ag_expr.proofs.grammars.Refused.{child_missing}
 use Rattle.ag_expr.proofs.samples.child_missing.Goals as goal
 
 pub returns : goal.returns

@@ -1,4 +1,4 @@
-use Rattle.ag_expr.proofs.Refused.{not_normal}
+use Rattle.ag_expr.proofs.grammars.Refused.{not_normal}
 use Rattle.ag_expr.proofs.samples.not_normal.Goals as goal
 
 pub returns : goal.returns

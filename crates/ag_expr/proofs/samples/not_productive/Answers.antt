@@ -1,4 +1,4 @@
-use Rattle.ag_expr.proofs.Refused.{not_productive}
+use Rattle.ag_expr.proofs.grammars.Refused.{not_productive}
 use Rattle.ag_expr.proofs.samples.not_productive.Goals as goal
 
 pub returns : goal.returns

@@ -1,4 +1,4 @@
-use Rattle.ag_expr.proofs.Refused.{not_reached}
+use Rattle.ag_expr.proofs.grammars.Refused.{not_reached}
 use Rattle.ag_expr.proofs.samples.not_reached.Goals as goal
 
 pub returns : goal.returns

@@ -1,4 +1,4 @@
-use Rattle.ag_expr.proofs.NumberSample.{missing}
+use Rattle.ag_expr.proofs.grammars.NumberSample.{missing}
 use Rattle.ag_expr.proofs.samples.rule_missing.Goals as goal
 
 pub returns : goal.returns

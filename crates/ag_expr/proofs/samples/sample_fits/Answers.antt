@@ -1,4 +1,4 @@
-use Rattle.ag_expr.proofs.NumberSample.{fits}
+use Rattle.ag_expr.proofs.grammars.NumberSample.{fits}
 use Rattle.ag_expr.proofs.samples.sample_fits.Goals as goal
 
 pub returns : goal.returns

@@ -1,4 +1,4 @@
-use Rattle.ag_expr.proofs.TokenSample.{fits}
+use Rattle.ag_expr.proofs.grammars.TokenSample.{fits}
 use Rattle.ag_expr.proofs.samples.token_fits.Goals as goal
 
 pub returns : goal.returns

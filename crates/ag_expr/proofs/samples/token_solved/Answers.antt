@@ -1,4 +1,4 @@
-use Rattle.ag_expr.proofs.TokenSample.{solved}
+use Rattle.ag_expr.proofs.grammars.TokenSample.{solved}
 use Rattle.ag_expr.proofs.samples.token_solved.Goals as goal
 
 pub returns : goal.returns

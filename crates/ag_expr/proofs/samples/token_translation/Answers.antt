@@ -1,4 +1,4 @@
-use Rattle.ag_expr.proofs.TokenSample.{translation}
+use Rattle.ag_expr.proofs.grammars.TokenSample.{translation}
 use Rattle.ag_expr.proofs.samples.token_translation.Goals as goal
 
 pub returns : goal.returns

@@ -1,4 +1,4 @@
-use Rattle.ag_expr.proofs.TokenSample.{unsolved}
+use Rattle.ag_expr.proofs.grammars.TokenSample.{unsolved}
 use Rattle.ag_expr.proofs.samples.token_unsolved.Goals as goal
 
 pub returns : goal.returns

@@ -1,5 +1,5 @@
 use Rattle.std.proofs.Common.{◌∙◌, refl, sym}
-use Rattle.ag_expr.proofs.Numbered.{listed_where, unlisted_where, number_pushed, follows_pushed}
+use Rattle.ag_expr.proofs.language.Numbered.{listed_where, unlisted_where, number_pushed, follows_pushed}
 use Rattle.ag_expr.proofs.directory.Directory.list.Goals as goal
 
 pub returns-in-Some-clause-lists : goal.returns-in-Some-clause-lists

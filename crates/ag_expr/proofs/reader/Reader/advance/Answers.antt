@@ -1,9 +1,9 @@
 use Rattle.std.proofs.Common.{refl, sym, ap, ◌∙◌, subst, chars}
-use Rattle.ag_expr.specs.Left.{tokens, Keeps}
-use Rattle.ag_expr.specs.Lexing.{token_of}
-use Rattle.ag_expr.proofs.Cuts.{reached_on}
-use Rattle.ag_expr.proofs.Lexed.{width-chars}
-use Rattle.ag_expr.proofs.States.{stands, advanced, left_narrower, passed, passed_keeps, none_stands, none_behind}
+use Rattle.ag_expr.specs.language.Left.{tokens, Keeps}
+use Rattle.ag_expr.specs.language.Lexing.{token_of}
+use Rattle.ag_expr.proofs.language.Cuts.{reached_on}
+use Rattle.ag_expr.proofs.language.Lexed.{width-chars}
+use Rattle.ag_expr.proofs.language.States.{stands, advanced, left_narrower, passed, passed_keeps, none_stands, none_behind}
 use Rattle.ag_expr.proofs.reader.Reader.advance.Goals as goal
 
 pub invariant_of-self : goal.invariant_of-self

@@ -1,6 +1,6 @@
 use Rattle.std.proofs.Common.{sym, ap}
-use Rattle.ag_expr.specs.Left.{front_of}
-use Rattle.ag_expr.proofs.States.{stands, first_is, none_stands}
+use Rattle.ag_expr.specs.language.Left.{front_of}
+use Rattle.ag_expr.proofs.language.States.{stands, first_is, none_stands}
 use Rattle.ag_expr.proofs.reader.Reader.front.Goals as goal
 
 pub returns-in-Ok : goal.returns-in-Ok

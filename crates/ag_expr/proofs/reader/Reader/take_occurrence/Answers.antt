@@ -1,5 +1,5 @@
 use Rattle.std.proofs.Common.{ap, ◌∙◌, drop}
-use Rattle.ag_expr.proofs.States.{first_stands, taken_number, taken_keeps, taken_tokens}
+use Rattle.ag_expr.proofs.language.States.{first_stands, taken_number, taken_keeps, taken_tokens}
 use Rattle.ag_expr.proofs.reader.Reader.take_occurrence.Goals as goal
 
 pub returns-clause-number : goal.returns-clause-number

@@ -1,0 +1,12 @@
+pub mod Evaluation
+pub mod Expression
+pub mod Faults
+pub mod Left
+pub mod Lexing
+pub mod Numbers
+pub mod Occurrences
+pub mod Reading
+pub mod Syntax
+pub mod Token
+pub mod Tokens
+pub mod Worked
