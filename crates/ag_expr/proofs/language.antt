@@ -1,3 +1,4 @@
+-- Lemmas on the expression language.
 pub mod Agree
 pub mod Below
 pub mod Cuts

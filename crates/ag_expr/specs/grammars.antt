@@ -1,3 +1,4 @@
+-- Attribute grammars: their trees, solutions and passes (Knuth 1968; Jazayeri and Walter 1975).
 pub mod Accepted
 pub mod AttributeGrammar
 pub mod Laws

@@ -1,6 +1,8 @@
+-- The expression language: its tokens, its syntax, what an expression is worth.
 pub mod Evaluation
 pub mod Expression
 pub mod Faults
+pub mod Laws
 pub mod Left
 pub mod Lexing
 pub mod Numbers

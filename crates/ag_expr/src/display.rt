@@ -1,3 +1,5 @@
+//! How a refusal of a text is printed.
+
 use crate::fault::ExprFault;
 use std::error::Error;
 use std::fmt;

@@ -1,10 +1,11 @@
-//! The parts of an attribute grammar as plain data: symbols, productions and rules. What a grammar of them means, and
-//! which ones are accepted, is defined over these types.
+//! The parts of an attribute grammar as plain data: symbols, productions and rules. What a grammar
+//! of them means, and which ones are accepted, is defined over these types.
 
 use crate::expression::Expr;
 use ag_value::{Items, Text};
 
-/// A declared symbol. Its attributes are numbered from 0, the synthesized ones first, then the inherited ones.
+/// A declared symbol. Its attributes are numbered from 0, the synthesized ones first, then the
+/// inherited ones.
 #[derive(Debug, Drop)]
 pub struct Symbol {
     /// The symbol's name.
@@ -33,11 +34,12 @@ pub enum Item {
     Terminal(Terminal),
 }
 
-/// An attribute at a place of a production: what a rule gives a value, or what one of its arguments stands for
-/// (Knuth 1968).
+/// An attribute at a place of a production: what a rule gives a value, or what one of its arguments
+/// stands for (Knuth 1968).
 #[derive(Clone, Copy, Debug, PartialEq, Eq)]
 pub struct Target {
-    /// The place: 0 is the left side; 1, 2, .. are the stored items of the right side, from left to right.
+    /// The place: 0 is the left side; 1, 2, .. are the stored items of the right side, from left to
+    /// right.
     pub place: u16,
     /// The attribute's number at its symbol, from 0; 0 is the `lex` of a token.
     pub attr: u16,

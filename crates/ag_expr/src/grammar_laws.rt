@@ -1,13 +1,15 @@
 //! Laws about the definitions alone.
 
-ghost use Rattle.ag_expr.specs.grammars.Laws.{ProductiveByTrees, OneSolution, OneTranslation, EquationsKept, PassesSolve};
+ghost use Rattle.ag_expr.specs.grammars.Laws.{ProductiveByTrees, OneSolution, OneTranslation};
+ghost use Rattle.ag_expr.specs.grammars.Laws.{EquationsKept, PassesSolve};
 
 /// A symbol derives a list of terminals exactly where there is a tree of it.
 pub fn productive_by_trees()
     ensures { ProductiveByTrees }
 {}
 
-/// Any two solutions on a tree of a complete and normal grammar with a legal assignment of passes are the same.
+/// Any two solutions on a tree of a complete and normal grammar with a legal assignment of passes
+/// are the same.
 pub fn one_solution()
     ensures { OneSolution }
 {}

@@ -2,7 +2,7 @@
 #![tactic(auto)]
 
 mod arithmetic;
-mod directory;
+mod cursor;
 mod display;
 mod environment;
 mod evaluation;
@@ -15,8 +15,8 @@ mod lexer;
 mod meter;
 mod node;
 mod occurrence;
+mod occurrence_table;
 mod parser;
-mod reader;
 pub mod samples;
 #[cfg(test)]
 mod tests;

@@ -3,12 +3,19 @@
 ghost use Rattle.std.specs.Prelude.{ℕ, ◌≡◌, [], ◌∷◌, pos};
 ghost use Rattle.ag_value.specs.declared.value.Value.{Num, Text};
 ghost use Rattle.ag_expr.specs.declared.grammar.Terminal.TheVariants.{Literal, Class};
-ghost use Rattle.ag_expr.specs.grammars.Accepted.{IsAccepted, IsComplete, IsNormal, IsProductive, IsReached};
-ghost use Rattle.ag_expr.specs.grammars.Tree.{node, none, more, IsTreeOf, depth_of, node_count, IsWithinLimits, most_depth, most_nodes};
+ghost use Rattle.ag_expr.specs.grammars.Accepted.{IsAccepted, IsComplete, IsNormal, IsProductive};
+ghost use Rattle.ag_expr.specs.grammars.Accepted.{IsReached};
+ghost use Rattle.ag_expr.specs.grammars.Tree.{node, none, more, IsTreeOf, depth_of, node_count};
+ghost use Rattle.ag_expr.specs.grammars.Tree.{IsWithinLimits, most_depth, most_nodes};
 ghost use Rattle.ag_expr.specs.grammars.Yield.{yield_of};
 ghost use Rattle.ag_expr.specs.grammars.Passes.{IsLegal, Passes};
 ghost use Rattle.ag_expr.specs.grammars.Solution.{Solves, AnyRule, IsTranslation};
-ghost use Rattle.ag_expr.specs.grammars.Sample.{bare, both_ways, doubled, sample, without_out, production_r, rule_out, rule_first, rule_second, rule_inherited, later_passes, endless, with_unreached, sample_tree, sample_values, sample_passes, token_sample, token_tree, token_values, iffy};
+ghost use Rattle.ag_expr.specs.grammars.Sample.{bare, both_ways, doubled, sample, without_out};
+ghost use Rattle.ag_expr.specs.grammars.Sample.{production_r, rule_out, rule_first, rule_second};
+ghost use Rattle.ag_expr.specs.grammars.Sample.{rule_inherited, later_passes, endless};
+ghost use Rattle.ag_expr.specs.grammars.Sample.{with_unreached, sample_tree, sample_values};
+ghost use Rattle.ag_expr.specs.grammars.Sample.{sample_passes, token_sample, token_tree};
+ghost use Rattle.ag_expr.specs.grammars.Sample.{token_values, iffy};
 
 /// The first grammar is accepted.
 pub fn sample_accepted()
@@ -82,13 +89,14 @@ pub fn child_missing()
     ensures { IsTreeOf sample (node 0 (more (node 1 none) none)) → ⊥ }
 {}
 
-/// The second pass for all attributes is not legal: from left to right the first child comes before what its `i` uses.
+/// The second pass for all attributes is not legal: from left to right the first child comes before
+/// what its `i` uses.
 pub fn not_legal()
     ensures { IsLegal sample later_passes → ⊥ }
 {}
 
-/// With a production more, in which the first child's `s` goes into the second, no assignment is legal, whatever the
-/// number of passes: each direction is wrong for one of the two productions.
+/// With a production more, in which the first child's `s` goes into the second, no assignment is
+/// legal, whatever the number of passes: each direction is wrong for one of the two productions.
 pub fn none_legal()
     ensures { (m : Passes) → IsLegal both_ways m → ⊥ }
 {}
@@ -121,7 +129,8 @@ pub fn token_size()
 
 /// It yields the name `iffy` and then the literal `if`.
 pub fn token_yield()
-    ensures { yield_of token_sample token_tree ≡ (Class 0, iffy) ∷ (Literal 0, 105 ∷ 102 ∷ []) ∷ [] }
+    ensures { yield_of token_sample token_tree
+        ≡ (Class 0, iffy) ∷ (Literal 0, 105 ∷ 102 ∷ []) ∷ [] }
 {}
 
 /// The name for `out` solves the grammar on it.

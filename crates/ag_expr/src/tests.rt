@@ -1,3 +1,5 @@
+//! Rows of the language, worked out by hand.
+
 use crate::{Env, ExprFault, Meter, eval, occurrences, read_expr};
 use ag_value::{ErrorCode, Text, Value, is_well, same};
 use std::alloc::{Alloc, Global};

@@ -1,3 +1,4 @@
+-- A symbol is productive exactly where it has a tree.
 use Rattle.std.proofs.Common.{ℕ, suc, ◌≡◌, ◌↔◌, List, [], ◌∷◌, Some, refl, arith}
 use Rattle.ag_expr.specs.declared.grammar.Item.TheVariants as item
 use Rattle.ag_expr.specs.declared.grammar.Item.{Item}

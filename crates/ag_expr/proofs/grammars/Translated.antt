@@ -1,3 +1,4 @@
+-- A tree has one translation at most.
 use Rattle.std.proofs.Common.{ℕ, zero, suc, ◌≡◌, List, [], ◌∷◌, ◌++◌, Some, slice_get, map, refl, ap, ◌∙◌, sym, subst}
 use Rattle.ag_value.specs.declared.value.Value.{Value}
 use Rattle.ag_expr.specs.declared.grammar.Item.TheVariants as item

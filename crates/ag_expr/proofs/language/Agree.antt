@@ -1,7 +1,7 @@
 -- Reading and the grammar agree.
 use Rattle.std.proofs.Common.{◌≡◌, ℕ, zero, suc, ◌≤◌, List, [], ◌∷◌, ◌++◌, length, Option, Some, None, refl, ap, sym, ◌∙◌, subst, append_assoc, append-nil, arith, length-append, ◌↔◌}
-use Rattle.ag_expr.specs.declared.token.Sign.{Sign}
-use Rattle.ag_expr.specs.declared.token.Sign.TheVariants as sign
+use Rattle.ag_expr.specs.declared.token.Punctuation.{Punctuation}
+use Rattle.ag_expr.specs.declared.token.Punctuation.TheVariants as punctuation
 use Rattle.ag_expr.specs.language.Token.{Token}
 use Rattle.ag_expr.specs.language.Token as token
 use Rattle.ag_expr.specs.declared.node.Operator.{Operator}
@@ -10,8 +10,8 @@ use Rattle.ag_expr.specs.declared.node.Node.TheVariants as node
 use Rattle.ag_expr.specs.declared.occurrence.Occ.{Occ}
 use Rattle.ag_expr.specs.language.Occurrences.{position_of}
 use Rattle.ag_expr.specs.language.Syntax.{sum_operator, product_operator, chained, IsRest, stop, next, IsChain, IsAtom, number, occurrence, parentheses, IsProduct, IsSum, IsExpr}
-use Rattle.ag_expr.specs.declared.parser.Rank.{Rank}
-use Rattle.ag_expr.specs.declared.parser.Rank.TheVariants as rank
+use Rattle.ag_expr.specs.declared.parser.Precedence.{Precedence}
+use Rattle.ag_expr.specs.declared.parser.Precedence.TheVariants as precedence
 use Rattle.ag_expr.specs.language.Reading.{operand_from, Reader, and_then, where_some, operator_from, rest_from, chain_from, close_from, atom_from, product_from, sum_from, expr_from, at_end, expr_of}
 
 -- what was read is spelled at the front
@@ -121,29 +121,29 @@ nowhere ts = Unit {0}
 impossible : {A : Type 0} (o : Operator) → None ≡ Some o → A
 impossible o e = let bad : ⊥ = cc in absurd bad
 
-sign_ends : (s : Sign) (o : Operator) (ts : List Token) → sum_operator (token.Sign s) ≡ Some o → EndsBefore product_operator (token.Sign s ∷ ts)
-sign_ends sign.Plus o ts e = refl
-sign_ends sign.Minus o ts e = refl
-sign_ends sign.Times o ts e = impossible o e
-sign_ends _ o ts e = refl
+punctuation_ends : (s : Punctuation) (o : Operator) (ts : List Token) → sum_operator (token.Punctuation s) ≡ Some o → EndsBefore product_operator (token.Punctuation s ∷ ts)
+punctuation_ends punctuation.Plus o ts e = refl
+punctuation_ends punctuation.Minus o ts e = refl
+punctuation_ends punctuation.Times o ts e = impossible o e
+punctuation_ends _ o ts e = refl
 
 sum_ends : (t : Token) (o : Operator) (ts : List Token) → sum_operator t ≡ Some o → EndsBefore product_operator (t ∷ ts)
-sum_ends (token.Sign s) o ts e = sign_ends s o ts e
+sum_ends (token.Punctuation s) o ts e = punctuation_ends s o ts e
 sum_ends (token.Name n) o ts e = impossible o e
 sum_ends _ o ts e = refl
 
 module _ (listed : List Occ) (inner : List Token → Node → Type 0) (read : Reader Node) where
   module _ (s : Sound inner read) where
     closes : (ts us ws rest : List Token) (f e : Node) → ts ≡ ws ++ us → inner ws f → and_then {B = Node × List Token} (close_from us) (λ q. Some (f, q.1)) ≡ Some (e, rest)
-        → (us : List Token) × (token.Sign sign.Open ∷ ts ≡ us ++ rest) × IsAtom listed inner us e
+        → (us : List Token) × (token.Punctuation punctuation.Open ∷ ts ≡ us ++ rest) × IsAtom listed inner us e
     closes ts [] ws rest f e t i h = let bad : ⊥ = cc in absurd bad
-    closes ts (token.Sign sign.Close ∷ us) ws rest f e t i h =
+    closes ts (token.Punctuation punctuation.Close ∷ us) ws rest f e t i h =
         let same : (f, us) ≡ (e, rest) = some_same _ _ h in
         let e_same : f ≡ e = ap (λ (p : Node × List Token). p.0) same in
         let rest_same : us ≡ rest = ap (λ (p : Node × List Token). p.1) same in
-        let close = token.Sign sign.Close in
-        let word = token.Sign sign.Open ∷ (ws ++ close ∷ []) in
-        (word, ap (λ y. token.Sign sign.Open ∷ y) (t ∙ ap (λ y. ws ++ close ∷ y) rest_same ∙ sym (append_assoc ws (close ∷ []) rest)), subst (IsAtom listed inner word) e_same (parentheses ws f i))
+        let close = token.Punctuation punctuation.Close in
+        let word = token.Punctuation punctuation.Open ∷ (ws ++ close ∷ []) in
+        (word, ap (λ y. token.Punctuation punctuation.Open ∷ y) (t ∙ ap (λ y. ws ++ close ∷ y) rest_same ∙ sym (append_assoc ws (close ∷ []) rest)), subst (IsAtom listed inner word) e_same (parentheses ws f i))
     closes ts (_ ∷ us) ws rest f e t i h = let bad : ⊥ = cc in absurd bad
 
     atom_sound : Sound (IsAtom listed inner) (atom_from listed read)
@@ -159,7 +159,7 @@ module _ (listed : List Occ) (inner : List Token → Node → Type 0) (read : Re
         let e_same : node.Occurrence one.0 ≡ e = ap (λ (p : Node × List Token). p.0) same in
         let word = token.Occurrence place attr in
         (word ∷ [], ap (λ (p : Node × List Token). word ∷ p.1) same, subst (IsAtom listed inner (word ∷ [])) e_same (occurrence place attr one.0 one.1))
-    atom_sound (token.Sign sign.Open ∷ ts) rest e h =
+    atom_sound (token.Punctuation punctuation.Open ∷ ts) rest e h =
         let one = opened (read ts) _ _ h in
         let first = s ts one.0.1 one.0.0 one.1 in
         closes ts one.0.1 first.0 rest one.0.0 e first.1 first.2 one.2
@@ -175,7 +175,7 @@ module _ (listed : List Occ) (inner : List Token → Node → Type 0) (read : Re
     atom_complete us rest e (number n) h = refl
     atom_complete us rest e (occurrence place attr k is) h = rw is refl
     atom_complete us rest e (parentheses ts f i) h =
-        let close = token.Sign sign.Close in
+        let close = token.Punctuation punctuation.Close in
         let text : (ts ++ close ∷ []) ++ rest ≡ ts ++ close ∷ rest = append_assoc ts (close ∷ []) rest in
         let one : read ((ts ++ close ∷ []) ++ rest) ≡ Some (f, close ∷ rest) = ap read text ∙ c ts (close ∷ rest) f i (refl, refl) in
         rw one refl
@@ -210,9 +210,9 @@ product_shorter listed n =
     shorter (IsProduct listed (IsExpr listed n)) (product_from listed (expr_from listed n))
     (chain_sound product_operator (IsAtom listed (IsExpr listed n)) (atom_from listed (expr_from listed n)) (atom_sound listed (IsExpr listed n) (expr_from listed n) (expr_sound listed n)))
 
-pub operand_shorter : (r : Rank) (listed : List Occ) (n : ℕ) (ts rest : List Token) (e : Node) → operand_from r listed (expr_from listed n) ts ≡ Some (e, rest) → length rest ≤ length ts
-operand_shorter rank.Sum listed n = product_shorter listed n
-operand_shorter rank.Product listed n = atom_shorter listed n
+pub operand_shorter : (r : Precedence) (listed : List Occ) (n : ℕ) (ts rest : List Token) (e : Node) → operand_from r listed (expr_from listed n) ts ≡ Some (e, rest) → length rest ≤ length ts
+operand_shorter precedence.Sum listed n = product_shorter listed n
+operand_shorter precedence.Product listed n = atom_shorter listed n
 
 ends_all : (p : Node × List Token) (e : Node) → at_end p ≡ Some e → p ≡ (e, [])
 ends_all (f, []) e h = ap (λ x. (x, [])) (some_same _ _ h)

@@ -1,5 +1,5 @@
 -- What is left of a text, token by token.
-use Rattle.std.proofs.Common.{◌≡◌, ℕ, zero, suc, ◌+◌, ◌-◌, ◌<◌, ◌≤◌, Bool, true, false, cond, List, [], ◌∷◌, ◌++◌, length, take, Option, Some, None, Err, inr, refl, ap, sym, subst, arith, append_assoc, append-nil}
+use Rattle.std.proofs.Common.{◌≡◌, ℕ, zero, suc, ◌+◌, ◌-◌, ◌<◌, ◌≤◌, Bool, true, false, cond, List, [], ◌∷◌, ◌++◌, length, take, Option, Some, None, Err, inr, refl, ◌∙◌, ap, sym, subst, arith, append_assoc, append-nil}
 use Rattle.std.proofs.lemmas.List.{length-drop}
 use Rattle.std.specs.List.{prefix_len, list_all}
 use Rattle.ag_expr.specs.language.Token.{Token}
@@ -11,7 +11,7 @@ use Rattle.ag_expr.specs.language.Tokens.{is_separator, width, AreTokens, is_wit
 use Rattle.ag_expr.specs.language.Lexing.{token_from, GivesToken, IsTooLarge}
 use Rattle.ag_expr.specs.language.Left.{Left, Ending, whole, no_token, too_large, unspaced, none_left, one_before, ending_at, ending_by, fault_of, left_by, cut, IsSoFar, IsReached}
 use Rattle.ag_expr.proofs.language.TokenLaws.{token_sound, cut_longest}
-use Rattle.ag_expr.proofs.language.Lexed.{is_behind, spaces, begun, one_more, nothing_here, too_large_here}
+use Rattle.ag_expr.proofs.language.Lexed.{is_behind, spaces, begun, one_more, nothing_here, token_here, too_large_here}
 
 -- All of the characters are cut, each number within its limit; or they are cut up to an offset where no token stands, or one that is too large.
 abbrev pub IsCut : List ℕ → Left → Type 0
@@ -19,8 +19,8 @@ IsCut cs left = IsCutSo cs left.tokens left.offsets left.ending
   where
     IsCutSo : List ℕ → List Token → List ℕ → Ending → Type 0
     IsCutSo cs ts ats whole = AreTokens 0 cs ts ats (width cs) [] × (list_all is_within ts ≡ true)
-    IsCutSo cs ts ats (no_token at) = NoTokenAt cs at
-    IsCutSo cs ts ats (too_large at) = TooLargeAt cs at
+    IsCutSo cs ts ats (no_token at) = NoTokenAt 0 cs at
+    IsCutSo cs ts ats (too_large at) = TooLargeAt 0 cs at
 
 pub shorter : (cs : List ℕ) (t : Token) (rest : List ℕ) → token_from cs ≡ Some (t, rest) → length (unspaced rest) < length cs
 shorter cs t rest e = let less = (is_behind cs t rest e).shorter in omega (arith, length-drop (prefix_len is_separator rest) rest)
@@ -111,30 +111,21 @@ pub reached_on : (cs rest after next : List ℕ) (t : Token) → IsReached cs re
 reached_on cs rest after next t (ts, ats, so_far) e within is = subst (IsReached cs) (sym is) (ts ++ t ∷ [], ats ++ (width cs - width rest) ∷ [], one_further cs ts ats rest t after so_far e within)
 
 -- what stands there
-pub token_there : (cs rest after : List ℕ) (t : Token) → IsReached cs rest → token_from rest ≡ Some (t, after) → is_within t ≡ true → TokenAt cs (width cs - width rest)
+pub token_there : (cs rest after : List ℕ) (t : Token) → IsReached cs rest → token_from rest ≡ Some (t, after) → is_within t ≡ true → TokenAt 0 cs (width cs - width rest)
 token_there cs rest after t (ts, ats, so_far) e within =
-    let one = token_sound rest t after e in
-    record {
-      tokens = ts;
-      offsets = ats;
-      word = one.word;
-      token = t;
-      rest = after;
-      before = subst (λ y. AreTokens 0 cs ts ats (width cs - width rest) y) one.split so_far.tokens;
-      is = one.token;
-      longest = cut_longest rest t after one.word e one.split;
-      within = within;
-    }
+    let there = token_here cs ts ats (width cs - width rest) rest after t so_far e in
+    (there.0, ap is_within there.1 ∙ within)
 
-none_there : (cs rest all : List ℕ) → IsReached cs rest → rest ≡ all → token_from rest ≡ None → Says cs (fault_of (ending_at (width cs - width rest) all) (width cs - width rest))
+none_there : (cs rest all : List ℕ) → IsReached cs rest → rest ≡ all → token_from rest ≡ None → Says 0 cs (fault_of (ending_at (width cs - width rest) all) (width cs - width rest))
 none_there cs rest [] (ts, ats, so_far) e none = inr (record { tokens = ts; offsets = ats; before = subst (λ y. AreTokens 0 cs ts ats (width cs - width rest) y) e so_far.tokens })
 none_there cs rest (c ∷ all) (ts, ats, so_far) e none = nothing_here cs ts ats (width cs - width rest) rest so_far (omega (arith, ap length e)) none
 
 -- the fault there says the truth
-pub refused_there : (cs rest : List ℕ) (f : TokenFault) → IsReached cs rest → GivesToken (Err f) (token_from rest) → Says cs (fault_of (ending_by f (width cs - width rest) rest) (width cs - width rest))
+pub refused_there : (cs rest : List ℕ) (f : TokenFault) → IsReached cs rest → GivesToken (Err f) (token_from rest) → Says 0 cs (fault_of (ending_by f (width cs - width rest) rest) (width cs - width rest))
 refused_there cs rest token_fault.Nothing reached given = none_there cs rest rest reached refl given
 refused_there cs rest token_fault.TooLarge (ts, ats, so_far) given = too_large_here cs ts ats (width cs - width rest) rest so_far given
 
-pub begins_there : (cs rest after : List ℕ) (t : Token) → IsReached cs rest → token_from rest ≡ Some (t, after) → is_within t ≡ true → begins_expression t ≡ true → Says cs (fault.TooDeep (width cs - width rest))
-unfolding token_there
-begins_there cs rest after t reached e within begins = (token_there cs rest after t reached e within, begins)
+pub begins_there : (cs rest after : List ℕ) (t : Token) → IsReached cs rest → token_from rest ≡ Some (t, after) → is_within t ≡ true → begins_expression t ≡ true → Says 0 cs (fault.TooDeep (width cs - width rest))
+begins_there cs rest after t (ts, ats, so_far) e within begins =
+    let there = token_here cs ts ats (width cs - width rest) rest after t so_far e in
+    ((there.0, ap is_within there.1 ∙ within), ap begins_expression there.1 ∙ begins)

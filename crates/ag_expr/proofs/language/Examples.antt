@@ -3,7 +3,7 @@ use Rattle.std.proofs.Common.{◌≡◌, ℕ, List, [], ◌∷◌, Some, pos, co
 use Rattle.std.proofs.lemmas.Str.{encode_ascii}
 use Rattle.std.specs.Str.{chars}
 use Rattle.unicode_ident.proofs.IdentLemmas.{is_xid_start-ascii, is_xid_continue-ascii}
-use Rattle.ag_expr.specs.declared.token.Sign.TheVariants as sign
+use Rattle.ag_expr.specs.declared.token.Punctuation.TheVariants as punctuation
 use Rattle.ag_expr.specs.language.Token.{Token}
 use Rattle.ag_expr.specs.language.Token as token
 use Rattle.ag_expr.specs.language.Tokens.{AreTokens}
@@ -13,17 +13,17 @@ use Rattle.ag_expr.specs.language.Expression.{ReadsAsExpr}
 use Rattle.ag_expr.specs.language.Worked.{sum_and_product}
 use Rattle.ag_expr.proofs.language.Agree as agree
 use Rattle.ag_expr.proofs.language.Lexed.{begun, one_more}
-use Rattle.ag_expr.proofs.language.TokenLaws.{no_start, sign_cut}
+use Rattle.ag_expr.proofs.language.TokenLaws.{no_start, punctuation_cut}
 
 cut_occurrence : token_from (codes "$1.a + 2") ≡ Some (token.Occurrence 1 (codes "a"), codes " + 2")
 unfolding token_from
 cut_occurrence = rw (is_xid_start-ascii 97 (lit< tt), is_xid_continue-ascii 97 (lit< tt), is_xid_continue-ascii 32 (lit< tt), encode_ascii 97 (lit< tt)) refl
 
-cut_plus : (rest : List ℕ) → token_from (43 ∷ 32 ∷ rest) ≡ Some (token.Sign sign.Plus, 32 ∷ rest)
-cut_plus rest = sign_cut 43 (32 ∷ rest) (sign.Plus, 32 ∷ rest) (no_start 43 (lit< tt) refl refl) refl refl refl refl
+cut_plus : (rest : List ℕ) → token_from (43 ∷ 32 ∷ rest) ≡ Some (token.Punctuation punctuation.Plus, 32 ∷ rest)
+cut_plus rest = punctuation_cut 43 (32 ∷ rest) (punctuation.Plus, 32 ∷ rest) (no_start 43 (lit< tt) refl refl) refl refl refl refl
 
-cut_times : (rest : List ℕ) → token_from (42 ∷ rest) ≡ Some (token.Sign sign.Times, rest)
-cut_times rest = sign_cut 42 rest (sign.Times, rest) (no_start 42 (lit< tt) refl refl) refl refl refl refl
+cut_times : (rest : List ℕ) → token_from (42 ∷ rest) ≡ Some (token.Punctuation punctuation.Times, rest)
+cut_times rest = punctuation_cut 42 rest (punctuation.Times, rest) (no_start 42 (lit< tt) refl refl) refl refl refl refl
 
 cut_two : (rest : List ℕ) → token_from (50 ∷ 32 ∷ rest) ≡ Some (token.Number (pos 2), 32 ∷ rest)
 unfolding token_from
@@ -41,17 +41,17 @@ cut_last_four : token_from (52 ∷ []) ≡ Some (token.Number (pos 4), [])
 unfolding token_from
 cut_last_four = refl
 
-pub occurrence_and_number : AreTokens 0 (codes "$1.a + 2") (token.Occurrence 1 (codes "a") ∷ token.Sign sign.Plus ∷ token.Number (pos 2) ∷ []) (0 ∷ 5 ∷ 7 ∷ []) 8 []
+pub occurrence_and_number : AreTokens 0 (codes "$1.a + 2") (token.Occurrence 1 (codes "a") ∷ token.Punctuation punctuation.Plus ∷ token.Number (pos 2) ∷ []) (0 ∷ 5 ∷ 7 ∷ []) 8 []
 occurrence_and_number =
     let all = codes "$1.a + 2" in
     let none = begun all 0 refl in
     let one = one_more all [] [] 0 all (token.Occurrence 1 (codes "a")) (codes " + 2") 1 none cut_occurrence refl refl in
-    let two = one_more all _ _ 5 (codes "+ 2") (token.Sign sign.Plus) (codes " 2") 1 one (cut_plus (50 ∷ [])) refl refl in
+    let two = one_more all _ _ 5 (codes "+ 2") (token.Punctuation punctuation.Plus) (codes " 2") 1 one (cut_plus (50 ∷ [])) refl refl in
     let three = one_more all _ _ 7 (codes "2") (token.Number (pos 2)) [] 0 two cut_last_two refl refl in
     three.tokens
 
 sum_tokens : List Token
-sum_tokens = token.Number (pos 2) ∷ token.Sign sign.Plus ∷ token.Number (pos 3) ∷ token.Sign sign.Times ∷ token.Number (pos 4) ∷ []
+sum_tokens = token.Number (pos 2) ∷ token.Punctuation punctuation.Plus ∷ token.Number (pos 3) ∷ token.Punctuation punctuation.Times ∷ token.Number (pos 4) ∷ []
 
 are_sum_tokens : AreTokens 0 (codes "2 + 3 * 4") sum_tokens (0 ∷ 2 ∷ 4 ∷ 6 ∷ 8 ∷ []) 9 []
 unfolding sum_tokens
@@ -59,9 +59,9 @@ are_sum_tokens =
     let all = codes "2 + 3 * 4" in
     let none = begun all 0 refl in
     let one = one_more all [] [] 0 all (token.Number (pos 2)) (codes " + 3 * 4") 1 none (cut_two (codes "+ 3 * 4")) refl refl in
-    let two = one_more all _ _ 2 (codes "+ 3 * 4") (token.Sign sign.Plus) (codes " 3 * 4") 1 one (cut_plus (codes "3 * 4")) refl refl in
+    let two = one_more all _ _ 2 (codes "+ 3 * 4") (token.Punctuation punctuation.Plus) (codes " 3 * 4") 1 one (cut_plus (codes "3 * 4")) refl refl in
     let three = one_more all _ _ 4 (codes "3 * 4") (token.Number (pos 3)) (codes " * 4") 1 two (cut_three (codes "* 4")) refl refl in
-    let four = one_more all _ _ 6 (codes "* 4") (token.Sign sign.Times) (codes " 4") 1 three (cut_times (codes " 4")) refl refl in
+    let four = one_more all _ _ 6 (codes "* 4") (token.Punctuation punctuation.Times) (codes " 4") 1 three (cut_times (codes " 4")) refl refl in
     let five = one_more all _ _ 8 (codes "4") (token.Number (pos 4)) [] 0 four cut_last_four refl refl in
     five.tokens
 

@@ -8,7 +8,7 @@ use Rattle.std.specs.Char.{len_utf8}
 use Rattle.std.specs.List.{prefix_len, list_all}
 use Rattle.std.proofs.lemmas.Str.{length-encode, encodes-chars}
 use Rattle.ag_expr.specs.language.Token.{Token}
-use Rattle.ag_expr.specs.language.Tokens.{is_separator, width, AreTokens, ended, separator, word, is_within, NoTokenAt, TooLargeAt}
+use Rattle.ag_expr.specs.language.Tokens.{is_separator, width, AreTokens, ended, separator, word, is_within, AnyTokenAt, NoTokenAt, TooLargeAt}
 use Rattle.ag_expr.specs.language.Left.{StartsPlain, IsSoFar}
 use Rattle.ag_expr.specs.language.Lexing.{token_from, IsTooLarge}
 use Rattle.ag_expr.proofs.language.TokenLaws.{token_sound, cut_longest, cut_none}
@@ -114,36 +114,37 @@ one_more cs ts ats at rest t after n so_far e within is =
       widths = omega arith;
     }
 
-pub nothing_here : (cs : List ℕ) (ts : List Token) (ats : List ℕ) (at : ℕ) (rest : List ℕ) → IsSoFar cs ts ats at rest → 0 < length rest → token_from rest ≡ None → NoTokenAt cs at
+pub nothing_here : (cs : List ℕ) (ts : List Token) (ats : List ℕ) (at : ℕ) (rest : List ℕ) → IsSoFar cs ts ats at rest → 0 < length rest → token_from rest ≡ None → NoTokenAt 0 cs at
 nothing_here cs ts ats at [] so_far some e = let bad : ⊥ = omega arith in absurd bad
 nothing_here cs ts ats at (c ∷ rest) so_far some e = record {
-  tokens = ts;
-  offsets = ats;
   first = c;
   rest = rest;
-  before = so_far.tokens;
+  reaches = record { tokens = ts; offsets = ats; before = so_far.tokens };
   no_separator = so_far.plain;
   no_token = cut_none (c ∷ rest) e;
 }
 
-pub too_large_here : (cs : List ℕ) (ts : List Token) (ats : List ℕ) (at : ℕ) (rest : List ℕ) → IsSoFar cs ts ats at rest → IsTooLarge (token_from rest) → TooLargeAt cs at
+-- the token that is cut stands there
+pub token_here : (cs : List ℕ) (ts : List Token) (ats : List ℕ) (at : ℕ) (rest after : List ℕ) (t : Token) → IsSoFar cs ts ats at rest → token_from rest ≡ Some (t, after) → (there : AnyTokenAt 0 cs at) × (there.token ≡ t)
+token_here cs ts ats at rest after t so_far e =
+    let cut = token_sound rest t after e in (
+      record {
+        word = cut.word;
+        token = t;
+        rest = after;
+        reaches = record { tokens = ts; offsets = ats; before = subst (λ y. AreTokens 0 cs ts ats at y) cut.split so_far.tokens };
+        is = cut.token;
+        longest = cut_longest rest t after cut.word e cut.split;
+      },
+      refl,
+    )
+
+pub too_large_here : (cs : List ℕ) (ts : List Token) (ats : List ℕ) (at : ℕ) (rest : List ℕ) → IsSoFar cs ts ats at rest → IsTooLarge (token_from rest) → TooLargeAt 0 cs at
 too_large_here cs ts ats at rest so_far large = go (token_from rest) refl large
   where
-    go : (o : Option (Token × List ℕ)) → token_from rest ≡ o → IsTooLarge o → TooLargeAt cs at
+    go : (o : Option (Token × List ℕ)) → token_from rest ≡ o → IsTooLarge o → TooLargeAt 0 cs at
     go None e h = absurd h
-    go (Some x) e h =
-        let cut = token_sound rest x.0 x.1 e in
-        record {
-          tokens = ts;
-          offsets = ats;
-          word = cut.word;
-          token = x.0;
-          rest = x.1;
-          before = subst (λ y. AreTokens 0 cs ts ats at y) cut.split so_far.tokens;
-          is = cut.token;
-          longest = cut_longest rest x.0 x.1 cut.word e cut.split;
-          large = h;
-        }
+    go (Some x) e h = let there = token_here cs ts ats at rest x.1 x.0 so_far e in (there.0, ap is_within there.1 ∙ h)
 
 width-encoded : (cs : List ℕ) → width cs ≡ length (encode_utf8_all cs)
 width-encoded [] = refl

@@ -72,7 +72,7 @@ other_lists_none (token.Number n) at h = refl
 other_lists_none (token.Text bytes) at h = refl
 other_lists_none (token.Name name) at h = refl
 other_lists_none (token.Occurrence place attr) at h = let bad : ⊥ = cc in absurd bad
-other_lists_none (token.Sign s) at h = refl
+other_lists_none (token.Punctuation s) at h = refl
 
 pub passed_keeps : (s : State) (t : Token) → Stands s t → is_occurrence (front_of (tokens s)) ≡ false → Keeps s (behind s)
 unfolding everything behind

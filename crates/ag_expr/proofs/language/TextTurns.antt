@@ -146,3 +146,6 @@ past_plain text rest c quote slash characters split = record {
   is = plain c [] [] quote slash empty;
   split = split ∙ ap (λ x. x ++ rest) (sym (append-nil (encode_utf8 c)));
 }
+
+-- what stands behind one character of a text literal
+pub ruleset past = (past_escape, past_plain)

@@ -10,13 +10,13 @@ use Rattle.std.specs.List.{prefix_len, list_all}
 use Rattle.std.specs.Str.Parse.{digits_value}
 use Rattle.unicode_ident.specs.Ident.{is_xid_start, is_xid_continue}
 use Rattle.unicode_ident.proofs.IdentLemmas.{is_xid_start-ascii, is_xid_continue-ascii, is_xid_start-is_xid_continue}
-use Rattle.ag_expr.specs.declared.token.Sign.{Sign}
-use Rattle.ag_expr.specs.declared.token.Sign.TheVariants as sign
+use Rattle.ag_expr.specs.declared.token.Punctuation.{Punctuation}
+use Rattle.ag_expr.specs.declared.token.Punctuation.TheVariants as punctuation
 use Rattle.ag_expr.specs.language.Token.{Token}
 use Rattle.ag_expr.specs.language.Token as token
 use Rattle.ag_expr.specs.language.Reading.{and_then, where_some}
-use Rattle.ag_expr.specs.language.Tokens.{starts_name, is_separator, escaped, IsDigits, IsName, IsBody, empty, plain, escape, sign_text, IsToken, IsLongest, BeginsNoToken}
-use Rattle.ag_expr.specs.language.Lexing.{digits_from, name_from, single_sign, doubled, sign_from, escape_from, character_from, unquoted, undotted, text_from, occurrence_from, plain_from, token_from}
+use Rattle.ag_expr.specs.language.Tokens.{starts_name, is_separator, escaped, IsDigits, IsName, IsBody, empty, plain, escape, punctuation_text, IsToken, IsLongest, BeginsNoToken}
+use Rattle.ag_expr.specs.language.Lexing.{digits_from, name_from, single_punctuation, doubled, punctuation_from, escape_from, character_from, unquoted, undotted, text_from, occurrence_from, plain_from, token_from}
 use Rattle.ag_expr.proofs.language.Fronts.{both_first, front_passes, front_reaches, front_ends}
 
 -- ---- small tools
@@ -160,41 +160,41 @@ text_sound (suc n) front cs t rest e = go (character_from cs) refl (text_sound n
     go None p more h = text_ends front cs t rest h
     go (Some x) p more h = text_step front cs x.0 x.1 t rest p (more (front ++ encode_utf8 x.0) x.1 t rest h)
 
-single_sound : (c : ℕ) (s : Sign) → single_sign c ≡ Some s → c ∷ [] ≡ sign_text s
-single_sound c s e = look 45 sign.Minus refl c s _ (look 42 sign.Times refl c s _ (look 60 sign.Less refl c s _ (look 40 sign.Open refl c s _ (look 41 sign.Close refl c s _
-    (look 91 sign.OpenList refl c s _ (look 93 sign.CloseList refl c s _ (look 123 sign.OpenTable refl c s _ (look 125 sign.CloseTable refl c s _
-    (look 44 sign.Comma refl c s _ (look 59 sign.Semicolon refl c s None (λ h. none_some _ h))))))))))) e
+single_sound : (c : ℕ) (s : Punctuation) → single_punctuation c ≡ Some s → c ∷ [] ≡ punctuation_text s
+single_sound c s e = look 45 punctuation.Minus refl c s _ (look 42 punctuation.Times refl c s _ (look 60 punctuation.Less refl c s _ (look 40 punctuation.Open refl c s _ (look 41 punctuation.Close refl c s _
+    (look 91 punctuation.OpenList refl c s _ (look 93 punctuation.CloseList refl c s _ (look 123 punctuation.OpenTable refl c s _ (look 125 punctuation.CloseTable refl c s _
+    (look 44 punctuation.Comma refl c s _ (look 59 punctuation.Semicolon refl c s None (λ h. none_some _ h))))))))))) e
   where
-    look : (k : ℕ) (w : Sign) → k ∷ [] ≡ sign_text w → (c : ℕ) (s : Sign) (else : Option Sign) → (else ≡ Some s → c ∷ [] ≡ sign_text s) → cond (c == k) (Some w) else ≡ Some s → c ∷ [] ≡ sign_text s
+    look : (k : ℕ) (w : Punctuation) → k ∷ [] ≡ punctuation_text w → (c : ℕ) (s : Punctuation) (else : Option Punctuation) → (else ≡ Some s → c ∷ [] ≡ punctuation_text s) → cond (c == k) (Some w) else ≡ Some s → c ∷ [] ≡ punctuation_text s
     look k w is c s else more h = go (c == k) refl h
       where
-        go : (b : Bool) → (c == k) ≡ b → cond b (Some w) else ≡ Some s → c ∷ [] ≡ sign_text s
+        go : (b : Bool) → (c == k) ≡ b → cond b (Some w) else ≡ Some s → c ∷ [] ≡ punctuation_text s
         go false p h = more h
-        go true p h = ap (λ x. x ∷ []) (same_number c k p) ∙ is ∙ ap sign_text (some_same _ _ h)
+        go true p h = ap (λ x. x ∷ []) (same_number c k p) ∙ is ∙ ap punctuation_text (some_same _ _ h)
 
-doubled_sound : (k : ℕ) (two one : Sign) → sign_text two ≡ k ∷ k ∷ [] → sign_text one ≡ k ∷ [] → (cs : List ℕ) → k ∷ cs ≡ sign_text (doubled k two one cs).0 ++ (doubled k two one cs).1
+doubled_sound : (k : ℕ) (two one : Punctuation) → punctuation_text two ≡ k ∷ k ∷ [] → punctuation_text one ≡ k ∷ [] → (cs : List ℕ) → k ∷ cs ≡ punctuation_text (doubled k two one cs).0 ++ (doubled k two one cs).1
 doubled_sound k two one p q [] = rw q refl
 doubled_sound k two one p q (c ∷ cs) = go (c == k) refl
   where
-    go : (b : Bool) → (c == k) ≡ b → k ∷ c ∷ cs ≡ sign_text (cond {A = Sign × List ℕ} b (two, cs) (one, c ∷ cs)).0 ++ (cond {A = Sign × List ℕ} b (two, cs) (one, c ∷ cs)).1
+    go : (b : Bool) → (c == k) ≡ b → k ∷ c ∷ cs ≡ punctuation_text (cond {A = Punctuation × List ℕ} b (two, cs) (one, c ∷ cs)).0 ++ (cond {A = Punctuation × List ℕ} b (two, cs) (one, c ∷ cs)).1
     go false e = rw q refl
     go true e = rw (p, same_number c k e) refl
 
-sign_sound : (cs : List ℕ) (s : Sign) (rest : List ℕ) → sign_from cs ≡ Some (s, rest) → cs ≡ sign_text s ++ rest
-sign_sound [] s rest e = none_some _ e
-sign_sound (c ∷ cs) s rest e = go (c == 43) (c == 61) refl refl e
+punctuation_sound : (cs : List ℕ) (s : Punctuation) (rest : List ℕ) → punctuation_from cs ≡ Some (s, rest) → cs ≡ punctuation_text s ++ rest
+punctuation_sound [] s rest e = none_some _ e
+punctuation_sound (c ∷ cs) s rest e = go (c == 43) (c == 61) refl refl e
   where
-    of_pair : (k : ℕ) (x : Sign × List ℕ) → c ≡ k → k ∷ cs ≡ sign_text x.0 ++ x.1 → Some x ≡ Some (s, rest) → c ∷ cs ≡ sign_text s ++ rest
+    of_pair : (k : ℕ) (x : Punctuation × List ℕ) → c ≡ k → k ∷ cs ≡ punctuation_text x.0 ++ x.1 → Some x ≡ Some (s, rest) → c ∷ cs ≡ punctuation_text s ++ rest
     of_pair k x same is h =
         let pair = some_same _ _ h in
-        ap (λ y. y ∷ cs) same ∙ is ∙ ap (λ (y : Sign × List ℕ). sign_text y.0 ++ y.1) pair
+        ap (λ y. y ∷ cs) same ∙ is ∙ ap (λ (y : Punctuation × List ℕ). punctuation_text y.0 ++ y.1) pair
 
     go : (a b : Bool) → (c == 43) ≡ a → (c == 61) ≡ b
-        → cond a (Some (doubled 43 sign.Join sign.Plus cs)) (cond b (Some (doubled 61 sign.Equal sign.Becomes cs)) (and_then (single_sign c) (λ w. Some (w, cs)))) ≡ Some (s, rest) → c ∷ cs ≡ sign_text s ++ rest
-    go true b p q h = of_pair 43 _ (same_number c 43 p) (doubled_sound 43 sign.Join sign.Plus refl refl cs) h
-    go false true p q h = of_pair 61 _ (same_number c 61 q) (doubled_sound 61 sign.Equal sign.Becomes refl refl cs) h
+        → cond a (Some (doubled 43 punctuation.Join punctuation.Plus cs)) (cond b (Some (doubled 61 punctuation.EqualEqual punctuation.Equal cs)) (and_then (single_punctuation c) (λ w. Some (w, cs)))) ≡ Some (s, rest) → c ∷ cs ≡ punctuation_text s ++ rest
+    go true b p q h = of_pair 43 _ (same_number c 43 p) (doubled_sound 43 punctuation.Join punctuation.Plus refl refl cs) h
+    go false true p q h = of_pair 61 _ (same_number c 61 q) (doubled_sound 61 punctuation.EqualEqual punctuation.Equal refl refl cs) h
     go false false p q h =
-        let one = opened (single_sign c) (λ w. Some (w, cs)) (s, rest) h in
+        let one = opened (single_punctuation c) (λ w. Some (w, cs)) (s, rest) h in
         of_pair c (one.0, cs) refl (ap (λ x. x ++ cs) (single_sound c one.0 one.1)) one.2
 
 -- a token was cut from the front
@@ -233,22 +233,22 @@ occurrence_sound cs t rest e =
       some = positive 36 (one.0.0 ++ 46 ∷ three.0.0);
     })
 
-sign_some : (s : Sign) → 0 < length (sign_text s)
-sign_some sign.Plus = lit< tt
-sign_some sign.Minus = lit< tt
-sign_some sign.Times = lit< tt
-sign_some sign.Join = lit< tt
-sign_some sign.Equal = lit< tt
-sign_some sign.Less = lit< tt
-sign_some sign.Becomes = lit< tt
-sign_some sign.Open = lit< tt
-sign_some sign.Close = lit< tt
-sign_some sign.OpenList = lit< tt
-sign_some sign.CloseList = lit< tt
-sign_some sign.OpenTable = lit< tt
-sign_some sign.CloseTable = lit< tt
-sign_some sign.Comma = lit< tt
-sign_some sign.Semicolon = lit< tt
+punctuation_some : (s : Punctuation) → 0 < length (punctuation_text s)
+punctuation_some punctuation.Plus = lit< tt
+punctuation_some punctuation.Minus = lit< tt
+punctuation_some punctuation.Times = lit< tt
+punctuation_some punctuation.Join = lit< tt
+punctuation_some punctuation.EqualEqual = lit< tt
+punctuation_some punctuation.Less = lit< tt
+punctuation_some punctuation.Equal = lit< tt
+punctuation_some punctuation.Open = lit< tt
+punctuation_some punctuation.Close = lit< tt
+punctuation_some punctuation.OpenList = lit< tt
+punctuation_some punctuation.CloseList = lit< tt
+punctuation_some punctuation.OpenTable = lit< tt
+punctuation_some punctuation.CloseTable = lit< tt
+punctuation_some punctuation.Comma = lit< tt
+punctuation_some punctuation.Semicolon = lit< tt
 
 name_some : (n : List ℕ) → IsName n → 0 < length n
 name_some [] is = absurd is
@@ -258,14 +258,14 @@ plain_sound : (cs : List ℕ) (t : Token) (rest : List ℕ) → plain_from cs �
 plain_sound cs t rest e = at_digits (digits_from cs) refl e
   where
     no_digits : Option (Token × List ℕ)
-    no_digits = where_some (name_from cs) (and_then (sign_from cs) (λ s. Some (token.Sign s.0, s.1))) (λ n. Some (token.Name (encode_utf8_all n.0), n.1))
+    no_digits = where_some (name_from cs) (and_then (punctuation_from cs) (λ s. Some (token.Punctuation s.0, s.1))) (λ n. Some (token.Name (encode_utf8_all n.0), n.1))
 
     at_name : (o : Option (List ℕ × List ℕ)) → name_from cs ≡ o
-        → where_some {B = Option (Token × List ℕ)} o (and_then (sign_from cs) (λ s. Some (token.Sign s.0, s.1))) (λ n. Some (token.Name (encode_utf8_all n.0), n.1)) ≡ Some (t, rest) → IsCut cs t rest
+        → where_some {B = Option (Token × List ℕ)} o (and_then (punctuation_from cs) (λ s. Some (token.Punctuation s.0, s.1))) (λ n. Some (token.Name (encode_utf8_all n.0), n.1)) ≡ Some (t, rest) → IsCut cs t rest
     at_name None p h =
-        let one = opened (sign_from cs) _ (t, rest) h in
-        let same : (token.Sign one.0.0, one.0.1) ≡ (t, rest) = some_same _ _ one.2 in
-        subst (λ (x : Token × List ℕ). IsCut cs x.0 x.1) same (record { word = sign_text one.0.0; split = sign_sound cs one.0.0 one.0.1 one.1; token = refl; some = sign_some one.0.0 })
+        let one = opened (punctuation_from cs) _ (t, rest) h in
+        let same : (token.Punctuation one.0.0, one.0.1) ≡ (t, rest) = some_same _ _ one.2 in
+        subst (λ (x : Token × List ℕ). IsCut cs x.0 x.1) same (record { word = punctuation_text one.0.0; split = punctuation_sound cs one.0.0 one.0.1 one.1; token = refl; some = punctuation_some one.0.0 })
     at_name (Some n) p h =
         let name = name_sound cs n.0 n.1 p in
         let same : (token.Name (encode_utf8_all n.0), n.1) ≡ (t, rest) = some_same _ _ h in
@@ -410,39 +410,39 @@ occurrence_reached digits name more is called =
       λ same. ap (λ w. token.Occurrence (digits_value 10 digits) (encode_utf8_all w)) (found.3 same),
     )
 
-pub sign_cut : (c : ℕ) (cs : List ℕ) (x : Sign × List ℕ) → starts_name c ≡ false → is_ascii_digit c ≡ false → (c == 34) ≡ false → (c == 36) ≡ false → sign_from (c ∷ cs) ≡ Some x → token_from (c ∷ cs) ≡ Some (token.Sign x.0, x.1)
-sign_cut c cs x name digit quote dollar is = from_plain c cs quote dollar ∙ rw (no_digits c cs digit, name, is) refl
+pub punctuation_cut : (c : ℕ) (cs : List ℕ) (x : Punctuation × List ℕ) → starts_name c ≡ false → is_ascii_digit c ≡ false → (c == 34) ≡ false → (c == 36) ≡ false → punctuation_from (c ∷ cs) ≡ Some x → token_from (c ∷ cs) ≡ Some (token.Punctuation x.0, x.1)
+punctuation_cut c cs x name digit quote dollar is = from_plain c cs quote dollar ∙ rw (no_digits c cs digit, name, is) refl
 
-doubled_short : (k : ℕ) (two one : Sign) (cs : List ℕ) → (length (doubled k two one cs).1 ≤ length cs) × (length (doubled k two one cs).1 ≡ length cs → token.Sign (doubled k two one cs).0 ≡ token.Sign one)
+doubled_short : (k : ℕ) (two one : Punctuation) (cs : List ℕ) → (length (doubled k two one cs).1 ≤ length cs) × (length (doubled k two one cs).1 ≡ length cs → token.Punctuation (doubled k two one cs).0 ≡ token.Punctuation one)
 doubled_short k two one [] = (omega arith, λ same. refl)
 doubled_short k two one (c ∷ cs) = go (c == k)
   where
-    go : (b : Bool) → (length (cond {A = Sign × List ℕ} b (two, cs) (one, c ∷ cs)).1 ≤ length (c ∷ cs)) × (length (cond {A = Sign × List ℕ} b (two, cs) (one, c ∷ cs)).1 ≡ length (c ∷ cs) → token.Sign (cond {A = Sign × List ℕ} b (two, cs) (one, c ∷ cs)).0 ≡ token.Sign one)
+    go : (b : Bool) → (length (cond {A = Punctuation × List ℕ} b (two, cs) (one, c ∷ cs)).1 ≤ length (c ∷ cs)) × (length (cond {A = Punctuation × List ℕ} b (two, cs) (one, c ∷ cs)).1 ≡ length (c ∷ cs) → token.Punctuation (cond {A = Punctuation × List ℕ} b (two, cs) (one, c ∷ cs)).0 ≡ token.Punctuation one)
     go false = (omega arith, λ same. refl)
     go true = (omega arith, λ same. let bad : ⊥ = omega arith in absurd bad)
 
-sign_reached : (s : Sign) (more : List ℕ) → IsReached (sign_text s ++ more) (token.Sign s) more
-sign_reached sign.Plus more =
-    let x = doubled 43 sign.Join sign.Plus more in
-    let short = doubled_short 43 sign.Join sign.Plus more in
-    ((token.Sign x.0, x.1), sign_cut 43 more x (no_start 43 (lit< tt) refl refl) refl refl refl refl, short.0, short.1)
-sign_reached sign.Minus more = ((token.Sign sign.Minus, more), sign_cut 45 more (sign.Minus, more) (no_start 45 (lit< tt) refl refl) refl refl refl refl, omega arith, λ same. refl)
-sign_reached sign.Times more = ((token.Sign sign.Times, more), sign_cut 42 more (sign.Times, more) (no_start 42 (lit< tt) refl refl) refl refl refl refl, omega arith, λ same. refl)
-sign_reached sign.Join more = ((token.Sign sign.Join, more), sign_cut 43 (43 ∷ more) (sign.Join, more) (no_start 43 (lit< tt) refl refl) refl refl refl refl, omega arith, λ same. refl)
-sign_reached sign.Equal more = ((token.Sign sign.Equal, more), sign_cut 61 (61 ∷ more) (sign.Equal, more) (no_start 61 (lit< tt) refl refl) refl refl refl refl, omega arith, λ same. refl)
-sign_reached sign.Less more = ((token.Sign sign.Less, more), sign_cut 60 more (sign.Less, more) (no_start 60 (lit< tt) refl refl) refl refl refl refl, omega arith, λ same. refl)
-sign_reached sign.Becomes more =
-    let x = doubled 61 sign.Equal sign.Becomes more in
-    let short = doubled_short 61 sign.Equal sign.Becomes more in
-    ((token.Sign x.0, x.1), sign_cut 61 more x (no_start 61 (lit< tt) refl refl) refl refl refl refl, short.0, short.1)
-sign_reached sign.Open more = ((token.Sign sign.Open, more), sign_cut 40 more (sign.Open, more) (no_start 40 (lit< tt) refl refl) refl refl refl refl, omega arith, λ same. refl)
-sign_reached sign.Close more = ((token.Sign sign.Close, more), sign_cut 41 more (sign.Close, more) (no_start 41 (lit< tt) refl refl) refl refl refl refl, omega arith, λ same. refl)
-sign_reached sign.OpenList more = ((token.Sign sign.OpenList, more), sign_cut 91 more (sign.OpenList, more) (no_start 91 (lit< tt) refl refl) refl refl refl refl, omega arith, λ same. refl)
-sign_reached sign.CloseList more = ((token.Sign sign.CloseList, more), sign_cut 93 more (sign.CloseList, more) (no_start 93 (lit< tt) refl refl) refl refl refl refl, omega arith, λ same. refl)
-sign_reached sign.OpenTable more = ((token.Sign sign.OpenTable, more), sign_cut 123 more (sign.OpenTable, more) (no_start 123 (lit< tt) refl refl) refl refl refl refl, omega arith, λ same. refl)
-sign_reached sign.CloseTable more = ((token.Sign sign.CloseTable, more), sign_cut 125 more (sign.CloseTable, more) (no_start 125 (lit< tt) refl refl) refl refl refl refl, omega arith, λ same. refl)
-sign_reached sign.Comma more = ((token.Sign sign.Comma, more), sign_cut 44 more (sign.Comma, more) (no_start 44 (lit< tt) refl refl) refl refl refl refl, omega arith, λ same. refl)
-sign_reached sign.Semicolon more = ((token.Sign sign.Semicolon, more), sign_cut 59 more (sign.Semicolon, more) (no_start 59 (lit< tt) refl refl) refl refl refl refl, omega arith, λ same. refl)
+punctuation_reached : (s : Punctuation) (more : List ℕ) → IsReached (punctuation_text s ++ more) (token.Punctuation s) more
+punctuation_reached punctuation.Plus more =
+    let x = doubled 43 punctuation.Join punctuation.Plus more in
+    let short = doubled_short 43 punctuation.Join punctuation.Plus more in
+    ((token.Punctuation x.0, x.1), punctuation_cut 43 more x (no_start 43 (lit< tt) refl refl) refl refl refl refl, short.0, short.1)
+punctuation_reached punctuation.Minus more = ((token.Punctuation punctuation.Minus, more), punctuation_cut 45 more (punctuation.Minus, more) (no_start 45 (lit< tt) refl refl) refl refl refl refl, omega arith, λ same. refl)
+punctuation_reached punctuation.Times more = ((token.Punctuation punctuation.Times, more), punctuation_cut 42 more (punctuation.Times, more) (no_start 42 (lit< tt) refl refl) refl refl refl refl, omega arith, λ same. refl)
+punctuation_reached punctuation.Join more = ((token.Punctuation punctuation.Join, more), punctuation_cut 43 (43 ∷ more) (punctuation.Join, more) (no_start 43 (lit< tt) refl refl) refl refl refl refl, omega arith, λ same. refl)
+punctuation_reached punctuation.EqualEqual more = ((token.Punctuation punctuation.EqualEqual, more), punctuation_cut 61 (61 ∷ more) (punctuation.EqualEqual, more) (no_start 61 (lit< tt) refl refl) refl refl refl refl, omega arith, λ same. refl)
+punctuation_reached punctuation.Less more = ((token.Punctuation punctuation.Less, more), punctuation_cut 60 more (punctuation.Less, more) (no_start 60 (lit< tt) refl refl) refl refl refl refl, omega arith, λ same. refl)
+punctuation_reached punctuation.Equal more =
+    let x = doubled 61 punctuation.EqualEqual punctuation.Equal more in
+    let short = doubled_short 61 punctuation.EqualEqual punctuation.Equal more in
+    ((token.Punctuation x.0, x.1), punctuation_cut 61 more x (no_start 61 (lit< tt) refl refl) refl refl refl refl, short.0, short.1)
+punctuation_reached punctuation.Open more = ((token.Punctuation punctuation.Open, more), punctuation_cut 40 more (punctuation.Open, more) (no_start 40 (lit< tt) refl refl) refl refl refl refl, omega arith, λ same. refl)
+punctuation_reached punctuation.Close more = ((token.Punctuation punctuation.Close, more), punctuation_cut 41 more (punctuation.Close, more) (no_start 41 (lit< tt) refl refl) refl refl refl refl, omega arith, λ same. refl)
+punctuation_reached punctuation.OpenList more = ((token.Punctuation punctuation.OpenList, more), punctuation_cut 91 more (punctuation.OpenList, more) (no_start 91 (lit< tt) refl refl) refl refl refl refl, omega arith, λ same. refl)
+punctuation_reached punctuation.CloseList more = ((token.Punctuation punctuation.CloseList, more), punctuation_cut 93 more (punctuation.CloseList, more) (no_start 93 (lit< tt) refl refl) refl refl refl refl, omega arith, λ same. refl)
+punctuation_reached punctuation.OpenTable more = ((token.Punctuation punctuation.OpenTable, more), punctuation_cut 123 more (punctuation.OpenTable, more) (no_start 123 (lit< tt) refl refl) refl refl refl refl, omega arith, λ same. refl)
+punctuation_reached punctuation.CloseTable more = ((token.Punctuation punctuation.CloseTable, more), punctuation_cut 125 more (punctuation.CloseTable, more) (no_start 125 (lit< tt) refl refl) refl refl refl refl, omega arith, λ same. refl)
+punctuation_reached punctuation.Comma more = ((token.Punctuation punctuation.Comma, more), punctuation_cut 44 more (punctuation.Comma, more) (no_start 44 (lit< tt) refl refl) refl refl refl refl, omega arith, λ same. refl)
+punctuation_reached punctuation.Semicolon more = ((token.Punctuation punctuation.Semicolon, more), punctuation_cut 59 more (punctuation.Semicolon, more) (no_start 59 (lit< tt) refl refl) refl refl refl refl, omega arith, λ same. refl)
 
 pub token_reached : (word more : List ℕ) (t : Token) → IsToken word t → IsReached (word ++ more) t more
 token_reached word more (token.Number n) is = subst (λ m. IsReached (word ++ more) (token.Number m) more) (sym is.1) (number_reached word more is.0)
@@ -453,7 +453,7 @@ token_reached word more (token.Occurrence place attr) is =
     let value = subst (λ p. IsReached (36 ∷ ((is.0 ++ 46 ∷ is.1) ++ more)) (token.Occurrence p (encode_utf8_all is.1)) more) (sym is.5) here in
     let called = subst (λ a. IsReached (36 ∷ ((is.0 ++ 46 ∷ is.1) ++ more)) (token.Occurrence place a) more) (sym is.6) value in
     subst (λ w. IsReached (w ++ more) (token.Occurrence place attr) more) (sym is.2) called
-token_reached word more (token.Sign s) is = subst (λ w. IsReached (w ++ more) (token.Sign s) more) (sym is) (sign_reached s more)
+token_reached word more (token.Punctuation s) is = subst (λ w. IsReached (w ++ more) (token.Punctuation s) more) (sym is) (punctuation_reached s more)
 
 -- ---- what is cut is the longest token, and where nothing is cut there is none
 
@@ -501,26 +501,26 @@ name_plain (c ∷ word) is =
     let other : (k : ℕ) → k < 128 → is_ascii_alphabetic k ≡ false → (k == 95) ≡ false → (c == k) ≡ false = λ k small letter line. differs c k is.0 (no_start k small letter line) in
     (c, word, refl, rw (other 32 (lit< tt) refl refl, other 9 (lit< tt) refl refl, other 13 (lit< tt) refl refl, other 10 (lit< tt) refl refl) refl)
 
-sign_plain : (s : Sign) → IsPlainWord (sign_text s)
-sign_plain sign.Plus = (43, [], refl, refl)
-sign_plain sign.Minus = (45, [], refl, refl)
-sign_plain sign.Times = (42, [], refl, refl)
-sign_plain sign.Join = (43, 43 ∷ [], refl, refl)
-sign_plain sign.Equal = (61, 61 ∷ [], refl, refl)
-sign_plain sign.Less = (60, [], refl, refl)
-sign_plain sign.Becomes = (61, [], refl, refl)
-sign_plain sign.Open = (40, [], refl, refl)
-sign_plain sign.Close = (41, [], refl, refl)
-sign_plain sign.OpenList = (91, [], refl, refl)
-sign_plain sign.CloseList = (93, [], refl, refl)
-sign_plain sign.OpenTable = (123, [], refl, refl)
-sign_plain sign.CloseTable = (125, [], refl, refl)
-sign_plain sign.Comma = (44, [], refl, refl)
-sign_plain sign.Semicolon = (59, [], refl, refl)
+punctuation_plain : (s : Punctuation) → IsPlainWord (punctuation_text s)
+punctuation_plain punctuation.Plus = (43, [], refl, refl)
+punctuation_plain punctuation.Minus = (45, [], refl, refl)
+punctuation_plain punctuation.Times = (42, [], refl, refl)
+punctuation_plain punctuation.Join = (43, 43 ∷ [], refl, refl)
+punctuation_plain punctuation.EqualEqual = (61, 61 ∷ [], refl, refl)
+punctuation_plain punctuation.Less = (60, [], refl, refl)
+punctuation_plain punctuation.Equal = (61, [], refl, refl)
+punctuation_plain punctuation.Open = (40, [], refl, refl)
+punctuation_plain punctuation.Close = (41, [], refl, refl)
+punctuation_plain punctuation.OpenList = (91, [], refl, refl)
+punctuation_plain punctuation.CloseList = (93, [], refl, refl)
+punctuation_plain punctuation.OpenTable = (123, [], refl, refl)
+punctuation_plain punctuation.CloseTable = (125, [], refl, refl)
+punctuation_plain punctuation.Comma = (44, [], refl, refl)
+punctuation_plain punctuation.Semicolon = (59, [], refl, refl)
 
 pub begins_plain : (word : List ℕ) (t : Token) → IsToken word t → IsPlainWord word
 begins_plain word (token.Number n) is = digits_plain word is.0
 begins_plain word (token.Text bytes) is = (34, is.0 ++ 34 ∷ [], is.1, refl)
 begins_plain word (token.Name bytes) is = name_plain word is.0
 begins_plain word (token.Occurrence place attr) is = (36, is.0 ++ 46 ∷ is.1, is.2, refl)
-begins_plain word (token.Sign s) is = subst IsPlainWord (sym is) (sign_plain s)
+begins_plain word (token.Punctuation s) is = subst IsPlainWord (sym is) (punctuation_plain s)

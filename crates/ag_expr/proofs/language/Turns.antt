@@ -8,7 +8,7 @@ use Rattle.ag_expr.specs.declared.node.Node.{Node}
 use Rattle.ag_expr.specs.declared.occurrence.Occ.{Occ}
 use Rattle.ag_expr.specs.language.Expression.{Says}
 use Rattle.ag_expr.specs.language.Left.{State, Refuses, Takes, TakesAs, characters, everything, tokens}
-use Rattle.ag_expr.specs.declared.parser.Rank.TheVariants as rank
+use Rattle.ag_expr.specs.declared.parser.Precedence.TheVariants as precedence
 use Rattle.ag_expr.specs.language.Reading.{Reader, and_then, chain_from, expr_from, operand_from, operator_from, operator_of, rest_from, sum_from}
 
 abbrev pub Found : Type 0
@@ -75,7 +75,7 @@ pub refused : (operator : Token → Option Operator) (operand : List Occ → Rea
     → Refuses (characters between) e (operand (everything between) (tokens between)) → Going operator (operand (everything old)) front (tokens before) total → Refuses (characters old) e total
 refused operator operand front total old before between o e all same is refuses so_far = (
   λ h. failed operator (operand (everything old)) front (tokens before) total o (tokens between) is (ap (λ listed. operand listed (tokens between)) (sym all) ∙ refuses.0 h) so_far,
-  subst (λ cs. Says cs e) same refuses.1,
+  subst (λ cs. Says 0 cs e) same refuses.1,
 )
 
 -- a fault that is answered
@@ -85,7 +85,7 @@ answered view read old new (Ok x) e is refuses = absurd is
 answered view read old new (Err x) e is refuses = subst (λ x. Refuses (characters old) x (read (everything old) (tokens old))) (sym is) refuses
 
 -- one level more
-pub one_level : (n : ℕ) → 0 < n → (old new : State) (r : Result Node ExprFault) → Takes (λ all. chain_from (operator_of rank.Sum) (operand_from rank.Sum all (expr_from all (n - 1)))) old r new → Takes (λ all. expr_from all n) old r new
+pub one_level : (n : ℕ) → 0 < n → (old new : State) (r : Result Node ExprFault) → Takes (λ all. chain_from (operator_of precedence.Sum) (operand_from precedence.Sum all (expr_from all (n - 1)))) old r new → Takes (λ all. expr_from all n) old r new
 unfolding expr_from sum_from
 one_level zero some old new r is = let bad : ⊥ = omega arith in absurd bad
-one_level (suc n) some old new r is = subst (λ k. Takes (λ all. chain_from (operator_of rank.Sum) (operand_from rank.Sum all (expr_from all k))) old r new) (let one : suc n - 1 ≡ n = omega arith in one) is
+one_level (suc n) some old new r is = subst (λ k. Takes (λ all. chain_from (operator_of precedence.Sum) (operand_from precedence.Sum all (expr_from all k))) old r new) (let one : suc n - 1 ≡ n = omega arith in one) is

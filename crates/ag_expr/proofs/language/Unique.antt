@@ -113,9 +113,9 @@ no_first (separator at d cs us uats end last h is) c rest e none plain begins =
 no_first (word at all w cs t us uats end last split token longest is) c rest e none plain begins = begins w cs t split token
 
 -- characters with a place where no token stands have no list of tokens
-pub no_list : (cs : List ℕ) (at : ℕ) (us : List Token) (uats : List ℕ) (end : ℕ) → NoTokenAt cs at → AreTokens 0 cs us uats end [] → ⊥
+pub no_list : (cs : List ℕ) (at : ℕ) (us : List Token) (uats : List ℕ) (end : ℕ) → NoTokenAt 0 cs at → AreTokens 0 cs us uats end [] → ⊥
 no_list cs at us uats end there other =
-    let more = behind there.before us uats end [] refl other in
+    let more = behind there.reaches.before us uats end [] refl other in
     no_first more.is there.first there.rest refl refl there.no_separator there.no_token
 
 not_within : (ts : List Token) (t : Token) (more : List Token) → is_within t ≡ false → list_all is_within (ts ++ t ∷ more) ≡ true → ⊥
@@ -127,8 +127,8 @@ not_within (s ∷ ts) t more large all = not_within ts t more large (second (is_
     second false b h = let bad : ⊥ = cc in absurd bad
 
 -- and with a place where a number is above its limit no list within the limits
-pub no_list_within : (cs : List ℕ) (at : ℕ) (us : List Token) (uats : List ℕ) (end : ℕ) → TooLargeAt cs at → AreTokens 0 cs us uats end [] → list_all is_within us ≡ true → ⊥
-no_list_within cs at us uats end there other all =
-    let more = behind there.before us uats end [] refl other in
+pub no_list_within : (cs : List ℕ) (at : ℕ) (us : List Token) (uats : List ℕ) (end : ℕ) → TooLargeAt 0 cs at → AreTokens 0 cs us uats end [] → list_all is_within us ≡ true → ⊥
+no_list_within cs at us uats end (there, large) other all =
+    let more = behind there.reaches.before us uats end [] refl other in
     let one = past_word more.is there.word there.rest there.token refl refl there.is there.longest in
-    not_within there.tokens there.token one.tokens there.large (ap (list_all is_within) (sym (more.all ∙ ap (λ x. there.tokens ++ x) one.first)) ∙ all)
+    not_within there.reaches.tokens there.token one.tokens large (ap (list_all is_within) (sym (more.all ∙ ap (λ x. there.reaches.tokens ++ x) one.first)) ∙ all)

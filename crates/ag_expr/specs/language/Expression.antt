@@ -3,7 +3,7 @@ use Rattle.std.specs.Prelude.{◌≡◌, ◌⊎◌, ℕ, Bool, true, false, List
 use Rattle.std.specs.List.{list_all}
 use Rattle.ag_expr.specs.declared.fault.ExprFault.{ExprFault}
 use Rattle.ag_expr.specs.declared.fault.ExprFault.TheVariants as fault
-use Rattle.ag_expr.specs.declared.token.Sign.TheVariants as sign
+use Rattle.ag_expr.specs.declared.token.Punctuation.TheVariants as punctuation
 use Rattle.ag_expr.specs.language.Token.{Token}
 use Rattle.ag_expr.specs.language.Token as token
 use Rattle.ag_expr.specs.declared.node.Node.{Node}
@@ -39,17 +39,19 @@ IsRefused text e = ReadsAsNone text
 abbrev pub begins_expression : Token → Bool
 begins_expression (token.Number n) = true
 begins_expression (token.Occurrence place attr) = true
-begins_expression (token.Sign sign.Open) = true
+begins_expression (token.Punctuation punctuation.Open) = true
 begins_expression _ = false
 
--- What a fault says of its offset in a text of these characters: X1, no token begins there; X3, the token there has a number above its limit;
--- X2, a token stands there, or the text ends there; X4, a token stands there with which an expression begins.
-abbrev pub Says : List ℕ → ExprFault → Type 0
-Says cs (fault.NoToken at) = NoTokenAt cs at
-Says cs (fault.NumberTooLarge at) = TooLargeAt cs at
-Says cs (fault.Unexpected at) = TokenAt cs at ⊎ EndsAt cs at
-Says cs (fault.TooDeep at) = (t : TokenAt cs at) × (begins_expression t.token ≡ true)
-Says cs fault.NoMemory = Unit {0}
+-- What a fault says of its offset, where these characters stand from the offset `from` on: X1, no token begins there; X3, the
+-- token there has a number above its limit; X2, a token stands there, or the text ends there; X4, a token stands there with
+-- which an expression begins.
+abbrev pub Says : ℕ → List ℕ → ExprFault → Type 0
+Says from cs (fault.NoToken at) = NoTokenAt from cs at
+Says from cs (fault.NumberTooLarge at) = TooLargeAt from cs at
+Says from cs (fault.Unexpected at) = TokenAt from cs at ⊎ EndsAt from cs at
+Says from cs (fault.TooDeep at) = (t : TokenAt from cs at) × (begins_expression t.0.token ≡ true)
+Says from cs fault.NoMemory = Unit {0}
 
+-- the same of a whole text
 abbrev pub IsAt : List ℕ → ExprFault → Type 0
-IsAt text e = Says (chars text) e
+IsAt text e = Says 0 (chars text) e

@@ -12,7 +12,7 @@ use Rattle.ag_expr.specs.declared.fault.TokenFault.TheVariants as token_fault
 use Rattle.ag_expr.specs.declared.occurrence.Occ.{Occ}
 use Rattle.ag_expr.specs.language.Expression.{Says}
 use Rattle.ag_expr.specs.language.Lexing.{token_from, GivesToken}
-use Rattle.ag_expr.specs.language.Occurrences.{all_occurrences, listed_with_all}
+use Rattle.ag_expr.specs.language.Occurrences.{all_occurrences, listed_with_all, position_of}
 use Rattle.ag_expr.specs.language.Reading.{Reader}
 use Rattle.ag_expr.specs.language.Tokens.{is_separator, is_within, width, AreTokens}
 
@@ -146,9 +146,17 @@ abbrev pub is_occurrence : Option Token → Bool
 is_occurrence (Some (token.Occurrence place attr)) = true
 is_occurrence _ = false
 
+-- no occurrence stands in front
+abbrev pub PassesOther : State → Type 0
+PassesOther s = is_occurrence (front_of (tokens s)) ≡ false
+
+-- the occurrence of a place and name has this number among all of the text
+abbrev pub HasNumber : State → ℕ → List ℕ → ℕ → Type 0
+HasNumber s place attr k = position_of (everything s) place attr ≡ Some k
+
 -- a fault other than for memory is answered where nothing is read, and says the truth of its offset in a text of these characters
 abbrev pub Refuses : {Y : Type 0} → List ℕ → ExprFault → Option Y → Type 0
-Refuses cs e read = (e ≢ fault.NoMemory → read ≡ None) × Says cs e
+Refuses cs e read = (e ≢ fault.NoMemory → read ≡ None) × Says 0 cs e
 
 -- What a function that passes tokens answers, seen by view: what is read from the tokens that are left, and then those behind are left; or a
 -- fault, unless memory ran out.

@@ -7,8 +7,8 @@ use Rattle.std.specs.Str.Parse.{digits_value}
 use Rattle.unicode_ident.specs.Ident.{is_xid_continue}
 use Rattle.ag_expr.specs.declared.fault.TokenFault.{TokenFault}
 use Rattle.ag_expr.specs.declared.fault.TokenFault.TheVariants as fault
-use Rattle.ag_expr.specs.declared.token.Sign.{Sign}
-use Rattle.ag_expr.specs.declared.token.Sign.TheVariants as sign
+use Rattle.ag_expr.specs.declared.token.Punctuation.{Punctuation}
+use Rattle.ag_expr.specs.declared.token.Punctuation.TheVariants as punctuation
 use Rattle.ag_expr.specs.language.Token.{Token}
 use Rattle.ag_expr.specs.language.Token as token
 use Rattle.ag_expr.specs.language.Reading.{and_then, where_some}
@@ -47,7 +47,7 @@ token_of (lent_token.Number n) = token.Number n
 token_of (lent_token.Text body) = token.Text (unescaped (chars body.now))
 token_of (lent_token.Name name) = token.Name name.now
 token_of (lent_token.Occurrence place attr) = token.Occurrence place attr.now
-token_of (lent_token.Sign s) = token.Sign s
+token_of (lent_token.Punctuation s) = token.Punctuation s
 
 -- the digits in front, where there are some, and what stands behind them
 abbrev pub digits_from : List ℕ → Option (List ℕ × List ℕ)
@@ -58,22 +58,22 @@ abbrev pub name_from : List ℕ → Option (List ℕ × List ℕ)
 name_from [] = None
 name_from (c ∷ cs) = cond (starts_name c) (Some (take (prefix_len is_xid_continue (c ∷ cs)) (c ∷ cs), drop (prefix_len is_xid_continue (c ∷ cs)) (c ∷ cs))) None
 
--- the sign that is one character
-abbrev pub single_sign : ℕ → Option Sign
-single_sign c =
-    cond (c == 45) (Some sign.Minus) (cond (c == 42) (Some sign.Times) (cond (c == 60) (Some sign.Less) (cond (c == 40) (Some sign.Open) (cond (c == 41) (Some sign.Close)
-    (cond (c == 91) (Some sign.OpenList) (cond (c == 93) (Some sign.CloseList) (cond (c == 123) (Some sign.OpenTable) (cond (c == 125) (Some sign.CloseTable)
-    (cond (c == 44) (Some sign.Comma) (cond (c == 59) (Some sign.Semicolon) None))))))))))
+-- the punctuation that is one character
+abbrev pub single_punctuation : ℕ → Option Punctuation
+single_punctuation c =
+    cond (c == 45) (Some punctuation.Minus) (cond (c == 42) (Some punctuation.Times) (cond (c == 60) (Some punctuation.Less) (cond (c == 40) (Some punctuation.Open) (cond (c == 41) (Some punctuation.Close)
+    (cond (c == 91) (Some punctuation.OpenList) (cond (c == 93) (Some punctuation.CloseList) (cond (c == 123) (Some punctuation.OpenTable) (cond (c == 125) (Some punctuation.CloseTable)
+    (cond (c == 44) (Some punctuation.Comma) (cond (c == 59) (Some punctuation.Semicolon) None))))))))))
 
--- one sign where its character stands twice, and another where it stands once
-abbrev pub doubled : ℕ → Sign → Sign → List ℕ → Sign × List ℕ
+-- one mark where its character stands twice, and another where it stands once
+abbrev pub doubled : ℕ → Punctuation → Punctuation → List ℕ → Punctuation × List ℕ
 doubled twice two one [] = (one, [])
 doubled twice two one (c ∷ cs) = cond (c == twice) (two, cs) (one, c ∷ cs)
 
-abbrev pub sign_from : List ℕ → Option (Sign × List ℕ)
-sign_from [] = None
-sign_from (c ∷ cs) =
-    cond (c == 43) (Some (doubled 43 sign.Join sign.Plus cs)) (cond (c == 61) (Some (doubled 61 sign.Equal sign.Becomes cs)) (and_then (single_sign c) (λ s. Some (s, cs))))
+abbrev pub punctuation_from : List ℕ → Option (Punctuation × List ℕ)
+punctuation_from [] = None
+punctuation_from (c ∷ cs) =
+    cond (c == 43) (Some (doubled 43 punctuation.Join punctuation.Plus cs)) (cond (c == 61) (Some (doubled 61 punctuation.EqualEqual punctuation.Equal cs)) (and_then (single_punctuation c) (λ s. Some (s, cs))))
 
 abbrev pub escape_from : List ℕ → Option (ℕ × List ℕ)
 escape_from [] = None
@@ -105,11 +105,11 @@ abbrev pub occurrence_from : List ℕ → Option (Token × List ℕ)
 occurrence_from cs =
     and_then (digits_from cs) (λ d. and_then (undotted d.1) (λ rest. and_then (name_from rest) (λ n. Some (token.Occurrence (digits_value 10 d.0) (encode_utf8_all n.0), n.1))))
 
--- a number, a name or a sign
+-- a number, a name or punctuation
 abbrev pub plain_from : List ℕ → Option (Token × List ℕ)
 plain_from cs =
     where_some (digits_from cs)
-    (where_some (name_from cs) (and_then (sign_from cs) (λ s. Some (token.Sign s.0, s.1))) (λ n. Some (token.Name (encode_utf8_all n.0), n.1)))
+    (where_some (name_from cs) (and_then (punctuation_from cs) (λ s. Some (token.Punctuation s.0, s.1))) (λ n. Some (token.Name (encode_utf8_all n.0), n.1)))
     (λ d. Some (token.Number (pos (digits_value 10 d.0)), d.1))
 
 -- the token in front, and what stands behind it
@@ -128,6 +128,14 @@ abbrev pub GivesToken : Result (lent.Token × Bor (List ℕ)) TokenFault → Opt
 GivesToken (Ok x) read = (read ≡ Some (token_of x.0, chars x.1.now)) × (is_within (token_of x.0) ≡ true)
 GivesToken (Err fault.Nothing) read = read ≡ None
 GivesToken (Err fault.TooLarge) read = IsTooLarge read
+
+-- the text is a character and what stands behind it
+abbrev pub IsSplit : List ℕ → ℕ → List ℕ → Type 0
+IsSplit text c rest = (chars text ≡ c ∷ chars rest) × (text ≡ encode_utf8 c ++ rest)
+
+-- digits with the text behind them are what is read, with the characters behind them
+abbrev pub GivesDigits : Option (Bor (List ℕ) × Bor (List ℕ)) → Option (List ℕ × List ℕ) → Type 0
+GivesDigits result read = option_map {U = List ℕ × List ℕ} (λ x. (x.0.now, chars x.1.now)) result ≡ read
 
 -- a name with the text behind it is what is read, with the characters behind it
 abbrev pub GivesName : Option (Bor (List ℕ) × Bor (List ℕ)) → Option (List ℕ × List ℕ) → Type 0

@@ -1,14 +1,14 @@
 -- Reading an expression from the front of tokens: the plain function, which agrees with the grammar.
 use Rattle.std.specs.Prelude.{ℕ, zero, suc, List, [], ◌∷◌, ◌++◌, length, Option, Some, None}
-use Rattle.ag_expr.specs.declared.token.Sign.TheVariants as sign
+use Rattle.ag_expr.specs.declared.token.Punctuation.TheVariants as punctuation
 use Rattle.ag_expr.specs.language.Token.{Token}
 use Rattle.ag_expr.specs.language.Token as token
 use Rattle.ag_expr.specs.declared.node.Operator.{Operator}
 use Rattle.ag_expr.specs.declared.node.Node.{Node}
 use Rattle.ag_expr.specs.declared.node.Node.TheVariants as node
 use Rattle.ag_expr.specs.declared.occurrence.Occ.{Occ}
-use Rattle.ag_expr.specs.declared.parser.Rank.{Rank}
-use Rattle.ag_expr.specs.declared.parser.Rank.TheVariants as rank
+use Rattle.ag_expr.specs.declared.parser.Precedence.{Precedence}
+use Rattle.ag_expr.specs.declared.parser.Precedence.TheVariants as precedence
 use Rattle.ag_expr.specs.language.Occurrences.{position_of}
 use Rattle.ag_expr.specs.language.Syntax.{sum_operator, product_operator, chained}
 
@@ -47,7 +47,7 @@ chain_from operator operand ts =
 -- a closing parenthesis
 abbrev pub close_from : Reader (Unit {0})
 close_from [] = None
-close_from (token.Sign sign.Close ∷ ts) = Some (tt, ts)
+close_from (token.Punctuation punctuation.Close ∷ ts) = Some (tt, ts)
 close_from (t ∷ ts) = None
 
 abbrev pub occurrence_from : List Occ → ℕ → List ℕ → List Token → Option (Node × List Token)
@@ -61,7 +61,7 @@ unfoldable pub atom_from : List Occ → Reader Node → Reader Node
 atom_from listed inner [] = None
 atom_from listed inner (token.Number n ∷ ts) = Some (node.Number n, ts)
 atom_from listed inner (token.Occurrence place attr ∷ ts) = occurrence_from listed place attr ts
-atom_from listed inner (token.Sign sign.Open ∷ ts) = parenthesized_from inner ts
+atom_from listed inner (token.Punctuation punctuation.Open ∷ ts) = parenthesized_from inner ts
 atom_from listed inner (t ∷ ts) = None
 
 unfoldable pub product_from : List Occ → Reader Node → Reader Node
@@ -70,14 +70,14 @@ product_from listed inner = chain_from product_operator (atom_from listed inner)
 unfoldable pub sum_from : List Occ → Reader Node → Reader Node
 sum_from listed inner = chain_from sum_operator (product_from listed inner)
 
--- the operators of a rank, and its operands
-abbrev pub operator_of : Rank → Token → Option Operator
-operator_of rank.Sum = sum_operator
-operator_of rank.Product = product_operator
+-- the operators of a precedence, and its operands
+abbrev pub operator_of : Precedence → Token → Option Operator
+operator_of precedence.Sum = sum_operator
+operator_of precedence.Product = product_operator
 
-abbrev pub operand_from : Rank → List Occ → Reader Node → Reader Node
-operand_from rank.Sum = product_from
-operand_from rank.Product = atom_from
+abbrev pub operand_from : Precedence → List Occ → Reader Node → Reader Node
+operand_from precedence.Sum = product_from
+operand_from precedence.Product = atom_from
 
 -- an expression of at most so many levels
 unfoldable pub expr_from : List Occ → ℕ → Reader Node

@@ -1,6 +1,6 @@
 -- Which tokens spell an expression, and of which tree, by levels: this project's grammar.
 use Rattle.std.specs.Prelude.{◌≡◌, ℕ, zero, suc, ℤ, List, [], ◌∷◌, ◌++◌, Option, Some, None, cond, bytes_eq, codes}
-use Rattle.ag_expr.specs.declared.token.Sign.TheVariants as sign
+use Rattle.ag_expr.specs.declared.token.Punctuation.TheVariants as punctuation
 use Rattle.ag_expr.specs.language.Token.{Token}
 use Rattle.ag_expr.specs.language.Token as token
 use Rattle.ag_expr.specs.declared.node.Operator.{Operator}
@@ -12,8 +12,8 @@ use Rattle.ag_expr.specs.language.Occurrences.{position_of}
 
 -- `+` and `-` join the terms of a sum
 abbrev pub sum_operator : Token → Option Operator
-sum_operator (token.Sign sign.Plus) = Some operator.Add
-sum_operator (token.Sign sign.Minus) = Some operator.Subtract
+sum_operator (token.Punctuation punctuation.Plus) = Some operator.Add
+sum_operator (token.Punctuation punctuation.Minus) = Some operator.Subtract
 sum_operator _ = None
 
 -- the operators that are reserved names
@@ -22,7 +22,7 @@ named_operator name = cond (bytes_eq name (codes "div")) (Some operator.Divide) 
 
 -- `*`, `div` and `mod` join the factors of a product
 abbrev pub product_operator : Token → Option Operator
-product_operator (token.Sign sign.Times) = Some operator.Multiply
+product_operator (token.Punctuation punctuation.Times) = Some operator.Multiply
 product_operator (token.Name name) = named_operator name
 product_operator _ = None
 
@@ -46,7 +46,7 @@ module _ (listed : List Occ) (inner : List Token → Node → Type 0) where
   pub data IsAtom : List Token → Node → Type 0 where
     number : (n : ℤ) → IsAtom (token.Number n ∷ []) (node.Number n)
     occurrence : (place : ℕ) (attr : List ℕ) (k : ℕ) → position_of listed place attr ≡ Some k → IsAtom (token.Occurrence place attr ∷ []) (node.Occurrence k)
-    parentheses : (ts : List Token) (e : Node) → inner ts e → IsAtom (token.Sign sign.Open ∷ (ts ++ token.Sign sign.Close ∷ [])) e
+    parentheses : (ts : List Token) (e : Node) → inner ts e → IsAtom (token.Punctuation punctuation.Open ∷ (ts ++ token.Punctuation punctuation.Close ∷ [])) e
 
   -- a chain of factors
   abbrev pub IsProduct : List Token → Node → Type 0

@@ -1,6 +1,6 @@
 -- The tokens of the language, as what they stand for: this project's language.
 use Rattle.std.specs.Prelude.{ℕ, ℤ, List}
-use Rattle.ag_expr.specs.declared.token.Sign as signs
+use Rattle.ag_expr.specs.declared.token.Punctuation as punctuation
 
 pub data Token : Type 0 where
   -- a number literal, by its number
@@ -11,4 +11,4 @@ pub data Token : Type 0 where
   Name : List ℕ → Token
   -- an occurrence of an attribute, by its place and the bytes of the attribute's name
   Occurrence : ℕ → List ℕ → Token
-  Sign : signs.Sign → Token
+  Punctuation : punctuation.Punctuation → Token

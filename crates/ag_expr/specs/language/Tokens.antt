@@ -4,8 +4,8 @@ use Rattle.std.specs.Char.{is_ascii_digit, len_utf8}
 use Rattle.std.specs.List.{list_all}
 use Rattle.std.specs.Str.Parse.{digits_value}
 use Rattle.unicode_ident.specs.Ident.{is_xid_start, is_xid_continue}
-use Rattle.ag_expr.specs.declared.token.Sign.{Sign}
-use Rattle.ag_expr.specs.declared.token.Sign.TheVariants as sign
+use Rattle.ag_expr.specs.declared.token.Punctuation.{Punctuation}
+use Rattle.ag_expr.specs.declared.token.Punctuation.TheVariants as punctuation
 use Rattle.ag_expr.specs.language.Token.{Token}
 use Rattle.ag_expr.specs.language.Token as token
 
@@ -37,23 +37,23 @@ pub data IsBody : List ℕ → List ℕ → Type 0 where
   plain : (c : ℕ) (body bytes : List ℕ) → c ≢ 34 → c ≢ 92 → IsBody body bytes → IsBody (c ∷ body) (encode_utf8 c ++ bytes)
   escape : (c d : ℕ) (body bytes : List ℕ) → escaped c ≡ Some d → IsBody body bytes → IsBody (92 ∷ c ∷ body) (encode_utf8 d ++ bytes)
 
--- how each sign is written
-abbrev pub sign_text : Sign → List ℕ
-sign_text sign.Plus = 43 ∷ []
-sign_text sign.Minus = 45 ∷ []
-sign_text sign.Times = 42 ∷ []
-sign_text sign.Join = 43 ∷ 43 ∷ []
-sign_text sign.Equal = 61 ∷ 61 ∷ []
-sign_text sign.Less = 60 ∷ []
-sign_text sign.Becomes = 61 ∷ []
-sign_text sign.Open = 40 ∷ []
-sign_text sign.Close = 41 ∷ []
-sign_text sign.OpenList = 91 ∷ []
-sign_text sign.CloseList = 93 ∷ []
-sign_text sign.OpenTable = 123 ∷ []
-sign_text sign.CloseTable = 125 ∷ []
-sign_text sign.Comma = 44 ∷ []
-sign_text sign.Semicolon = 59 ∷ []
+-- how punctuation is written
+abbrev pub punctuation_text : Punctuation → List ℕ
+punctuation_text punctuation.Plus = 43 ∷ []
+punctuation_text punctuation.Minus = 45 ∷ []
+punctuation_text punctuation.Times = 42 ∷ []
+punctuation_text punctuation.Join = 43 ∷ 43 ∷ []
+punctuation_text punctuation.EqualEqual = 61 ∷ 61 ∷ []
+punctuation_text punctuation.Less = 60 ∷ []
+punctuation_text punctuation.Equal = 61 ∷ []
+punctuation_text punctuation.Open = 40 ∷ []
+punctuation_text punctuation.Close = 41 ∷ []
+punctuation_text punctuation.OpenList = 91 ∷ []
+punctuation_text punctuation.CloseList = 93 ∷ []
+punctuation_text punctuation.OpenTable = 123 ∷ []
+punctuation_text punctuation.CloseTable = 125 ∷ []
+punctuation_text punctuation.Comma = 44 ∷ []
+punctuation_text punctuation.Semicolon = 59 ∷ []
 
 -- The word is this token. Numbers and places may be of any size here.
 abbrev pub IsToken : List ℕ → Token → Type 0
@@ -62,7 +62,7 @@ IsToken word (token.Text bytes) = (body : List ℕ) × (word ≡ 34 ∷ (body ++
 IsToken word (token.Name bytes) = IsName word × (bytes ≡ encode_utf8_all word)
 IsToken word (token.Occurrence place attr) =
     (digits : List ℕ) × (name : List ℕ) × (word ≡ 36 ∷ (digits ++ 46 ∷ name)) × IsDigits digits × IsName name × (place ≡ digits_value 10 digits) × (attr ≡ encode_utf8_all name)
-IsToken word (token.Sign s) = word ≡ sign_text s
+IsToken word (token.Punctuation s) = word ≡ punctuation_text s
 
 -- No longer beginning of the characters than the word is a token.
 abbrev pub IsLongest : List ℕ → List ℕ → Type 0
@@ -90,42 +90,38 @@ is_within (token.Number n) = int_le n (pos 9223372036854775807)
 is_within (token.Occurrence place attr) = nat_le place 65535
 is_within _ = true
 
--- What stands before the offset `at` is whole tokens and separators, and there stands a character that is no separator and begins no token.
-pub record NoTokenAt (cs : List ℕ) (at : ℕ) : Type 0 where
+-- From the byte offset `from` on, where the characters `cs` stand, whole tokens and separators stand up to the offset `at`,
+-- and `rest` stands there.
+pub record Reaches (from : ℕ) (cs : List ℕ) (at : ℕ) (rest : List ℕ) : Type 0 where
   pub tokens : List Token
   pub offsets : List ℕ
+  pub before : AreTokens from cs tokens offsets at rest
+
+-- At the offset `at`, which whole tokens and separators reach, stands a character that is no separator and begins no token.
+pub record NoTokenAt (from : ℕ) (cs : List ℕ) (at : ℕ) : Type 0 where
   pub first : ℕ
   pub rest : List ℕ
-  pub before : AreTokens 0 cs tokens offsets at (first ∷ rest)
+  pub reaches : Reaches from cs at (first ∷ rest)
   pub no_separator : is_separator first ≡ false
   pub no_token : BeginsNoToken (first ∷ rest)
 
--- What stands before the offset `at` is whole tokens and separators, and there stands a token whose number is above its limit.
-pub record TooLargeAt (cs : List ℕ) (at : ℕ) : Type 0 where
-  pub tokens : List Token
-  pub offsets : List ℕ
+-- At the offset `at`, which whole tokens and separators reach, stands a token, the longest there, of whatever number.
+pub record AnyTokenAt (from : ℕ) (cs : List ℕ) (at : ℕ) : Type 0 where
   pub word : List ℕ
   pub token : Token
   pub rest : List ℕ
-  pub before : AreTokens 0 cs tokens offsets at (word ++ rest)
+  pub reaches : Reaches from cs at (word ++ rest)
   pub is : IsToken word token
   pub longest : IsLongest word rest
-  pub large : is_within token ≡ false
 
--- What stands before the offset `at` is whole tokens and separators, and there stands a token whose number is within its limit.
-pub record TokenAt (cs : List ℕ) (at : ℕ) : Type 0 where
-  pub tokens : List Token
-  pub offsets : List ℕ
-  pub word : List ℕ
-  pub token : Token
-  pub rest : List ℕ
-  pub before : AreTokens 0 cs tokens offsets at (word ++ rest)
-  pub is : IsToken word token
-  pub longest : IsLongest word rest
-  pub within : is_within token ≡ true
+-- There stands a token whose number is above its limit,
+abbrev pub TooLargeAt : ℕ → List ℕ → ℕ → Type 0
+TooLargeAt from cs at = (there : AnyTokenAt from cs at) × (is_within there.token ≡ false)
 
--- The characters are whole tokens and separators, and end at the offset `at`.
-pub record EndsAt (cs : List ℕ) (at : ℕ) : Type 0 where
-  pub tokens : List Token
-  pub offsets : List ℕ
-  pub before : AreTokens 0 cs tokens offsets at []
+-- or one whose number, if it has one, is within it;
+abbrev pub TokenAt : ℕ → List ℕ → ℕ → Type 0
+TokenAt from cs at = (there : AnyTokenAt from cs at) × (is_within there.token ≡ true)
+
+-- or the characters end there.
+abbrev pub EndsAt : ℕ → List ℕ → ℕ → Type 0
+EndsAt from cs at = Reaches from cs at []

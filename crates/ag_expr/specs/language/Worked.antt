@@ -1,8 +1,19 @@
--- Trees for worked examples.
-use Rattle.std.specs.Prelude.{[], ◌∷◌, pos}
+-- Tokens, numbers and trees for worked examples.
+use Rattle.std.specs.Prelude.{List, [], ◌∷◌, ℤ, pos, negsuc, codes}
+use Rattle.ag_expr.specs.declared.token.Punctuation.TheVariants as punctuation
+use Rattle.ag_expr.specs.language.Token.{Token}
+use Rattle.ag_expr.specs.language.Token as token
 use Rattle.ag_expr.specs.declared.node.Operator.TheVariants as operator
 use Rattle.ag_expr.specs.declared.node.Node.{Node}
 use Rattle.ag_expr.specs.declared.node.Node.TheVariants as node
+
+-- the least number
+abbrev pub least : ℤ
+least = negsuc 9223372036854775807
+
+-- the tokens of `$1.a + 2`
+abbrev pub occurrence_and_number : List Token
+occurrence_and_number = token.Occurrence 1 (codes "a") ∷ token.Punctuation punctuation.Plus ∷ token.Number (pos 2) ∷ []
 
 -- `2 + 3 * 4`
 abbrev pub sum_and_product : Node

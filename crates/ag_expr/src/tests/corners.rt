@@ -1,3 +1,5 @@
+//! Every pair of corner numbers under every operator, against tables worked out apart.
+
 use super::value_of_text;
 use ag_value::show;
 use std::alloc::{Alloc, Global};

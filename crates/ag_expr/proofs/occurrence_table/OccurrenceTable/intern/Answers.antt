@@ -1,6 +1,6 @@
 use Rattle.std.proofs.Common.{◌∙◌, refl, sym}
 use Rattle.ag_expr.proofs.language.Numbered.{listed_where, unlisted_where, number_pushed, follows_pushed}
-use Rattle.ag_expr.proofs.directory.Directory.list.Goals as goal
+use Rattle.ag_expr.proofs.occurrence_table.OccurrenceTable.intern.Goals as goal
 
 pub returns-in-Some-clause-lists : goal.returns-in-Some-clause-lists
 returns-in-Some-clause-lists c = rw (listed_where c.args.self.now c.args.place c.args.attr.now c.in-Some.number (sym c.in-Some.ensures)) refl

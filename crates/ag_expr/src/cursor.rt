@@ -1,36 +1,40 @@
-ghost use Rattle.std.specs.Prelude.{◌≡◌, ◌≢◌, chars, drop, Some, false, option_map, IfErr, IfOk, OnOk};
+//! A cursor over the tokens of a text: it peeks at the token in front and bumps it, and lists the
+//! occurrences that it passes.
+
+ghost use Rattle.std.specs.Prelude.{◌≡◌, ◌≢◌, chars, drop, Some, false, option_map, IfErr, IfOk};
+ghost use Rattle.std.specs.Prelude.{OnOk};
 ghost use Rattle.ag_expr.specs.language.Left as left;
 ghost use Rattle.ag_expr.specs.language.Expression as spec;
 ghost use Rattle.ag_expr.specs.language.Expression.{Says};
-ghost use Rattle.ag_expr.specs.language.Left.{Keeps};
+ghost use Rattle.ag_expr.specs.language.Left.{HasNumber, Keeps, PassesOther};
 ghost use Rattle.ag_expr.specs.language.Lexing.{token_of};
 ghost use Rattle.ag_expr.specs.language.Occurrences.{position_of};
 ghost use Rattle.ag_expr.specs.language.Token as token;
 ghost use Rattle.ag_expr.specs.declared.fault.ExprFault.TheVariants as fault;
 
-use crate::directory::Directory;
+use crate::occurrence_table::OccurrenceTable;
 use crate::fault::{ExprFault, TokenFault};
 use crate::lexer::{skip_separators, token_in_front};
 use crate::occurrence::Occ;
-use crate::token::{Sign, Token};
+use crate::token::{Punctuation, Token};
 use ag_value::NoMemory;
 use smallvec::SmallVec;
 use std::alloc::Global;
 use std::marker::Model;
 
-/// What is left of a text, from the front of a token on, and the different occurrences that stand before. Each token
-/// is cut when the one before it is passed.
+/// What is left of a text, from the front of a token on, and the different occurrences that stand
+/// before. Each token is cut when the one before it is passed.
 #[derive(Drop)]
-pub struct Reader<'t> {
+pub struct Cursor<'t> {
     text: &'t str,
     /// What is left of the text.
     rest: &'t str,
     /// The token in front, and what stands behind it.
     front: Result<(Token<'t>, &'t str), TokenFault>,
-    listed: Directory<'t>,
+    listed: OccurrenceTable<'t>,
 }
 
-impl<'t> Model for Reader<'t> {
+impl<'t> Model for Cursor<'t> {
     ghost use Rattle.std.specs.Prelude.{ℕ, List, chars};
     ghost use Rattle.ag_expr.specs.declared.occurrence.Occ.{Occ};
     ghost use Rattle.ag_expr.specs.language.Left.{IsReady};
@@ -48,7 +52,7 @@ fn begins_expression(token: Token<'_>) -> bool
 {
     matches!(
         token,
-        Token::Number(_) | Token::Occurrence(_, _) | Token::Sign(Sign::Open)
+        Token::Number(_) | Token::Occurrence(_, _) | Token::Punctuation(Punctuation::Open)
     )
 }
 
@@ -63,22 +67,22 @@ fn fault_at(fault: TokenFault, at: usize, rest: &str) -> ExprFault
     }
 }
 
-impl<'t> Reader<'t> {
-    /// A reader at the front of a text. Takes no memory.
-    pub fn new(alloc: Global, text: &'t str) -> Reader<'t>
+impl<'t> Cursor<'t> {
+    /// A cursor at the front of a text. Takes no memory.
+    pub fn new(alloc: Global, text: &'t str) -> Cursor<'t>
         ensures { result ≡ left.start_of text.now }
     {
         let rest = skip_separators(text);
-        Reader {
+        Cursor {
             text,
             rest,
             front: token_in_front(rest),
-            listed: Directory::new(alloc),
+            listed: OccurrenceTable::new(alloc),
         }
     }
 
     /// The token in front. Takes no memory.
-    pub fn front(&self) -> Option<Token<'t>>
+    pub fn peek(&self) -> Option<Token<'t>>
         ensures { option_map token_of result ≡ left.front_of (left.tokens self.now) }
     {
         match self.front {
@@ -96,7 +100,7 @@ impl<'t> Reader<'t> {
 
     /// Why the token in front cannot be taken, or why none is there.
     pub fn refusal(&self) -> ExprFault
-        ensures { Says (left.characters self.now) result }
+        ensures { Says 0 (left.characters self.now) result }
     {
         match self.front {
             Ok(_) => ExprFault::Unexpected(self.offset()),
@@ -106,7 +110,7 @@ impl<'t> Reader<'t> {
 
     /// Why an expression that has no level left cannot begin here.
     pub fn no_level(&self) -> ExprFault
-        ensures { Says (left.characters self.now) result }
+        ensures { Says 0 (left.characters self.now) result }
     {
         match self.front {
             Ok((token, _)) if begins_expression(token) => ExprFault::TooDeep(self.offset()),
@@ -115,10 +119,10 @@ impl<'t> Reader<'t> {
     }
 
     /// Passes the token in front.
-    pub fn advance(&mut self)
+    pub fn bump(&mut self)
         ensures exact { self.new ≡ left.behind self.old }
         ensures tokens { left.tokens self.new ≡ drop 1 (left.tokens self.old) }
-        ensures keeps { left.is_occurrence (left.front_of (left.tokens self.old)) ≡ false → Keeps self.old self.new }
+        ensures keeps { PassesOther self.old → Keeps self.old self.new }
     {
         if let Ok((_, behind)) = self.front {
             self.rest = skip_separators(behind);
@@ -126,8 +130,8 @@ impl<'t> Reader<'t> {
         }
     }
 
-    /// Passes the occurrence in front, and answers its number among the different ones. Takes memory where it is the
-    /// first with its place and name.
+    /// Passes the occurrence in front, and answers its number among the different ones. Takes
+    /// memory where it is the first with its place and name.
     pub fn take_occurrence(
         &mut self,
         alloc: Global,
@@ -135,21 +139,22 @@ impl<'t> Reader<'t> {
         attr: &'t str,
     ) -> Result<usize, NoMemory>
         requires { left.front_of (left.tokens self.old) ≡ Some (token.Occurrence place attr.now) }
-        ensures number { IfOk result (λ k. position_of (left.everything self.old) place attr.now ≡ Some k) }
+        ensures number { IfOk result (λ k. HasNumber self.old place attr.now k) }
         ensures tokens { OnOk result (left.tokens self.new ≡ drop 1 (left.tokens self.old)) }
         ensures keeps { OnOk result (Keeps self.old self.new) }
     {
         let at = self.offset();
-        let number = self.listed.list(alloc, place, attr, at)?;
-        self.advance();
+        let number = self.listed.intern(alloc, place, attr, at)?;
+        self.bump();
         Ok(number)
     }
 
-    /// The different occurrences, at the end of the text; else why the text goes on with none or with another token.
+    /// The different occurrences, at the end of the text; else why the text goes on with none or
+    /// with another token.
     pub fn finish(self) -> Result<SmallVec<Occ, 4>, ExprFault>
         ensures ended { IfOk result (λ _. left.IsEnded self.entry) }
         ensures listed { IfOk result (λ list. list.items ≡ left.everything self.entry) }
-        ensures says { IfErr result (λ e. Says (left.characters self.entry) e) }
+        ensures says { IfErr result (λ e. Says 0 (left.characters self.entry) e) }
         ensures left { IfErr result (λ e. e ≢ fault.NoMemory → left.IsEnded self.entry → ⊥) }
     {
         if !self.rest.is_empty() {

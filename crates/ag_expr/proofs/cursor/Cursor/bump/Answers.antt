@@ -4,7 +4,7 @@ use Rattle.ag_expr.specs.language.Lexing.{token_of}
 use Rattle.ag_expr.proofs.language.Cuts.{reached_on}
 use Rattle.ag_expr.proofs.language.Lexed.{width-chars}
 use Rattle.ag_expr.proofs.language.States.{stands, advanced, left_narrower, passed, passed_keeps, none_stands, none_behind}
-use Rattle.ag_expr.proofs.reader.Reader.advance.Goals as goal
+use Rattle.ag_expr.proofs.cursor.Cursor.bump.Goals as goal
 
 pub invariant_of-self : goal.invariant_of-self
 invariant_of-self c =

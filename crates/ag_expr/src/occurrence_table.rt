@@ -1,3 +1,5 @@
+//! The different occurrences of a text, with the number of each by its place and name.
+
 ghost use Rattle.std.specs.Prelude.{◌≡◌, [], Some, IfOk, OnOk, OnErr};
 ghost use Rattle.ag_expr.specs.language.Occurrences as spec;
 
@@ -10,12 +12,12 @@ use std::marker::Model;
 
 /// The different occurrences so far, and the number of each by its place and name.
 #[derive(Drop)]
-pub struct Directory<'t> {
+pub struct OccurrenceTable<'t> {
     listed: SmallVec<Occ, 4>,
     numbers: HashMap<(u16, &'t str), usize>,
 }
 
-impl<'t> Model for Directory<'t> {
+impl<'t> Model for OccurrenceTable<'t> {
     ghost use Rattle.std.specs.Prelude.{List};
     ghost use Rattle.ag_expr.specs.declared.occurrence.Occ.{Occ};
 
@@ -23,17 +25,17 @@ impl<'t> Model for Directory<'t> {
 
     ghost use Rattle.ag_expr.specs.language.Numbers.{Follows};
 
-    ghost view = { λ directory. directory.listed.items };
+    ghost view = { λ table. table.listed.items };
 
-    ghost invariant = { λ directory. Follows directory.numbers directory.listed.items };
+    ghost invariant = { λ table. Follows table.numbers table.listed.items };
 }
 
-impl<'t> Directory<'t> {
-    /// An empty directory. Takes no memory.
-    pub fn new(alloc: Global) -> Directory<'t>
+impl<'t> OccurrenceTable<'t> {
+    /// An empty table. Takes no memory.
+    pub fn new(alloc: Global) -> OccurrenceTable<'t>
         ensures { result ≡ [] }
     {
-        Directory {
+        OccurrenceTable {
             listed: SmallVec::new(alloc),
             numbers: HashMap::new(alloc),
         }
@@ -46,16 +48,17 @@ impl<'t> Directory<'t> {
         self.numbers.get(&(place, attr)).copied()
     }
 
-    /// Lists an occurrence at the end, unless its place and name are listed already, and answers the number of the listed
-    /// one. Takes memory; where that is refused, the list stays as it was.
-    pub fn list(
+    /// Lists an occurrence at the end, unless its place and name are listed already, and answers
+    /// the number of the listed one. Takes memory; where that is refused, the list stays as it was.
+    pub fn intern(
         &mut self,
         alloc: Global,
         place: u16,
         attr: &'t str,
         at: usize,
     ) -> Result<usize, NoMemory>
-        ensures lists { OnOk result (self.new ≡ spec.listed_with self.old (record { place = place; attr = attr.now; at = at })) }
+        ensures lists { OnOk result (self.new ≡ spec.listed_with self.old (
+            record { place = place; attr = attr.now; at = at })) }
         ensures number { IfOk result (λ k. spec.position_of self.new place attr.now ≡ Some k) }
         ensures stays { OnErr result (self.new ≡ self.old) }
     {

@@ -2,7 +2,7 @@ use Rattle.std.proofs.Common.{chars}
 use Rattle.ag_expr.proofs.language.Cuts.{reached_first}
 use Rattle.ag_expr.proofs.language.Lexed.{width-chars}
 use Rattle.ag_expr.proofs.language.Spans.{left_within}
-use Rattle.ag_expr.proofs.reader.Reader.new.Goals as goal
+use Rattle.ag_expr.proofs.cursor.Cursor.new.Goals as goal
 
 pub invariant_of-result : goal.invariant_of-result
 invariant_of-result c = record {

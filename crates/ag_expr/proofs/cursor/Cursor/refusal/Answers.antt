@@ -1,6 +1,6 @@
 use Rattle.std.proofs.Common.{inl}
 use Rattle.ag_expr.proofs.language.Cuts.{token_there, refused_there}
-use Rattle.ag_expr.proofs.reader.Reader.refusal.Goals as goal
+use Rattle.ag_expr.proofs.cursor.Cursor.refusal.Goals as goal
 
 pub returns-in-Ok : goal.returns-in-Ok
 returns-in-Ok c =

@@ -2,7 +2,7 @@ use Rattle.std.proofs.Common.{sym, ap, ◌∙◌}
 use Rattle.std.proofs.lemmas.Bool.{eqb-true}
 use Rattle.ag_expr.specs.language.Tokens.{width}
 use Rattle.ag_expr.proofs.language.States.{at_end, before_end, all_listed, not_empty}
-use Rattle.ag_expr.proofs.reader.Reader.finish.Goals as goal
+use Rattle.ag_expr.proofs.cursor.Cursor.finish.Goals as goal
 
 pub returns-then-not-is_empty-clause-left : goal.returns-then-not-is_empty-clause-left
 returns-then-not-is_empty-clause-left c memory =

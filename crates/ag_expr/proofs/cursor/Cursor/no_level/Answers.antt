@@ -1,6 +1,6 @@
 use Rattle.std.proofs.Common.{sym, ◌∙◌}
 use Rattle.ag_expr.proofs.language.Cuts.{begins_there}
-use Rattle.ag_expr.proofs.reader.Reader.no_level.Goals as goal
+use Rattle.ag_expr.proofs.cursor.Cursor.no_level.Goals as goal
 
 pub returns-in-Ok : goal.returns-in-Ok
 returns-in-Ok c =

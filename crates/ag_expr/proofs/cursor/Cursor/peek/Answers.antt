@@ -1,7 +1,7 @@
 use Rattle.std.proofs.Common.{sym, ap}
 use Rattle.ag_expr.specs.language.Left.{front_of}
 use Rattle.ag_expr.proofs.language.States.{stands, first_is, none_stands}
-use Rattle.ag_expr.proofs.reader.Reader.front.Goals as goal
+use Rattle.ag_expr.proofs.cursor.Cursor.peek.Goals as goal
 
 pub returns-in-Ok : goal.returns-in-Ok
 returns-in-Ok c =
