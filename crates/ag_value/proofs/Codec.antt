@@ -1,5 +1,5 @@
 -- What is read is spelled so, and what is spelled so is read.
-use Rattle.std.proofs.Common.{◌≡◌, ℕ, zero, suc, ◌^◌, ◌-◌, ◌<◌, ◌≤◌, ℤ, Bool, true, false, ◌&&◌, ◌||◌, List, [], ◌∷◌, ◌++◌, length, map, sum, take, Some, None, refl, sym, ap, subst, ◌∙◌, append_assoc, arith}
+use Rattle.std.proofs.Common.{◌≡◌, ℕ, zero, suc, ◌^◌, ◌-◌, ◌<◌, ◌≤◌, ℤ, Bool, true, false, ◌||◌, true≢false, List, [], ◌∷◌, ◌++◌, length, map, sum, take, Some, refl, sym, ap, subst, ◌∙◌, append_assoc, arith}
 use Rattle.std.proofs.lemmas.List.{append-nil, length-append, take_at}
 use Rattle.std.proofs.lemmas.List.Sums.{sum_by-cons}
 use Rattle.std.specs.Int.{w32, w64, to_be_bytes, cast_signed, cast_unsigned}
@@ -13,29 +13,30 @@ use Rattle.ag_value.specs.declared.value.Value.TheVariants.{rolls-Num, rolls-Tex
 use Rattle.ag_value.specs.Measure.{weight_of, weight_of_pair, depth_of, greatest}
 use Rattle.ag_value.specs.Reading.{◌>>=◌, Fails, Read, number_at, text_at, code_at, fault_at, all_at, pair_at, value_at}
 use Rattle.ag_value.specs.Spelling.{counted, joined, number_of, spelling_of, spelling_of_pair}
-use Rattle.ag_value.proofs.Fields.{IsBytes, IsBytes-rest, bind_some, some_is, Takes, Takes-then, Takes-tag, wide32, wide64, number_takes, number_again, text_takes, text_again}
+use Rattle.ag_value.proofs.Fields.{IsBytes, IsBytes-rest, Takes, Takes-then, Takes-tag, wide32, wide64, number_takes, number_again, text_takes, text_again}
 use Rattle.ag_value.proofs.Layers.{spelling-Num, spelling-Text, spelling-List, spelling-Table, spelling-Fault, weight-Text, weight-List, weight-Table, depth-List, depth-Table, fault-Num, fault-Text, fault-List, fault-Table, item-Num, item-Text, item-List, item-Table}
 use Rattle.ag_value.proofs.Weights.{few_items, few_pairs}
 use Rattle.ag_value.specs.declared.fault.ValueFault.{ValueFault}
 use Rattle.ag_value.specs.declared.fault.ValueFault.TheVariants.{Malformed, NoMemory}
-use Rattle.ag_value.specs.Well.{IsWell, all_true, are_keys, is_fault, is_i64, is_item, is_item_pair, key_of}
+use Rattle.ag_value.specs.Well.{IsWell, all_true, are_keys, is_fault, is_i64, is_item, is_item_pair, is_rising, key_of}
 use Rattle.std.specs.Str.{is_utf8}
 use Rattle.std.specs.Prelude.{FitsSigned, pos, negsuc}
 use Rattle.std.proofs.Math.Facts.{Fits-of_z}
-use Rattle.std.proofs.lemmas.Bool.{ltb-true}
+use Rattle.std.proofs.lemmas.Bool.{and_parts, ltb-true, or_right}
+use Rattle.std.proofs.lemmas.Option.{none-some, option_and_then_some, same_Some}
 
 -- ---- what is read is spelled so
 
 code_takes : (b : ℕ) (c : ErrorCode) → code_at b ≡ Some c → number_of c ≡ b
 code_takes zero c e = absurd cc
-code_takes (suc zero) c e = ap number_of (sym (some_is code.Overflow c e))
-code_takes (suc (suc zero)) c e = ap number_of (sym (some_is code.Divide c e))
-code_takes (suc (suc (suc zero))) c e = ap number_of (sym (some_is code.Kind c e))
-code_takes (suc (suc (suc (suc zero)))) c e = ap number_of (sym (some_is code.Index c e))
-code_takes (suc (suc (suc (suc (suc zero))))) c e = ap number_of (sym (some_is code.Key c e))
-code_takes (suc (suc (suc (suc (suc (suc zero)))))) c e = ap number_of (sym (some_is code.Number c e))
-code_takes (suc (suc (suc (suc (suc (suc (suc zero))))))) c e = ap number_of (sym (some_is code.Big c e))
-code_takes (suc (suc (suc (suc (suc (suc (suc (suc zero)))))))) c e = ap number_of (sym (some_is code.Deep c e))
+code_takes (suc zero) c e = ap number_of (sym (same_Some code.Overflow c e))
+code_takes (suc (suc zero)) c e = ap number_of (sym (same_Some code.Divide c e))
+code_takes (suc (suc (suc zero))) c e = ap number_of (sym (same_Some code.Kind c e))
+code_takes (suc (suc (suc (suc zero)))) c e = ap number_of (sym (same_Some code.Index c e))
+code_takes (suc (suc (suc (suc (suc zero))))) c e = ap number_of (sym (same_Some code.Key c e))
+code_takes (suc (suc (suc (suc (suc (suc zero)))))) c e = ap number_of (sym (same_Some code.Number c e))
+code_takes (suc (suc (suc (suc (suc (suc (suc zero))))))) c e = ap number_of (sym (same_Some code.Big c e))
+code_takes (suc (suc (suc (suc (suc (suc (suc (suc zero)))))))) c e = ap number_of (sym (same_Some code.Deep c e))
 code_takes (suc (suc (suc (suc (suc (suc (suc (suc (suc b))))))))) c e = absurd cc
 
 -- what a reader takes from the front is the spelling of what it gives
@@ -50,69 +51,69 @@ all_take : {A : Type 0} (spell : A → List ℕ) (item : List ℕ → Read A) �
     → all_at item n front bytes ≡ Some x → (xs : List A) × (x.0 ≡ front ++ xs) × TakesAll spell n bytes xs x.1
 unfolding all_at
 all_take {A} spell item says zero front bytes x is e =
-    let same : (front, bytes) ≡ x = some_is (front, bytes) x e in
+    let same : (front, bytes) ≡ x = same_Some (front, bytes) x e in
     ([], sym (append-nil front ∙ ap (λ (y : List A × List ℕ). y.0) same), subst (λ (y : List A × List ℕ). TakesAll spell 0 bytes [] y.1) same (record { takes = record { parts = refl; are_bytes = is }; count = refl }))
 all_take {A} spell item says (suc n) front bytes x is e =
-    let a = bind_some (item bytes) (λ first. all_at item n (front ++ first.0 ∷ []) first.1) x e in
-    let one = says bytes a.0 is a.1 in
-    let more = all_take spell item says n (front ++ a.0.0 ∷ []) a.0.1 x one.are_bytes a.2 in (
-      a.0.0 ∷ more.0,
-      more.1 ∙ append_assoc front (a.0.0 ∷ []) more.0,
-      record { takes = Takes-then bytes (spell a.0.0) a.0.1 (joined (map spell more.0)) x.1 one more.2.takes; count = ap suc more.2.count },
-    )
+    option_and_then_some (λ first. all_at item n (front ++ first.0 ∷ []) first.1) (item bytes) x e (λ first read others.
+    let one = says bytes first is read in
+    let more = all_take spell item says n (front ++ first.0 ∷ []) first.1 x one.are_bytes others in (
+      first.0 ∷ more.0,
+      more.1 ∙ append_assoc front (first.0 ∷ []) more.0,
+      record { takes = Takes-then bytes (spell first.0) first.1 (joined (map spell more.0)) x.1 one more.2.takes; count = ap suc more.2.count },
+    ))
 
 pair_takes : (item : List ℕ → Read Value) → Says spelling_of item → Says spelling_of_pair (pair_at item)
 unfolding pair_at
 pair_takes item says bytes x is e =
-    let a = bind_some (text_at bytes) (λ key. item key.1 >>= λ value. Some ((key.0, value.0), value.1)) x e in
-    let b = bind_some (item a.0.1) (λ value. Some ((a.0.0, value.0), value.1)) x a.2 in
-    let key = text_takes bytes a.0.0 a.0.1 is a.1 in
-    let value = says a.0.1 b.0 key.are_bytes b.1 in
-    subst (λ (y : (List ℕ × Value) × List ℕ). Takes bytes (spelling_of_pair y.0) y.1) (some_is ((a.0.0, b.0.0), b.0.1) x b.2)
-    (Takes-then bytes (counted a.0.0) a.0.1 (spelling_of b.0.0) b.0.1 key value)
+    option_and_then_some (λ key. item key.1 >>= λ value. Some ((key.0, value.0), value.1)) (text_at bytes) x e (λ key read more.
+    option_and_then_some (λ value. Some ((key.0, value.0), value.1)) (item key.1) x more (λ value read' all.
+    let first = text_takes bytes key.0 key.1 is read in
+    let second = says key.1 value first.are_bytes read' in
+    subst (λ (y : (List ℕ × Value) × List ℕ). Takes bytes (spelling_of_pair y.0) y.1) (same_Some ((key.0, value.0), value.1) x all)
+    (Takes-then bytes (counted key.0) key.1 (spelling_of value.0) value.1 first second)))
 
 value_takes : (levels : ℕ) → Says spelling_of (value_at levels)
 unfolding value_at fault_at
 value_takes levels [] x is e = absurd cc
 value_takes levels (zero ∷ rest) x is e =
-    let a = bind_some (number_at w64 rest) (λ n. Some (v.Num (cast_signed w64 n.0), n.1)) x e in
-    let t = number_takes w64 (2 ^ 64) wide64 rest a.0.0 a.0.1 (IsBytes-rest 0 rest is) a.1 in
-    let same : spelling_of (v.Num (cast_signed w64 a.0.0)) ≡ 0 ∷ to_be_bytes w64 a.0.0 = spelling-Num (cast_signed w64 a.0.0) ∙ ap (λ (n : ℕ). 0 ∷ to_be_bytes w64 n) (of_z-to_z w64 a.0.0 t.1) in
-    subst (λ (y : Value × List ℕ). Takes (0 ∷ rest) (spelling_of y.0) y.1) (some_is (v.Num (cast_signed w64 a.0.0), a.0.1) x a.2)
-    (rw same (Takes-tag 0 rest (to_be_bytes w64 a.0.0) a.0.1 t.0))
+    option_and_then_some (λ n. Some (v.Num (cast_signed w64 n.0), n.1)) (number_at w64 rest) x e (λ n read all.
+    let t = number_takes w64 (2 ^ 64) wide64 rest n.0 n.1 (IsBytes-rest 0 rest is) read in
+    let same : spelling_of (v.Num (cast_signed w64 n.0)) ≡ 0 ∷ to_be_bytes w64 n.0 = spelling-Num (cast_signed w64 n.0) ∙ ap (λ (m : ℕ). 0 ∷ to_be_bytes w64 m) (of_z-to_z w64 n.0 t.1) in
+    subst (λ (y : Value × List ℕ). Takes (0 ∷ rest) (spelling_of y.0) y.1) (same_Some (v.Num (cast_signed w64 n.0), n.1) x all)
+    (rw same (Takes-tag 0 rest (to_be_bytes w64 n.0) n.1 t.0)))
 value_takes levels (suc zero ∷ rest) x is e =
-    let a = bind_some (text_at rest) (λ text. Some (v.Text text.0, text.1)) x e in
-    let t = text_takes rest a.0.0 a.0.1 (IsBytes-rest 1 rest is) a.1 in
-    subst (λ (y : Value × List ℕ). Takes (1 ∷ rest) (spelling_of y.0) y.1) (some_is (v.Text a.0.0, a.0.1) x a.2)
-    (rw (spelling-Text a.0.0) (Takes-tag 1 rest (counted a.0.0) a.0.1 t))
+    option_and_then_some (λ text. Some (v.Text text.0, text.1)) (text_at rest) x e (λ text read all.
+    let t = text_takes rest text.0 text.1 (IsBytes-rest 1 rest is) read in
+    subst (λ (y : Value × List ℕ). Takes (1 ∷ rest) (spelling_of y.0) y.1) (same_Some (v.Text text.0, text.1) x all)
+    (rw (spelling-Text text.0) (Takes-tag 1 rest (counted text.0) text.1 t)))
 value_takes zero (suc (suc zero) ∷ rest) x is e = absurd cc
 value_takes (suc levels) (suc (suc zero) ∷ rest) x is e =
-    let a = bind_some (number_at w32 rest) (λ n. all_at (value_at levels) n.0 [] n.1 >>= λ items. Some (v.List items.0, items.1)) x e in
-    let b = bind_some (all_at (value_at levels) a.0.0 [] a.0.1) (λ items. Some (v.List items.0, items.1)) x a.2 in
-    let t = number_takes w32 (2 ^ 32) wide32 rest a.0.0 a.0.1 (IsBytes-rest 2 rest is) a.1 in
-    let all = all_take spelling_of (value_at levels) (value_takes levels) a.0.0 [] a.0.1 b.0 t.0.are_bytes b.1 in
-    let vs = all.0 in
-    let both = Takes-then rest (to_be_bytes w32 a.0.0) a.0.1 (joined (map spelling_of vs)) b.0.1 t.0 all.2.takes in
-    let same : spelling_of (v.List vs) ≡ 2 ∷ (to_be_bytes w32 a.0.0 ++ joined (map spelling_of vs)) = spelling-List vs ∙ ap (λ (n : ℕ). 2 ∷ (to_be_bytes w32 n ++ joined (map spelling_of vs))) all.2.count in
-    subst (λ (y : Value × List ℕ). Takes (2 ∷ rest) (spelling_of y.0) y.1) (ap (λ (ws : List Value). (v.List ws, b.0.1)) (sym all.1) ∙ some_is (v.List b.0.0, b.0.1) x b.2)
-    (rw same (Takes-tag 2 rest (to_be_bytes w32 a.0.0 ++ joined (map spelling_of vs)) b.0.1 both))
+    option_and_then_some (λ n. all_at (value_at levels) n.0 [] n.1 >>= λ items. Some (v.List items.0, items.1)) (number_at w32 rest) x e (λ n read more.
+    option_and_then_some (λ items. Some (v.List items.0, items.1)) (all_at (value_at levels) n.0 [] n.1) x more (λ items read' all.
+    let t = number_takes w32 (2 ^ 32) wide32 rest n.0 n.1 (IsBytes-rest 2 rest is) read in
+    let taken = all_take spelling_of (value_at levels) (value_takes levels) n.0 [] n.1 items t.0.are_bytes read' in
+    let vs = taken.0 in
+    let both = Takes-then rest (to_be_bytes w32 n.0) n.1 (joined (map spelling_of vs)) items.1 t.0 taken.2.takes in
+    let same : spelling_of (v.List vs) ≡ 2 ∷ (to_be_bytes w32 n.0 ++ joined (map spelling_of vs)) = spelling-List vs ∙ ap (λ (m : ℕ). 2 ∷ (to_be_bytes w32 m ++ joined (map spelling_of vs))) taken.2.count in
+    subst (λ (y : Value × List ℕ). Takes (2 ∷ rest) (spelling_of y.0) y.1) (ap (λ (ws : List Value). (v.List ws, items.1)) (sym taken.1) ∙ same_Some (v.List items.0, items.1) x all)
+    (rw same (Takes-tag 2 rest (to_be_bytes w32 n.0 ++ joined (map spelling_of vs)) items.1 both))))
 value_takes zero (suc (suc (suc zero)) ∷ rest) x is e = absurd cc
 value_takes (suc levels) (suc (suc (suc zero)) ∷ rest) x is e =
-    let a = bind_some (number_at w32 rest) (λ n. all_at (pair_at (value_at levels)) n.0 [] n.1 >>= λ pairs. Some (v.Table pairs.0, pairs.1)) x e in
-    let b = bind_some (all_at (pair_at (value_at levels)) a.0.0 [] a.0.1) (λ pairs. Some (v.Table pairs.0, pairs.1)) x a.2 in
-    let t = number_takes w32 (2 ^ 32) wide32 rest a.0.0 a.0.1 (IsBytes-rest 3 rest is) a.1 in
-    let all = all_take spelling_of_pair (pair_at (value_at levels)) (pair_takes (value_at levels) (value_takes levels)) a.0.0 [] a.0.1 b.0 t.0.are_bytes b.1 in
-    let ps = all.0 in
-    let both = Takes-then rest (to_be_bytes w32 a.0.0) a.0.1 (joined (map spelling_of_pair ps)) b.0.1 t.0 all.2.takes in
-    let same : spelling_of (v.Table ps) ≡ 3 ∷ (to_be_bytes w32 a.0.0 ++ joined (map spelling_of_pair ps)) = spelling-Table ps ∙ ap (λ (n : ℕ). 3 ∷ (to_be_bytes w32 n ++ joined (map spelling_of_pair ps))) all.2.count in
-    subst (λ (y : Value × List ℕ). Takes (3 ∷ rest) (spelling_of y.0) y.1) (ap (λ (qs : List (List ℕ × Value)). (v.Table qs, b.0.1)) (sym all.1) ∙ some_is (v.Table b.0.0, b.0.1) x b.2)
-    (rw same (Takes-tag 3 rest (to_be_bytes w32 a.0.0 ++ joined (map spelling_of_pair ps)) b.0.1 both))
+    option_and_then_some (λ n. all_at (pair_at (value_at levels)) n.0 [] n.1 >>= λ pairs. Some (v.Table pairs.0, pairs.1)) (number_at w32 rest) x e (λ n read more.
+    option_and_then_some (λ pairs. Some (v.Table pairs.0, pairs.1)) (all_at (pair_at (value_at levels)) n.0 [] n.1) x more (λ pairs read' all.
+    let t = number_takes w32 (2 ^ 32) wide32 rest n.0 n.1 (IsBytes-rest 3 rest is) read in
+    let taken = all_take spelling_of_pair (pair_at (value_at levels)) (pair_takes (value_at levels) (value_takes levels)) n.0 [] n.1 pairs t.0.are_bytes read' in
+    let ps = taken.0 in
+    let both = Takes-then rest (to_be_bytes w32 n.0) n.1 (joined (map spelling_of_pair ps)) pairs.1 t.0 taken.2.takes in
+    let same : spelling_of (v.Table ps) ≡ 3 ∷ (to_be_bytes w32 n.0 ++ joined (map spelling_of_pair ps)) = spelling-Table ps ∙ ap (λ (m : ℕ). 3 ∷ (to_be_bytes w32 m ++ joined (map spelling_of_pair ps))) taken.2.count in
+    subst (λ (y : Value × List ℕ). Takes (3 ∷ rest) (spelling_of y.0) y.1) (ap (λ (qs : List (List ℕ × Value)). (v.Table qs, pairs.1)) (sym taken.1) ∙ same_Some (v.Table pairs.0, pairs.1) x all)
+    (rw same (Takes-tag 3 rest (to_be_bytes w32 n.0 ++ joined (map spelling_of_pair ps)) pairs.1 both))))
 value_takes levels (suc (suc (suc (suc zero))) ∷ []) x is e = absurd cc
 value_takes levels (suc (suc (suc (suc zero))) ∷ b ∷ rest) x is e =
-    let a = bind_some (code_at b) (λ c. Some (v.Fault c, rest)) x e in
-    let same : spelling_of (v.Fault a.0) ≡ 4 ∷ b ∷ [] = spelling-Fault a.0 ∙ ap (λ (n : ℕ). 4 ∷ n ∷ []) (code_takes b a.0 a.1) in
-    subst (λ (y : Value × List ℕ). Takes (4 ∷ b ∷ rest) (spelling_of y.0) y.1) (some_is (v.Fault a.0, rest) x a.2)
-    (rw same (record { parts = refl; are_bytes = IsBytes-rest b rest (IsBytes-rest 4 (b ∷ rest) is) }))
+    option_and_then_some (λ c. Some (v.Fault c, rest)) (code_at b) x e (λ c read all.
+    let same : spelling_of (v.Fault c) ≡ 4 ∷ b ∷ [] = spelling-Fault c ∙ ap (λ (n : ℕ). 4 ∷ n ∷ []) (code_takes b c read) in
+    subst (λ (y : Value × List ℕ). Takes (4 ∷ b ∷ rest) (spelling_of y.0) y.1) (same_Some (v.Fault c, rest) x all)
+    (rw same (record { parts = refl; are_bytes = IsBytes-rest b rest (IsBytes-rest 4 (b ∷ rest) is) })))
 value_takes levels (suc (suc (suc (suc (suc b)))) ∷ rest) x is e = absurd cc
 
 pub read_is_spelled : (levels : ℕ) → Says spelling_of (value_at levels)
@@ -120,20 +121,8 @@ read_is_spelled = value_takes
 
 -- ---- what is spelled so is read
 
-first_true : (a b : Bool) → (a && b) ≡ true → a ≡ true
-first_true true b h = refl
-first_true false b h = absurd cc
-
-second_true : (a b : Bool) → (a && b) ≡ true → b ≡ true
-second_true true b h = h
-second_true false b h = absurd cc
-
-or_second : (a b : Bool) → b ≡ true → (a || b) ≡ true
-or_second true b h = refl
-or_second false b h = h
-
 without_first : (a b : Bool) → a ≡ false → (a || b) ≡ true → b ≡ true
-without_first true b e h = absurd cc
+without_first true b e h = absurd (true≢false e)
 without_first false b e h = h
 
 is_signed : (n : ℤ) → is_i64 n ≡ true → FitsSigned w64 n
@@ -189,7 +178,8 @@ items_again levels again (w ∷ ws) formed light shallow =
     let there : sum (map weight_of ws) < 2 ^ 32 = omega (arith, parts) in
     let low : depth_of w ≤ levels = omega arith in
     let lower : greatest (map depth_of ws) ≤ levels = omega arith in
-    (again w (record { formed = or_second (is_fault w) (is_item w) (first_true (is_item w) (all_true (map is_item ws)) formed); light = here; shallow = low }), items_again levels again ws (second_true (is_item w) _ formed) there lower)
+    let items = and_parts (is_item w) (all_true (map is_item ws)) formed in
+    (again w (record { formed = or_right (is_fault w) (is_item w) items.0; light = here; shallow = low }), items_again levels again ws items.1 there lower)
 
 pairs_again : (levels : ℕ) → ((value : Value) → IsLegible levels value → Again spelling_of (value_at levels) value) → (ps : List (List ℕ × Value)) → all_true (map is_utf8 (map key_of ps)) ≡ true → all_true (map is_item_pair ps) ≡ true
     → sum (map weight_of_pair ps) < 2 ^ 32 → greatest (map (λ p. depth_of p.1) ps) ≤ levels → AllAgain spelling_of_pair (pair_at (value_at levels)) ps
@@ -201,8 +191,10 @@ pairs_again levels again (p ∷ ps) texts formed light shallow =
     let there : sum (map weight_of_pair ps) < 2 ^ 32 = omega (arith, parts) in
     let low : depth_of p.1 ≤ levels = omega arith in
     let lower : greatest (map (λ q. depth_of q.1) ps) ≤ levels = omega arith in
-    let value = again p.1 (record { formed = or_second (is_fault p.1) (is_item p.1) (first_true (is_item p.1) (all_true (map is_item_pair ps)) formed); light = here; shallow = low }) in
-    (pair_again (value_at levels) p (first_true (is_utf8 p.0) (all_true (map is_utf8 (map key_of ps))) texts) short value, pairs_again levels again ps (second_true (is_utf8 p.0) _ texts) (second_true (is_item p.1) _ formed) there lower)
+    let keys = and_parts (is_utf8 p.0) (all_true (map is_utf8 (map key_of ps))) texts in
+    let items = and_parts (is_item p.1) (all_true (map is_item_pair ps)) formed in
+    let value = again p.1 (record { formed = or_right (is_fault p.1) (is_item p.1) items.0; light = here; shallow = low }) in
+    (pair_again (value_at levels) p keys.0 short value, pairs_again levels again ps keys.1 items.1 there lower)
 
 of_layers : (levels : ℕ) → ((layer : Value-F Value) → IsLegible levels (roll-Value layer) → Again spelling_of (value_at levels) (roll-Value layer)) → (value : Value) → IsLegible levels value → Again spelling_of (value_at levels) value
 of_layers levels says value = subst (λ (w : Value). IsLegible levels w → Again spelling_of (value_at levels) w) (roll-out-Value value) (says (out-Value value))
@@ -232,14 +224,12 @@ layer_again (suc levels) (Value-F.List vs) = subst (λ (w : Value). IsLegible (s
     ∙ rw (number_again w32 (2 ^ 32) wide32 (length vs) (joined (map spelling_of vs) ++ rest) few, all) refl)
 layer_again zero (Value-F.Table ps) = subst (λ (w : Value). IsLegible zero w → Again spelling_of (value_at zero) w) (sym (rolls-Table ps)) (λ legible rest. let l = legible.shallow in let deep = depth-Table ps in absurd (omega arith))
 layer_again (suc levels) (Value-F.Table ps) = subst (λ (w : Value). IsLegible (suc levels) w → Again spelling_of (value_at (suc levels)) w) (sym (rolls-Table ps)) (λ legible rest.
-    let formed = sym (item-Table ps) ∙ without_first _ _ (fault-Table ps) legible.formed in
-    let keys = first_true (are_keys (map key_of ps)) _ formed in
-    let texts = second_true _ (all_true (map is_utf8 (map key_of ps))) keys in
-    let items = second_true (are_keys (map key_of ps)) _ formed in
+    let formed = and_parts (are_keys (map key_of ps)) (all_true (map is_item_pair ps)) (sym (item-Table ps) ∙ without_first _ _ (fault-Table ps) legible.formed) in
+    let keys = and_parts (is_rising (map key_of ps)) (all_true (map is_utf8 (map key_of ps))) formed.0 in
     let light : sum (map weight_of_pair ps) < 2 ^ 32 = let l = legible.light in omega (arith, weight-Table ps) in
     let shallow : greatest (map (λ p. depth_of p.1) ps) ≤ levels = let l = legible.shallow in let deep = depth-Table ps in omega arith in
     let few : length ps < 2 ^ 32 = omega (arith, few_pairs ps) in
-    let all = all_again spelling_of_pair (pair_at (value_at levels)) ps [] rest (pairs_again levels (of_layers levels (layer_again levels)) ps texts items light shallow) in
+    let all = all_again spelling_of_pair (pair_at (value_at levels)) ps [] rest (pairs_again levels (of_layers levels (layer_again levels)) ps keys.1 formed.1 light shallow) in
     let regrouped = append_assoc (to_be_bytes w32 (length ps)) (joined (map spelling_of_pair ps)) rest in
     ap (λ (w : List ℕ). value_at (suc levels) (w ++ rest)) (spelling-Table ps)
     ∙ ap (λ (w : List ℕ). value_at (suc levels) (3 ∷ w)) regrouped
@@ -259,13 +249,12 @@ well_is_read value rest well =
 pub only_memory : (input : List ℕ) (e : ValueFault) → Fails e (value_at 64 input) → (value : Value) (rest : List ℕ) → IsWell value → input ≡ spelling_of value ++ rest → e ≡ NoMemory
 only_memory input Malformed fails value rest well spelled =
     let some : value_at 64 input ≡ Some (value, rest) = ap (value_at 64) spelled ∙ well_is_read value rest well in
-    let bad : None ≡ Some (value, rest) = sym fails ∙ some in
-    absurd cc
+    absurd (none-some (value, rest) (sym fails ∙ some))
 only_memory input NoMemory fails value rest well spelled = refl
 
 -- a front that is a spelling is the one that was read
 pub one_spelled : (input : List ℕ) (read : Value × List ℕ) → value_at 64 input ≡ Some read → (value : Value) (rest : List ℕ) → IsWell value → input ≡ spelling_of value ++ rest → read ≡ (value, rest)
-one_spelled input read e value rest well spelled = some_is read (value, rest) (sym e ∙ ap (value_at 64) spelled ∙ well_is_read value rest well)
+one_spelled input read e value rest well spelled = same_Some read (value, rest) (sym e ∙ ap (value_at 64) spelled ∙ well_is_read value rest well)
 
 -- the front of that length is the spelling
 pub front_is : (input text rest : List ℕ) → input ≡ text ++ rest → take (length input - length rest) input ≡ text

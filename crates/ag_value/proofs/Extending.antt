@@ -2,6 +2,7 @@
 use Rattle.std.proofs.Common.{◌≡◌, ℕ, List, [], ◌++◌, sym, ap, ◌∙◌, append_assoc}
 use Rattle.std.proofs.lemmas.List.{append-nil}
 use Rattle.ag_value.specs.Spelling.{Extends}
+use Rattle.ag_value.proofs.Layers.{spellings, weights}
 
 pub by_nothing : (a b : List ℕ) → b ≡ a → Extends a b
 by_nothing a b e = record { more = []; is = e ∙ sym (append-nil a) }
@@ -13,3 +14,6 @@ pub by_two : (a b c : List ℕ) → Extends a b → Extends b c → Extends a c
 by_two a b c p q = record { more = p.more ++ q.more; is = q.is ∙ ap (λ (w : List ℕ). w ++ q.more) p.is ∙ append_assoc a p.more q.more }
 
 pub ruleset extending = (by_nothing, by_one, by_two)
+
+-- for a whole value, also how its spelling and its weight are made of those of its parts
+pub ruleset appending = (extending, spellings, weights)

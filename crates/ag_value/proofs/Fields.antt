@@ -4,9 +4,10 @@ use Rattle.std.specs.Int.{Width, w32, w64, byte_len, from_be_bytes, to_be_bytes}
 use Rattle.std.specs.Str.{is_utf8}
 use Rattle.std.proofs.lemmas.Bool.{cases_lt, ltb-false, le-ltb}
 use Rattle.std.proofs.lemmas.List.{take_at, drop_at, take-append-drop, length-append, length-take, get_or-drop, get_or-take, get_or_past}
+use Rattle.std.proofs.lemmas.Option.{none-some, cond_some, option_and_then_some, some_pair_parts}
 use Rattle.std.proofs.lemmas.Nat.{be_bytes_4, be_bytes_8, from_be_bytes-to_be_bytes_4, from_be_bytes-to_be_bytes_8}
 use Rattle.ag_value.specs.Spelling.{counted}
-use Rattle.ag_value.specs.Reading.{◌>>=◌, number_at, text_at}
+use Rattle.ag_value.specs.Reading.{number_at, text_at}
 
 -- each of them is a byte
 abbrev pub IsBytes : List ℕ → Type 0
@@ -25,22 +26,10 @@ IsBytes-take n bytes is i =
 pub IsBytes-rest : (b : ℕ) (bytes : List ℕ) → IsBytes (b ∷ bytes) → IsBytes bytes
 IsBytes-rest b bytes is i = is (suc i)
 
--- what a step gave that gave something
-pub bind_some : {A B : Type 0} (o : Option A) (f : A → Option B) (y : B) → (o >>= f) ≡ Some y → (x : A) × (o ≡ Some x) × (f x ≡ Some y)
-bind_some None f y e = absurd cc
-bind_some (Some x) f y e = (x, refl, e)
-
-pub some_is : {A : Type 0} (x y : A) → Some x ≡ Some y → x ≡ y
-some_is x y e = cc
-
 -- a test that let something through
 pub unless_some : {A : Type 0} (b : Bool) (x : Option A) (y : A) → cond b None x ≡ Some y → (b ≡ false) × (x ≡ Some y)
-unless_some true x y e = absurd cc
+unless_some true x y e = absurd (none-some y e)
 unless_some false x y e = (refl, e)
-
-pub where_some : {A : Type 0} (b : Bool) (x : Option A) (y : A) → cond b x None ≡ Some y → (b ≡ true) × (x ≡ Some y)
-where_some true x y e = (refl, e)
-where_some false x y e = absurd cc
 
 -- text was taken from the front of the bytes
 pub record Takes (bytes text rest : List ℕ) : Type 0 where
@@ -81,10 +70,10 @@ wide64 = record {
 pub number_takes : (w : Width) (limit : ℕ) (wide : IsWide w limit) (bytes : List ℕ) (n : ℕ) (rest : List ℕ) → IsBytes bytes → number_at w bytes ≡ Some (n, rest) → Takes bytes (to_be_bytes w n) rest × (n < limit)
 number_takes w limit wide bytes n rest is e =
     let g = unless_some (ltb (length bytes) (byte_len w)) (Some (from_be_bytes w (take (byte_len w) bytes), drop (byte_len w) bytes)) (n, rest) e in
-    let same = some_is (from_be_bytes w (take (byte_len w) bytes), drop (byte_len w) bytes) (n, rest) g.1 in
+    let same = some_pair_parts (from_be_bytes w (take (byte_len w) bytes)) n (drop (byte_len w) bytes) rest g.1 in
     let long : byte_len w ≤ length bytes = ltb-false _ _ g.0 in
-    let n-is : from_be_bytes w (take (byte_len w) bytes) ≡ n = ap (λ (p : ℕ × List ℕ). p.0) same in
-    let rest-is : drop (byte_len w) bytes ≡ rest = ap (λ (p : ℕ × List ℕ). p.1) same in
+    let n-is = same.0 in
+    let rest-is = same.1 in
     let front : to_be_bytes w n ≡ take (byte_len w) bytes = rw (← n-is) (wide.back (take (byte_len w) bytes) (omega (arith, length-take (byte_len w) bytes)) (IsBytes-take (byte_len w) bytes is)) in
     (record { parts = rw (front, ← rest-is) (sym (take-append-drop (byte_len w) bytes)); are_bytes = rw (← rest-is) (IsBytes-drop (byte_len w) bytes is) }, rw (← n-is) (wide.below (take (byte_len w) bytes) (IsBytes-take (byte_len w) bytes is)))
 
@@ -98,19 +87,16 @@ number_again w limit wide n rest lt =
 
 pub text_takes : (bytes text rest : List ℕ) → IsBytes bytes → text_at bytes ≡ Some (text, rest) → Takes bytes (counted text) rest
 unfolding text_at
-text_takes bytes text rest is e =
-    let b = bind_some (number_at w32 bytes) (λ n. cond (ltb (length n.1) n.0) None (cond (is_utf8 (take n.0 n.1)) (Some (take n.0 n.1, drop n.0 n.1)) None)) (text, rest) e in
-    let n = b.0 in
-    let t = number_takes w32 (2 ^ 32) wide32 bytes n.0 n.1 is b.1 in
-    let g = unless_some (ltb (length n.1) n.0) (cond (is_utf8 (take n.0 n.1)) (Some (take n.0 n.1, drop n.0 n.1)) None) (text, rest) b.2 in
-    let h = where_some (is_utf8 (take n.0 n.1)) (Some (take n.0 n.1, drop n.0 n.1)) (text, rest) g.1 in
-    let same = some_is (take n.0 n.1, drop n.0 n.1) (text, rest) h.1 in
+text_takes bytes text rest is e = option_and_then_some (λ n. cond (ltb (length n.1) n.0) None (cond (is_utf8 (take n.0 n.1)) (Some (take n.0 n.1, drop n.0 n.1)) None)) (number_at w32 bytes) (text, rest) e (λ n read some.
+    let t = number_takes w32 (2 ^ 32) wide32 bytes n.0 n.1 is read in
+    let g = unless_some (ltb (length n.1) n.0) (cond (is_utf8 (take n.0 n.1)) (Some (take n.0 n.1, drop n.0 n.1)) None) (text, rest) some in
+    let h = cond_some (is_utf8 (take n.0 n.1)) (take n.0 n.1, drop n.0 n.1) (text, rest) g.1 in
     let long : n.0 ≤ length n.1 = ltb-false _ _ g.0 in
     let len : length (take n.0 n.1) ≡ n.0 = omega (arith, length-take n.0 n.1) in
     let second : Takes n.1 (take n.0 n.1) (drop n.0 n.1) = record { parts = sym (take-append-drop n.0 n.1); are_bytes = IsBytes-drop n.0 n.1 t.0.are_bytes } in
     let both = Takes-then bytes (to_be_bytes w32 n.0) n.1 (take n.0 n.1) (drop n.0 n.1) t.0 second in
     let whole : Takes bytes (counted (take n.0 n.1)) (drop n.0 n.1) = subst (λ (k : ℕ). Takes bytes (to_be_bytes w32 k ++ take n.0 n.1) (drop n.0 n.1)) (sym len) both in
-    subst (λ (p : List ℕ × List ℕ). Takes bytes (counted p.0) p.1) same whole
+    subst (λ (p : List ℕ × List ℕ). Takes bytes (counted p.0) p.1) h.1 whole)
 
 pub text_again : (text rest : List ℕ) → length text < 2 ^ 32 → is_utf8 text ≡ true → text_at (counted text ++ rest) ≡ Some (text, rest)
 unfolding text_at

@@ -1,6 +1,7 @@
 -- One key more of a table was looked at.
 use Rattle.std.proofs.Common.{◌≡◌, ℕ, suc, ◌+◌, ◌<◌, ◌≤◌, Bool, true, false, List, [], ◌∷◌, length, map, drop, get_or, refl, sym, ap, ◌∙◌, drop-cons, arith}
 use Rattle.std.proofs.lemmas.List.{drop_all}
+use Rattle.std.proofs.lemmas.Str.{is_utf8-from_IsUtf8}
 use Rattle.std.specs.declared.cmp.Ordering.{Ordering}
 use Rattle.std.specs.declared.cmp.Ordering.TheVariants.{Less, Equal, Greater}
 use Rattle.std.specs.Ordering.{is_ge, is_lt}
@@ -27,3 +28,5 @@ pub not_ge : (o : Ordering) → false ≡ is_ge o → is_lt o ≡ true
 not_ge Less e = refl
 not_ge Equal e = absurd cc
 not_ge Greater e = absurd cc
+
+pub ruleset keys = (is_utf8-from_IsUtf8, next_key, last_key)

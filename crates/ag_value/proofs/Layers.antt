@@ -1,5 +1,6 @@
 -- The equations of the definitions by recursion on a value, a variant at a time.
-use Rattle.std.proofs.Common.{◌≡◌, ℕ, ◌+◌, ℤ, Bool, false, ◌&&◌, List, [], ◌∷◌, ◌++◌, length, map, sum, refl, sym, ap, ◌∙◌}
+use mathlib.Core.List.{map-map}
+use Rattle.std.proofs.Common.{◌≡◌, ℕ, ◌+◌, ℤ, Bool, false, ◌&&◌, List, [], ◌∷◌, ◌++◌, length, map, sum, sym, ap, ◌∙◌}
 use Rattle.std.proofs.lemmas.List.{length-map}
 use Rattle.std.specs.Int.{w32, w64, to_be_bytes, cast_unsigned}
 use Rattle.ag_value.specs.declared.value.ErrorCode.{ErrorCode}
@@ -15,10 +16,6 @@ use Rattle.std.specs.Str.{is_utf8}
 use Rattle.ag_value.specs.Shown.{name_of, quoted, separated, shown_of, shown_of_pair, shown_step}
 use Rattle.ag_value.specs.Well.{all_true, are_keys, fault_step, is_fault, is_i64, is_item, is_item_pair, item_step, key_of}
 use Rattle.ag_value.specs.Spelling.{counted, joined, number_of, spelling_of, spelling_of_pair, spelling_step}
-
-pub map-map : {A B C : Type 0} (f : B → C) (g : A → B) (xs : List A) → map f (map g xs) ≡ map (λ x. f (g x)) xs
-map-map f g [] = refl
-map-map f g (x ∷ xs) = ap (λ ys. f (g x) ∷ ys) (map-map f g xs)
 
 pub weight-List : (vs : List Value) → weight_of (v.List vs) ≡ 5 + sum (map weight_of vs)
 weight-List vs = ap weight_of (sym (rolls-List vs)) ∙ fold-roll-Value ℕ weight_step (Value-F.List vs)

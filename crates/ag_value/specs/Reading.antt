@@ -1,6 +1,7 @@
 -- Reading a value from the front of some bytes, as a plain function on lists. It reads whatever has the form of a
 -- spelling; whether the value is well is asked afterwards. Laws tie it to the spelling.
 use Rattle.std.specs.Prelude.{◌≡◌, ℕ, zero, suc, List, [], ◌∷◌, ◌++◌, length, take, drop, Option, Some, None, Result, Ok, Err, nat_lt, if◌then◌else◌}
+use Rattle.std.specs.Option.{option_and_then}
 use Rattle.std.specs.Int.{Width, w32, w64, byte_len, from_be_bytes, cast_signed}
 use Rattle.std.specs.Str.{is_utf8}
 use Rattle.ag_value.specs.declared.fault.ValueFault.{ValueFault}
@@ -14,10 +15,10 @@ use Rattle.ag_value.specs.declared.value.ErrorCode.TheVariants as code
 abbrev pub Read : Type 0 → Type 0
 Read A = Option (A × List ℕ)
 
+-- what f makes of what is there
 infixl 10 ◌>>=◌
 abbrev pub ◌>>=◌ : {A B : Type 0} → Option A → (A → Option B) → Option B
-None >>= f = None
-(Some x) >>= f = f x
+o >>= f = option_and_then f o
 
 -- a refusal for another cause than memory comes where reading gives nothing
 abbrev pub Fails : {Y : Type 0} → ValueFault → Option Y → Type 0

@@ -1,3 +1,4 @@
+//! A box in memory that contracts see as the value in it.
 ghost use Rattle.std.specs.Prelude.{◌≡◌, IfOk};
 
 use crate::fault::NoMemory;

@@ -1,59 +1,11 @@
-ghost use Rattle.std.specs.Prelude.{◌≡◌, ◌↔◌, IfOk, IsTrue};
+//! Copies of values, each in memory of its own.
+ghost use Rattle.std.specs.Prelude.{◌≡◌, IfOk};
 
 use crate::fault::NoMemory;
 use crate::items::Items;
 use crate::text::Text;
 use crate::value::Value;
 use std::alloc::Global;
-
-/// Whether two values are equal: of one kind, and the same number, bytes, items in order, pairs in order, or error.
-/// Takes no memory.
-#[cycle(same)]
-pub fn same(a: &Value, b: &Value) -> bool
-    ensures { IsTrue result ↔ (a.now ≡ b.now) }
-{
-    match (a, b) {
-        (Value::Num(m), Value::Num(n)) => *m == *n,
-        (Value::Text(s), Value::Text(t)) => s.as_str() == t.as_str(),
-        (Value::List(xs), Value::List(ys)) => same_items(xs.as_slice(), ys.as_slice()),
-        (Value::Table(xs), Value::Table(ys)) => same_pairs(xs.as_slice(), ys.as_slice()),
-        (Value::Fault(c), Value::Fault(d)) => *c == *d,
-        _ => false,
-    }
-}
-
-#[cycle(same)]
-fn same_items(xs: &[Value], ys: &[Value]) -> bool
-    ensures { IsTrue result ↔ (xs.now ≡ ys.now) }
-{
-    if xs.len() != ys.len() {
-        return false;
-    }
-    for i in 0..xs.len() {
-        if !same(&xs[i], &ys[i]) {
-            return false;
-        }
-    }
-    true
-}
-
-#[cycle(same)]
-fn same_pairs(xs: &[(Text, Value)], ys: &[(Text, Value)]) -> bool
-    ensures { IsTrue result ↔ (xs.now ≡ ys.now) }
-{
-    if xs.len() != ys.len() {
-        return false;
-    }
-    for i in 0..xs.len() {
-        if xs[i].0.as_str() != ys[i].0.as_str() {
-            return false;
-        }
-        if !same(&xs[i].1, &ys[i].1) {
-            return false;
-        }
-    }
-    true
-}
 
 /// A copy of a value, in memory of its own: equal to it.
 #[cycle(copy)]

@@ -1,7 +1,10 @@
-ghost use Rattle.std.specs.Prelude.{◌≡◌, ◌++◌, ◌≤◌, ℕ, List, [], true, false, length, take, IfOk, IfSome, IfNone, MatchResult};
+//! Reading a value from the bytes of its spelling.
+ghost use Rattle.std.specs.Prelude.{◌≡◌, ◌++◌, ◌≤◌, ℕ, List, [], true, false, length, take};
+ghost use Rattle.std.specs.Prelude.{IfOk, IfSome, IfNone, MatchResult};
 ghost use Rattle.std.specs.Int.{w32, w64};
 ghost use Rattle.std.specs.Str.{is_utf8};
-ghost use Rattle.ag_value.specs.Reading.{Gives, all_at, code_at, fault_at, number_at, pair_at, text_at, value_at};
+ghost use Rattle.ag_value.specs.Reading.{Gives, all_at, code_at, fault_at, number_at, pair_at};
+ghost use Rattle.ag_value.specs.Reading.{text_at, value_at};
 ghost use Rattle.ag_value.specs.Spelling.{spelling_of};
 ghost use Rattle.ag_value.specs.Well.{IsWell};
 ghost use Rattle.ag_value.specs.declared.value.Value.{Value};
@@ -14,15 +17,21 @@ use crate::wellness::{MAX_DEPTH, is_well};
 use std::alloc::Global;
 use std::str::from_utf8;
 
-/// The value whose spelling is a front of the input, and that front's length in bytes. Bytes may follow it.
+/// The value whose spelling is a front of the input, and that front's length in bytes. Bytes may
+/// follow it.
 ///
-/// `Malformed` (V1) is answered exactly where no front of the input is the spelling of a well value: what is answered
-/// is well and spelled so, and what begins with a spelling is read as that value.
+/// `Malformed` (V1) is answered exactly where no front of the input is the spelling of a well
+/// value: what is answered is well and spelled so, and what begins with a spelling is read as that
+/// value.
 pub fn decode(alloc: Global, input: &[u8]) -> Result<(Value, usize), ValueFault>
     ensures well { IfOk result (λ found. IsWell found.0) }
     ensures within { IfOk result (λ found. found.1 ≤ length input.now) }
     ensures spelled { IfOk result (λ found. take found.1 input.now ≡ spelling_of found.0) }
-    ensures read { (value : Value) (rest : List ℕ) → IsWell value → input.now ≡ spelling_of value ++ rest → MatchResult result (λ found. found ≡ (value, length (spelling_of value))) (λ e. e ≡ ValueFault.NoMemory) }
+    ensures read { (value : Value) (rest : List ℕ) → IsWell value
+        → input.now ≡ spelling_of value ++ rest
+        → MatchResult result
+        (λ found. found ≡ (value, length (spelling_of value)))
+        (λ e. e ≡ ValueFault.NoMemory) }
 {
     let (value, rest) = value_of(alloc, MAX_DEPTH as usize, input)?;
     if !is_well(&value) {
@@ -96,7 +105,8 @@ fn pairs_of(
     count: u32,
     bytes: &[u8],
 ) -> Result<(Items<(Text, Value)>, &[u8]), ValueFault>
-    ensures { Gives (λ x. (x.0, x.1.now)) result (all_at (pair_at (value_at levels)) count [] bytes.now) }
+    ensures { Gives (λ x. (x.0, x.1.now)) result
+        (all_at (pair_at (value_at levels)) count [] bytes.now) }
 {
     let mut pairs = Vec::new(alloc);
     let mut rest = bytes;
@@ -164,7 +174,7 @@ fn text_of(alloc: Global, bytes: &[u8]) -> Result<(Text, &[u8]), ValueFault>
     Ok((Text::from_string(string), rest))
 }
 
-#[tactic(auto, using(crate::proofs::Utf8::is_text, crate::proofs::Utf8::is_no_text))]
+#[tactic(auto, using(crate::proofs::Utf8::utf8))]
 fn utf8_of(bytes: &[u8]) -> Option<&str>
     ensures text { IfSome result (λ text. text.now ≡ bytes.now) }
     ensures utf8 { IfSome result (λ _. is_utf8 bytes.now ≡ true) }

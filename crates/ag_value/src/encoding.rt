@@ -1,15 +1,18 @@
-ghost use Rattle.std.specs.Prelude.{◌≡◌, ◌++◌, ◌∷◌, ◌+◌, ◌<◌, ◌^◌, [], length, map, sum, OnOk, OnErr};
+//! Spelling a value in bytes.
+ghost use Rattle.std.specs.Prelude.{◌≡◌, ◌++◌, ◌∷◌, ◌+◌, ◌<◌, ◌^◌, [], length, map, sum};
+ghost use Rattle.std.specs.Prelude.{OnOk, OnErr};
 ghost use Rattle.std.specs.Int.{w32, w64, to_be_bytes, cast_unsigned};
 ghost use Rattle.ag_value.specs.Measure.{weight_of, weight_of_pair};
-ghost use Rattle.ag_value.specs.Spelling.{Extends, counted, joined, number_of, spelling_of, spelling_of_pair};
+ghost use Rattle.ag_value.specs.Spelling.{Extends, counted, joined, number_of, spelling_of};
+ghost use Rattle.ag_value.specs.Spelling.{spelling_of_pair};
 ghost use Rattle.ag_value.specs.Well.{IsWell};
 
 use crate::fault::NoMemory;
 use crate::text::Text;
 use crate::value::{ErrorCode, Value};
 
-/// Appends the spelling of a well value to `out`, whose allocator gives the memory. Refused, it leaves the bytes of
-/// `out` as they were.
+/// Appends the spelling of a well value to `out`, whose allocator gives the memory. Refused, it
+/// leaves the bytes of `out` as they were.
 pub fn encode(value: &Value, out: &mut Vec<u8>) -> Result<(), NoMemory>
     requires { IsWell value.now }
     ensures ok { OnOk result (out.new.items ≡ out.old.items ++ spelling_of value.now) }
@@ -26,7 +29,7 @@ pub fn encode(value: &Value, out: &mut Vec<u8>) -> Result<(), NoMemory>
 }
 
 #[cycle(encoding)]
-#[tactic(auto, using(crate::proofs::Extending::extending, crate::proofs::Layers::spellings, crate::proofs::Layers::weights))]
+#[tactic(auto, using(crate::proofs::Extending::appending))]
 fn append_value(out: &mut Vec<u8>, value: &Value) -> Result<(), NoMemory>
     requires { weight_of value.now < 2 ^ 32 }
     ensures ok { OnOk result (out.new.items ≡ out.old.items ++ spelling_of value.now) }
@@ -46,7 +49,8 @@ fn append_value(out: &mut Vec<u8>, value: &Value) -> Result<(), NoMemory>
 #[tactic(auto, using(crate::proofs::Extending::extending, crate::proofs::Weights::few))]
 fn append_list(out: &mut Vec<u8>, items: &[Value]) -> Result<(), NoMemory>
     requires { sum (map weight_of items.now) < 2 ^ 32 }
-    ensures ok { OnOk result (out.new.items ≡ out.old.items ++ 2 ∷ (to_be_bytes w32 (length items.now) ++ joined (map spelling_of items.now))) }
+    ensures ok { OnOk result (out.new.items ≡ out.old.items
+        ++ 2 ∷ (to_be_bytes w32 (length items.now) ++ joined (map spelling_of items.now))) }
     ensures extends { Extends out.old.items out.new.items }
 {
     out.push(2)?;
@@ -61,7 +65,8 @@ fn append_list(out: &mut Vec<u8>, items: &[Value]) -> Result<(), NoMemory>
 #[tactic(auto, using(crate::proofs::Extending::extending, crate::proofs::Weights::few))]
 fn append_table(out: &mut Vec<u8>, pairs: &[(Text, Value)]) -> Result<(), NoMemory>
     requires { sum (map weight_of_pair pairs.now) < 2 ^ 32 }
-    ensures ok { OnOk result (out.new.items ≡ out.old.items ++ 3 ∷ (to_be_bytes w32 (length pairs.now) ++ joined (map spelling_of_pair pairs.now))) }
+    ensures ok { OnOk result (out.new.items ≡ out.old.items
+        ++ 3 ∷ (to_be_bytes w32 (length pairs.now) ++ joined (map spelling_of_pair pairs.now))) }
     ensures extends { Extends out.old.items out.new.items }
 {
     out.push(3)?;
@@ -75,7 +80,8 @@ fn append_table(out: &mut Vec<u8>, pairs: &[(Text, Value)]) -> Result<(), NoMemo
 
 #[tactic(auto, using(crate::proofs::Extending::extending))]
 fn append_number(out: &mut Vec<u8>, n: i64) -> Result<(), NoMemory>
-    ensures ok { OnOk result (out.new.items ≡ out.old.items ++ 0 ∷ to_be_bytes w64 (cast_unsigned w64 n)) }
+    ensures ok { OnOk result
+        (out.new.items ≡ out.old.items ++ 0 ∷ to_be_bytes w64 (cast_unsigned w64 n)) }
     ensures extends { Extends out.old.items out.new.items }
 {
     out.push(0)?;

@@ -1,3 +1,4 @@
+//! Why a call on values has no answer, and how the faults of memory become that.
 ghost use Rattle.std.specs.Prelude.{◌≡◌};
 ghost use Rattle.ag_value.specs.declared.fault.NoMemory.{NoMemory};
 ghost use Rattle.ag_value.specs.declared.fault.NoMemory.TheVariants as no_memory;
@@ -5,7 +6,8 @@ ghost use Rattle.ag_value.specs.declared.fault.ValueFault.TheVariants as value_f
 
 use std::alloc::{AllocError, AllocFailed};
 
-/// The fault of a call that can only run out of memory. It is answered only where a growth was refused.
+/// The fault of a call that can only run out of memory. It is answered only where a growth was
+/// refused.
 #[derive(Clone, Copy, Debug, PartialEq, Eq)]
 pub enum NoMemory {
     NoMemory,

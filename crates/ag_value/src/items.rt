@@ -1,8 +1,10 @@
+//! A vector that contracts see as the list of its elements.
 ghost use Rattle.std.specs.Prelude.{◌≡◌};
 
 use std::marker::Model;
 
-/// A `Vec` that contracts see as the list of its elements, so that equal lists of equal values are equal.
+/// A `Vec` that contracts see as the list of its elements, so that equal lists of equal values are
+/// equal.
 #[derive(Debug, Drop)]
 pub struct Items<T> {
     vec: Vec<T>,

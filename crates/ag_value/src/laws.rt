@@ -1,5 +1,6 @@
-//! Laws of values, each the contract of a function that does nothing, and values worked out by hand.
-ghost use Rattle.std.specs.Prelude.{◌≡◌, ◌++◌, ◌∷◌, [], List, ℕ, pos, negsuc, codes, length};
+//! Laws of values, each the contract of a function that does nothing, and values worked out by
+//! hand.
+ghost use Rattle.std.specs.Prelude.{◌≡◌, ◌++◌, ◌∷◌, [], List, ℕ, pos, codes, length};
 ghost use Rattle.ag_value.specs.Measure.{depth_of, weight_of};
 ghost use Rattle.ag_value.specs.Shown.{shown_of};
 ghost use Rattle.ag_value.specs.Spelling.{spelling_of};
@@ -11,7 +12,8 @@ ghost use Rattle.ag_value.specs.declared.value.Value.TheVariants as v;
 
 /// No spelling of a well value begins that of another.
 pub fn no_spelling_begins_another()
-    ensures { (value other : Value) (rest : List ℕ) → IsWell value → IsWell other → spelling_of other ≡ spelling_of value ++ rest → value ≡ other }
+    ensures { (value other : Value) (rest : List ℕ) → IsWell value → IsWell other
+        → spelling_of other ≡ spelling_of value ++ rest → value ≡ other }
 {}
 
 /// The weight of a value is the length of its spelling.
@@ -19,12 +21,16 @@ pub fn weight_is_length()
     ensures { (value : Value) → length (spelling_of value) ≡ weight_of value }
 {}
 
-/// Spellings worked out by hand: of 14, of a division by zero, and of the table `{"k": [-1, "hi"]}`.
+/// Spellings worked out by hand: of 14, of a division by zero, and of the table
+/// `{"k": [-1, "hi"]}`.
 #[tactic(auto, using(crate::proofs::Layers::spellings))]
 pub fn worked_spellings()
     ensures number { spelling_of (v.Num (pos 14)) ≡ 0 ∷ 0 ∷ 0 ∷ 0 ∷ 0 ∷ 0 ∷ 0 ∷ 0 ∷ 14 ∷ [] }
     ensures error { spelling_of (v.Fault code.Divide) ≡ 4 ∷ 2 ∷ [] }
-    ensures table { spelling_of nested ≡ 3 ∷ 0 ∷ 0 ∷ 0 ∷ 1 ∷ 0 ∷ 0 ∷ 0 ∷ 1 ∷ 107 ∷ 2 ∷ 0 ∷ 0 ∷ 0 ∷ 2 ∷ 0 ∷ 255 ∷ 255 ∷ 255 ∷ 255 ∷ 255 ∷ 255 ∷ 255 ∷ 255 ∷ 1 ∷ 0 ∷ 0 ∷ 0 ∷ 2 ∷ 104 ∷ 105 ∷ [] }
+    ensures table { spelling_of nested ≡ 3 ∷ 0 ∷ 0 ∷ 0 ∷ 1 ∷ 0 ∷ 0 ∷ 0 ∷ 1 ∷ 107
+        ∷ 2 ∷ 0 ∷ 0 ∷ 0 ∷ 2
+        ∷ 0 ∷ 255 ∷ 255 ∷ 255 ∷ 255 ∷ 255 ∷ 255 ∷ 255 ∷ 255
+        ∷ 1 ∷ 0 ∷ 0 ∷ 0 ∷ 2 ∷ 104 ∷ 105 ∷ [] }
 {}
 
 /// The weight, the depth and the text of the same values.

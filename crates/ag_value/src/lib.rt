@@ -1,7 +1,9 @@
-//! Values of attributes: what they are, how heavy and how deep, how they are spelled in bytes and shown as text.
+//! Values of attributes: what they are, how heavy and how deep, how they are spelled in bytes and
+//! shown as text.
 #![tactic(auto)]
 
 mod boxed;
+mod comparing;
 mod copying;
 mod decoding;
 mod encoding;
@@ -15,7 +17,8 @@ mod value;
 mod wellness;
 
 pub use boxed::Boxed;
-pub use copying::{copy, same};
+pub use comparing::same;
+pub use copying::copy;
 pub use decoding::decode;
 pub use encoding::encode;
 pub use fault::{NoMemory, ValueFault};

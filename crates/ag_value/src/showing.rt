@@ -1,8 +1,10 @@
+//! A value as text for a reader.
 ghost use Rattle.std.specs.Prelude.{◌≡◌, ◌++◌, codes, string_bytes, map, IfOk, OnOk};
 ghost use Rattle.std.specs.Fmt.{signed_decimal};
 ghost use Rattle.std.specs.List.{flat_map};
 ghost use Rattle.std.specs.Str.{chars};
-ghost use Rattle.ag_value.specs.Shown.{escaped, following, name_of, quoted, separated, shown_of, shown_of_pair};
+ghost use Rattle.ag_value.specs.Shown.{escaped, name_of, quoted, separated};
+ghost use Rattle.ag_value.specs.Shown.{shown_of, shown_of_pair};
 
 use crate::fault::NoMemory;
 use crate::text::Text;
@@ -10,9 +12,9 @@ use crate::value::{ErrorCode, Value};
 use itoa::Buffer;
 use std::alloc::Global;
 
-/// The text of a value: a number in decimal; a text in double quotes, with a backslash before a double quote and a
-/// backslash, and `\n`, `\t`, `\r` for line feed, tab and carriage return; a list as `[a, b]`; a table as
-/// `{"k": v, "l": w}`; an error as `error overflow` and so on.
+/// The text of a value: a number in decimal; a text in double quotes, with a backslash before a
+/// double quote and a backslash, and `\n`, `\t`, `\r` for line feed, tab and carriage return; a
+/// list as `[a, b]`; a table as `{"k": v, "l": w}`; an error as `error overflow` and so on.
 pub fn show(alloc: Global, value: &Value) -> Result<String, NoMemory>
     ensures { IfOk result (λ text. string_bytes text ≡ shown_of value.now) }
 {
@@ -38,7 +40,8 @@ fn show_value(out: &mut String, value: &Value) -> Result<(), NoMemory>
 
 #[cycle(showing)]
 fn show_list(out: &mut String, items: &[Value]) -> Result<(), NoMemory>
-    ensures { OnOk result (string_bytes out.new ≡ string_bytes out.old ++ (codes "[" ++ separated (map shown_of items.now) ++ codes "]")) }
+    ensures { OnOk result (string_bytes out.new ≡ string_bytes out.old
+        ++ (codes "[" ++ separated (map shown_of items.now) ++ codes "]")) }
 {
     out.push_str("[")?;
     show_items(out, items)?;
@@ -48,7 +51,8 @@ fn show_list(out: &mut String, items: &[Value]) -> Result<(), NoMemory>
 
 #[cycle(showing)]
 fn show_items(out: &mut String, items: &[Value]) -> Result<(), NoMemory>
-    ensures { OnOk result (string_bytes out.new ≡ string_bytes out.old ++ separated (map shown_of items.now)) }
+    ensures { OnOk result (string_bytes out.new ≡ string_bytes out.old
+        ++ separated (map shown_of items.now)) }
 {
     let [first, rest @ ..] = items else {
         return Ok(());
@@ -63,7 +67,8 @@ fn show_items(out: &mut String, items: &[Value]) -> Result<(), NoMemory>
 
 #[cycle(showing)]
 fn show_table(out: &mut String, pairs: &[(Text, Value)]) -> Result<(), NoMemory>
-    ensures { OnOk result (string_bytes out.new ≡ string_bytes out.old ++ (codes "{" ++ separated (map shown_of_pair pairs.now) ++ codes "}")) }
+    ensures { OnOk result (string_bytes out.new ≡ string_bytes out.old
+        ++ (codes "{" ++ separated (map shown_of_pair pairs.now) ++ codes "}")) }
 {
     out.push_str("{")?;
     show_pairs(out, pairs)?;
@@ -73,7 +78,8 @@ fn show_table(out: &mut String, pairs: &[(Text, Value)]) -> Result<(), NoMemory>
 
 #[cycle(showing)]
 fn show_pairs(out: &mut String, pairs: &[(Text, Value)]) -> Result<(), NoMemory>
-    ensures { OnOk result (string_bytes out.new ≡ string_bytes out.old ++ separated (map shown_of_pair pairs.now)) }
+    ensures { OnOk result (string_bytes out.new ≡ string_bytes out.old
+        ++ separated (map shown_of_pair pairs.now)) }
 {
     let [first, rest @ ..] = pairs else {
         return Ok(());
@@ -89,7 +95,8 @@ fn show_pairs(out: &mut String, pairs: &[(Text, Value)]) -> Result<(), NoMemory>
 }
 
 fn show_key(out: &mut String, key: &str) -> Result<(), NoMemory>
-    ensures { OnOk result (string_bytes out.new ≡ string_bytes out.old ++ (quoted key.now ++ codes ": ")) }
+    ensures { OnOk result (string_bytes out.new ≡ string_bytes out.old
+        ++ (quoted key.now ++ codes ": ")) }
 {
     show_text(out, key)?;
     out.push_str(": ")?;
@@ -114,7 +121,8 @@ fn show_text(out: &mut String, text: &str) -> Result<(), NoMemory>
 }
 
 fn show_characters(out: &mut String, text: &str) -> Result<(), NoMemory>
-    ensures { OnOk result (string_bytes out.new ≡ string_bytes out.old ++ flat_map escaped (chars text.now)) }
+    ensures { OnOk result (string_bytes out.new ≡ string_bytes out.old
+        ++ flat_map escaped (chars text.now)) }
 {
     for character in text.chars() {
         show_character(out, character)?;
@@ -137,7 +145,8 @@ fn show_character(out: &mut String, character: char) -> Result<(), NoMemory>
 }
 
 fn show_error(out: &mut String, code: ErrorCode) -> Result<(), NoMemory>
-    ensures { OnOk result (string_bytes out.new ≡ string_bytes out.old ++ (codes "error " ++ name_of code)) }
+    ensures { OnOk result (string_bytes out.new ≡ string_bytes out.old
+        ++ (codes "error " ++ name_of code)) }
 {
     out.push_str("error ")?;
     out.push_str(name(code))?;

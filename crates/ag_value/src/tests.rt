@@ -1,3 +1,4 @@
+//! Values by hand: their spellings and texts, and what is refused.
 use super::*;
 use std::alloc::Global;
 use std::process::Abort;

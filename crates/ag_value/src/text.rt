@@ -1,3 +1,4 @@
+//! A string that contracts see as the list of its bytes.
 ghost use Rattle.std.specs.Prelude.{◌≡◌, string_bytes};
 
 use std::marker::Model;

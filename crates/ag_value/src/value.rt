@@ -1,7 +1,9 @@
+//! What an attribute can have as its value.
 use crate::items::Items;
 use crate::text::Text;
 
-/// Why an expression has no other value, as a value. In spellings the errors have the numbers 1 to 8 in this order.
+/// Why an expression has no other value, as a value. In spellings the errors have the numbers 1 to
+/// 8 in this order.
 #[derive(Clone, Copy, Debug, PartialEq, Eq)]
 pub enum ErrorCode {
     /// A number left the range of i64.

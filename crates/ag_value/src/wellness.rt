@@ -1,3 +1,4 @@
+//! Which values are well: those that the product makes, stores and takes.
 ghost use Rattle.std.specs.Prelude.{◌≡◌, ◌↔◌, ◌&&◌, ◌∷◌, IsTrue, map};
 ghost use Rattle.ag_value.specs.Well.{IsWell, all_true, are_keys, is_item, is_item_pair, key_of};
 
@@ -11,8 +12,9 @@ pub const MAX_DEPTH: u32 = 64;
 /// The greatest weight of a well value: the greatest length of a spelling, in bytes.
 pub const MAX_WEIGHT: u64 = 1_048_576;
 
-/// Whether a value is well: at most [`MAX_DEPTH`] deep and [`MAX_WEIGHT`] heavy, with keys that rise strictly by their
-/// bytes in every table, and with no error inside a list or table. Takes no memory.
+/// Whether a value is well: at most [`MAX_DEPTH`] deep and [`MAX_WEIGHT`] heavy, with keys that
+/// rise strictly by their bytes in every table, and with no error inside a list or table. Takes no
+/// memory.
 pub fn is_well(value: &Value) -> bool
     ensures { IsTrue result ↔ IsWell value.now }
 {
@@ -22,7 +24,7 @@ pub fn is_well(value: &Value) -> bool
 
 /// Whether a value may stand in a list or table.
 #[cycle(items)]
-#[tactic(auto, using(crate::proofs::Layers::items, crate::proofs::Utf8::is_text))]
+#[tactic(auto, using(crate::proofs::Layers::items, crate::proofs::Utf8::utf8))]
 fn is_item(value: &Value) -> bool
     ensures { result ≡ is_item value.now }
 {
@@ -68,7 +70,7 @@ fn are_item_pairs(pairs: &[(Text, Value)]) -> bool
 }
 
 /// Whether each key comes before the next by its bytes.
-#[tactic(auto, using(crate::proofs::Utf8::is_text, crate::proofs::Keys::next_key, crate::proofs::Keys::last_key))]
+#[tactic(auto, using(crate::proofs::Keys::keys))]
 fn is_keyed(pairs: &[(Text, Value)]) -> bool
     ensures { result ≡ are_keys (map key_of pairs.now) }
 {

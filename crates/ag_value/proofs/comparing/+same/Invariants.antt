@@ -1,5 +1,5 @@
 use Rattle.std.proofs.Common.{◌≡◌, take}
-use Rattle.ag_value.proofs.copying.+same.Given as goal
+use Rattle.ag_value.proofs.comparing.+same.Given as goal
 
 abbrev pub invariant-same_items-loop-i : goal.invariant-same_items-loop-i
 invariant-same_items-loop-i l = take l.i l.xs ≡ take l.i l.ys
