@@ -1,2 +1,3 @@
 pub mod grammars
 pub mod language
+pub mod Options

@@ -12,10 +12,10 @@ ghost use Rattle.ag_expr.specs.language.Occurrences.{position_of};
 ghost use Rattle.ag_expr.specs.language.Token as token;
 ghost use Rattle.ag_expr.specs.declared.fault.ExprFault.TheVariants as fault;
 
-use crate::occurrence_table::OccurrenceTable;
 use crate::fault::{ExprFault, TokenFault};
 use crate::lexer::{skip_separators, token_in_front};
 use crate::occurrence::Occ;
+use crate::occurrence_table::OccurrenceTable;
 use crate::token::{Punctuation, Token};
 use ag_value::NoMemory;
 use smallvec::SmallVec;

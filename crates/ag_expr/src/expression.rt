@@ -4,11 +4,11 @@ ghost use Rattle.std.specs.Prelude.{◌≡◌, length, true, IfOk, IfErr};
 ghost use Rattle.ag_expr.specs.language.Evaluation.{is_below};
 ghost use Rattle.ag_expr.specs.language.Expression.{ReadsAsExpr, IsRefused, IsAt};
 
+use crate::cursor::Cursor;
 use crate::fault::ExprFault;
 use crate::node::Node;
 use crate::occurrence::Occ;
 use crate::parser::parse;
-use crate::cursor::Cursor;
 use smallvec::SmallVec;
 use std::alloc::Global;
 use std::marker::Model;

@@ -9,9 +9,9 @@ ghost use Rattle.ag_expr.specs.language.Reading.{atom_from, chain_from, close_fr
 ghost use Rattle.ag_expr.specs.language.Reading.{further_from, operand_from, operator_from};
 ghost use Rattle.ag_expr.specs.language.Reading.{parenthesized_from};
 
+use crate::cursor::Cursor;
 use crate::fault::ExprFault;
 use crate::node::{Node, Operator};
-use crate::cursor::Cursor;
 use crate::token::{Punctuation, Token};
 use ag_value::{Boxed, Items, NoMemory};
 use std::alloc::Global;
@@ -111,11 +111,7 @@ fn close(cursor: &mut Cursor<'_>) -> Result<(), ExprFault>
 
 /// Passes an expression of at most so many levels, and answers its tree.
 #[cycle(parsing)]
-#[tactic(
-    auto,
-    using(crate::proofs::language::Turns::one_level),
-    unfolding(crate::specs::language::Reading::expr_from)
-)]
+#[tactic(auto, using(crate::proofs::language::Turns::one_level), unfolding(crate::specs::language::Reading::expr_from))]
 fn expression(alloc: Global, cursor: &mut Cursor<'_>, levels: usize) -> Result<Node, ExprFault>
     ensures { Takes (λ all. expr_from all levels) cursor.old result cursor.new }
 {

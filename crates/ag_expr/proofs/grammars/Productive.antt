@@ -1,5 +1,6 @@
 -- A symbol is productive exactly where it has a tree.
 use Rattle.std.proofs.Common.{ℕ, suc, ◌≡◌, ◌↔◌, List, [], ◌∷◌, Some, refl, arith}
+use Rattle.std.proofs.lemmas.Str.{is_utf8-from_IsUtf8}
 use Rattle.ag_expr.specs.declared.grammar.Item.TheVariants as item
 use Rattle.ag_expr.specs.declared.grammar.Item.{Item}
 use Rattle.ag_expr.specs.declared.grammar.Terminal.TheVariants.{Literal, Class}
@@ -12,7 +13,7 @@ use Rattle.ag_expr.proofs.grammars.Children.{child, tree_ind}
 -- trees of a terminal and of what follows it: a token's text may be empty
 with_terminal : (g : Grammar) (a : Terminal) (xs : List Item) → (ts : Forest) × FitsAll g (stored_items xs) ts → (ts : Forest) × FitsAll g (stored_items (item.Terminal a ∷ xs)) ts
 with_terminal g (Literal l) xs f = f
-with_terminal g (Class c) xs f = (more (leaf c []) f.0, ((refl, record { utf8 = ([], (refl, refl)); short = omega arith }), f.1))
+with_terminal g (Class c) xs f = (more (leaf c []) f.0, ((refl, record { utf8 = is_utf8-from_IsUtf8 [] ([], (refl, refl)); short = omega arith }), f.1))
 
 mutual
   tree_of : (g : Grammar) (s : ℕ) → IsProductive g s → (t : Tree) × Fits g (item.Symbol s) t

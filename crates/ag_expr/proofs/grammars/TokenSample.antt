@@ -1,6 +1,6 @@
 -- The grammar of a token, its tree and its values.
+use Rattle.std.proofs.lemmas.Str.{IsUtf8-from_ascii, is_utf8-from_IsUtf8}
 use Rattle.std.proofs.Common.{ℕ, zero, suc, ◌≡◌, ◌<◌, ◌≤◌, List, [], ◌∷◌, IsAscii, length, refl, sym, ◌∙◌, arith}
-use Rattle.std.proofs.lemmas.Str.{IsUtf8-from_ascii}
 use Rattle.ag_value.specs.declared.value.Value.{Text}
 use Rattle.ag_expr.specs.grammars.Tree.{IsTreeOf}
 use Rattle.ag_expr.specs.Lists.{Each}
@@ -26,7 +26,7 @@ ascii (suc (suc (suc zero))) = omega arith
 ascii (suc (suc (suc (suc i)))) = omega arith
 
 pub fits : IsTreeOf token_sample token_tree
-fits = (production_s, refl, refl, ((refl, record { utf8 = IsUtf8-from_ascii iffy ascii; short = omega arith }), tt))
+fits = (production_s, refl, refl, ((refl, record { utf8 = is_utf8-from_IsUtf8 iffy (IsUtf8-from_ascii iffy ascii); short = omega arith }), tt))
 
 lex_holds : Each (λ r. Holds r (at (token_values iffy))) production_s.rules
 lex_holds = only (λ r. Holds r (at (token_values iffy))) rule_lex (λ env lent. sym (occurrence_gives 0 env ∙ lent 0 (attribute 1 0) refl))

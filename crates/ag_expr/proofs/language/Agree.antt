@@ -1,4 +1,7 @@
 -- Reading and the grammar agree.
+use Rattle.ag_expr.proofs.Options.{opened}
+use Rattle.std.proofs.lemmas.Option.{same_Some}
+use Rattle.std.specs.Option.{option_and_then}
 use Rattle.std.proofs.Common.{◌≡◌, ℕ, zero, suc, ◌≤◌, List, [], ◌∷◌, ◌++◌, length, Option, Some, None, refl, ap, sym, ◌∙◌, subst, append_assoc, append-nil, arith, length-append, ◌↔◌}
 use Rattle.ag_expr.specs.declared.token.Punctuation.{Punctuation}
 use Rattle.ag_expr.specs.declared.token.Punctuation.TheVariants as punctuation
@@ -12,7 +15,7 @@ use Rattle.ag_expr.specs.language.Occurrences.{position_of}
 use Rattle.ag_expr.specs.language.Syntax.{sum_operator, product_operator, chained, IsRest, stop, next, IsChain, IsAtom, number, occurrence, parentheses, IsProduct, IsSum, IsExpr}
 use Rattle.ag_expr.specs.declared.parser.Precedence.{Precedence}
 use Rattle.ag_expr.specs.declared.parser.Precedence.TheVariants as precedence
-use Rattle.ag_expr.specs.language.Reading.{operand_from, Reader, and_then, where_some, operator_from, rest_from, chain_from, close_from, atom_from, product_from, sum_from, expr_from, at_end, expr_of}
+use Rattle.ag_expr.specs.language.Reading.{operand_from, Reader, where_some, operator_from, rest_from, chain_from, close_from, atom_from, product_from, sum_from, expr_from, at_end, expr_of}
 
 -- what was read is spelled at the front
 abbrev Sound : (List Token → Node → Type 0) → Reader Node → Type 0
@@ -25,21 +28,14 @@ Complete Ends R read = (us rest : List Token) (e : Node) → R us e → Ends res
 abbrev EndsBefore : (Token → Option Operator) → List Token → Type 0
 EndsBefore operator ts = operator_from operator ts ≡ None
 
-opened : {A B : Type 0} (o : Option A) (f : A → Option B) (y : B) → and_then o f ≡ Some y → (x : A) × (o ≡ Some x) × (f x ≡ Some y)
-opened None f y e = let bad : ⊥ = cc in absurd bad
-opened (Some x) f y e = (x, refl, e)
-
-some_same : {A : Type 0} (x y : A) → Some x ≡ Some y → x ≡ y
-some_same x y e = cc
-
-step : {A B : Type 0} (o : Option A) (f : A → Option B) (x : A) → o ≡ Some x → and_then o f ≡ f x
-step o f x e = ap (λ y. and_then y f) e
+step : {A B : Type 0} (o : Option A) (f : A → Option B) (x : A) → o ≡ Some x → option_and_then f o ≡ f x
+step o f x e = ap (λ y. option_and_then f y) e
 
 operator_in_front : (operator : Token → Option Operator) (ts : List Token) (o : Operator) (us : List Token) → operator_from operator ts ≡ Some (o, us) → (t : Token) × (ts ≡ t ∷ us) × (operator t ≡ Some o)
 operator_in_front operator [] o us e = let bad : ⊥ = cc in absurd bad
 operator_in_front operator (t ∷ ts) o us e =
     let one = opened (operator t) (λ x. Some (x, ts)) (o, us) e in
-    let same : (one.0, ts) ≡ (o, us) = some_same _ _ one.2 in
+    let same : (one.0, ts) ≡ (o, us) = same_Some _ _ one.2 in
     (t, ap (λ (p : Operator × List Token). t ∷ p.1) same, one.1 ∙ ap (λ (p : Operator × List Token). Some p.0) same)
 
 module _ (operator : Token → Option Operator) (operand : List Token → Node → Type 0) (read : Reader Node) where
@@ -49,7 +45,7 @@ module _ (operator : Token → Option Operator) (operand : List Token → Node �
   module _ (s : Sound operand read) where
     at_stop : (front : List (Operator × Node)) (ts rest : List Token) (all : List (Operator × Node)) → (let found : Option (List (Operator × Node) × List Token) = Some (front, ts) in found ≡ Some (all, rest)) → IsRestOf front ts rest all
     at_stop front ts rest all e =
-        let same : (front, ts) ≡ (all, rest) = some_same _ _ e in
+        let same : (front, ts) ≡ (all, rest) = same_Some _ _ e in
         ([], [], ap (λ (p : List (Operator × Node) × List Token). p.1) same, stop, sym (ap (λ (p : List (Operator × Node) × List Token). p.0) same) ∙ sym (append-nil front))
 
     rest_sound : (n : ℕ) (front : List (Operator × Node)) (ts rest : List Token) (all : List (Operator × Node)) → rest_from operator read n front ts ≡ Some (all, rest) → IsRestOf front ts rest all
@@ -59,7 +55,7 @@ module _ (operator : Token → Option Operator) (operand : List Token → Node �
       where
         go : (o : Option (Operator × List Token)) → operator_from operator ts ≡ o
             → ((front : List (Operator × Node)) (ts rest : List Token) (all : List (Operator × Node)) → rest_from operator read n front ts ≡ Some (all, rest) → IsRestOf front ts rest all)
-            → where_some o (Some (front, ts)) (λ o. and_then (read o.1) (λ p. rest_from operator read n (front ++ (o.0, p.0) ∷ []) p.1)) ≡ Some (all, rest) → IsRestOf front ts rest all
+            → where_some o (Some (front, ts)) (λ o. option_and_then (λ p. rest_from operator read n (front ++ (o.0, p.0) ∷ []) p.1) (read o.1)) ≡ Some (all, rest) → IsRestOf front ts rest all
         go None b ih h = at_stop front ts rest all h
         go (Some o) b ih h =
             let sign = operator_in_front operator ts o.0 o.1 b in
@@ -80,7 +76,7 @@ module _ (operator : Token → Option Operator) (operand : List Token → Node �
         let two = opened (rest_from operator read (length one.0.1) [] one.0.1) _ _ one.2 in
         let first = s ts one.0.1 one.0.0 one.1 in
         let more = rest_sound (length one.0.1) [] one.0.1 two.0.1 two.0.0 two.1 in
-        let same : (chained one.0.0 two.0.0, two.0.1) ≡ (e, rest) = some_same _ _ two.2 in
+        let same : (chained one.0.0 two.0.0, two.0.1) ≡ (e, rest) = same_Some _ _ two.2 in
         let e_same : chained one.0.0 two.0.0 ≡ e = ap (λ (p : Node × List Token). p.0) same in
         let rest_same : two.0.1 ≡ rest = ap (λ (p : Node × List Token). p.1) same in
         let text : ts ≡ (first.0 ++ more.0) ++ rest = first.1 ∙ ap (λ y. first.0 ++ y) (more.2 ∙ ap (λ y. more.0 ++ y) rest_same) ∙ sym (append_assoc first.0 more.0 rest) in
@@ -134,11 +130,11 @@ sum_ends _ o ts e = refl
 
 module _ (listed : List Occ) (inner : List Token → Node → Type 0) (read : Reader Node) where
   module _ (s : Sound inner read) where
-    closes : (ts us ws rest : List Token) (f e : Node) → ts ≡ ws ++ us → inner ws f → and_then {B = Node × List Token} (close_from us) (λ q. Some (f, q.1)) ≡ Some (e, rest)
+    closes : (ts us ws rest : List Token) (f e : Node) → ts ≡ ws ++ us → inner ws f → option_and_then {U = Node × List Token} (λ q. Some (f, q.1)) (close_from us) ≡ Some (e, rest)
         → (us : List Token) × (token.Punctuation punctuation.Open ∷ ts ≡ us ++ rest) × IsAtom listed inner us e
     closes ts [] ws rest f e t i h = let bad : ⊥ = cc in absurd bad
     closes ts (token.Punctuation punctuation.Close ∷ us) ws rest f e t i h =
-        let same : (f, us) ≡ (e, rest) = some_same _ _ h in
+        let same : (f, us) ≡ (e, rest) = same_Some _ _ h in
         let e_same : f ≡ e = ap (λ (p : Node × List Token). p.0) same in
         let rest_same : us ≡ rest = ap (λ (p : Node × List Token). p.1) same in
         let close = token.Punctuation punctuation.Close in
@@ -150,12 +146,12 @@ module _ (listed : List Occ) (inner : List Token → Node → Type 0) (read : Re
     unfolding atom_from
     atom_sound [] rest e h = let bad : ⊥ = cc in absurd bad
     atom_sound (token.Number n ∷ ts) rest e h =
-        let same : (node.Number n, ts) ≡ (e, rest) = some_same _ _ h in
+        let same : (node.Number n, ts) ≡ (e, rest) = same_Some _ _ h in
         let e_same : node.Number n ≡ e = ap (λ (p : Node × List Token). p.0) same in
         (token.Number n ∷ [], ap (λ (p : Node × List Token). token.Number n ∷ p.1) same, subst (IsAtom listed inner (token.Number n ∷ [])) e_same (number n))
     atom_sound (token.Occurrence place attr ∷ ts) rest e h =
         let one = opened (position_of listed place attr) _ _ h in
-        let same : (node.Occurrence one.0, ts) ≡ (e, rest) = some_same _ _ one.2 in
+        let same : (node.Occurrence one.0, ts) ≡ (e, rest) = same_Some _ _ one.2 in
         let e_same : node.Occurrence one.0 ≡ e = ap (λ (p : Node × List Token). p.0) same in
         let word = token.Occurrence place attr in
         (word ∷ [], ap (λ (p : Node × List Token). word ∷ p.1) same, subst (IsAtom listed inner (word ∷ [])) e_same (occurrence place attr one.0 one.1))
@@ -215,7 +211,7 @@ operand_shorter precedence.Sum listed n = product_shorter listed n
 operand_shorter precedence.Product listed n = atom_shorter listed n
 
 ends_all : (p : Node × List Token) (e : Node) → at_end p ≡ Some e → p ≡ (e, [])
-ends_all (f, []) e h = ap (λ x. (x, [])) (some_same _ _ h)
+ends_all (f, []) e h = ap (λ x. (x, [])) (same_Some _ _ h)
 ends_all (f, t ∷ ts) e h = let bad : ⊥ = cc in absurd bad
 
 pub exact : (listed : List Occ) (n : ℕ) (ts : List Token) (e : Node) → (expr_of listed n ts ≡ Some e) ↔ IsExpr listed n ts e

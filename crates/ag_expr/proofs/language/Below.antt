@@ -1,4 +1,5 @@
 -- The numbers of all occurrences in a tree are below n.
+use Rattle.std.proofs.lemmas.Bool.{and_parts}
 use Rattle.std.proofs.Common.{◌≡◌, ◌<◌, ℕ, ℤ, zero, suc, nat_lt, length, Option, Some, IfSome, subst, List, [], ◌∷◌, Bool, true, false, ◌&&◌, map, refl, ap, sym, ◌∙◌}
 use Rattle.ag_expr.specs.declared.node.Operator.{Operator}
 use Rattle.ag_expr.specs.declared.node.Node.{Node}
@@ -18,14 +19,6 @@ use Rattle.ag_value.specs.declared.value.Value.{Value}
 both : (a b : Bool) → a ≡ true → b ≡ true → (a && b) ≡ true
 both a b p q = rw (p, q) refl
 
-first_of_both : (a b : Bool) → (a && b) ≡ true → a ≡ true
-first_of_both true b h = refl
-first_of_both false b h = let bad : ⊥ = cc in absurd bad
-
-second_of_both : (a b : Bool) → (a && b) ≡ true → b ≡ true
-second_of_both true b h = h
-second_of_both false b h = let bad : ⊥ = cc in absurd bad
-
 pub in_chain : (n : ℕ) (e : Node) (xs : List (Operator × Node)) → is_below n e ≡ true → all_below n xs ≡ true → is_below n (chained e xs) ≡ true
 in_chain n e [] here all = here
 in_chain n e (x ∷ xs) here all =
@@ -35,7 +28,7 @@ below_chain : (n : ℕ) (e : Node) (xs : List (Operator × Node)) → is_below n
 below_chain n e xs = ap (is_below n) (sym (rolls-Chain e xs)) ∙ fold-roll-Node Bool (below_step n) (Node-F.Chain e xs)
 
 pub in_operands : (n : ℕ) (e : Node) (xs : List (Operator × Node)) → is_below n (node.Chain e xs) ≡ true → all_below n xs ≡ true
-in_operands n e xs h = second_of_both (is_below n e) (all_below n xs) (sym (below_chain n e xs) ∙ h)
+in_operands n e xs h = (and_parts (is_below n e) (all_below n xs) (sym (below_chain n e xs) ∙ h)).1
 
 pub value_of-Chain : (e : Node) (xs : List (Operator × Node)) (env : ℕ → Value) → value_of (node.Chain e xs) env ≡ chain_value env (value_of e env) (map (λ p. (p.0, value_of p.1)) xs)
 value_of-Chain e xs env = ap (λ (m : Meaning). m env) (ap value_of (sym (rolls-Chain e xs)) ∙ fold-roll-Node Meaning value_step (Node-F.Chain e xs))

@@ -1,16 +1,9 @@
 -- The longest front that passes a test.
+use Rattle.std.proofs.lemmas.Bool.{and_parts}
 use Rattle.std.proofs.Common.{◌≡◌, ℕ, suc, ◌+◌, ◌*◌, ◌<◌, ◌≤◌, Bool, true, false, ◌&&◌, cond, List, [], ◌∷◌, ◌++◌, length, take, refl, sym, arith}
 use Rattle.std.specs.Char.{digit_value}
 use Rattle.std.specs.List.{prefix_len, list_all}
 use Rattle.std.specs.Str.Parse.{digits_value, digits_value_after}
-
-pub both_first : (a b : Bool) → (a && b) ≡ true → a ≡ true
-both_first true b h = refl
-both_first false b h = let bad : ⊥ = cc in absurd bad
-
-pub both_second : (a b : Bool) → (a && b) ≡ true → b ≡ true
-both_second true b h = h
-both_second false b h = let bad : ⊥ = cc in absurd bad
 
 -- what stands in front passes
 pub front_passes : (p : ℕ → Bool) (cs : List ℕ) → list_all p (take (prefix_len p cs) cs) ≡ true
@@ -25,16 +18,16 @@ front_passes p (c ∷ cs) = go (p c) refl (front_passes p cs)
 pub front_reaches : (p : ℕ → Bool) (word more : List ℕ) → list_all p word ≡ true → length word ≤ prefix_len p (word ++ more)
 front_reaches p [] more h = omega arith
 front_reaches p (c ∷ word) more h =
-    let here : p c ≡ true = both_first (p c) (list_all p word) h in
-    let so_far = front_reaches p word more (both_second (p c) (list_all p word) h) in
+    let here : p c ≡ true = (and_parts (p c) (list_all p word) h).0 in
+    let so_far = front_reaches p word more ((and_parts (p c) (list_all p word) h).1) in
     rw here (omega arith)
 
 -- and is just as long where the next character does not pass
 pub front_ends : (p : ℕ → Bool) (word more : List ℕ) (c : ℕ) → list_all p word ≡ true → p c ≡ false → prefix_len p (word ++ c ∷ more) ≡ length word
 front_ends p [] more c h ends = rw ends refl
 front_ends p (d ∷ word) more c h ends =
-    let here : p d ≡ true = both_first (p d) (list_all p word) h in
-    rw (here, front_ends p word more c (both_second (p d) (list_all p word) h) ends) (omega arith)
+    let here : p d ≡ true = (and_parts (p d) (list_all p word) h).0 in
+    rw (here, front_ends p word more c ((and_parts (p d) (list_all p word) h).1) ends) (omega arith)
 
 pub digits_grow : (n : ℕ) (ds : List ℕ) → n ≤ digits_value_after 10 n ds
 digits_grow n [] = omega arith

@@ -1,4 +1,5 @@
 -- Listing occurrences one after the other gives the different ones.
+use Rattle.std.proofs.lemmas.Bool.{and_parts}
 use Rattle.std.proofs.Common.{◌≡◌, Bool, true, false, not, cond, ◌==◌, List, [], ◌∷◌, ◌++◌, filter, bytes_eq, refl, ap, sym, ◌∙◌, append_assoc, append-nil}
 use Rattle.std.proofs.lemmas.Bool.{eqb-true}
 use Rattle.std.proofs.lemmas.List.Folds.{list_any-append}
@@ -6,7 +7,6 @@ use Rattle.std.proofs.lemmas.Slice.Eq.{bytes_eq-Decides}
 use Rattle.std.specs.List.{list_any}
 use Rattle.ag_expr.specs.declared.occurrence.Occ.{Occ}
 use Rattle.ag_expr.specs.language.Occurrences.{is_of, different, listed_with_all}
-use Rattle.ag_expr.proofs.language.Fronts.{both_first, both_second}
 
 abbrev pub is_listed : List Occ → Occ → Bool
 is_listed xs y = list_any (is_of y.place y.attr) xs
@@ -18,8 +18,8 @@ unlisted xs ys = filter (λ y. not (is_listed xs y)) ys
 -- one of the same place and name is listed where the other is
 pub listed_alike : (xs : List Occ) (x y : Occ) → is_of y.place y.attr x ≡ true → is_listed xs x ≡ is_listed xs y
 listed_alike xs x y h =
-    let place : x.place ≡ y.place = eqb-true x.place y.place (both_first (x.place == y.place) (bytes_eq x.attr y.attr) h) in
-    let attr : x.attr ≡ y.attr = (bytes_eq-Decides x.attr y.attr).0 (both_second (x.place == y.place) (bytes_eq x.attr y.attr) h) in
+    let place : x.place ≡ y.place = eqb-true x.place y.place ((and_parts (x.place == y.place) (bytes_eq x.attr y.attr) h).0) in
+    let attr : x.attr ≡ y.attr = (bytes_eq-Decides x.attr y.attr).0 ((and_parts (x.place == y.place) (bytes_eq x.attr y.attr) h).1) in
     ap (λ p. list_any (is_of p x.attr) xs) place ∙ ap (λ a. list_any (is_of y.place a) xs) attr
 
 -- an occurrence that is listed already takes no other out

@@ -1,4 +1,5 @@
 -- Texts of digits, as the standard library parses them.
+use Rattle.std.proofs.lemmas.Bool.{and_parts}
 use Rattle.std.proofs.Common.{◌≡◌, ℕ, ℤ, suc, ◌+◌, ◌<◌, Bool, true, false, cond, ◌==◌, nat_le, List, [], ◌∷◌, length, take, Option, Some, None, Result, Err, encode_utf8_all, refl, ap, sym, ◌∙◌, arith, rules}
 use Rattle.std.specs.Char.{is_ascii_digit}
 use Rattle.std.specs.List.{list_all, prefix_len}
@@ -11,7 +12,7 @@ use mir.Syntax.{w64}
 use Rattle.ag_expr.specs.language.Tokens.{IsDigits}
 use Rattle.ag_expr.specs.declared.lexer.Class.TheVariants as class
 use Rattle.ag_expr.specs.language.Lexing.{front_in, back_of, digits_from}
-use Rattle.ag_expr.proofs.language.Fronts.{both_first, both_second, front_passes}
+use Rattle.ag_expr.proofs.language.Fronts.{front_passes}
 
 own : IsNumeralModel (λ ds. list_all is_ascii_digit ds ≡ true) (digits_value 10)
 own = numerals_by_value _ (search rules)
@@ -20,9 +21,9 @@ own = numerals_by_value _ (search rules)
 pub digits_encoded : (ds : List ℕ) → list_all is_ascii_digit ds ≡ true → encode_utf8_all ds ≡ ds
 digits_encoded [] all = refl
 digits_encoded (d ∷ ds) all =
-    let here : is_ascii_digit d ≡ true = both_first (is_ascii_digit d) (list_all is_ascii_digit ds) all in
+    let here : is_ascii_digit d ≡ true = (and_parts (is_ascii_digit d) (list_all is_ascii_digit ds) all).0 in
     let small : d < 128 = grind (arith, nat_tests) in
-    rw (encode_ascii d small, digits_encoded ds (both_second (is_ascii_digit d) (list_all is_ascii_digit ds) all)) refl
+    rw (encode_ascii d small, digits_encoded ds ((and_parts (is_ascii_digit d) (list_all is_ascii_digit ds) all).1)) refl
 
 -- where they are refused, the number is too large
 pub place_refused : {E : Type 0} (ds : List ℕ) (e : E) → IsDigits ds → (let r : Result ℕ E = Err e in ParsesUnsigned 16 10 ds r) → nat_le (digits_value 10 ds) 65535 ≡ false

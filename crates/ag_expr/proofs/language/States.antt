@@ -1,4 +1,5 @@
 -- A reader's state, by the token in front.
+use Rattle.std.proofs.lemmas.Option.{none-some, same_Some}
 use Rattle.std.proofs.Common.{◌≡◌, ◌==◌, ℕ, zero, suc, ◌<◌, ◌≤◌, true, false, List, [], ◌∷◌, ◌++◌, length, drop, Option, Some, None, Result, Ok, Err, Bor, IsUtf8, chars, refl, ap, sym, ◌∙◌, subst, arith}
 use Rattle.std.proofs.lemmas.Bool.{eqb-false, eqb-true}
 use Rattle.std.proofs.lemmas.Str.{len_utf8_bounds}
@@ -16,12 +17,6 @@ use Rattle.ag_expr.specs.language.Left.{State, whole, no_token, too_large, unspa
 use Rattle.ag_expr.proofs.language.Cuts.{same_cut, shorter, narrower}
 use Rattle.ag_expr.proofs.language.Lexed.{width-chars}
 use Rattle.ag_expr.proofs.language.Numbered.{position_stays}
-
-some_same : {A : Type 0} (x y : A) → Some x ≡ Some y → x ≡ y
-some_same x y e = cc
-
-none_some : {A B : Type 0} (x : A) → None ≡ Some x → B
-none_some x e = let bad : ⊥ = cc in absurd bad
 
 cons_not_nil : {A : Type 0} (x : A) (xs : List A) → x ∷ xs ≡ [] → ⊥
 cons_not_nil x xs e = cc
@@ -146,8 +141,8 @@ left_narrower cs rest x len given is wide within = let less = narrower cs (token
 pub first_stands : (s : State) (r : Result (lent.Token × Bor (List ℕ)) TokenFault) (t : Token) → GivesToken r (token_from s.1.1) → front_of (tokens s) ≡ Some t → Stands s t
 first_stands s (Ok x) t given e =
     let first : Some (token_of x.0) ≡ Some t = sym (ap front_of (first_is s (token_of x.0) (stands s x given))) ∙ e in
-    subst (Stands s) (some_same _ _ first) (stands s x given)
-first_stands s (Err f) t given e = let bad : None ≡ Some t = sym (ap front_of (none_stands s f given)) ∙ e in none_some t bad
+    subst (Stands s) (same_Some _ _ first) (stands s x given)
+first_stands s (Err f) t given e = let bad : None ≡ Some t = sym (ap front_of (none_stands s f given)) ∙ e in absurd (none-some t bad)
 
 no_width : (cs : List ℕ) → width cs ≡ 0 → cs ≡ []
 no_width [] e = refl
@@ -155,7 +150,7 @@ no_width (c ∷ cs) e = let some = (len_utf8_bounds c).0 in let bad : ⊥ = omeg
 
 -- at the end of the text
 pub at_end : (s : State) (r : Result (lent.Token × Bor (List ℕ)) TokenFault) → GivesToken r (token_from s.1.1) → width s.1.1 ≡ 0 → IsEnded s
-at_end s (Ok x) given none = let e = no_width s.1.1 none in none_some _ (sym nothing_cut ∙ sym (ap token_from e) ∙ given.0)
+at_end s (Ok x) given none = let e = no_width s.1.1 none in absurd (none-some _ (sym nothing_cut ∙ sym (ap token_from e) ∙ given.0))
 at_end s (Err token_fault.Nothing) given none = (none_stands s token_fault.Nothing given, ends_by s token_fault.Nothing given ∙ ap (ending_at (offset s)) (no_width s.1.1 none))
 at_end s (Err token_fault.TooLarge) given none = absurd (subst IsTooLarge (ap token_from (no_width s.1.1 none) ∙ nothing_cut) given)
 

@@ -1,4 +1,6 @@
 -- A text literal read character by character, beside a loop.
+use Rattle.std.proofs.lemmas.Option.{same_Some}
+use Rattle.std.specs.Option.{option_and_then}
 use Rattle.std.proofs.Common.{◌≡◌, ℕ, zero, suc, ◌≤◌, ◌<◌, ◌≢◌, ◌==◌, Bool, true, false, cond, List, [], ◌∷◌, ◌++◌, length, Option, Some, None, chars, encode_utf8, encode_utf8_all, ◌∙◌, refl, sym, ap, subst, arith, append_assoc, append-nil, length-append, take, ◌-◌, IsUtf8, is_some, Bor, MatchOption, lit<}
 use Rattle.std.specs.Str.{IsCharBoundary}
 use Rattle.std.proofs.Math.Seq.{take-append_seam}
@@ -6,7 +8,6 @@ use Rattle.std.proofs.lemmas.Str.{encode_ascii, encodes-append, chars_from_encod
 use Rattle.std.proofs.lemmas.Bool.{eqb-true, ne_eqb}
 use Rattle.ag_expr.specs.language.Token.{Token}
 use Rattle.ag_expr.specs.language.Token as token
-use Rattle.ag_expr.specs.language.Reading.{and_then}
 use Rattle.ag_expr.specs.language.Tokens.{IsBody, empty, plain, escape, escaped}
 use Rattle.ag_expr.specs.language.Lexing.{character_from, escape_from, text_from, unquoted, unescaped, after_backslash, IsPast, PassesEscape}
 
@@ -23,9 +24,6 @@ pub record Within (text rest : List ℕ) (total : Option (Token × List ℕ)) : 
 pub starts : (text : List ℕ) → Within text text (text_from (length (chars text)) [] (chars text))
 starts text = record { taken = []; front = []; is = empty; split = refl; turns = length (chars text); enough = omega arith; same = refl }
 
-some_same : {A : Type 0} (x y : A) → Some x ≡ Some y → x ≡ y
-some_same x y e = cc
-
 joined : {xs bytes : List ℕ} → IsBody xs bytes → (ys more : List ℕ) → IsBody ys more → IsBody (xs ++ ys) (bytes ++ more)
 joined empty ys more is = is
 joined (plain c body bytes quote slash so_far) ys more is =
@@ -34,14 +32,14 @@ joined (escape c d body bytes same so_far) ys more is =
     subst (IsBody (92 ∷ c ∷ (body ++ ys))) (sym (append_assoc (encode_utf8 d) bytes more)) (escape c d (body ++ ys) (bytes ++ more) same (joined so_far ys more is))
 
 second_same : {A B : Type 0} (a c : A) (b d : B) → (let one : Option (A × B) = Some (a, b) in one ≡ Some (c, d)) → b ≡ d
-second_same {A = A} {B = B} a c b d e = let both : (a, b) ≡ (c, d) = some_same _ _ e in ap (λ (p : A × B). p.1) both
+second_same {A = A} {B = B} a c b d e = let both : (a, b) ≡ (c, d) = same_Some _ _ e in ap (λ (p : A × B). p.1) both
 
 -- what a character leaves is shorter
 shorter_escape : (cs rest : List ℕ) (c : ℕ) → escape_from cs ≡ Some (c, rest) → length rest < length cs
 shorter_escape [] rest c e = let bad : ⊥ = cc in absurd bad
 shorter_escape (d ∷ cs) rest c e = go (escaped d) e
   where
-    go : (o : Option ℕ) → and_then {B = ℕ × List ℕ} o (λ x. Some (x, cs)) ≡ Some (c, rest) → length rest < length (d ∷ cs)
+    go : (o : Option ℕ) → option_and_then {U = ℕ × List ℕ} (λ x. Some (x, cs)) o ≡ Some (c, rest) → length rest < length (d ∷ cs)
     go None h = let bad : ⊥ = cc in absurd bad
     go (Some x) h = let same = second_same x c cs rest h in omega (arith, ap length same)
 
@@ -81,12 +79,12 @@ none_unquoted [] h = refl
 none_unquoted (c ∷ cs) h = let bad : ⊥ = omega arith in absurd bad
 
 pub stopped : (text rest : List ℕ) (total : Option (Token × List ℕ)) → character_from (chars rest) ≡ None → (so_far : Within text rest total)
-    → total ≡ and_then (unquoted (chars rest)) (λ behind. Some (token.Text so_far.front, behind))
+    → total ≡ option_and_then (λ behind. Some (token.Text so_far.front, behind)) (unquoted (chars rest))
 unfolding text_from
 stopped text rest total is so_far = go so_far.turns so_far.enough so_far.same
   where
-    go : (n : ℕ) → length (chars rest) ≤ n → text_from n so_far.front (chars rest) ≡ total → total ≡ and_then (unquoted (chars rest)) (λ behind. Some (token.Text so_far.front, behind))
-    go zero enough same = sym same ∙ sym (ap (λ o. and_then o (λ behind. Some (token.Text so_far.front, behind))) (none_unquoted (chars rest) enough))
+    go : (n : ℕ) → length (chars rest) ≤ n → text_from n so_far.front (chars rest) ≡ total → total ≡ option_and_then (λ behind. Some (token.Text so_far.front, behind)) (unquoted (chars rest))
+    go zero enough same = sym same ∙ sym (ap (λ o. option_and_then (λ behind. Some (token.Text so_far.front, behind)) o) (none_unquoted (chars rest) enough))
     go (suc n) enough same = sym same ∙ rw is refl
 
 -- what a body stands for is worked out from it

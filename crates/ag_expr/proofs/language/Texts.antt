@@ -1,4 +1,5 @@
 -- What is read is what the text reads as, and a text that is refused reads as nothing.
+use Rattle.std.proofs.lemmas.Option.{same_Some}
 use Rattle.std.proofs.Common.{◌≡◌, ◌≢◌, ℕ, suc, List, [], ◌∷◌, length, Some, None, Result, Ok, Err, IfErr, chars, IsUtf8, refl, ap, sym, ◌∙◌, subst, arith}
 use Rattle.std.specs.Result.{IsErrAnd}
 use Rattle.ag_expr.specs.declared.fault.ExprFault.{ExprFault}
@@ -17,9 +18,6 @@ use Rattle.ag_expr.proofs.language.Cuts.{IsCut, begins_at, ends_at}
 use Rattle.ag_expr.proofs.language.Lexed.{width-chars}
 use Rattle.ag_expr.proofs.language.Listing.{listed_are_different}
 use Rattle.ag_expr.proofs.language.Unique.{one_list, no_list, no_list_within}
-
-some_same : {A : Type 0} (x y : A) → Some x ≡ Some y → x ≡ y
-some_same x y e = cc
 
 -- a reader at the front has all tokens of the text before it
 start_ends : (text : List ℕ) → IsCut (chars text) (left_of (start_of text))
@@ -106,5 +104,5 @@ one_expression text one other is also =
     let spells = subst (λ us. IsExpr one.1 max_levels us other.0) same.0 (subst (λ os. IsExpr os max_levels also.tokens other.0) listed also.spells) in
     let first : expr_of one.1 max_levels is.tokens ≡ Some one.0 = (agree.exact one.1 max_levels is.tokens one.0).1 is.spells in
     let second : expr_of one.1 max_levels is.tokens ≡ Some other.0 = (agree.exact one.1 max_levels is.tokens other.0).1 spells in
-    let tree : one.0 ≡ other.0 = some_same _ _ (sym first ∙ second) in
+    let tree : one.0 ≡ other.0 = same_Some _ _ (sym first ∙ second) in
     ap (λ e. (e, one.1)) tree ∙ ap (λ os. (other.0, os)) (sym listed)

@@ -1,4 +1,8 @@
 -- Cutting the token in front and the definition of tokens agree.
+use Rattle.ag_expr.proofs.Options.{opened}
+use Rattle.std.proofs.lemmas.Bool.{and_parts}
+use Rattle.std.proofs.lemmas.Option.{none-some, same_Some}
+use Rattle.std.specs.Option.{option_and_then}
 use Rattle.std.proofs.Common.{◌≡◌, ℕ, zero, suc, pos, ◌<◌, ◌≤◌, ◌≢◌, Bool, true, false, ◌||◌, cond, ◌==◌, List, [], ◌∷◌, ◌++◌, length, take, drop, Option, Some, None, refl, ap, sym, ◌∙◌, subst, lit<, arith, append_assoc, encode_utf8, encode_utf8_all}
 use Rattle.std.proofs.lemmas.List.{length-append, length-drop, length-take-le, take-append-drop, append-nil}
 use Rattle.std.proofs.Math.Seq.{drop-append_seam, take-append_seam}
@@ -14,22 +18,10 @@ use Rattle.ag_expr.specs.declared.token.Punctuation.{Punctuation}
 use Rattle.ag_expr.specs.declared.token.Punctuation.TheVariants as punctuation
 use Rattle.ag_expr.specs.language.Token.{Token}
 use Rattle.ag_expr.specs.language.Token as token
-use Rattle.ag_expr.specs.language.Reading.{and_then, where_some}
+use Rattle.ag_expr.specs.language.Reading.{where_some}
 use Rattle.ag_expr.specs.language.Tokens.{starts_name, is_separator, escaped, IsDigits, IsName, IsBody, empty, plain, escape, punctuation_text, IsToken, IsLongest, BeginsNoToken}
 use Rattle.ag_expr.specs.language.Lexing.{digits_from, name_from, single_punctuation, doubled, punctuation_from, escape_from, character_from, unquoted, undotted, text_from, occurrence_from, plain_from, token_from}
-use Rattle.ag_expr.proofs.language.Fronts.{both_first, front_passes, front_reaches, front_ends}
-
--- ---- small tools
-
-opened : {A B : Type 0} (o : Option A) (f : A → Option B) (y : B) → and_then o f ≡ Some y → (x : A) × (o ≡ Some x) × (f x ≡ Some y)
-opened None f y e = let bad : ⊥ = cc in absurd bad
-opened (Some x) f y e = (x, refl, e)
-
-some_same : {A : Type 0} (x y : A) → Some x ≡ Some y → x ≡ y
-some_same x y e = cc
-
-none_some : {A B : Type 0} (x : A) → None ≡ Some x → B
-none_some x e = let bad : ⊥ = cc in absurd bad
+use Rattle.ag_expr.proofs.language.Fronts.{front_passes, front_reaches, front_ends}
 
 same_number : (a b : ℕ) → (a == b) ≡ true → a ≡ b
 same_number a b e = eqb-true a b e
@@ -77,9 +69,9 @@ digits_sound cs d rest e = go (prefix_len is_ascii_digit cs == 0) refl e
     n = prefix_len is_ascii_digit cs
 
     go : (b : Bool) → (n == 0) ≡ b → cond {A = Option (List ℕ × List ℕ)} b None (Some (take n cs, drop n cs)) ≡ Some (d, rest) → (cs ≡ d ++ rest) × IsDigits d
-    go true p h = none_some _ h
+    go true p h = absurd (none-some _ h)
     go false p h =
-        let same = some_same _ _ h in
+        let same = same_Some _ _ h in
         let one : take n cs ≡ d = ap (λ (x : List ℕ × List ℕ). x.0) same in
         let two : drop n cs ≡ rest = ap (λ (x : List ℕ × List ℕ). x.1) same in
         let within = prefix_len-le-length is_ascii_digit cs in
@@ -90,16 +82,16 @@ digits_sound cs d rest e = go (prefix_len is_ascii_digit cs == 0) refl e
         )
 
 name_sound : (cs n rest : List ℕ) → name_from cs ≡ Some (n, rest) → (cs ≡ n ++ rest) × IsName n
-name_sound [] n rest e = none_some _ e
+name_sound [] n rest e = absurd (none-some _ e)
 name_sound (c ∷ cs) n rest e = go (starts_name c) refl e
   where
     len : ℕ
     len = prefix_len is_xid_continue (c ∷ cs)
 
     go : (b : Bool) → starts_name c ≡ b → cond {A = Option (List ℕ × List ℕ)} b (Some (take len (c ∷ cs), drop len (c ∷ cs))) None ≡ Some (n, rest) → (c ∷ cs ≡ n ++ rest) × IsName n
-    go false p h = none_some _ h
+    go false p h = absurd (none-some _ h)
     go true p h =
-        let same = some_same _ _ h in
+        let same = same_Some _ _ h in
         let one : take len (c ∷ cs) ≡ n = ap (λ (x : List ℕ × List ℕ). x.0) same in
         let two : drop len (c ∷ cs) ≡ rest = ap (λ (x : List ℕ × List ℕ). x.1) same in
         let k : len ≡ suc (prefix_len is_xid_continue cs) = rw (goes_on c p) (omega arith) in
@@ -110,36 +102,36 @@ name_sound (c ∷ cs) n rest e = go (starts_name c) refl e
 abbrev IsTextOf : List ℕ → List ℕ → Token → List ℕ → Type 0
 IsTextOf front cs t rest = (body : List ℕ) × (bytes : List ℕ) × (cs ≡ body ++ 34 ∷ rest) × IsBody body bytes × (t ≡ token.Text (front ++ bytes))
 
-text_ends : (front cs : List ℕ) (t : Token) (rest : List ℕ) → and_then {B = Token × List ℕ} (unquoted cs) (λ us. Some (token.Text front, us)) ≡ Some (t, rest) → IsTextOf front cs t rest
-text_ends front [] t rest e = none_some _ e
+text_ends : (front cs : List ℕ) (t : Token) (rest : List ℕ) → option_and_then {U = Token × List ℕ} (λ us. Some (token.Text front, us)) (unquoted cs) ≡ Some (t, rest) → IsTextOf front cs t rest
+text_ends front [] t rest e = absurd (none-some _ e)
 text_ends front (c ∷ cs) t rest e = go (c == 34) refl e
   where
-    go : (b : Bool) → (c == 34) ≡ b → and_then {B = Token × List ℕ} (cond b (Some cs) None) (λ us. Some (token.Text front, us)) ≡ Some (t, rest) → IsTextOf front (c ∷ cs) t rest
-    go false p h = none_some _ h
+    go : (b : Bool) → (c == 34) ≡ b → option_and_then {U = Token × List ℕ} (λ us. Some (token.Text front, us)) (cond b (Some cs) None) ≡ Some (t, rest) → IsTextOf front (c ∷ cs) t rest
+    go false p h = absurd (none-some _ h)
     go true p h =
-        let same = some_same _ _ h in
+        let same = same_Some _ _ h in
         let one : token.Text front ≡ t = ap (λ (x : Token × List ℕ). x.0) same in
         let two : cs ≡ rest = ap (λ (x : Token × List ℕ). x.1) same in
         ([], [], ap (λ x. x ∷ cs) (same_number c 34 p) ∙ ap (λ x. 34 ∷ x) two, empty, sym one ∙ ap token.Text (sym (append-nil front)))
 
 text_escape : (front cs : List ℕ) (d : ℕ) (us : List ℕ) (t : Token) (rest : List ℕ) → escape_from cs ≡ Some (d, us) → IsTextOf (front ++ encode_utf8 d) us t rest → IsTextOf front (92 ∷ cs) t rest
-text_escape front [] d us t rest e more = none_some _ e
+text_escape front [] d us t rest e more = absurd (none-some _ e)
 text_escape front (c ∷ cs) d us t rest e (body, bytes, split, is, same) =
     let one = opened (escaped c) (λ x. Some (x, cs)) (d, us) e in
-    let pair = some_same _ _ one.2 in
+    let pair = same_Some _ _ one.2 in
     let first : one.0 ≡ d = ap (λ (x : ℕ × List ℕ). x.0) pair in
     let second : cs ≡ us = ap (λ (x : ℕ × List ℕ). x.1) pair in
     (92 ∷ c ∷ body, encode_utf8 d ++ bytes, ap (λ x. 92 ∷ c ∷ x) (second ∙ split), escape c d body bytes (one.1 ∙ ap Some first) is, same ∙ ap token.Text (append_assoc front (encode_utf8 d) bytes))
 
 text_step : (front cs : List ℕ) (d : ℕ) (us : List ℕ) (t : Token) (rest : List ℕ) → character_from cs ≡ Some (d, us) → IsTextOf (front ++ encode_utf8 d) us t rest → IsTextOf front cs t rest
-text_step front [] d us t rest e more = none_some _ e
+text_step front [] d us t rest e more = absurd (none-some _ e)
 text_step front (c ∷ cs) d us t rest e more = go (c == 34) (c == 92) refl refl e
   where
     go : (a b : Bool) → (c == 34) ≡ a → (c == 92) ≡ b → cond {A = Option (ℕ × List ℕ)} a None (cond b (escape_from cs) (Some (c, cs))) ≡ Some (d, us) → IsTextOf front (c ∷ cs) t rest
-    go true b p q h = none_some _ h
+    go true b p q h = absurd (none-some _ h)
     go false true p q h = subst (λ k. IsTextOf front (k ∷ cs) t rest) (sym (same_number c 92 q)) (text_escape front cs d us t rest h more)
     go false false p q h =
-        let pair = some_same _ _ h in
+        let pair = same_Some _ _ h in
         let first : c ≡ d = ap (λ (x : ℕ × List ℕ). x.0) pair in
         let second : cs ≡ us = ap (λ (x : ℕ × List ℕ). x.1) pair in
         let is = plain c more.0 more.1 (eqb-false c 34 p) (eqb-false c 92 q) more.3 in (
@@ -152,25 +144,25 @@ text_step front (c ∷ cs) d us t rest e more = go (c == 34) (c == 92) refl refl
 
 text_sound : (n : ℕ) (front cs : List ℕ) (t : Token) (rest : List ℕ) → text_from n front cs ≡ Some (t, rest) → IsTextOf front cs t rest
 unfolding text_from
-text_sound zero front cs t rest e = none_some _ e
+text_sound zero front cs t rest e = absurd (none-some _ e)
 text_sound (suc n) front cs t rest e = go (character_from cs) refl (text_sound n) e
   where
     go : (o : Option (ℕ × List ℕ)) → character_from cs ≡ o → ((front cs : List ℕ) (t : Token) (rest : List ℕ) → text_from n front cs ≡ Some (t, rest) → IsTextOf front cs t rest)
-        → where_some o (and_then (unquoted cs) (λ us. Some (token.Text front, us))) (λ p. text_from n (front ++ encode_utf8 p.0) p.1) ≡ Some (t, rest) → IsTextOf front cs t rest
+        → where_some o (option_and_then (λ us. Some (token.Text front, us)) (unquoted cs)) (λ p. text_from n (front ++ encode_utf8 p.0) p.1) ≡ Some (t, rest) → IsTextOf front cs t rest
     go None p more h = text_ends front cs t rest h
     go (Some x) p more h = text_step front cs x.0 x.1 t rest p (more (front ++ encode_utf8 x.0) x.1 t rest h)
 
 single_sound : (c : ℕ) (s : Punctuation) → single_punctuation c ≡ Some s → c ∷ [] ≡ punctuation_text s
 single_sound c s e = look 45 punctuation.Minus refl c s _ (look 42 punctuation.Times refl c s _ (look 60 punctuation.Less refl c s _ (look 40 punctuation.Open refl c s _ (look 41 punctuation.Close refl c s _
     (look 91 punctuation.OpenList refl c s _ (look 93 punctuation.CloseList refl c s _ (look 123 punctuation.OpenTable refl c s _ (look 125 punctuation.CloseTable refl c s _
-    (look 44 punctuation.Comma refl c s _ (look 59 punctuation.Semicolon refl c s None (λ h. none_some _ h))))))))))) e
+    (look 44 punctuation.Comma refl c s _ (look 59 punctuation.Semicolon refl c s None (λ h. absurd (none-some _ h)))))))))))) e
   where
     look : (k : ℕ) (w : Punctuation) → k ∷ [] ≡ punctuation_text w → (c : ℕ) (s : Punctuation) (else : Option Punctuation) → (else ≡ Some s → c ∷ [] ≡ punctuation_text s) → cond (c == k) (Some w) else ≡ Some s → c ∷ [] ≡ punctuation_text s
     look k w is c s else more h = go (c == k) refl h
       where
         go : (b : Bool) → (c == k) ≡ b → cond b (Some w) else ≡ Some s → c ∷ [] ≡ punctuation_text s
         go false p h = more h
-        go true p h = ap (λ x. x ∷ []) (same_number c k p) ∙ is ∙ ap punctuation_text (some_same _ _ h)
+        go true p h = ap (λ x. x ∷ []) (same_number c k p) ∙ is ∙ ap punctuation_text (same_Some _ _ h)
 
 doubled_sound : (k : ℕ) (two one : Punctuation) → punctuation_text two ≡ k ∷ k ∷ [] → punctuation_text one ≡ k ∷ [] → (cs : List ℕ) → k ∷ cs ≡ punctuation_text (doubled k two one cs).0 ++ (doubled k two one cs).1
 doubled_sound k two one p q [] = rw q refl
@@ -181,16 +173,16 @@ doubled_sound k two one p q (c ∷ cs) = go (c == k) refl
     go true e = rw (p, same_number c k e) refl
 
 punctuation_sound : (cs : List ℕ) (s : Punctuation) (rest : List ℕ) → punctuation_from cs ≡ Some (s, rest) → cs ≡ punctuation_text s ++ rest
-punctuation_sound [] s rest e = none_some _ e
+punctuation_sound [] s rest e = absurd (none-some _ e)
 punctuation_sound (c ∷ cs) s rest e = go (c == 43) (c == 61) refl refl e
   where
     of_pair : (k : ℕ) (x : Punctuation × List ℕ) → c ≡ k → k ∷ cs ≡ punctuation_text x.0 ++ x.1 → Some x ≡ Some (s, rest) → c ∷ cs ≡ punctuation_text s ++ rest
     of_pair k x same is h =
-        let pair = some_same _ _ h in
+        let pair = same_Some _ _ h in
         ap (λ y. y ∷ cs) same ∙ is ∙ ap (λ (y : Punctuation × List ℕ). punctuation_text y.0 ++ y.1) pair
 
     go : (a b : Bool) → (c == 43) ≡ a → (c == 61) ≡ b
-        → cond a (Some (doubled 43 punctuation.Join punctuation.Plus cs)) (cond b (Some (doubled 61 punctuation.EqualEqual punctuation.Equal cs)) (and_then (single_punctuation c) (λ w. Some (w, cs)))) ≡ Some (s, rest) → c ∷ cs ≡ punctuation_text s ++ rest
+        → cond a (Some (doubled 43 punctuation.Join punctuation.Plus cs)) (cond b (Some (doubled 61 punctuation.EqualEqual punctuation.Equal cs)) (option_and_then (λ w. Some (w, cs)) (single_punctuation c))) ≡ Some (s, rest) → c ∷ cs ≡ punctuation_text s ++ rest
     go true b p q h = of_pair 43 _ (same_number c 43 p) (doubled_sound 43 punctuation.Join punctuation.Plus refl refl cs) h
     go false true p q h = of_pair 61 _ (same_number c 61 q) (doubled_sound 61 punctuation.EqualEqual punctuation.Equal refl refl cs) h
     go false false p q h =
@@ -208,12 +200,12 @@ positive : (c : ℕ) (cs : List ℕ) → 0 < length (c ∷ cs)
 positive c cs = omega arith
 
 undotted_sound : (cs rest : List ℕ) → undotted cs ≡ Some rest → cs ≡ 46 ∷ rest
-undotted_sound [] rest e = none_some _ e
+undotted_sound [] rest e = absurd (none-some _ e)
 undotted_sound (c ∷ cs) rest e = go (c == 46) refl e
   where
     go : (b : Bool) → (c == 46) ≡ b → cond {A = Option (List ℕ)} b (Some cs) None ≡ Some rest → c ∷ cs ≡ 46 ∷ rest
-    go false p h = none_some _ h
-    go true p h = ap (λ x. x ∷ cs) (same_number c 46 p) ∙ ap (λ x. 46 ∷ x) (some_same _ _ h)
+    go false p h = absurd (none-some _ h)
+    go true p h = ap (λ x. x ∷ cs) (same_number c 46 p) ∙ ap (λ x. 46 ∷ x) (same_Some _ _ h)
 
 occurrence_sound : (cs : List ℕ) (t : Token) (rest : List ℕ) → occurrence_from cs ≡ Some (t, rest) → IsCut (36 ∷ cs) t rest
 occurrence_sound cs t rest e =
@@ -223,7 +215,7 @@ occurrence_sound cs t rest e =
     let digits = digits_sound cs one.0.0 one.0.1 one.1 in
     let dot = undotted_sound one.0.1 two.0 two.1 in
     let name = name_sound two.0 three.0.0 three.0.1 three.1 in
-    let same : (token.Occurrence (digits_value 10 one.0.0) (encode_utf8_all three.0.0), three.0.1) ≡ (t, rest) = some_same _ _ three.2 in
+    let same : (token.Occurrence (digits_value 10 one.0.0) (encode_utf8_all three.0.0), three.0.1) ≡ (t, rest) = same_Some _ _ three.2 in
     let word = 36 ∷ (one.0.0 ++ 46 ∷ three.0.0) in
     let split : cs ≡ (one.0.0 ++ 46 ∷ three.0.0) ++ three.0.1 = digits.0 ∙ ap (λ x. one.0.0 ++ x) (dot ∙ ap (λ x. 46 ∷ x) name.0) ∙ sym (append_assoc one.0.0 (46 ∷ three.0.0) three.0.1) in
     subst (λ (x : Token × List ℕ). IsCut (36 ∷ cs) x.0 x.1) same (record {
@@ -258,17 +250,17 @@ plain_sound : (cs : List ℕ) (t : Token) (rest : List ℕ) → plain_from cs �
 plain_sound cs t rest e = at_digits (digits_from cs) refl e
   where
     no_digits : Option (Token × List ℕ)
-    no_digits = where_some (name_from cs) (and_then (punctuation_from cs) (λ s. Some (token.Punctuation s.0, s.1))) (λ n. Some (token.Name (encode_utf8_all n.0), n.1))
+    no_digits = where_some (name_from cs) (option_and_then (λ s. Some (token.Punctuation s.0, s.1)) (punctuation_from cs)) (λ n. Some (token.Name (encode_utf8_all n.0), n.1))
 
     at_name : (o : Option (List ℕ × List ℕ)) → name_from cs ≡ o
-        → where_some {B = Option (Token × List ℕ)} o (and_then (punctuation_from cs) (λ s. Some (token.Punctuation s.0, s.1))) (λ n. Some (token.Name (encode_utf8_all n.0), n.1)) ≡ Some (t, rest) → IsCut cs t rest
+        → where_some {B = Option (Token × List ℕ)} o (option_and_then (λ s. Some (token.Punctuation s.0, s.1)) (punctuation_from cs)) (λ n. Some (token.Name (encode_utf8_all n.0), n.1)) ≡ Some (t, rest) → IsCut cs t rest
     at_name None p h =
         let one = opened (punctuation_from cs) _ (t, rest) h in
-        let same : (token.Punctuation one.0.0, one.0.1) ≡ (t, rest) = some_same _ _ one.2 in
+        let same : (token.Punctuation one.0.0, one.0.1) ≡ (t, rest) = same_Some _ _ one.2 in
         subst (λ (x : Token × List ℕ). IsCut cs x.0 x.1) same (record { word = punctuation_text one.0.0; split = punctuation_sound cs one.0.0 one.0.1 one.1; token = refl; some = punctuation_some one.0.0 })
     at_name (Some n) p h =
         let name = name_sound cs n.0 n.1 p in
-        let same : (token.Name (encode_utf8_all n.0), n.1) ≡ (t, rest) = some_same _ _ h in
+        let same : (token.Name (encode_utf8_all n.0), n.1) ≡ (t, rest) = same_Some _ _ h in
         subst (λ (x : Token × List ℕ). IsCut cs x.0 x.1) same (record { word = n.0; split = name.0; token = (name.1, refl); some = name_some n.0 name.1 })
 
     at_digits : (o : Option (List ℕ × List ℕ)) → digits_from cs ≡ o
@@ -276,7 +268,7 @@ plain_sound cs t rest e = at_digits (digits_from cs) refl e
     at_digits None p h = at_name (name_from cs) refl h
     at_digits (Some d) p h =
         let digits = digits_sound cs d.0 d.1 p in
-        let same : (token.Number (pos (digits_value 10 d.0)), d.1) ≡ (t, rest) = some_same _ _ h in
+        let same : (token.Number (pos (digits_value 10 d.0)), d.1) ≡ (t, rest) = same_Some _ _ h in
         subst (λ (x : Token × List ℕ). IsCut cs x.0 x.1) same (record { word = d.0; split = digits.0; token = (digits.1, refl); some = digits.1.0 })
 
 text_literal_sound : (cs : List ℕ) (t : Token) (rest : List ℕ) → text_from (length cs) [] cs ≡ Some (t, rest) → IsCut (34 ∷ cs) t rest
@@ -292,7 +284,7 @@ text_literal_sound cs t rest e =
 
 pub token_sound : (cs : List ℕ) (t : Token) (rest : List ℕ) → token_from cs ≡ Some (t, rest) → IsCut cs t rest
 unfolding token_from
-token_sound [] t rest e = none_some _ e
+token_sound [] t rest e = absurd (none-some _ e)
 token_sound (c ∷ cs) t rest e = go (c == 34) (c == 36) refl refl e
   where
     go : (a b : Bool) → (c == 34) ≡ a → (c == 36) ≡ b → cond a (text_from (length cs) [] cs) (cond b (occurrence_from cs) (plain_from (c ∷ cs))) ≡ Some (t, rest) → IsCut (c ∷ cs) t rest
@@ -363,7 +355,7 @@ digit_plain c h = (grind (arith, nat_tests), grind (arith, nat_tests))
 number_reached : (word more : List ℕ) → IsDigits word → IsReached (word ++ more) (token.Number (pos (digits_value 10 word))) more
 number_reached [] more is = let none = is.0 in let bad : ⊥ = omega arith in absurd bad
 number_reached (c ∷ word) more is =
-    let here : is_ascii_digit c ≡ true = both_first (is_ascii_digit c) (list_all is_ascii_digit word) is.1 in
+    let here : is_ascii_digit c ≡ true = (and_parts (is_ascii_digit c) (list_all is_ascii_digit word) is.1).0 in
     let found = digits_reach (c ∷ word) more is in
     let other = digit_plain c here in (
       (token.Number (pos (digits_value 10 found.0.0)), found.0.1),
@@ -462,7 +454,7 @@ cut_longest cs t rest word e split longer more u same is =
     let found = token_reached longer more u is in
     let one : token_from (word ++ rest) ≡ Some (t, rest) = ap token_from (sym split) ∙ e in
     let two : Some (t, rest) ≡ Some found.0 = sym one ∙ ap token_from same ∙ found.1 in
-    let pair : (t, rest) ≡ found.0 = some_same _ _ two in
+    let pair : (t, rest) ≡ found.0 = same_Some _ _ two in
     let end : rest ≡ found.0.1 = ap (λ (x : Token × List ℕ). x.1) pair in
     let lengths : length (word ++ rest) ≡ length (longer ++ more) = ap length same in
     let short : length found.0.1 ≤ length more = found.2 in
@@ -473,7 +465,7 @@ pub cut_none : (cs : List ℕ) → token_from cs ≡ None → BeginsNoToken cs
 cut_none cs e word more t split is =
     let found = token_reached word more t is in
     let bad : None ≡ Some found.0 = sym e ∙ ap token_from split ∙ found.1 in
-    none_some _ bad
+    absurd (none-some _ bad)
 
 -- ---- a word is one token at most, and no token begins with a separator
 
@@ -481,7 +473,7 @@ pub one_token : (word : List ℕ) (t u : Token) → IsToken word t → IsToken w
 one_token word t u is also =
     let a = token_reached word [] t is in
     let b = token_reached word [] u also in
-    let same : a.0 ≡ b.0 = some_same _ _ (sym a.1 ∙ b.1) in
+    let same : a.0 ≡ b.0 = same_Some _ _ (sym a.1 ∙ b.1) in
     let a_ends : length a.0.1 ≡ length {A = ℕ} [] = let short = a.2 in omega arith in
     let b_ends : length b.0.1 ≡ length {A = ℕ} [] = let short = b.2 in omega arith in
     sym (a.3 a_ends) ∙ ap (λ (x : Token × List ℕ). x.0) same ∙ b.3 b_ends
@@ -492,7 +484,7 @@ IsPlainWord word = (c : ℕ) × (cs : List ℕ) × (word ≡ c ∷ cs) × (is_se
 digits_plain : (word : List ℕ) → IsDigits word → IsPlainWord word
 digits_plain [] is = let none = is.0 in let bad : ⊥ = omega arith in absurd bad
 digits_plain (c ∷ word) is =
-    let here : is_ascii_digit c ≡ true = both_first (is_ascii_digit c) (list_all is_ascii_digit word) is.1 in
+    let here : is_ascii_digit c ≡ true = (and_parts (is_ascii_digit c) (list_all is_ascii_digit word) is.1).0 in
     (c, word, refl, grind (arith, nat_tests))
 
 name_plain : (word : List ℕ) → IsName word → IsPlainWord word

@@ -1,4 +1,6 @@
 -- Operators and operands that are taken one after the other, beside a loop.
+use Rattle.std.proofs.lemmas.Option.{same_Some}
+use Rattle.std.specs.Option.{option_and_then}
 use Rattle.std.proofs.Common.{◌≡◌, ℕ, zero, suc, ◌-◌, ◌≤◌, ◌<◌, List, [], ◌∷◌, ◌++◌, length, Option, Some, None, Result, Ok, Err, ◌∙◌, refl, sym, ap, subst, arith}
 use Rattle.std.specs.Result.{IsErrAnd}
 use Rattle.ag_expr.specs.language.Token.{Token}
@@ -9,7 +11,7 @@ use Rattle.ag_expr.specs.declared.occurrence.Occ.{Occ}
 use Rattle.ag_expr.specs.language.Expression.{Says}
 use Rattle.ag_expr.specs.language.Left.{State, Refuses, Takes, TakesAs, characters, everything, tokens}
 use Rattle.ag_expr.specs.declared.parser.Precedence.TheVariants as precedence
-use Rattle.ag_expr.specs.language.Reading.{Reader, and_then, chain_from, expr_from, operand_from, operator_from, operator_of, rest_from, sum_from}
+use Rattle.ag_expr.specs.language.Reading.{Reader, chain_from, expr_from, operand_from, operator_from, operator_of, rest_from, sum_from}
 
 abbrev pub Found : Type 0
 Found = Option (List (Operator × Node) × List Token)
@@ -24,16 +26,13 @@ pub record Going (operator : Token → Option Operator) (operand : Reader Node) 
 abbrev pub Shortens : Reader Node → Type 0
 Shortens read = (ts rest : List Token) (e : Node) → read ts ≡ Some (e, rest) → length rest ≤ length ts
 
-some_same : {A : Type 0} (x y : A) → Some x ≡ Some y → x ≡ y
-some_same x y e = cc
-
 behind_operator : (operator : Token → Option Operator) (ts us : List Token) (o : Operator) → operator_from operator ts ≡ Some (o, us) → length us < length ts
 behind_operator operator [] us o e = let bad : ⊥ = cc in absurd bad
 behind_operator operator (t ∷ ts) us o e = go (operator t) e
   where
-    go : (x : Option Operator) → and_then {B = Operator × List Token} x (λ p. Some (p, ts)) ≡ Some (o, us) → length us < length (t ∷ ts)
+    go : (x : Option Operator) → option_and_then {U = Operator × List Token} (λ p. Some (p, ts)) x ≡ Some (o, us) → length us < length (t ∷ ts)
     go None h = let bad : ⊥ = cc in absurd bad
-    go (Some p) h = let both : (p, ts) ≡ (o, us) = some_same _ _ h in omega (arith, ap (λ (x : Operator × List Token). length x.1) both)
+    go (Some p) h = let both : (p, ts) ≡ (o, us) = same_Some _ _ h in omega (arith, ap (λ (x : Operator × List Token). length x.1) both)
 
 module _ (operator : Token → Option Operator) (operand : Reader Node) where
   -- how far the loop has come, in tokens

@@ -1,10 +1,10 @@
 -- Characters have one list of tokens.
+use Rattle.std.proofs.lemmas.Bool.{and_parts}
 use Rattle.std.proofs.Common.{◌≡◌, ℕ, ◌+◌, ◌<◌, Bool, true, false, ◌&&◌, List, [], ◌∷◌, ◌++◌, length, refl, ap, sym, ◌∙◌, subst, arith, append-nil}
 use Rattle.std.proofs.lemmas.List.{length-append}
 use Rattle.std.specs.List.{list_all}
 use Rattle.ag_expr.specs.language.Token.{Token}
 use Rattle.ag_expr.specs.language.Tokens.{is_separator, IsToken, IsLongest, BeginsNoToken, width, AreTokens, ended, separator, word, is_within, NoTokenAt, TooLargeAt}
-use Rattle.ag_expr.proofs.language.Fronts.{both_first}
 use Rattle.ag_expr.proofs.language.TokenLaws.{one_token, begins_plain}
 
 cons_head : (c d : ℕ) (cs ds : List ℕ) → c ∷ cs ≡ d ∷ ds → c ≡ d
@@ -119,7 +119,7 @@ no_list cs at us uats end there other =
     no_first more.is there.first there.rest refl refl there.no_separator there.no_token
 
 not_within : (ts : List Token) (t : Token) (more : List Token) → is_within t ≡ false → list_all is_within (ts ++ t ∷ more) ≡ true → ⊥
-not_within [] t more large all = let bad : false ≡ true = sym large ∙ both_first (is_within t) (list_all is_within more) all in cc
+not_within [] t more large all = let bad : false ≡ true = sym large ∙ (and_parts (is_within t) (list_all is_within more) all).0 in cc
 not_within (s ∷ ts) t more large all = not_within ts t more large (second (is_within s) (list_all is_within (ts ++ t ∷ more)) all)
   where
     second : (a b : Bool) → (a && b) ≡ true → b ≡ true

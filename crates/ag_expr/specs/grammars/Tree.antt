@@ -1,5 +1,6 @@
 -- Derivation trees.
-use Rattle.std.specs.Prelude.{ℕ, suc, ◌≡◌, ◌+◌, ◌≤◌, max, List, [], ◌∷◌, length, IsUtf8}
+use Rattle.std.specs.Prelude.{ℕ, suc, ◌≡◌, ◌+◌, ◌≤◌, max, List, [], ◌∷◌, length, true}
+use Rattle.std.specs.Str.{is_utf8}
 use Rattle.ag_expr.specs.declared.grammar.Item.TheVariants as item
 use Rattle.ag_expr.specs.declared.grammar.Item.{Item}
 use Rattle.ag_expr.specs.declared.grammar.Production.{Production}
@@ -23,7 +24,7 @@ most_token_bytes = 65535
 
 -- What a token may have for its text: UTF-8 of at most 65,535 bytes.
 pub record IsTokenText (x : List ℕ) : Type 0 where
-  pub utf8 : IsUtf8 x
+  pub utf8 : is_utf8 x ≡ true
   pub short : length x ≤ most_token_bytes
 
 -- A tree of an item: a token of its class, or a node with a production of its symbol and trees of that production's stored

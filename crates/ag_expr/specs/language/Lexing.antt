@@ -1,4 +1,5 @@
 -- Cutting the token at the front of characters: the plain function, which agrees with the definition of tokens.
+use Rattle.std.specs.Option.{option_and_then}
 use Rattle.std.specs.Prelude.{◌≡◌, ℕ, zero, suc, pos, Bool, true, false, cond, ◌==◌, List, [], ◌∷◌, ◌++◌, length, take, drop, Option, Some, None, Result, Ok, Err, encode_utf8, encode_utf8_all, chars, is_some, option_map}
 use Rattle.std.specs.Borrow.{Bor}
 use Rattle.std.specs.Char.{is_ascii_digit}
@@ -11,7 +12,7 @@ use Rattle.ag_expr.specs.declared.token.Punctuation.{Punctuation}
 use Rattle.ag_expr.specs.declared.token.Punctuation.TheVariants as punctuation
 use Rattle.ag_expr.specs.language.Token.{Token}
 use Rattle.ag_expr.specs.language.Token as token
-use Rattle.ag_expr.specs.language.Reading.{and_then, where_some}
+use Rattle.ag_expr.specs.language.Reading.{where_some}
 use Rattle.ag_expr.specs.declared.lexer.Class.{Class}
 use Rattle.ag_expr.specs.declared.lexer.Class.TheVariants as class
 use Rattle.ag_expr.specs.declared.token.Token as lent
@@ -73,11 +74,11 @@ doubled twice two one (c ∷ cs) = cond (c == twice) (two, cs) (one, c ∷ cs)
 abbrev pub punctuation_from : List ℕ → Option (Punctuation × List ℕ)
 punctuation_from [] = None
 punctuation_from (c ∷ cs) =
-    cond (c == 43) (Some (doubled 43 punctuation.Join punctuation.Plus cs)) (cond (c == 61) (Some (doubled 61 punctuation.EqualEqual punctuation.Equal cs)) (and_then (single_punctuation c) (λ s. Some (s, cs))))
+    cond (c == 43) (Some (doubled 43 punctuation.Join punctuation.Plus cs)) (cond (c == 61) (Some (doubled 61 punctuation.EqualEqual punctuation.Equal cs)) (option_and_then (λ s. Some (s, cs)) (single_punctuation c)))
 
 abbrev pub escape_from : List ℕ → Option (ℕ × List ℕ)
 escape_from [] = None
-escape_from (c ∷ cs) = and_then (escaped c) (λ d. Some (d, cs))
+escape_from (c ∷ cs) = option_and_then (λ d. Some (d, cs)) (escaped c)
 
 -- one character of a text literal, and what stands behind it
 abbrev pub character_from : List ℕ → Option (ℕ × List ℕ)
@@ -93,7 +94,7 @@ unquoted (c ∷ cs) = cond (c == 34) (Some cs) None
 unfoldable pub text_from : ℕ → List ℕ → List ℕ → Option (Token × List ℕ)
 text_from zero front cs = None
 text_from (suc turns) front cs =
-    where_some (character_from cs) (and_then (unquoted cs) (λ rest. Some (token.Text front, rest))) (λ p. text_from turns (front ++ encode_utf8 p.0) p.1)
+    where_some (character_from cs) (option_and_then (λ rest. Some (token.Text front, rest)) (unquoted cs)) (λ p. text_from turns (front ++ encode_utf8 p.0) p.1)
 
 -- what stands behind a dot
 abbrev pub undotted : List ℕ → Option (List ℕ)
@@ -103,13 +104,13 @@ undotted (c ∷ cs) = cond (c == 46) (Some cs) None
 -- the occurrence whose `$` stood before
 abbrev pub occurrence_from : List ℕ → Option (Token × List ℕ)
 occurrence_from cs =
-    and_then (digits_from cs) (λ d. and_then (undotted d.1) (λ rest. and_then (name_from rest) (λ n. Some (token.Occurrence (digits_value 10 d.0) (encode_utf8_all n.0), n.1))))
+    option_and_then (λ d. option_and_then (λ rest. option_and_then (λ n. Some (token.Occurrence (digits_value 10 d.0) (encode_utf8_all n.0), n.1)) (name_from rest)) (undotted d.1)) (digits_from cs)
 
 -- a number, a name or punctuation
 abbrev pub plain_from : List ℕ → Option (Token × List ℕ)
 plain_from cs =
     where_some (digits_from cs)
-    (where_some (name_from cs) (and_then (punctuation_from cs) (λ s. Some (token.Punctuation s.0, s.1))) (λ n. Some (token.Name (encode_utf8_all n.0), n.1)))
+    (where_some (name_from cs) (option_and_then (λ s. Some (token.Punctuation s.0, s.1)) (punctuation_from cs)) (λ n. Some (token.Name (encode_utf8_all n.0), n.1)))
     (λ d. Some (token.Number (pos (digits_value 10 d.0)), d.1))
 
 -- the token in front, and what stands behind it

@@ -1,4 +1,5 @@
 -- Reading an expression from the front of tokens: the plain function, which agrees with the grammar.
+use Rattle.std.specs.Option.{option_and_then}
 use Rattle.std.specs.Prelude.{ℕ, zero, suc, List, [], ◌∷◌, ◌++◌, length, Option, Some, None}
 use Rattle.ag_expr.specs.declared.token.Punctuation.TheVariants as punctuation
 use Rattle.ag_expr.specs.language.Token.{Token}
@@ -16,10 +17,6 @@ use Rattle.ag_expr.specs.language.Syntax.{sum_operator, product_operator, chaine
 abbrev pub Reader : Type 0 → Type 0
 Reader A = List Token → Option (A × List Token)
 
-abbrev pub and_then : {A B : Type 0} → Option A → (A → Option B) → Option B
-and_then None f = None
-and_then (Some x) f = f x
-
 -- the first where there is nothing, else the second of what there is
 abbrev pub where_some : {A B : Type 0} → Option A → B → (A → B) → B
 where_some None b f = b
@@ -28,13 +25,13 @@ where_some (Some x) b f = f x
 -- an operator in front
 abbrev pub operator_from : (Token → Option Operator) → Reader Operator
 operator_from operator [] = None
-operator_from operator (t ∷ ts) = and_then (operator t) (λ o. Some (o, ts))
+operator_from operator (t ∷ ts) = option_and_then (λ o. Some (o, ts)) (operator t)
 
 -- further operators and operands behind those in `front`, so many turns at most
 unfoldable pub rest_from : (Token → Option Operator) → Reader Node → ℕ → List (Operator × Node) → Reader (List (Operator × Node))
 rest_from operator operand zero front ts = Some (front, ts)
 rest_from operator operand (suc turns) front ts =
-    where_some (operator_from operator ts) (Some (front, ts)) (λ o. and_then (operand o.1) (λ p. rest_from operator operand turns (front ++ (o.0, p.0) ∷ []) p.1))
+    where_some (operator_from operator ts) (Some (front, ts)) (λ o. option_and_then (λ p. rest_from operator operand turns (front ++ (o.0, p.0) ∷ []) p.1) (operand o.1))
 
 -- as many as there are
 abbrev pub further_from : (Token → Option Operator) → Reader Node → Reader (List (Operator × Node))
@@ -42,7 +39,7 @@ further_from operator operand ts = rest_from operator operand (length ts) [] ts
 
 abbrev pub chain_from : (Token → Option Operator) → Reader Node → Reader Node
 chain_from operator operand ts =
-    and_then (operand ts) (λ p. and_then (further_from operator operand p.1) (λ q. Some (chained p.0 q.0, q.1)))
+    option_and_then (λ p. option_and_then (λ q. Some (chained p.0 q.0, q.1)) (further_from operator operand p.1)) (operand ts)
 
 -- a closing parenthesis
 abbrev pub close_from : Reader (Unit {0})
@@ -51,11 +48,11 @@ close_from (token.Punctuation punctuation.Close ∷ ts) = Some (tt, ts)
 close_from (t ∷ ts) = None
 
 abbrev pub occurrence_from : List Occ → ℕ → List ℕ → List Token → Option (Node × List Token)
-occurrence_from listed place attr ts = and_then (position_of listed place attr) (λ k. Some (node.Occurrence k, ts))
+occurrence_from listed place attr ts = option_and_then (λ k. Some (node.Occurrence k, ts)) (position_of listed place attr)
 
 -- an expression whose opening parenthesis stood before, and the closing one
 abbrev pub parenthesized_from : Reader Node → Reader Node
-parenthesized_from inner ts = and_then (inner ts) (λ p. and_then (close_from p.1) (λ q. Some (p.0, q.1)))
+parenthesized_from inner ts = option_and_then (λ p. option_and_then (λ q. Some (p.0, q.1)) (close_from p.1)) (inner ts)
 
 unfoldable pub atom_from : List Occ → Reader Node → Reader Node
 atom_from listed inner [] = None
@@ -90,4 +87,4 @@ at_end (e, []) = Some e
 at_end (e, t ∷ ts) = None
 
 unfoldable pub expr_of : List Occ → ℕ → List Token → Option Node
-expr_of listed levels ts = and_then (expr_from listed levels ts) at_end
+expr_of listed levels ts = option_and_then at_end (expr_from listed levels ts)
