@@ -1,7 +1,7 @@
 -- A grammar that no order of whole passes serves.
-use Rattle.std.proofs.Common.{ℕ, zero, suc, ◌≡◌, ◌<◌, inl, inr, [], ◌∷◌, Some, refl, sym, arith}
+use Rattle.std.proofs.Common.{ℕ, suc, ◌≡◌, inl, inr, [], ◌∷◌, Some, refl, sym, arith}
 use Rattle.ag_expr.specs.grammars.AttributeGrammar.{Inherited, symbol_kinds}
-use Rattle.ag_expr.specs.grammars.Passes.{Passes, Direction, LeftToRight, RightToLeft, HasPass, MayUse, IsBefore, direction_of, IsLegal}
+use Rattle.ag_expr.specs.grammars.Passes.{Passes, Direction, LeftToRight, RightToLeft, MayUse, IsBefore, direction_of, IsLegal}
 use Rattle.ag_expr.specs.grammars.Sample.{attribute, both_ways, production_back, production_r, rule_out, rule_first, rule_second, copy_rule, s_name, symbol_a}
 use Rattle.ag_expr.proofs.grammars.OneSolution.{counterpart}
 

@@ -6,12 +6,11 @@ use Rattle.ag_expr.specs.declared.grammar.Item.TheVariants as item
 use Rattle.ag_expr.specs.declared.grammar.Item.{Item}
 use Rattle.ag_expr.specs.declared.grammar.Production.{Production}
 use Rattle.ag_expr.specs.declared.grammar.Rule.{Rule}
-use Rattle.ag_expr.specs.declared.grammar.Target.{Target}
 use Rattle.ag_expr.specs.declared.grammar.Terminal.TheVariants.{Literal, Class}
-use Rattle.ag_expr.specs.grammars.AttributeGrammar.{Grammar, stored_items, item_at, IsArgument}
+use Rattle.ag_expr.specs.grammars.AttributeGrammar.{Grammar, stored_items, item_at}
 use Rattle.ag_expr.specs.grammars.Tree.{Tree, Forest, leaf, node, none, more, Fits, FitsAll}
 use Rattle.ag_expr.specs.grammars.Passes.{Passes, item_passes, HasPass, IsLegalFor}
-use Rattle.ag_expr.specs.grammars.Solution.{Valuation, children, rest, at, Holds, RulesHold, Solves, SolvesAll, AnyRule, OfPass, SameAt, Same, AtEachNodeOf, left_passes}
+use Rattle.ag_expr.specs.grammars.Solution.{Valuation, children, rest, at, RulesHold, Solves, SolvesAll, AnyRule, OfPass, SameAt, Same, AtEachNodeOf, left_passes}
 use Rattle.ag_expr.proofs.grammars.Children.{child, tree_ind, child_fits, child_exists, child_solves, child_each, root_each}
 use Rattle.ag_expr.proofs.grammars.OneSolution.{may_le}
 use Rattle.ag_expr.proofs.grammars.Rules.{holds_same}

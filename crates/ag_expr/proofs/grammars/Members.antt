@@ -1,6 +1,6 @@
 -- Facts about each member of a list, a member at a time.
-use Rattle.std.proofs.Common.{ℕ, zero, suc, ◌≡◌, ◌<◌, List, [], ◌∷◌, Some, slice_get, slice_index_or, length, All, Contains, refl, ap, ◌∙◌, sym, subst, arith}
-use Rattle.ag_expr.specs.Lists.{AreRelated, Has, Each, DifferIn}
+use Rattle.std.proofs.Common.{ℕ, zero, suc, ◌≡◌, List, [], ◌∷◌, Some, slice_get, refl, ap, ◌∙◌, sym, subst}
+use Rattle.ag_expr.specs.Lists.{AreRelated, Each, DifferIn}
 
 pub each_none : {A : Type 0} (P : A → Type 0) → Each P []
 each_none P i x e = cc

@@ -3,7 +3,7 @@ use Rattle.std.proofs.Common.{ℕ, zero, suc, ◌≡◌, ◌≤◌, ◌<◌, inl
 use Rattle.ag_value.specs.declared.value.Value.{Num}
 use Rattle.ag_expr.specs.declared.node.Node.TheVariants as node_of
 use Rattle.ag_expr.specs.declared.node.Operator.TheVariants.{Add}
-use Rattle.ag_expr.specs.Lists.{Each, Differ, DifferIn}
+use Rattle.ag_expr.specs.Lists.{Each, Differ}
 use Rattle.ag_expr.specs.declared.grammar.Item.TheVariants as item
 use Rattle.ag_expr.specs.declared.grammar.Production.{Production}
 use Rattle.ag_expr.specs.declared.grammar.Rule.{Rule}

@@ -8,7 +8,7 @@ use Rattle.ag_expr.specs.declared.grammar.Production.{Production}
 use Rattle.ag_expr.specs.declared.grammar.Rule.{Rule}
 use Rattle.ag_expr.specs.declared.grammar.Target.{Target}
 use Rattle.ag_expr.specs.declared.grammar.Terminal.TheVariants.{Literal, Class}
-use Rattle.ag_expr.specs.grammars.AttributeGrammar.{Grammar, stored_items, item_at, IsRule, IsArgument, Kind, Synthesized, Inherited, symbol_kinds, item_kinds, given_kind, found_kind}
+use Rattle.ag_expr.specs.grammars.AttributeGrammar.{Grammar, stored_items, item_at, IsRule, Kind, Synthesized, Inherited, symbol_kinds, item_kinds, given_kind, found_kind}
 use Rattle.ag_expr.specs.grammars.Accepted.{IsStart, IsComplete, IsNormal}
 use Rattle.ag_expr.specs.grammars.Tree.{Tree, Forest, leaf, node, Fits, FitsAll, IsTreeOf}
 use Rattle.ag_expr.specs.grammars.Passes.{Passes, item_passes, HasPass, Direction, LeftToRight, RightToLeft, direction_of, IsBefore, MayUse, IsLegalFor, IsLegal}

@@ -1,6 +1,6 @@
 -- The grammar of a token, its tree and its values.
 use Rattle.std.proofs.lemmas.Str.{IsUtf8-from_ascii, is_utf8-from_IsUtf8}
-use Rattle.std.proofs.Common.{ℕ, zero, suc, ◌≡◌, ◌<◌, ◌≤◌, List, [], ◌∷◌, IsAscii, length, refl, sym, ◌∙◌, arith}
+use Rattle.std.proofs.Common.{ℕ, zero, suc, ◌≡◌, ◌<◌, ◌≤◌, [], ◌∷◌, IsAscii, length, refl, sym, ◌∙◌, arith}
 use Rattle.ag_value.specs.declared.value.Value.{Text}
 use Rattle.ag_expr.specs.grammars.Tree.{IsTreeOf}
 use Rattle.ag_expr.specs.Lists.{Each}

@@ -1,6 +1,6 @@
 -- The numbers of all occurrences in a tree are below n.
 use Rattle.std.proofs.lemmas.Bool.{and_parts}
-use Rattle.std.proofs.Common.{◌≡◌, ◌<◌, ℕ, ℤ, zero, suc, nat_lt, length, Option, Some, IfSome, subst, List, [], ◌∷◌, Bool, true, false, ◌&&◌, map, refl, ap, sym, ◌∙◌}
+use Rattle.std.proofs.Common.{◌≡◌, ◌<◌, ℕ, ℤ, zero, suc, nat_lt, length, Option, Some, IfSome, subst, List, [], ◌∷◌, Bool, true, ◌&&◌, map, refl, ap, sym, ◌∙◌}
 use Rattle.ag_expr.specs.declared.node.Operator.{Operator}
 use Rattle.ag_expr.specs.declared.node.Node.{Node}
 use Rattle.ag_expr.specs.declared.node.Node.TheVariants as node

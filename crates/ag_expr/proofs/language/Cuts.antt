@@ -10,7 +10,6 @@ use Rattle.ag_expr.specs.language.Expression.{Says, begins_expression}
 use Rattle.ag_expr.specs.language.Tokens.{is_separator, width, AreTokens, is_within, NoTokenAt, TooLargeAt, TokenAt}
 use Rattle.ag_expr.specs.language.Lexing.{token_from, GivesToken, IsTooLarge}
 use Rattle.ag_expr.specs.language.Left.{Left, Ending, whole, no_token, too_large, unspaced, none_left, one_before, ending_at, ending_by, fault_of, left_by, cut, IsSoFar, IsReached}
-use Rattle.ag_expr.proofs.language.TokenLaws.{token_sound, cut_longest}
 use Rattle.ag_expr.proofs.language.Lexed.{is_behind, spaces, begun, one_more, nothing_here, token_here, too_large_here}
 
 -- All of the characters are cut, each number within its limit; or they are cut up to an offset where no token stands, or one that is too large.
