@@ -55,11 +55,13 @@ pub fn worked_divisions()
 {}
 
 /// The tokens of `$1.a + 2`, with their offsets.
+#[tactic(auto, using(crate::proofs::language::Examples::occurrence_and_number))]
 pub fn worked_tokens()
     ensures { AreTokens 0 (codes "$1.a + 2") occurrence_and_number (0 ∷ 5 ∷ 7 ∷ []) 8 [] }
 {}
 
 /// What `2 + 3 * 4` reads as.
+#[tactic(auto, using(crate::proofs::language::Examples::sum_is_read))]
 pub fn worked_expression()
     ensures { ReadsAsExpr (codes "2 + 3 * 4") (sum_and_product, []) }
 {}
