@@ -15,6 +15,7 @@ ghost use Rattle.ag_expr.specs.language.Worked.{past_the_greatest, sum_and_produ
 ghost use Rattle.ag_expr.specs.language.Worked.{two_differences};
 
 /// What is read from tokens is what the syntax relates to them, and the other way round.
+#[tactic(auto, using(crate::proofs::language::Agree::exact))]
 pub fn reading_agrees_with_the_syntax()
     ensures { ReadingAgrees }
 {}
@@ -32,6 +33,7 @@ pub fn a_text_reads_as_one_expression()
 {}
 
 /// Where every value of the environment is a number or an error, so is the value of every tree.
+#[tactic(auto, using(crate::proofs::language::Values::stays_plain))]
 pub fn arithmetic_gives_numbers_and_errors()
     ensures { StaysPlain }
 {}

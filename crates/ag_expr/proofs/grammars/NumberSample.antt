@@ -17,7 +17,8 @@ use Rattle.ag_expr.specs.grammars.Sample.{sample, without_out, doubled, bare, ru
 use Rattle.ag_expr.proofs.grammars.Members.{alone, both, differ_more, differ_none, each_more, each_none, only, pair, related_none, related_one}
 use Rattle.ag_expr.proofs.grammars.Rules.{environment, lends}
 use Rattle.ag_expr.proofs.language.Below.{in_chain, number_below, occurrence_below}
-use Rattle.ag_expr.proofs.language.Expressions.{number_gives, occurrence_gives, none_and_one, one_and_one}
+use Rattle.ag_expr.proofs.language.Expressions.{and_one, occurrence_gives}
+use Rattle.ag_expr.proofs.language.Values.{value_of-Number}
 
 pub fits : IsTreeOf sample sample_tree
 fits = (production_r (rule_out ∷ rule_first ∷ rule_second ∷ []), refl, refl, ((production_a, refl, refl, tt), ((production_a, refl, refl, tt), tt)))
@@ -60,17 +61,17 @@ three P h k l = each_more P rule_out (rule_first ∷ rule_second ∷ []) h (both
 
 -- an A's rule holds where `s` is one more than `i`
 second_holds : Each (λ r. Holds r (at (children (sample_values 2) 0))) production_a.rules
-second_holds = only (λ r. Holds r (at (children (sample_values 2) 0))) rule_s (λ env lent. sym (one_and_one env (lent 0 (attribute 0 1) refl)))
+second_holds = only (λ r. Holds r (at (children (sample_values 2) 0))) rule_s (λ env lent. sym (and_one (pos 1) env (lent 0 (attribute 0 1) refl)))
 
 third_holds : Each (λ r. Holds r (at (children (sample_values 2) 1))) production_a.rules
-third_holds = only (λ r. Holds r (at (children (sample_values 2) 1))) rule_s (λ env lent. sym (none_and_one env (lent 0 (attribute 0 1) refl)))
+third_holds = only (λ r. Holds r (at (children (sample_values 2) 1))) rule_s (λ env lent. sym (and_one (pos 0) env (lent 0 (attribute 0 1) refl)))
 
 first_holds : Each (λ r. Holds r (at (sample_values 2))) first.rules
 first_holds =
     three (λ r. Holds r (at (sample_values 2)))
     (λ env lent. sym (occurrence_gives 0 env ∙ lent 0 (attribute 1 0) refl))
     (λ env lent. sym (occurrence_gives 0 env ∙ lent 0 (attribute 2 0) refl))
-    (λ env lent. sym (number_gives (pos 0) env))
+    (λ env lent. sym (value_of-Number (pos 0) env))
 
 pub solved : Solves AnyRule sample sample_tree (sample_values 2)
 solved = (λ r h any. first_holds h.0 r h.1, ((λ r h any. second_holds h.0 r h.1, tt), ((λ r h any. third_holds h.0 r h.1, tt), tt)))
@@ -83,14 +84,9 @@ unsolved s =
 
 given_first : (j a : ℕ) → HasKind sample first (attribute j a) (given_kind j) → (r : Rule) × IsRule first r × (r.target ≡ attribute j a)
 given_first zero zero h = (rule_out, (0, refl), refl)
-given_first zero (suc a) h = cc
-given_first (suc zero) zero h = cc
 given_first (suc zero) (suc zero) h = (rule_first, (1, refl), refl)
-given_first (suc zero) (suc (suc a)) h = cc
-given_first (suc (suc zero)) zero h = cc
 given_first (suc (suc zero)) (suc zero) h = (rule_second, (2, refl), refl)
-given_first (suc (suc zero)) (suc (suc a)) h = cc
-given_first (suc (suc (suc j))) a h = cc
+given_first j a h = cc
 
 given_second : (j a : ℕ) → HasKind sample production_a (attribute j a) (given_kind j) → (r : Rule) × IsRule production_a r × (r.target ≡ attribute j a)
 given_second zero zero h = (rule_s, (0, refl), refl)
