@@ -1,5 +1,4 @@
 -- Lemmas on attribute grammars.
-pub mod BothWays
 pub mod Children
 pub mod Kept
 pub mod Members

@@ -1,5 +1,6 @@
 -- The grammar of numbers, its tree and its values.
-use Rattle.std.proofs.Common.{ℕ, zero, suc, ◌≡◌, ◌≤◌, ◌<◌, inl, inr, Some, List, [], ◌∷◌, slice_get, slice_index_or, length, refl, ap, sym, ◌∙◌, arith, pos}
+use Rattle.ag_expr.specs.language.Evaluation.{calculated}
+use Rattle.std.proofs.Common.{slice_index_or, ℕ, zero, suc, ◌≡◌, ◌≤◌, ◌<◌, inl, inr, Some, List, [], ◌∷◌, slice_get, slice_index_or, length, refl, ap, sym, ◌∙◌, arith, pos}
 use Rattle.ag_value.specs.declared.value.Value.{Num}
 use Rattle.ag_expr.specs.declared.node.Node.TheVariants as node_of
 use Rattle.ag_expr.specs.declared.node.Operator.TheVariants.{Add}
@@ -44,27 +45,21 @@ missing c = let r = c.all (attribute 0 0) refl in no_rule r.0 r.1 r.2
 pub refused : IsAccepted without_out → ⊥
 refused a = missing (a.complete 0 lacking refl)
 
-unequal : (i j : ℕ) → i < j → i ≡ j → ⊥
-unequal i j less same = omega arith
-
 -- the rules of numbers 2 and 3 have one target
 pub doubled_refused : IsAccepted doubled → ⊥
-doubled_refused a = unequal 2 3 (omega arith) ((a.complete 0 (production_r (rule_out ∷ rule_first ∷ rule_second ∷ rule_second ∷ [])) refl).single 2 3 rule_second rule_second refl refl refl)
+doubled_refused a = let same = (a.complete 0 (production_r (rule_out ∷ rule_first ∷ rule_second ∷ rule_second ∷ [])) refl).single 2 3 rule_second rule_second refl refl refl in cc
 
 -- a rule with one occurrence and no argument
 pub bare_refused : IsAccepted bare → ⊥
-bare_refused a = unequal 0 1 (omega arith) (sym (a.named.rules_named 0 (production_r (rule_bare ∷ rule_first ∷ rule_second ∷ [])) refl 0 rule_bare refl).arguments.equally_long)
+bare_refused a = let same = (a.named.rules_named 0 (production_r (rule_bare ∷ rule_first ∷ rule_second ∷ [])) refl 0 rule_bare refl).arguments.equally_long in cc
 
 -- what holds of the three rules of the first production
 three : (P : Rule → Type 0) → P rule_out → P rule_first → P rule_second → Each P first.rules
 three P h k l = each_more P rule_out (rule_first ∷ rule_second ∷ []) h (both P rule_first rule_second k l)
 
 -- an A's rule holds where `s` is one more than `i`
-second_holds : Each (λ r. Holds r (at (children (sample_values 2) 0))) production_a.rules
-second_holds = only (λ r. Holds r (at (children (sample_values 2) 0))) rule_s (λ env lent. sym (and_one (pos 1) env (lent 0 (attribute 0 1) refl)))
-
-third_holds : Each (λ r. Holds r (at (children (sample_values 2) 1))) production_a.rules
-third_holds = only (λ r. Holds r (at (children (sample_values 2) 1))) rule_s (λ env lent. sym (and_one (pos 0) env (lent 0 (attribute 0 1) refl)))
+child_holds : (j n : ℕ) → at (children (sample_values 2) j) 0 1 ≡ Num (pos n) → at (children (sample_values 2) j) 0 0 ≡ calculated Add (pos n) (pos 1) → Each (λ r. Holds r (at (children (sample_values 2) j))) production_a.rules
+child_holds j n is more = only (λ r. Holds r (at (children (sample_values 2) j))) rule_s (λ env lent. more ∙ sym (and_one (pos n) env (lent 0 (attribute 0 1) refl ∙ is)))
 
 first_holds : Each (λ r. Holds r (at (sample_values 2))) first.rules
 first_holds =
@@ -74,7 +69,7 @@ first_holds =
     (λ env lent. sym (value_of-Number (pos 0) env))
 
 pub solved : Solves AnyRule sample sample_tree (sample_values 2)
-solved = (λ r h any. first_holds h.0 r h.1, ((λ r h any. second_holds h.0 r h.1, tt), ((λ r h any. third_holds h.0 r h.1, tt), tt)))
+solved = (λ r h any. first_holds h.0 r h.1, ((λ r h any. child_holds 0 1 refl refl h.0 r h.1, tt), ((λ r h any. child_holds 1 0 refl refl h.0 r h.1, tt), tt)))
 
 pub unsolved : Solves AnyRule sample sample_tree (sample_values 1) → ⊥
 unsolved s =
@@ -137,10 +132,6 @@ limits = record {
   literal_bytes = only (λ x. (1 ≤ length x) × (length x ≤ most_literal_bytes)) (120 ∷ []) (omega arith, omega arith);
 }
 
--- names with another first byte are not the same
-pub unlike : (a b : ℕ) (xs ys : List ℕ) → (a ≡ b → ⊥) → a ∷ xs ≡ b ∷ ys → ⊥
-unlike a b xs ys h e = h (ap (λ bytes. slice_index_or bytes 0 0) e)
-
 pub no_separator : (b : ℕ) → 32 < b → IsSeparator b → ⊥
 no_separator b above s = elim s [ inl e ↦ omega arith | inr t ↦ elim t [ inl e ↦ omega arith | inr u ↦ elim u [ inl e ↦ omega arith | inr e ↦ omega arith ] ] ]
 
@@ -165,8 +156,8 @@ used (suc l) h = absurd (omega arith)
 
 named : IsNamed sample
 named = record {
-  symbols_differ = pair (λ s. s.name) symbol_r symbol_a (unlike 82 65 [] [] (λ e. omega arith));
-  attributes_differ = both (λ s. Differ (attribute_names s)) symbol_r symbol_a (alone (λ x. x) out_name) (pair (λ x. x) s_name i_name (unlike 115 105 [] [] (λ e. omega arith)));
+  symbols_differ = pair (λ s. s.name) symbol_r symbol_a (λ e. cc);
+  attributes_differ = both (λ s. Differ (attribute_names s)) symbol_r symbol_a (alone (λ x. x) out_name) (pair (λ x. x) s_name i_name (λ e. let f : 115 ≡ 105 = ap (λ (name : List ℕ). slice_index_or name 0 0) e in omega arith));
   literals_differ = alone (λ x. x) (120 ∷ []);
   literals_used = used;
   without_separators = only (Each (λ b. IsSeparator b → ⊥)) (120 ∷ []) (only (λ b. IsSeparator b → ⊥) 120 (no_separator 120 (omega arith)));

@@ -1,15 +1,16 @@
 -- What the definitions refuse of the sample grammars.
-use Rattle.std.proofs.Common.{ℕ, zero, suc, ◌≡◌, inl, inr, List, [], ◌∷◌, Some, refl, ap, subst, arith}
+use Rattle.ag_expr.proofs.grammars.OneSolution.{counterpart}
+use Rattle.std.proofs.Common.{ℕ, zero, suc, sym, ◌≡◌, inl, inr, List, [], ◌∷◌, Some, refl, ap, subst, arith}
 use Rattle.ag_expr.specs.Lists.{Each}
 use Rattle.ag_expr.specs.declared.grammar.Item.TheVariants as item
 use Rattle.ag_expr.specs.declared.grammar.Item.{Item}
 use Rattle.ag_expr.specs.declared.grammar.Production.{Production}
 use Rattle.ag_expr.specs.declared.grammar.Terminal.TheVariants.{Literal}
-use Rattle.ag_expr.specs.grammars.AttributeGrammar.{stored_items, IsProduction}
+use Rattle.ag_expr.specs.grammars.AttributeGrammar.{Inherited, symbol_kinds, stored_items, IsProduction}
 use Rattle.ag_expr.specs.grammars.Accepted.{IsNormal, IsProductive, IsReached, at_start, within}
 use Rattle.ag_expr.specs.grammars.Tree.{Tree, Forest, node, none, more, Fits, FitsAll, IsTreeOf}
-use Rattle.ag_expr.specs.grammars.Passes.{IsLegal}
-use Rattle.ag_expr.specs.grammars.Sample.{sample, production_r, production_a, production_t, attribute, rule_out, rule_first, rule_second, rule_inherited, later_passes, endless, with_unreached}
+use Rattle.ag_expr.specs.grammars.Passes.{Passes, Direction, LeftToRight, RightToLeft, MayUse, IsBefore, direction_of, IsLegal}
+use Rattle.ag_expr.specs.grammars.Sample.{both_ways, production_back, copy_rule, s_name, symbol_a, sample, production_r, production_a, production_t, attribute, rule_out, rule_first, rule_second, rule_inherited, later_passes, endless, with_unreached}
 use Rattle.ag_expr.proofs.grammars.Members.{both, only}
 use Rattle.ag_expr.proofs.grammars.Children.{child, tree_ind}
 use Rattle.ag_expr.proofs.grammars.Productive.{by_trees}
@@ -60,3 +61,21 @@ unreached s (within p q i r h) e = on_no_right_side p q i h.0 (item.Symbol s) h.
 
 pub not_reached : IsReached with_unreached 2 → ⊥
 not_reached h = unreached 2 h refl
+
+-- what a rule at one child uses of the other comes from a child that is visited before it
+from_child : (k j i p : ℕ) → MayUse k (suc j) (suc i) p → (i ≡ j → ⊥) → IsBefore (direction_of k) (suc i) (suc j)
+from_child k j i p (inl x) other = absurd (omega (arith, x.0))
+from_child k j i p (inr (inl x)) other = x.0
+from_child k j i p (inr (inr x)) other = absurd (other (omega (arith, x.0)))
+
+-- no direction visits each of two children before the other
+not_both : (d : Direction) → IsBefore d 2 1 → IsBefore d 1 2 → ⊥
+not_both LeftToRight h k = omega arith
+not_both RightToLeft h k = omega arith
+
+pub none_legal : (m : Passes) → IsLegal both_ways m → ⊥
+none_legal m legal =
+    let i = counterpart (symbol_kinds (Some symbol_a)) (m 1) 1 Inherited (sym (legal.whole 1)) refl in
+    let first = legal.allowed 0 (production_r (rule_out ∷ rule_first ∷ rule_second ∷ [])) refl rule_first (attribute 2 0) i.0 (1, refl) (0, refl) i.1 in
+    let back = legal.allowed 2 production_back refl (copy_rule (attribute 2 1) 1 s_name 0) (attribute 1 0) i.0 (2, refl) (0, refl) i.1 in
+    not_both (direction_of i.0) (from_child i.0 0 1 first.0 first.2 (λ e. omega arith)) (from_child i.0 1 0 back.0 back.2 (λ e. omega arith))

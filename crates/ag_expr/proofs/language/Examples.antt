@@ -1,5 +1,5 @@
 -- Examples worked out by hand.
-use Rattle.std.proofs.Common.{◌≡◌, ℕ, List, [], ◌∷◌, Some, pos, codes, lit<, refl, sym, subst}
+use Rattle.std.proofs.Common.{◌≡◌, ℕ, ℤ, List, [], ◌∷◌, Some, pos, codes, lit<, refl, sym, subst}
 use Rattle.std.proofs.lemmas.Str.{encode_ascii}
 use Rattle.std.specs.Str.{chars}
 use Rattle.unicode_ident.proofs.IdentLemmas.{is_xid_start-ascii, is_xid_continue-ascii}
@@ -25,21 +25,12 @@ cut_plus rest = punctuation_cut 43 (32 ∷ rest) (punctuation.Plus, 32 ∷ rest)
 cut_times : (rest : List ℕ) → token_from (42 ∷ rest) ≡ Some (token.Punctuation punctuation.Times, rest)
 cut_times rest = punctuation_cut 42 rest (punctuation.Times, rest) (no_start 42 (lit< tt) refl refl) refl refl refl refl
 
-cut_two : (rest : List ℕ) → token_from (50 ∷ 32 ∷ rest) ≡ Some (token.Number (pos 2), 32 ∷ rest)
-unfolding token_from
-cut_two rest = refl
+abbrev IsNumber : ℤ → List ℕ → List ℕ → Type 0
+IsNumber n cs rest = token_from cs ≡ Some (token.Number n, rest)
 
-cut_three : (rest : List ℕ) → token_from (51 ∷ 32 ∷ rest) ≡ Some (token.Number (pos 3), 32 ∷ rest)
+cut_numbers : (rest : List ℕ) → IsNumber (pos 2) (50 ∷ 32 ∷ rest) (32 ∷ rest) × IsNumber (pos 3) (51 ∷ 32 ∷ rest) (32 ∷ rest) × IsNumber (pos 2) (50 ∷ []) [] × IsNumber (pos 4) (52 ∷ []) []
 unfolding token_from
-cut_three rest = refl
-
-cut_last_two : token_from (50 ∷ []) ≡ Some (token.Number (pos 2), [])
-unfolding token_from
-cut_last_two = refl
-
-cut_last_four : token_from (52 ∷ []) ≡ Some (token.Number (pos 4), [])
-unfolding token_from
-cut_last_four = refl
+cut_numbers rest = (refl, refl, refl, refl)
 
 pub occurrence_and_number : AreTokens 0 (codes "$1.a + 2") (token.Occurrence 1 (codes "a") ∷ token.Punctuation punctuation.Plus ∷ token.Number (pos 2) ∷ []) (0 ∷ 5 ∷ 7 ∷ []) 8 []
 occurrence_and_number =
@@ -47,7 +38,7 @@ occurrence_and_number =
     let none = begun all 0 refl in
     let one = one_more all [] [] 0 all (token.Occurrence 1 (codes "a")) (codes " + 2") 1 none cut_occurrence refl refl in
     let two = one_more all _ _ 5 (codes "+ 2") (token.Punctuation punctuation.Plus) (codes " 2") 1 one (cut_plus (50 ∷ [])) refl refl in
-    let three = one_more all _ _ 7 (codes "2") (token.Number (pos 2)) [] 0 two cut_last_two refl refl in
+    let three = one_more all _ _ 7 (codes "2") (token.Number (pos 2)) [] 0 two (cut_numbers []).2 refl refl in
     three.tokens
 
 sum_tokens : List Token
@@ -58,11 +49,11 @@ unfolding sum_tokens
 are_sum_tokens =
     let all = codes "2 + 3 * 4" in
     let none = begun all 0 refl in
-    let one = one_more all [] [] 0 all (token.Number (pos 2)) (codes " + 3 * 4") 1 none (cut_two (codes "+ 3 * 4")) refl refl in
+    let one = one_more all [] [] 0 all (token.Number (pos 2)) (codes " + 3 * 4") 1 none (cut_numbers (codes "+ 3 * 4")).0 refl refl in
     let two = one_more all _ _ 2 (codes "+ 3 * 4") (token.Punctuation punctuation.Plus) (codes " 3 * 4") 1 one (cut_plus (codes "3 * 4")) refl refl in
-    let three = one_more all _ _ 4 (codes "3 * 4") (token.Number (pos 3)) (codes " * 4") 1 two (cut_three (codes "* 4")) refl refl in
+    let three = one_more all _ _ 4 (codes "3 * 4") (token.Number (pos 3)) (codes " * 4") 1 two (cut_numbers (codes "* 4")).1 refl refl in
     let four = one_more all _ _ 6 (codes "* 4") (token.Punctuation punctuation.Times) (codes " 4") 1 three (cut_times (codes " 4")) refl refl in
-    let five = one_more all _ _ 8 (codes "4") (token.Number (pos 4)) [] 0 four cut_last_four refl refl in
+    let five = one_more all _ _ 8 (codes "4") (token.Number (pos 4)) [] 0 four (cut_numbers []).3 refl refl in
     five.tokens
 
 sum_is_parsed : expr_of [] 64 sum_tokens ≡ Some sum_and_product

@@ -22,12 +22,16 @@ front_reaches p (c ∷ word) more h =
     let so_far = front_reaches p word more ((and_parts (p c) (list_all p word) h).1) in
     rw here (omega arith)
 
--- and is just as long where the next character does not pass
+-- and is just as long where none of what stands behind it passes,
+pub front_is : (p : ℕ → Bool) (front rest : List ℕ) → list_all p front ≡ true → prefix_len p rest ≡ 0 → prefix_len p (front ++ rest) ≡ length front
+front_is p [] rest all none = none
+front_is p (c ∷ front) rest all none =
+    let here : p c ≡ true = (and_parts (p c) (list_all p front) all).0 in
+    rw (here, front_is p front rest ((and_parts (p c) (list_all p front) all).1) none) (omega arith)
+
+-- as where the next character does not
 pub front_ends : (p : ℕ → Bool) (word more : List ℕ) (c : ℕ) → list_all p word ≡ true → p c ≡ false → prefix_len p (word ++ c ∷ more) ≡ length word
-front_ends p [] more c h ends = rw ends refl
-front_ends p (d ∷ word) more c h ends =
-    let here : p d ≡ true = (and_parts (p d) (list_all p word) h).0 in
-    rw (here, front_ends p word more c ((and_parts (p d) (list_all p word) h).1) ends) (omega arith)
+front_ends p word more c h ends = front_is p word (c ∷ more) h (rw ends refl)
 
 pub digits_grow : (n : ℕ) (ds : List ℕ) → n ≤ digits_value_after 10 n ds
 digits_grow n [] = omega arith

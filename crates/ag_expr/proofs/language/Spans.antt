@@ -1,5 +1,5 @@
 -- The longest front of a text whose characters pass, beside a loop over its characters.
-use Rattle.std.proofs.lemmas.Bool.{and_parts}
+use Rattle.ag_expr.proofs.language.Fronts.{front_is}
 use Rattle.std.proofs.Common.{◌≡◌, ℕ, ◌-◌, ◌<◌, ◌≤◌, Bool, true, List, [], ◌∷◌, ◌++◌, length, take, drop, Bor, Some, chars, IsUtf8, encode_utf8, encode_utf8_all, refl, ap, sym, ◌∙◌, subst, arith, append_assoc, append-nil, length-append}
 use Rattle.std.specs.List.{prefix_len, list_all}
 use Rattle.std.specs.Str.{IsCharBoundary}
@@ -30,12 +30,6 @@ goes_on class text rest after (c, passes, characters, split) so_far = record {
 
 pub nearer : (class : Class) (rest : List ℕ) (after : Bor (List ℕ)) → PassesOne class rest (Some after) → length after.now < length rest
 nearer class rest after (c, passes, characters, split) = let some = (len_utf8_bounds c).0 in omega (arith, ap length split, length-append (encode_utf8 c) after.now, length-encode c)
-
-front_is : (p : ℕ → Bool) (front rest : List ℕ) → list_all p front ≡ true → prefix_len p rest ≡ 0 → prefix_len p (front ++ rest) ≡ length front
-front_is p [] rest all none = none
-front_is p (c ∷ front) rest all none =
-    let here : p c ≡ true = (and_parts (p c) (list_all p front) all).0 in
-    rw (here, front_is p front rest ((and_parts (p c) (list_all p front) all).1) none) (omega arith)
 
 module _ (class : Class) (text rest : List ℕ) (so_far : Passed (is_in class) text rest) where
   pub boundary : IsUtf8 rest → IsCharBoundary text (length text - length rest)

@@ -1,4 +1,4 @@
-use Rattle.ag_expr.proofs.grammars.BothWays.{none_legal}
+use Rattle.ag_expr.proofs.grammars.Refused.{none_legal}
 use Rattle.ag_expr.proofs.samples.none_legal.Goals as goal
 
 pub returns : goal.returns
