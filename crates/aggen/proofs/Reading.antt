@@ -6,8 +6,8 @@ use Rattle.ag_value.specs.Well.{IsWell}
 use Rattle.treefile.specs.declared.body.Kind.TheVariants.{Token}
 use Rattle.treefile.specs.declared.reading.FrameFault.{FrameFault}
 use Rattle.treefile.specs.declared.reading.FrameFault.TheVariants.{NotATreeFile, Damaged, Device, NoMemory}
-use Rattle.treefile.specs.Ending.{Told, last_body_of}
-use Rattle.treefile.specs.TreeFile.{body_of}
+use Rattle.treefile.specs.Ending.{Told, last_body_of, version_one_usable}
+use Rattle.treefile.specs.TreeFile.{body_of, version_one}
 use Rattle.treefile.proofs.Files.{last_of_file}
 use Rattle.treefile.proofs.Sizes.{body_size}
 use Rattle.aggen.specs.declared.fault.Fault.{Fault}
@@ -19,13 +19,13 @@ one_well : (value : Value) → IsWell value → All IsWell (value ∷ [])
 one_well value well zero d lt = well
 one_well value well (suc k) d lt = absurd (omega arith)
 
-pub last_of : (value : Value) → IsWell value → last_body_of (file_of value) ≡ Ok (body_of Token 0 (value ∷ []))
-last_of value well = last_of_file 0 [] (body_of Token 0 (value ∷ [])) (omega arith) (body_size Token 0 (value ∷ []) (omega arith) (one_well value well))
+pub last_of : (value : Value) → IsWell value → last_body_of version_one (file_of value) ≡ Ok (body_of Token 0 (value ∷ []))
+last_of value well = last_of_file version_one 0 [] (body_of Token 0 (value ∷ [])) version_one_usable (omega arith) (body_size version_one Token 0 (value ∷ []) (omega arith) (one_well value well))
 
-pub body_told : (content body found : List ℕ) → last_body_of content ≡ Ok body → last_body_of content ≡ Ok found → found ≡ body
+pub body_told : (content body found : List ℕ) → last_body_of version_one content ≡ Ok body → last_body_of version_one content ≡ Ok found → found ≡ body
 body_told content body found e f = let same : Ok body ≡ Ok found = sym e ∙ f in cc
 
-pub want_told : (content body : List ℕ) (e : FrameFault) → last_body_of content ≡ Ok body → Told (λ (x : List ℕ). x) (Err e) (last_body_of content) → IsWant (frame_fault_of e)
+pub want_told : (content body : List ℕ) (e : FrameFault) → last_body_of version_one content ≡ Ok body → Told (λ (x : List ℕ). x) (Err e) (last_body_of version_one content) → IsWant (frame_fault_of e)
 want_told content body NotATreeFile is told = let bad : Err NotATreeFile ≡ Ok body = sym told ∙ is in absurd cc
 want_told content body (Damaged at) is told = let bad : Err (Damaged at) ≡ Ok body = sym told ∙ is in absurd cc
 want_told content body Device is told = tt

@@ -1,3 +1,5 @@
+//! The words of the command line, and what they ask for.
+
 ghost use Rattle.std.specs.Prelude.{IfErr};
 ghost use Rattle.aggen.specs.Status.{IsCommandFault};
 

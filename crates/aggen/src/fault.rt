@@ -1,3 +1,5 @@
+//! The program's faults: their messages, their statuses, and the faults of the crates below.
+
 ghost use Rattle.std.specs.Prelude.{◌≡◌};
 ghost use Rattle.aggen.specs.Status.{expr_fault_of, frame_fault_of, status_of, write_fault_of};
 ghost use Rattle.aggen.specs.declared.fault.Fault.TheVariants as program_fault;

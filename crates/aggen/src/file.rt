@@ -1,9 +1,11 @@
+//! The tree file with one record that a value goes through, and the line that tells a value.
+
 ghost use Rattle.std.specs.Prelude.{◌≡◌, ◌+◌, ◌∷◌, ℕ, [], true, Ok, length, string_bytes, IfErr, IfOk, IsErrOf, MatchResult, OnOk};
 ghost use Rattle.ag_value.specs.Well.{IsWell};
 ghost use Rattle.ag_value.specs.declared.value.Value.{Value as AttributeValue};
-ghost use Rattle.treefile.specs.Device.{Counts};
+ghost use Rattle.treefile.specs.Device.{LeavesContent, Persists, WhenHonest};
 ghost use Rattle.treefile.specs.Ending.{last_body_of};
-ghost use Rattle.treefile.specs.TreeFile.{body_of};
+ghost use Rattle.treefile.specs.TreeFile.{body_of, version_one};
 ghost use Rattle.aggen.specs.Showing.{IsFileFault, IsWant, file_of, line_of};
 
 use crate::fault::Fault;
@@ -15,10 +17,11 @@ use treefile::{Device, Kind, Writer, last_body, split_body};
 /// the device failed.
 pub fn write_file<D: Device>(alloc: Global, device: &mut D, value: Value) -> Result<(), Fault>
     requires { IsWell value }
-    ensures ok { OnOk result (D.is_honest device.old ≡ true → D.content device.new ≡ file_of value) }
+    ensures ok { OnOk result
+        (WhenHonest (D.is_honest device.old) (D.content device.new ≡ file_of value)) }
     ensures err { IfErr result IsWant }
-    ensures honest { D.is_honest device.new ≡ D.is_honest device.old }
-    ensures counts { Counts (D.failures device.old) (D.failures device.new) (IsErrOf result Fault.Device) }
+    ensures persists { Persists (D.is_honest device.old) (D.is_honest device.new)
+        (D.failures device.old) (D.failures device.new) (IsErrOf result Fault.Device) }
 {
     let mut writer = Writer::begin(alloc, device, 0)?;
     writer.put(device, Kind::Token, 0, &[value])?;
@@ -31,12 +34,17 @@ const BYTES_BESIDE_BODY: u64 = 10;
 /// The value in the last record of a tree file. B2 Damaged at the file's end where that record is no token of number 0
 /// with exactly one value; B1, B2 and D1 as `last_body` answers them.
 pub fn read_file<D: Device>(alloc: Global, device: &mut D) -> Result<Value, Fault>
-    ensures found { D.is_honest device.old ≡ true → IfOk result (λ value. last_body_of (D.content device.old) ≡ Ok (body_of Kind.Token 0 (value ∷ []))) }
-    ensures read { D.is_honest device.old ≡ true → (value : AttributeValue) → IsWell value → D.content device.old ≡ file_of value → MatchResult result (λ found. found ≡ value) IsWant }
+    ensures found { WhenHonest (D.is_honest device.old) (IfOk result
+        (λ value. last_body_of version_one (D.content device.old)
+        ≡ Ok (body_of Kind.Token 0 (value ∷ [])))) }
+    ensures read { WhenHonest (D.is_honest device.old)
+        ((value : AttributeValue) → IsWell value → D.content device.old ≡ file_of value →
+        MatchResult result (λ found. found ≡ value) IsWant) }
     ensures err { IfErr result IsFileFault }
-    ensures content { D.is_honest device.old ≡ true → D.content device.new ≡ D.content device.old }
-    ensures honest { D.is_honest device.new ≡ D.is_honest device.old }
-    ensures counts { Counts (D.failures device.old) (D.failures device.new) (IsErrOf result Fault.Device) }
+    ensures content { LeavesContent (D.is_honest device.old)
+        (D.content device.old) (D.content device.new) }
+    ensures persists { Persists (D.is_honest device.old) (D.is_honest device.new)
+        (D.failures device.old) (D.failures device.new) (IsErrOf result Fault.Device) }
 {
     let body = last_body(alloc, device)?;
     value_in(alloc, body.as_slice())

@@ -1,3 +1,5 @@
+//! A fault in one line for a reader.
+
 use crate::fault::Fault;
 use ag_expr::ExprFault;
 use std::fmt;

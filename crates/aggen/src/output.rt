@@ -1,3 +1,5 @@
+//! Writing bytes until all are taken.
+
 ghost use Rattle.std.specs.Prelude.{◌≡◌, OnOk, OnErr};
 ghost use Rattle.std.specs.Io.KnownBytes.{Appends};
 ghost use Rattle.aggen.specs.Output.{AppendsBeginning};

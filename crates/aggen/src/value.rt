@@ -1,7 +1,9 @@
-ghost use Rattle.std.specs.Prelude.{◌≡◌, ◌≢◌, [], true, IfErr, IfOk, IsErrAnd, IsErrOf, OnOk};
+//! The program's one command: the value of an expression, by way of a tree file.
+
+ghost use Rattle.std.specs.Prelude.{◌≡◌, ◌≢◌, [], IfErr, IfOk, IsErrAnd, IsErrOf, OnOk};
 ghost use Rattle.ag_expr.specs.Expression.{ReadsAsExpr};
 ghost use Rattle.ag_value.specs.Well.{IsWell};
-ghost use Rattle.treefile.specs.Device.{Counts};
+ghost use Rattle.treefile.specs.Device.{Persists, WhenHonest};
 ghost use Rattle.aggen.specs.Showing.{HasNone, HasValue, IsDamage, IsExprFault, IsTextFault, Shows, ShowsBeginning};
 
 use crate::fault::Fault;
@@ -25,7 +27,8 @@ pub fn show_value<D: Device, W: Write>(
     device: &mut D,
     out: &mut W,
 ) -> Result<(), Fault>
-    ensures shows { OnOk result (D.is_honest device.old ≡ true → Shows text.now (W.contents out.old) (W.contents out.new) (D.content device.new)) }
+    ensures shows { OnOk result (WhenHonest (D.is_honest device.old)
+        (Shows text.now (W.contents out.old) (W.contents out.new) (D.content device.new))) }
 
     // X exactly where no expression without occurrences is related to the text, and the device is untouched then
     ensures refused { IfErr result (λ e. IsExprFault e → HasNone text.now) }
@@ -33,13 +36,14 @@ pub fn show_value<D: Device, W: Write>(
     ensures untouched { IfErr result (λ e. IsExprFault e → device.new ≡ device.old) }
 
     // an honest device gives back what was written; D1 only where it failed
-    ensures undamaged { D.is_honest device.old ≡ true → IfErr result (λ e. ¬ (IsDamage e)) }
-    ensures honest { D.is_honest device.new ≡ D.is_honest device.old }
-    ensures counts { Counts (D.failures device.old) (D.failures device.new) (IsErrOf result Fault.Device) }
+    ensures undamaged { WhenHonest (D.is_honest device.old) (IfErr result (λ e. ¬ (IsDamage e))) }
+    ensures persists { Persists (D.is_honest device.old) (D.is_honest device.new)
+        (D.failures device.old) (D.failures device.new) (IsErrOf result Fault.Device) }
 
     // nothing is written before all is known, and no refusal but O2 comes after something was
     ensures kept { IfErr result (λ e. e ≢ Fault.Write → out.new ≡ out.old) }
-    ensures write { IsErrOf result Fault.Write → D.is_honest device.old ≡ true → ShowsBeginning text.now (W.contents out.old) (W.contents out.new) }
+    ensures write { IsErrOf result Fault.Write → WhenHonest (D.is_honest device.old)
+        (ShowsBeginning text.now (W.contents out.old) (W.contents out.new)) }
     ensures usage { ¬ (IsErrOf result Fault.Usage) }
 {
     let value = value_of(alloc, text)?;

@@ -8,7 +8,8 @@ use Rattle.ag_value.specs.Spelling.{spelling_of}
 use Rattle.ag_value.specs.Well.{IsWell}
 use Rattle.ag_value.proofs.Lengths.{length-spelling}
 use Rattle.treefile.specs.declared.body.Kind.{Kind}
-use Rattle.treefile.specs.TreeFile.{body_of}
+use Rattle.treefile.specs.TreeFile.{Version, body_of}
+use Rattle.treefile.specs.Ending.{greatest_body}
 
 -- the spelling of a well value is as long as the value is heavy
 spelling_size : (value : Value) → IsWell value → length (spelling_of value) ≤ 1048576
@@ -21,6 +22,6 @@ spellings_size (value ∷ values) all =
     let others : length (flat_map spelling_of values) ≤ length values * 1048576 = spellings_size values (All-drop IsWell 1 (value ∷ values) all) in
     omega (arith, length-append (spelling_of value) (flat_map spelling_of values))
 
--- a kind, a number, and at most sixteen well values
-pub body_size : (kind : Kind) (number : ℕ) (values : List Value) → length values ≤ 16 → All IsWell values → length (body_of kind number values) ≤ 16777219
-body_size kind number values few all = omega (arith, spellings_size values all)
+-- a kind, a number, and at most as many well values as the version allows
+pub body_size : (version : Version) (kind : Kind) (number : ℕ) (values : List Value) → length values ≤ version.most_values → All IsWell values → length (body_of kind number values) ≤ greatest_body version
+body_size version kind number values few all = omega (arith, spellings_size values all)

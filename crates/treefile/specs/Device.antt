@@ -1,5 +1,5 @@
 -- What the calls of a device tell of its content and of its failures. All of this is this project's.
-use Rattle.std.specs.Prelude.{◌≡◌, ◌≢◌, ℕ, ◌^◌, ◌-◌, ◌<◌, ◌≤◌, ◌⊎◌, List, [], ◌∷◌, ◌++◌, take, Result, Ok, Err, refl}
+use Rattle.std.specs.Prelude.{◌≡◌, ◌≢◌, ℕ, ◌^◌, ◌-◌, ◌<◌, ◌≤◌, ◌⊎◌, Bool, true, List, [], ◌∷◌, ◌++◌, take, Result, Ok, Err, refl}
 use Rattle.std.proofs.Common.{inl, inr, lit<}
 use Rattle.treefile.specs.declared.device.DeviceFault.{DeviceFault}
 use Rattle.treefile.specs.declared.device.DeviceFault.TheVariants.{Failed, NoMemory}
@@ -13,12 +13,22 @@ most_failures = 2 ^ 64 - 1
 abbrev pub HasRisen : ℕ → ℕ → Type 0
 HasRisen before now = (before < now) ⊎ (now ≡ most_failures)
 
--- The number of failures never falls, passes the most that is counted only where it had passed it, and has risen
--- where the call's answer is that the device failed.
-pub record Counts (before now : ℕ) (failed : Type 0) : Type 0 where
+-- What a call keeps of a device besides its content. The device is honest exactly where it was. The number of
+-- failures never falls, passes the most that is counted only where it had passed it, and has risen where the call's
+-- answer is that the device failed.
+pub record Persists (honest_before honest_now : Bool) (before now : ℕ) (failed : Type 0) : Type 0 where
+  pub honest : honest_now ≡ honest_before
   pub kept : before ≤ now
   pub bounded : before ≤ most_failures → now ≤ most_failures
   pub cause : failed → HasRisen before now
+
+-- the fact holds where the device is honest
+abbrev pub WhenHonest : Bool → Type 0 → Type 0
+WhenHonest honest fact = honest ≡ true → fact
+
+-- where the device is honest, the content is as before
+abbrev pub LeavesContent : Bool → List ℕ → List ℕ → Type 0
+LeavesContent honest old new = WhenHonest honest (new ≡ old)
 
 -- want of memory is not the answer
 abbrev pub TakesNoMemory : {A : Type 0} → Result A DeviceFault → Type 0

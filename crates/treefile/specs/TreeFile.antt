@@ -1,4 +1,4 @@
--- The bytes of a tree file, version 1: this project's layout. All numbers are big-endian.
+-- The bytes of a tree file of a version: this project's layout. All numbers are big-endian.
 use Rattle.std.specs.Prelude.{◌≡◌, ℕ, List, [], ◌∷◌, ◌++◌, length, pos, refl}
 use Rattle.std.proofs.Common.{ap, sym, ◌∙◌}
 use Rattle.std.specs.List.{flat_map}
@@ -12,21 +12,26 @@ use Rattle.ag_value.specs.Spelling.{spelling_of, spelling_step}
 use Rattle.treefile.specs.declared.body.Kind.{Kind}
 use Rattle.treefile.specs.declared.body.Kind.TheVariants.{Node, Token}
 
--- the first four bytes, AGT1
-abbrev pub magic : List ℕ
-magic = 65 ∷ 71 ∷ 84 ∷ 49 ∷ []
+-- a version of tree files: the bytes with which each of its files begins, and how many values a record has at most
+pub record Version : Type 0 where
+  pub magic : List ℕ
+  pub most_values : ℕ
 
--- the first six bytes: those four, and the number of the pass that wrote the file in two
-abbrev pub header : ℕ → List ℕ
-header pass = magic ++ to_be_bytes w16 pass
+-- version 1: AGT1, and at most sixteen values
+abbrev pub version_one : Version
+version_one = record { magic = 65 ∷ 71 ∷ 84 ∷ 49 ∷ []; most_values = 16 }
+
+-- the first bytes of a file: those of its version, and the number of the pass that wrote it in two
+abbrev pub header : Version → ℕ → List ℕ
+header version pass = version.magic ++ to_be_bytes w16 pass
 
 -- A frame is a body and then the body's length in four bytes, so that frames are read from the last to the first.
 abbrev pub frame : List ℕ → List ℕ
 frame body = body ++ to_be_bytes w32 (length body)
 
 -- a file is its header and the frames of its bodies
-abbrev pub file : ℕ → List (List ℕ) → List ℕ
-file pass bodies = header pass ++ flat_map frame bodies
+abbrev pub file : Version → ℕ → List (List ℕ) → List ℕ
+file version pass bodies = header version pass ++ flat_map frame bodies
 
 -- the first byte of a body
 abbrev pub kind_byte : Kind → ℕ
@@ -41,7 +46,7 @@ body_from kind number spellings = kind_byte kind ∷ (to_be_bytes w16 number ++ 
 abbrev pub body_of : Kind → ℕ → List Value → List ℕ
 body_of kind number values = body_from kind number (flat_map spelling_of values)
 
--- The file of pass 0 with one record, a token of class 0 with the value 14: 22 bytes,
+-- The file of version 1 and pass 0 with one record, a token of class 0 with the value 14: 22 bytes,
 -- 41475431 0000, 01 0000 00 000000000000000e, 0000000c.
 abbrev pub file_of_fourteen : List ℕ
 file_of_fourteen = 65 ∷ 71 ∷ 84 ∷ 49 ∷ 0 ∷ 0 ∷ 1 ∷ 0 ∷ 0 ∷ 0 ∷ 0 ∷ 0 ∷ 0 ∷ 0 ∷ 0 ∷ 0 ∷ 0 ∷ 14 ∷ 0 ∷ 0 ∷ 0 ∷ 12 ∷ []
@@ -49,9 +54,9 @@ file_of_fourteen = 65 ∷ 71 ∷ 84 ∷ 49 ∷ 0 ∷ 0 ∷ 1 ∷ 0 ∷ 0 ∷ 0 �
 fourteen : spelling_of (value.Num (pos 14)) ≡ 0 ∷ 0 ∷ 0 ∷ 0 ∷ 0 ∷ 0 ∷ 0 ∷ 0 ∷ 14 ∷ []
 fourteen = ap spelling_of (sym (rolls-Num (pos 14))) ∙ fold-roll-Value (List ℕ) spelling_step (Value-F.Num (pos 14))
 
-pub bytes_of_fourteen : file 0 (body_of Token 0 (value.Num (pos 14) ∷ []) ∷ []) ≡ file_of_fourteen
-bytes_of_fourteen = ap (λ (spelling : List ℕ). file 0 (body_from Token 0 (spelling ++ []) ∷ [])) fourteen
+pub bytes_of_fourteen : file version_one 0 (body_of Token 0 (value.Num (pos 14) ∷ []) ∷ []) ≡ file_of_fourteen
+bytes_of_fourteen = ap (λ (spelling : List ℕ). file version_one 0 (body_from Token 0 (spelling ++ []) ∷ [])) fourteen
 
--- a node of production 258 without values in a file of pass 1
-pub bytes_of_node : file 1 (body_of Node 258 [] ∷ []) ≡ 65 ∷ 71 ∷ 84 ∷ 49 ∷ 0 ∷ 1 ∷ 0 ∷ 1 ∷ 2 ∷ 0 ∷ 0 ∷ 0 ∷ 3 ∷ []
+-- a node of production 258 without values in a file of version 1 and pass 1
+pub bytes_of_node : file version_one 1 (body_of Node 258 [] ∷ []) ≡ 65 ∷ 71 ∷ 84 ∷ 49 ∷ 0 ∷ 1 ∷ 0 ∷ 1 ∷ 2 ∷ 0 ∷ 0 ∷ 0 ∷ 3 ∷ []
 bytes_of_node = refl

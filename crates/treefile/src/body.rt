@@ -1,4 +1,7 @@
-ghost use Rattle.std.specs.Prelude.{◌≡◌, ◌<◌, ◌^◌, ◌⊎◌, ℕ, List, length, IfNone, IfSome, IsSomeAnd, slice_index};
+//! The body of a record: its kind, its number and the spellings of its values.
+
+ghost use Rattle.std.specs.Prelude.{◌≡◌, ◌<◌, ◌^◌, ◌⊎◌, ℕ, List, length, IfNone, IfSome, IsSomeAnd};
+ghost use Rattle.std.specs.Prelude.{slice_index};
 ghost use Rattle.treefile.specs.TreeFile.{body_from};
 ghost use Rattle.treefile.specs.declared.body.Kind.{Kind};
 
@@ -25,15 +28,19 @@ impl Kind {
     }
 }
 
-/// The kind, the number and the spellings of the values of a body, or `None` where it has fewer than three bytes or
-/// its first byte is neither 0 (a node) nor 1 (a token). Whether spellings follow isn't looked at. Takes no memory.
+/// The kind, the number and the spellings of the values of a body, or `None` where it has fewer
+/// than three bytes or its first byte is neither 0 (a node) nor 1 (a token). Whether spellings
+/// follow isn't looked at. Takes no memory.
 pub fn split_body(body: &[u8]) -> Option<(Kind, u16, &[u8])>
     // What is given stands there,
     ensures fields { IfSome result (λ fields. body.now ≡ body_from fields.0 fields.1 fields.2.now) }
     ensures none { IfNone result ((length body.now < 3) ⊎ (1 < slice_index body.now 0)) }
 
     // and what stands there is given.
-    ensures only { (kind : Kind) (number : ℕ) (spellings : List ℕ) → number < 2 ^ 16 → body.now ≡ body_from kind number spellings → IsSomeAnd result (λ fields. (fields.0 ≡ kind) × (fields.1 ≡ number) × (fields.2.now ≡ spellings)) }
+    ensures only { (kind : Kind) (number : ℕ) (spellings : List ℕ) → number < 2 ^ 16 →
+        body.now ≡ body_from kind number spellings →
+        IsSomeAnd result (λ fields. (fields.0 ≡ kind) × (fields.1 ≡ number)
+        × (fields.2.now ≡ spellings)) }
 {
     let [kind, high, low, spellings @ ..] = body else {
         return None;

@@ -1,4 +1,7 @@
-ghost use Rattle.std.specs.Prelude.{◌≡◌, ◌≤◌, ◌+◌, ℕ, List, Bool, true, length, slice_range, IfOk, IsErrOf, OnOk};
+//! What a device is: bytes that grow at their end, and what each call may do to them.
+
+ghost use Rattle.std.specs.Prelude.{◌≡◌, ◌≤◌, ◌+◌, ℕ, List, Bool, length, slice_range, IfOk};
+ghost use Rattle.std.specs.Prelude.{IsErrOf, OnOk};
 
 /// Why a call of a device gave no answer.
 #[derive(Clone, Copy, Debug, PartialEq, Eq)]
@@ -11,7 +14,8 @@ pub enum DeviceFault {
 
 /// Bytes that grow at their end: a file, or memory that stands for one.
 pub trait Device {
-    ghost use Rattle.treefile.specs.Device.{Appends, Clears, Counts, TakesNoMemory};
+    ghost use Rattle.treefile.specs.Device.{Appends, Clears, LeavesContent, Persists};
+    ghost use Rattle.treefile.specs.Device.{TakesNoMemory, WhenHonest};
 
     /// The bytes that it has.
     ghost content: { Self → List ℕ };
@@ -24,31 +28,36 @@ pub trait Device {
 
     /// How many bytes there are. Takes no memory.
     fn len(&mut self) -> Result<u64, DeviceFault>
-        ensures length { is_honest self.old ≡ true → IfOk result (λ n. n ≡ length (content self.old)) }
-        ensures content { is_honest self.old ≡ true → content self.new ≡ content self.old }
-        ensures honest { is_honest self.new ≡ is_honest self.old }
-        ensures counts { Counts (failures self.old) (failures self.new) (IsErrOf result DeviceFault.Failed) }
+        ensures length { WhenHonest (is_honest self.old)
+            (IfOk result (λ n. n ≡ length (content self.old))) }
+        ensures content { LeavesContent (is_honest self.old) (content self.old) (content self.new) }
+        ensures persists { Persists (is_honest self.old) (is_honest self.new)
+            (failures self.old) (failures self.new) (IsErrOf result DeviceFault.Failed) }
         ensures memory { TakesNoMemory result };
 
     /// Puts bytes at the end. After `Failed` a beginning of them may stand there.
     fn append(&mut self, bytes: &[u8]) -> Result<(), DeviceFault>
-        ensures content { is_honest self.old ≡ true → Appends bytes.now (content self.old) (content self.new) result }
-        ensures honest { is_honest self.new ≡ is_honest self.old }
-        ensures counts { Counts (failures self.old) (failures self.new) (IsErrOf result DeviceFault.Failed) };
+        ensures content { WhenHonest (is_honest self.old)
+            (Appends bytes.now (content self.old) (content self.new) result) }
+        ensures persists { Persists (is_honest self.old) (is_honest self.new)
+            (failures self.old) (failures self.new) (IsErrOf result DeviceFault.Failed) };
 
     /// Fills `out` with the bytes from an offset on, and with anything where there are too few.
     /// Takes no memory.
     fn read_at(&mut self, at: u64, out: &mut [u8]) -> Result<(), DeviceFault>
-        ensures bytes { is_honest self.old ≡ true → at + length out.old ≤ length (content self.old) → OnOk result (out.new ≡ slice_range (content self.old) at (at + length out.old)) }
-        ensures content { is_honest self.old ≡ true → content self.new ≡ content self.old }
-        ensures honest { is_honest self.new ≡ is_honest self.old }
-        ensures counts { Counts (failures self.old) (failures self.new) (IsErrOf result DeviceFault.Failed) }
+        ensures bytes { WhenHonest (is_honest self.old)
+            (at + length out.old ≤ length (content self.old) →
+            OnOk result (out.new ≡ slice_range (content self.old) at (at + length out.old))) }
+        ensures content { LeavesContent (is_honest self.old) (content self.old) (content self.new) }
+        ensures persists { Persists (is_honest self.old) (is_honest self.new)
+            (failures self.old) (failures self.new) (IsErrOf result DeviceFault.Failed) }
         ensures memory { TakesNoMemory result };
 
     /// Takes all bytes away. After `Failed` they may all be there still. Takes no memory.
     fn clear(&mut self) -> Result<(), DeviceFault>
-        ensures content { is_honest self.old ≡ true → Clears (content self.old) (content self.new) result }
-        ensures honest { is_honest self.new ≡ is_honest self.old }
-        ensures counts { Counts (failures self.old) (failures self.new) (IsErrOf result DeviceFault.Failed) }
+        ensures content { WhenHonest (is_honest self.old)
+            (Clears (content self.old) (content self.new) result) }
+        ensures persists { Persists (is_honest self.old) (is_honest self.new)
+            (failures self.old) (failures self.new) (IsErrOf result DeviceFault.Failed) }
         ensures memory { TakesNoMemory result };
 }

@@ -1,36 +1,59 @@
-ghost use Rattle.std.specs.Prelude.{◌≡◌, ◌≤◌, ◌++◌, ◌∷◌, ◌↔◌, ℕ, List, [], length, take, true, All, Ok, Err};
+//! What is true of the definitions of tree files alone, in every version.
+
+ghost use Rattle.std.specs.Prelude.{◌≡◌, ◌≤◌, ◌++◌, ◌∷◌, ◌↔◌, ℕ, List, [], length, take, true, All};
+ghost use Rattle.std.specs.Prelude.{Ok, Err};
 ghost use Rattle.ag_value.specs.Well.{IsWell};
 ghost use Rattle.ag_value.specs.declared.value.Value.{Value};
-ghost use Rattle.treefile.specs.Ending.{IsBodyBefore, IsBytes, body_before, greatest_body, header_bytes, is_tree_file, last_body_of, least_body};
-ghost use Rattle.treefile.specs.TreeFile.{body_of, file, frame, magic};
+ghost use Rattle.treefile.specs.Ending.{IsBodyBefore, IsBytes, IsUsable, body_before};
+ghost use Rattle.treefile.specs.Ending.{greatest_body, header_bytes, is_tree_file, last_body_of};
+ghost use Rattle.treefile.specs.Ending.{least_body};
+ghost use Rattle.treefile.specs.TreeFile.{Version, body_of, file, frame};
 ghost use Rattle.treefile.specs.declared.body.Kind.{Kind};
 ghost use Rattle.treefile.specs.declared.reading.FrameFault.TheVariants.{Damaged};
 
-/// A content is a tree file exactly where there is room for a header and the first four bytes are those of one.
-#[tactic(auto, unfolding(crate::specs::Ending::is_tree_file))]
+/// A content is a tree file exactly where there is room for a header and the first bytes are those
+/// of the version.
 pub fn headers_are_told()
-    ensures { (content : List ℕ) → (is_tree_file content ≡ true) ↔ ((header_bytes ≤ length content) × (take 4 content ≡ magic)) }
+    ensures { (version : Version) (content : List ℕ) →
+        (is_tree_file version content ≡ true)
+        ↔ ((header_bytes ≤ length content)
+        × (take (length version.magic) content ≡ version.magic)) }
 {}
 
-/// Of a content of bytes, a body is read exactly where its frame ends at the offset, and the offset is told as damaged
-/// exactly where no frame ends there.
+/// Of a content of bytes, a body is read exactly where its frame ends at the offset, and the offset
+/// is told as damaged exactly where no frame ends there.
 pub fn frames_are_read()
-    ensures read { (content body : List ℕ) (at : ℕ) → IsBodyBefore content at body → body_before content at ≡ Ok body }
-    ensures stands { (content body : List ℕ) (at : ℕ) → IsBytes content → at ≤ length content → body_before content at ≡ Ok body → IsBodyBefore content at body }
-    ensures damaged { (content : List ℕ) (at : ℕ) → IsBytes content → at ≤ length content → ((body : List ℕ) → IsBodyBefore content at body → ⊥) → body_before content at ≡ Err (Damaged at) }
+    ensures read { (version : Version) (content body : List ℕ) (at : ℕ) → IsUsable version →
+        IsBodyBefore version content at body → body_before version content at ≡ Ok body }
+    ensures stands { (version : Version) (content body : List ℕ) (at : ℕ) → IsBytes content →
+        at ≤ length content → body_before version content at ≡ Ok body →
+        IsBodyBefore version content at body }
+    ensures damaged { (version : Version) (content : List ℕ) (at : ℕ) → IsBytes content →
+        at ≤ length content →
+        ((body : List ℕ) → IsBodyBefore version content at body → ⊥) →
+        body_before version content at ≡ Err (Damaged at) }
 {}
 
-/// A file grows by the frame of a body. Its last body is the one whose frame was put last, and behind a header alone
-/// there is none.
+/// A file grows by the frame of a body. Its last body is the one whose frame was put last, and
+/// behind a header alone there is none. Where there is none, the end of the content is told.
 pub fn last_is_read()
-    ensures grows { (pass : ℕ) (bodies : List (List ℕ)) (body : List ℕ) → file pass (bodies ++ body ∷ []) ≡ file pass bodies ++ frame body }
-    ensures last { (pass : ℕ) (bodies : List (List ℕ)) (body : List ℕ) → least_body ≤ length body → length body ≤ greatest_body → last_body_of (file pass (bodies ++ body ∷ [])) ≡ Ok body }
-    ensures none { (pass : ℕ) → last_body_of (file pass []) ≡ Err (Damaged 6) }
+    ensures grows { (version : Version) (pass : ℕ) (bodies : List (List ℕ)) (body : List ℕ) →
+        file version pass (bodies ++ body ∷ []) ≡ file version pass bodies ++ frame body }
+    ensures last { (version : Version) (pass : ℕ) (bodies : List (List ℕ)) (body : List ℕ) →
+        IsUsable version → least_body ≤ length body → length body ≤ greatest_body version →
+        last_body_of version (file version pass (bodies ++ body ∷ [])) ≡ Ok body }
+    ensures none { (version : Version) (pass : ℕ) → IsUsable version →
+        last_body_of version (file version pass []) ≡ Err (Damaged 6) }
+    ensures place { (version : Version) (content : List ℕ) (at : ℕ) →
+        last_body_of version content ≡ Err (Damaged at) → at ≡ length content }
 {}
 
-/// The body of a record with at most sixteen well values is neither shorter than the least nor longer than the
-/// greatest that is read.
+/// The body of a record of well values, at most as many as the version allows, is neither shorter
+/// than the least nor longer than the greatest that is read.
 pub fn records_fit()
-    ensures least { (kind : Kind) (number : ℕ) (values : List Value) → least_body ≤ length (body_of kind number values) }
-    ensures greatest { (kind : Kind) (number : ℕ) (values : List Value) → length values ≤ 16 → All IsWell values → length (body_of kind number values) ≤ greatest_body }
+    ensures least { (kind : Kind) (number : ℕ) (values : List Value) →
+        least_body ≤ length (body_of kind number values) }
+    ensures greatest { (version : Version) (kind : Kind) (number : ℕ) (values : List Value) →
+        length values ≤ version.most_values → All IsWell values →
+        length (body_of kind number values) ≤ greatest_body version }
 {}

@@ -1,5 +1,7 @@
+//! The numbers and the first bytes of a tree file of version 1.
+
 ghost use Rattle.std.specs.Prelude.{◌≡◌};
-ghost use Rattle.treefile.specs.TreeFile.{header};
+ghost use Rattle.treefile.specs.TreeFile.{header, version_one};
 
 /// The first four bytes of a tree file of this version.
 pub(crate) const MAGIC: [u8; 4] = [b'A', b'G', b'T', b'1'];
@@ -18,7 +20,7 @@ pub(crate) const GREATEST_BODY: u64 = 16_777_219;
 
 /// The header of the file of a pass.
 pub(crate) fn header_of(pass: u16) -> [u8; 6]
-    ensures { result ≡ header pass }
+    ensures { result ≡ header version_one pass }
 {
     let [first, second, third, fourth] = MAGIC;
     let [high, low] = pass.to_be_bytes();

@@ -1,8 +1,10 @@
-//! Tree files: devices that keep bytes, the frames of a file of records, writing them and reading the last one.
+//! Tree files: devices that keep bytes, the frames of a file of records, writing them and reading
+//! the last one.
 #![tactic(auto)]
 
 mod body;
 mod device;
+mod fuse;
 mod laws;
 mod layout;
 mod memory;
@@ -11,6 +13,7 @@ mod writing;
 
 pub use body::{Kind, split_body};
 pub use device::{Device, DeviceFault};
+pub use fuse::FuseDevice;
 pub use laws::{frames_are_read, headers_are_told, last_is_read, records_fit};
 pub use memory::MemDevice;
 pub use reading::{FrameFault, last_body};

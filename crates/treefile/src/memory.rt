@@ -1,3 +1,5 @@
+//! A device in memory, which stands for a file.
+
 ghost use Rattle.std.specs.Prelude.{◌≡◌, [], true};
 
 use crate::device::{Device, DeviceFault};

@@ -1,7 +1,12 @@
-ghost use Rattle.std.specs.Prelude.{◌≡◌, ◌+◌, ◌<◌, ◌≤◌, ◌⊎◌, ◌^◌, length, true, IfErr, IfOk, IsErrOf, IsTrue, slice_range};
-ghost use Rattle.treefile.specs.Device.{Counts};
-ghost use Rattle.treefile.specs.Ending.{Told, body_before, fits_before, header_bytes, is_tree_file, length_bytes, last_body_of, number_before};
+//! Reading the last record of a tree file: where the file ends, the length of the last body stands.
+
+ghost use Rattle.std.specs.Prelude.{◌≡◌, ◌+◌, ◌<◌, ◌≤◌, ◌⊎◌, ◌^◌, length, IfErr, IfOk, IsErrOf};
+ghost use Rattle.std.specs.Prelude.{IsTrue, slice_range};
+ghost use Rattle.treefile.specs.Device.{LeavesContent, Persists, WhenHonest};
+ghost use Rattle.treefile.specs.Ending.{Told, body_before, fits_before, header_bytes, is_tree_file};
+ghost use Rattle.treefile.specs.Ending.{length_bytes, last_body_of, number_before};
 ghost use Rattle.treefile.specs.Faults.{frame_fault_of};
+ghost use Rattle.treefile.specs.TreeFile.{version_one};
 ghost use Rattle.treefile.specs.declared.reading.FrameFault.TheVariants as frame_fault;
 
 use crate::device::{Device, DeviceFault};
@@ -43,11 +48,13 @@ impl From<AllocError> for FrameFault {
 /// Whether the device has a header, and its first four bytes are those of a tree file.
 #[tactic(auto, unfolding(crate::specs::Ending::is_tree_file))]
 fn begins_tree_file<D: Device>(device: &mut D, end: u64) -> Result<bool, DeviceFault>
-    requires { D.is_honest device.old ≡ true → end ≡ length (D.content device.old) }
-    ensures found { D.is_honest device.old ≡ true → IfOk result (λ found. found ≡ is_tree_file (D.content device.old)) }
-    ensures content { D.is_honest device.old ≡ true → D.content device.new ≡ D.content device.old }
-    ensures honest { D.is_honest device.new ≡ D.is_honest device.old }
-    ensures counts { Counts (D.failures device.old) (D.failures device.new) (IsErrOf result DeviceFault.Failed) }
+    requires { WhenHonest (D.is_honest device.old) (end ≡ length (D.content device.old)) }
+    ensures found { WhenHonest (D.is_honest device.old)
+        (IfOk result (λ found. found ≡ is_tree_file version_one (D.content device.old))) }
+    ensures content { LeavesContent (D.is_honest device.old)
+        (D.content device.old) (D.content device.new) }
+    ensures persists { Persists (D.is_honest device.old) (D.is_honest device.new)
+        (D.failures device.old) (D.failures device.new) (IsErrOf result DeviceFault.Failed) }
 {
     if end < HEADER_BYTES {
         return Ok(false);
@@ -60,11 +67,13 @@ fn begins_tree_file<D: Device>(device: &mut D, end: u64) -> Result<bool, DeviceF
 /// The number in the four bytes before an offset.
 fn number_before<D: Device>(device: &mut D, at: u64) -> Result<u32, DeviceFault>
     requires room { length_bytes ≤ at }
-    requires within { D.is_honest device.old ≡ true → at ≤ length (D.content device.old) }
-    ensures found { D.is_honest device.old ≡ true → IfOk result (λ found. found ≡ number_before (D.content device.old) at) }
-    ensures content { D.is_honest device.old ≡ true → D.content device.new ≡ D.content device.old }
-    ensures honest { D.is_honest device.new ≡ D.is_honest device.old }
-    ensures counts { Counts (D.failures device.old) (D.failures device.new) (IsErrOf result DeviceFault.Failed) }
+    requires within { WhenHonest (D.is_honest device.old) (at ≤ length (D.content device.old)) }
+    ensures found { WhenHonest (D.is_honest device.old)
+        (IfOk result (λ found. found ≡ number_before (D.content device.old) at)) }
+    ensures content { LeavesContent (D.is_honest device.old)
+        (D.content device.old) (D.content device.new) }
+    ensures persists { Persists (D.is_honest device.old) (D.is_honest device.new)
+        (D.failures device.old) (D.failures device.new) (IsErrOf result DeviceFault.Failed) }
 {
     let mut bytes = [0; 4];
     device.read_at(at - LENGTH_BYTES, &mut bytes)?;
@@ -75,7 +84,7 @@ fn number_before<D: Device>(device: &mut D, at: u64) -> Result<u32, DeviceFault>
 #[tactic(auto, unfolding(crate::specs::Ending::fits_before))]
 fn fits_before(at: u64, length: u64) -> bool
     requires { length < 2 ^ 32 }
-    ensures exact { result ≡ fits_before at length }
+    ensures exact { result ≡ fits_before version_one at length }
     ensures room { IsTrue result → header_bytes + length + length_bytes ≤ at }
 {
     LEAST_BODY <= length && length <= GREATEST_BODY && HEADER_BYTES + length + LENGTH_BYTES <= at
@@ -89,12 +98,16 @@ fn bytes_at<D: Device>(
     at: u64,
     count: usize,
 ) -> Result<Vec<u8>, FrameFault>
-    requires { D.is_honest device.old ≡ true → at + count ≤ length (D.content device.old) }
-    ensures found { D.is_honest device.old ≡ true → IfOk result (λ found. found.items ≡ slice_range (D.content device.old) at (at + count)) }
-    ensures memory { IfErr result (λ fault. (fault ≡ FrameFault.Device) ⊎ (fault ≡ FrameFault.NoMemory)) }
-    ensures content { D.is_honest device.old ≡ true → D.content device.new ≡ D.content device.old }
-    ensures honest { D.is_honest device.new ≡ D.is_honest device.old }
-    ensures counts { Counts (D.failures device.old) (D.failures device.new) (IsErrOf result FrameFault.Device) }
+    requires { WhenHonest (D.is_honest device.old) (at + count ≤ length (D.content device.old)) }
+    ensures found { WhenHonest (D.is_honest device.old)
+        (IfOk result
+        (λ found. found.items ≡ slice_range (D.content device.old) at (at + count))) }
+    ensures memory { IfErr result
+        (λ fault. (fault ≡ FrameFault.Device) ⊎ (fault ≡ FrameFault.NoMemory)) }
+    ensures content { LeavesContent (D.is_honest device.old)
+        (D.content device.old) (D.content device.new) }
+    ensures persists { Persists (D.is_honest device.old) (D.is_honest device.new)
+        (D.failures device.old) (D.failures device.new) (IsErrOf result FrameFault.Device) }
 {
     let mut bytes = vec![in alloc; 0; count]?;
     device.read_at(at, bytes.as_mut_slice())?;
@@ -104,11 +117,13 @@ fn bytes_at<D: Device>(
 /// The body of the frame that ends at an offset.
 #[tactic(auto, unfolding(crate::specs::Ending::body_before))]
 fn body_before<D: Device>(alloc: Global, device: &mut D, at: u64) -> Result<Vec<u8>, FrameFault>
-    requires { D.is_honest device.old ≡ true → at ≤ length (D.content device.old) }
-    ensures told { D.is_honest device.old ≡ true → Told (λ body. body.items) result (body_before (D.content device.old) at) }
-    ensures content { D.is_honest device.old ≡ true → D.content device.new ≡ D.content device.old }
-    ensures honest { D.is_honest device.new ≡ D.is_honest device.old }
-    ensures counts { Counts (D.failures device.old) (D.failures device.new) (IsErrOf result FrameFault.Device) }
+    requires { WhenHonest (D.is_honest device.old) (at ≤ length (D.content device.old)) }
+    ensures told { WhenHonest (D.is_honest device.old)
+        (Told (λ body. body.items) result (body_before version_one (D.content device.old) at)) }
+    ensures content { LeavesContent (D.is_honest device.old)
+        (D.content device.old) (D.content device.new) }
+    ensures persists { Persists (D.is_honest device.old) (D.is_honest device.new)
+        (D.failures device.old) (D.failures device.new) (IsErrOf result FrameFault.Device) }
 {
     if at < HEADER_BYTES + LENGTH_BYTES {
         return Err(FrameFault::Damaged(at));
@@ -120,20 +135,24 @@ fn body_before<D: Device>(alloc: Global, device: &mut D, at: u64) -> Result<Vec<
     bytes_at(alloc, device, at - LENGTH_BYTES - length, length as usize)
 }
 
-/// The body of the last frame of the tree file that a device has: the one that ends where the device does.
+/// The body of the last frame of the tree file that a device has: the one that ends where the
+/// device does.
 ///
-/// B1 NotATreeFile where there are fewer than 6 bytes or the first four are not `AGT1`. Else B2 Damaged, with the
-/// number of bytes as its offset, where fewer than 4 bytes stand behind the header, or where the number in the last
-/// four is below 3, above 16,777,219 or more than what stands between the header and those four. D1 Device where a
-/// call of the device failed. Takes memory for the body.
+/// B1 NotATreeFile where there are fewer than 6 bytes or the first four are not `AGT1`. Else B2
+/// Damaged, with the number of bytes as its offset, where fewer than 4 bytes stand behind the
+/// header, or where the number in the last four is below 3, above 16,777,219 or more than what
+/// stands between the header and those four. D1 Device where a call of the device failed. Takes
+/// memory for the body.
 #[tactic(auto, unfolding(crate::specs::Ending::last_body_of))]
 pub fn last_body<D: Device>(alloc: Global, device: &mut D) -> Result<Vec<u8>, FrameFault>
     // The body, B1 and B2, exactly as the content has it
-    ensures told { D.is_honest device.old ≡ true → Told (λ body. body.items) result (last_body_of (D.content device.old)) }
-    ensures content { D.is_honest device.old ≡ true → D.content device.new ≡ D.content device.old }
-    ensures honest { D.is_honest device.new ≡ D.is_honest device.old }
+    ensures told { WhenHonest (D.is_honest device.old)
+        (Told (λ body. body.items) result (last_body_of version_one (D.content device.old))) }
+    ensures content { LeavesContent (D.is_honest device.old)
+        (D.content device.old) (D.content device.new) }
     // D1 only where the number of failures rose
-    ensures counts { Counts (D.failures device.old) (D.failures device.new) (IsErrOf result FrameFault.Device) }
+    ensures persists { Persists (D.is_honest device.old) (D.is_honest device.new)
+        (D.failures device.old) (D.failures device.new) (IsErrOf result FrameFault.Device) }
 {
     let end = device.len()?;
     if !begins_tree_file(device, end)? {

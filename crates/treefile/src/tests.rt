@@ -1,80 +1,14 @@
-ghost use Rattle.std.specs.Prelude.{◌≡◌, [], true, false, IsTrue};
-ghost use Rattle.treefile.specs.Device.{Counts};
+//! What no clause says: bytes by hand, calls that succeed, and devices that fail or lie.
+
+ghost use Rattle.std.specs.Prelude.{[], false};
 
 use super::*;
 use ag_value::Value;
 use std::alloc::{AllocError, Global};
 use std::test::Fail;
 
-/// A device in memory that fails at one of its calls, counted from 1, and does nothing then.
-#[derive(Drop)]
-struct FailingDevice {
-    inner: MemDevice,
-    calls_left: u64,
-    failures: u64,
-}
-
-impl FailingDevice {
-    fn new(alloc: Global, call: u64) -> FailingDevice {
-        FailingDevice {
-            inner: MemDevice::new(alloc),
-            calls_left: call,
-            failures: 0,
-        }
-    }
-
-    fn fails(&mut self) -> bool
-        ensures inner { self.new.inner ≡ self.old.inner }
-        ensures counts { Counts self.old.failures self.new.failures (IsTrue result) }
-    {
-        if self.calls_left != 1 {
-            self.calls_left = self.calls_left.saturating_sub(1);
-            return false;
-        }
-        self.calls_left = 0;
-        self.failures = self.failures.saturating_add(1);
-        true
-    }
-}
-
-impl Device for FailingDevice {
-    ghost content = { λ d. d.inner };
-
-    ghost is_honest = { λ _. true };
-
-    ghost failures = { λ d. d.failures };
-
-    fn len(&mut self) -> Result<u64, DeviceFault> {
-        if self.fails() {
-            return Err(DeviceFault::Failed);
-        }
-        self.inner.len()
-    }
-
-    fn append(&mut self, bytes: &[u8]) -> Result<(), DeviceFault> {
-        if self.fails() {
-            return Err(DeviceFault::Failed);
-        }
-        self.inner.append(bytes)
-    }
-
-    fn read_at(&mut self, at: u64, out: &mut [u8]) -> Result<(), DeviceFault> {
-        if self.fails() {
-            return Err(DeviceFault::Failed);
-        }
-        self.inner.read_at(at, out)
-    }
-
-    fn clear(&mut self) -> Result<(), DeviceFault> {
-        if self.fails() {
-            return Err(DeviceFault::Failed);
-        }
-        self.inner.clear()
-    }
-}
-
-/// A device that keeps nothing. It tells another length at each call, and other bytes at each read: a magic, the
-/// number 3, and then the number of the read.
+/// A device that keeps nothing. It tells another length at each call, and other bytes at each read:
+/// a magic, the number 3, and then the number of the read.
 #[derive(Drop)]
 struct LyingDevice {
     length: u64,
@@ -237,15 +171,31 @@ fn least_and_greatest_bodies(rt: HostRuntime) -> Result<(), Fail> {
 }
 
 #[test]
+fn one_call_of_a_fuse_fails(rt: HostRuntime) -> Result<(), Fail> {
+    let memory = MemDevice::from_bytes(vec![in rt.alloc(); 7, 8]?);
+    let mut device = FuseDevice::new(memory, 4);
+    assert_eq!(rt; device.len(), Ok(2));
+    let mut one = [0];
+    device.read_at(1, &mut one)?;
+    assert_eq!(rt; one, [8]);
+    device.append(&[9])?;
+    assert_eq!(rt; device.clear(), Err(DeviceFault::Failed));
+    assert_eq!(rt; device.inner().bytes(), [7, 8, 9].as_slice());
+    device.clear()?;
+    assert_eq!(rt; device.len(), Ok(0));
+    Ok(())
+}
+
+#[test]
 fn a_device_that_fails_while_it_is_written(rt: HostRuntime) -> Result<(), Fail> {
     let alloc = rt.alloc();
     for call in 1..3 {
-        let mut device = FailingDevice::new(alloc, call);
+        let mut device = FuseDevice::new(MemDevice::new(alloc), call);
         let begun = Writer::begin(alloc, &mut device, 0);
         assert!(rt; matches!(begun, Err(WriteFault::Device)));
-        assert_eq!(rt; device.inner.bytes(), [].as_slice());
+        assert_eq!(rt; device.inner().bytes(), [].as_slice());
     }
-    let mut device = FailingDevice::new(alloc, 4);
+    let mut device = FuseDevice::new(MemDevice::new(alloc), 4);
     let mut writer = Writer::begin(alloc, &mut device, 0)?;
     writer.put(&mut device, Kind::Node, 1, &[])?;
     for _ in 0..2 {
@@ -254,7 +204,7 @@ fn a_device_that_fails_while_it_is_written(rt: HostRuntime) -> Result<(), Fail> 
         assert_eq!(rt; put, Err(WriteFault::Device));
         assert_eq!(rt; writer.written(), 1);
         assert_eq!(rt;
-            device.inner.bytes(),
+            device.inner().bytes(),
             b"AGT1\0\0\0\0\x01\0\0\0\x03".as_slice()
         );
     }
@@ -265,9 +215,8 @@ fn a_device_that_fails_while_it_is_written(rt: HostRuntime) -> Result<(), Fail> 
 fn a_device_that_fails_while_it_is_read(rt: HostRuntime) -> Result<(), Fail> {
     let alloc = rt.alloc();
     for call in 1..5 {
-        let mut device = FailingDevice::new(alloc, 0);
-        device.append(b"AGT1\0\0\0\0\x01\0\0\0\x03")?;
-        device.calls_left = call;
+        let bytes = Vec::from_slice(alloc, b"AGT1\0\0\0\0\x01\0\0\0\x03")?;
+        let mut device = FuseDevice::new(MemDevice::from_bytes(bytes), call);
         match last_body(alloc, &mut device) {
             Err(FrameFault::NoMemory) => return Ok(Err(FrameFault::NoMemory)?),
             told => assert_eq!(rt; told, Err(FrameFault::Device), "call {call}"),

@@ -1,10 +1,13 @@
-ghost use Rattle.std.specs.Prelude.{◌≡◌, ◌++◌, ◌+◌, ◌-◌, ◌<◌, ◌≤◌, ◌^◌, ◌⊎◌, [], length, true, false, All, IfOk, IsErrOf, OnOk};
+//! Writing a tree file: its header, and then the frame of one record after another.
+
+ghost use Rattle.std.specs.Prelude.{◌≡◌, ◌++◌, ◌+◌, ◌-◌, ◌<◌, ◌≤◌, ◌^◌, ◌⊎◌, [], length, true};
+ghost use Rattle.std.specs.Prelude.{false, All, IfOk, IsErrOf, OnOk};
 ghost use Rattle.std.specs.List.{flat_map};
 ghost use Rattle.ag_value.specs.Spelling.{spelling_of};
 ghost use Rattle.ag_value.specs.Well.{IsWell};
-ghost use Rattle.treefile.specs.Device.{AppendsFront, Counts};
+ghost use Rattle.treefile.specs.Device.{AppendsFront, LeavesContent, Persists, WhenHonest};
 ghost use Rattle.treefile.specs.Faults.{write_fault_of};
-ghost use Rattle.treefile.specs.TreeFile.{body_of, frame, header};
+ghost use Rattle.treefile.specs.TreeFile.{body_of, frame, header, version_one};
 ghost use Rattle.treefile.specs.declared.writing.WriteFault.TheVariants as write_fault;
 
 use crate::body::Kind;
@@ -42,8 +45,9 @@ impl From<NoMemory> for WriteFault {
     }
 }
 
-/// Writes the records of a tree file, each as one frame at the end of a device. It holds no device: each call takes
-/// the one that it was begun on. It is seen as how many frames were put, and whether it is broken.
+/// Writes the records of a tree file, each as one frame at the end of a device. It holds no device:
+/// each call takes the one that it was begun on. It is seen as how many frames were put, and
+/// whether it is broken.
 #[derive(Drop)]
 pub struct Writer {
     buffer: Vec<u8>,
@@ -62,16 +66,21 @@ impl Model for Writer {
 impl Writer {
     /// A writer of a file of a pass: takes away what the device has, and appends the header.
     ///
-    /// D1 Device where the device failed: it has what it had, or a beginning of the header. Takes memory for the header
-    /// where the device does, and for want of it leaves the device empty.
+    /// D1 Device where the device failed: it has what it had, or a beginning of the header. Takes
+    /// memory for the header where the device does, and for want of it leaves the device empty.
     pub fn begin<D: Device>(alloc: Global, device: &mut D, pass: u16) -> Result<Writer, WriteFault>
-        ensures header { OnOk result (D.is_honest device.old ≡ true → D.content device.new ≡ header pass) }
+        ensures header { OnOk result
+            (WhenHonest (D.is_honest device.old)
+            (D.content device.new ≡ header version_one pass)) }
         ensures fresh { IfOk result (λ writer. writer ≡ record { written = 0; is_broken = false }) }
         // D1: what the device had, or a beginning of the header
-        ensures device { IsErrOf result WriteFault.Device → D.is_honest device.old ≡ true → (D.content device.new ≡ D.content device.old) ⊎ AppendsFront (header pass) [] (D.content device.new) }
-        ensures memory { IsErrOf result WriteFault.NoMemory → D.is_honest device.old ≡ true → D.content device.new ≡ [] }
-        ensures honest { D.is_honest device.new ≡ D.is_honest device.old }
-        ensures counts { Counts (D.failures device.old) (D.failures device.new) (IsErrOf result WriteFault.Device) }
+        ensures device { IsErrOf result WriteFault.Device → WhenHonest (D.is_honest device.old)
+            ((D.content device.new ≡ D.content device.old)
+            ⊎ AppendsFront (header version_one pass) [] (D.content device.new)) }
+        ensures memory { IsErrOf result WriteFault.NoMemory →
+            WhenHonest (D.is_honest device.old) (D.content device.new ≡ []) }
+        ensures persists { Persists (D.is_honest device.old) (D.is_honest device.new)
+            (D.failures device.old) (D.failures device.new) (IsErrOf result WriteFault.Device) }
     {
         device.clear()?;
         device.append(&header_of(pass))?;
@@ -84,10 +93,12 @@ impl Writer {
 
     /// Appends the frame of a record by one call of the device. Takes memory for the frame.
     ///
-    /// Asks for at most 16 values, each of them well, and for fewer than u64::MAX frames put before.
+    /// Asks for at most 16 values, each of them well, and for fewer than u64::MAX frames put
+    /// before.
     ///
-    /// D1 Device where the device failed: it has a beginning of the frame more, and the writer is broken. A broken
-    /// writer answers this for good, and doesn't touch the device. For want of memory nothing changes.
+    /// D1 Device where the device failed: it has a beginning of the frame more, and the writer is
+    /// broken. A broken writer answers this for good, and doesn't touch the device. For want of
+    /// memory nothing changes.
     pub fn put<D: Device>(
         &mut self,
         device: &mut D,
@@ -95,23 +106,33 @@ impl Writer {
         number: u16,
         values: &[Value],
     ) -> Result<(), WriteFault>
-        requires few { length values.now ≤ 16 }
+        requires few { length values.now ≤ version_one.most_values }
         requires well { All IsWell values.now }
         requires room { self.old.written < 2 ^ 64 - 1 }
-        ensures frame { OnOk result (D.is_honest device.old ≡ true → D.content device.new ≡ D.content device.old ++ frame (body_of kind number values.now)) }
-        ensures counted { OnOk result (self.new ≡ record self.old { written = self.old.written + 1 }) }
+        ensures frame { OnOk result
+            (WhenHonest (D.is_honest device.old)
+            (D.content device.new
+            ≡ D.content device.old ++ frame (body_of kind number values.now))) }
+        ensures counted { OnOk result
+            (self.new ≡ record self.old { written = self.old.written + 1 }) }
 
         // D1: a beginning of the frame, and a broken writer
-        ensures device { IsErrOf result WriteFault.Device → D.is_honest device.old ≡ true → AppendsFront (frame (body_of kind number values.now)) (D.content device.old) (D.content device.new) }
-        ensures breaks { IsErrOf result WriteFault.Device → self.new ≡ record self.old { is_broken = true } }
-        ensures broken { self.old.is_broken ≡ true → IsErrOf result WriteFault.Device × (device.new ≡ device.old) }
+        ensures device { IsErrOf result WriteFault.Device → WhenHonest (D.is_honest device.old)
+            (AppendsFront (frame (body_of kind number values.now))
+            (D.content device.old) (D.content device.new)) }
+        ensures breaks { IsErrOf result WriteFault.Device →
+            self.new ≡ record self.old { is_broken = true } }
+        ensures broken { self.old.is_broken ≡ true →
+            IsErrOf result WriteFault.Device × (device.new ≡ device.old) }
 
         // no memory: nothing changes
-        ensures memory { IsErrOf result WriteFault.NoMemory → D.is_honest device.old ≡ true → D.content device.new ≡ D.content device.old }
+        ensures memory { IsErrOf result WriteFault.NoMemory →
+            LeavesContent (D.is_honest device.old) (D.content device.old) (D.content device.new) }
         ensures unchanged { IsErrOf result WriteFault.NoMemory → self.new ≡ self.old }
 
-        ensures honest { D.is_honest device.new ≡ D.is_honest device.old }
-        ensures counts { Counts (D.failures device.old) (D.failures device.new) (IsErrOf result WriteFault.Device × (self.old.is_broken ≡ false)) }
+        ensures persists { Persists (D.is_honest device.old) (D.is_honest device.new)
+            (D.failures device.old) (D.failures device.new)
+            (IsErrOf result WriteFault.Device × (self.old.is_broken ≡ false)) }
     {
         if self.is_broken {
             return Err(WriteFault::Device);
@@ -145,7 +166,7 @@ fn fill_frame(
     number: u16,
     values: &[Value],
 ) -> Result<(), NoMemory>
-    requires few { length values.now ≤ 16 }
+    requires few { length values.now ≤ version_one.most_values }
     requires well { All IsWell values.now }
     ensures { OnOk result (buffer.new.items ≡ frame (body_of kind number values.now)) }
 {

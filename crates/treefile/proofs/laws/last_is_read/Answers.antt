@@ -1,4 +1,4 @@
-use Rattle.treefile.proofs.Files.{file_grows, last_of_file, none_of_header}
+use Rattle.treefile.proofs.Files.{damaged_at_end, file_grows, last_of_file, none_of_header}
 use Rattle.treefile.proofs.laws.last_is_read.Goals as goal
 
 pub returns-clause-grows : goal.returns-clause-grows
@@ -9,3 +9,6 @@ returns-clause-last c = last_of_file
 
 pub returns-clause-none : goal.returns-clause-none
 returns-clause-none c = none_of_header
+
+pub returns-clause-place : goal.returns-clause-place
+returns-clause-place c = damaged_at_end

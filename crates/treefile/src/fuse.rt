@@ -1,0 +1,140 @@
+//! A device that fails at one of its calls, to see what a failure leaves.
+
+ghost use Rattle.std.specs.Prelude.{◌≡◌, ◌≤◌, ◌+◌, ◌-◌, ◌↔◌, length, slice_range, IfOk, IsErrOf};
+ghost use Rattle.std.specs.Prelude.{IsTrue, IsFalse, OnOk};
+ghost use Rattle.treefile.specs.Device.{Appends, Clears, HasRisen, LeavesContent, TakesNoMemory};
+ghost use Rattle.treefile.specs.Device.{WhenHonest, most_failures};
+ghost use Rattle.treefile.specs.Fuse.{Burns, Fuse, FusePersists, failures_of};
+
+use crate::device::{Device, DeviceFault};
+use std::marker::Model;
+
+/// A device that hands its calls on to another one, but for one of them: that one answers `Failed`
+/// and does nothing. It is honest where the other one is.
+#[derive(Drop)]
+pub struct FuseDevice<D> {
+    inner: D,
+    left: u64,
+    failed: u64,
+}
+
+impl<D> Model for FuseDevice<D> {
+    ghost use Rattle.treefile.specs.Fuse.{Fuse};
+
+    ghost Value = { Fuse D };
+
+    ghost view = { λ d. record { inner = d.inner; left = d.left; failed = d.failed } };
+}
+
+impl<D: Device> FuseDevice<D> {
+    /// A device whose k-th call from now on fails, counted from 1; with 0 none does. It has the
+    /// content and the honesty of the other one. Takes no memory.
+    pub fn new(inner: D, k: u64) -> FuseDevice<D>
+        ensures inner { result.inner ≡ inner }
+        ensures left { result.left ≡ k }
+        ensures failures { D.failures inner ≤ most_failures →
+            failures_of D.failures result ≡ D.failures inner }
+    {
+        FuseDevice {
+            inner,
+            left: k,
+            failed: 0,
+        }
+    }
+
+    /// Lends the device that gets the calls.
+    pub fn inner(&self) -> &D
+        ensures { result.now ≡ self.now.inner }
+    {
+        &self.inner
+    }
+
+    /// Counts a call. Whether it is the one that fails.
+    fn burns(&mut self) -> bool
+        ensures inner { self.new.inner ≡ self.old.inner }
+        ensures left { self.new.left ≡ self.old.left - 1 }
+        ensures burns { IsTrue result ↔ (self.old.left ≡ 1) }
+        ensures kept { IsFalse result → self.new.failed ≡ self.old.failed }
+        ensures counts { self.old.failed ≤ self.new.failed }
+        ensures risen { IsTrue result → HasRisen self.old.failed self.new.failed }
+    {
+        let burns = self.left == 1;
+        self.left = self.left.saturating_sub(1);
+        if burns {
+            self.failed = self.failed.saturating_add(1);
+        }
+        burns
+    }
+}
+
+impl<D: Device> Device for FuseDevice<D> {
+    ghost use Rattle.treefile.specs.Fuse.{failures_of};
+
+    ghost content = { λ d. D.content d.inner };
+
+    ghost is_honest = { λ d. D.is_honest d.inner };
+
+    ghost failures = { λ d. failures_of D.failures d };
+
+    fn len(&mut self) -> Result<u64, DeviceFault>
+        ensures length { WhenHonest (D.is_honest self.old.inner)
+            (IfOk result (λ n. n ≡ length (D.content self.old.inner))) }
+        ensures content { LeavesContent (D.is_honest self.old.inner) (D.content self.old.inner)
+            (D.content self.new.inner) }
+        ensures persists { FusePersists D.is_honest D.failures self.old self.new
+            (IsErrOf result DeviceFault.Failed) }
+        ensures memory { TakesNoMemory result }
+        ensures fuse { Burns D.failures self.old self.new (IsErrOf result DeviceFault.Failed) }
+    {
+        if self.burns() {
+            return Err(DeviceFault::Failed);
+        }
+        self.inner.len()
+    }
+
+    fn append(&mut self, bytes: &[u8]) -> Result<(), DeviceFault>
+        ensures content { WhenHonest (D.is_honest self.old.inner)
+            (Appends bytes.now (D.content self.old.inner) (D.content self.new.inner) result) }
+        ensures persists { FusePersists D.is_honest D.failures self.old self.new
+            (IsErrOf result DeviceFault.Failed) }
+        ensures fuse { Burns D.failures self.old self.new (IsErrOf result DeviceFault.Failed) }
+    {
+        if self.burns() {
+            return Err(DeviceFault::Failed);
+        }
+        self.inner.append(bytes)
+    }
+
+    fn read_at(&mut self, at: u64, out: &mut [u8]) -> Result<(), DeviceFault>
+        ensures bytes { WhenHonest (D.is_honest self.old.inner)
+            (at + length out.old ≤ length (D.content self.old.inner) →
+            OnOk result
+            (out.new
+            ≡ slice_range (D.content self.old.inner) at (at + length out.old))) }
+        ensures content { LeavesContent (D.is_honest self.old.inner) (D.content self.old.inner)
+            (D.content self.new.inner) }
+        ensures persists { FusePersists D.is_honest D.failures self.old self.new
+            (IsErrOf result DeviceFault.Failed) }
+        ensures memory { TakesNoMemory result }
+        ensures fuse { Burns D.failures self.old self.new (IsErrOf result DeviceFault.Failed) }
+    {
+        if self.burns() {
+            return Err(DeviceFault::Failed);
+        }
+        self.inner.read_at(at, out)
+    }
+
+    fn clear(&mut self) -> Result<(), DeviceFault>
+        ensures content { WhenHonest (D.is_honest self.old.inner)
+            (Clears (D.content self.old.inner) (D.content self.new.inner) result) }
+        ensures persists { FusePersists D.is_honest D.failures self.old self.new
+            (IsErrOf result DeviceFault.Failed) }
+        ensures memory { TakesNoMemory result }
+        ensures fuse { Burns D.failures self.old self.new (IsErrOf result DeviceFault.Failed) }
+    {
+        if self.burns() {
+            return Err(DeviceFault::Failed);
+        }
+        self.inner.clear()
+    }
+}
