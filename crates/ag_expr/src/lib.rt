@@ -17,8 +17,6 @@ mod occurrence;
 mod parser;
 mod reader;
 pub mod samples;
-#[cfg(test)]
-mod tests;
 mod token;
 
 pub use environment::Env;
