@@ -18,8 +18,6 @@ mod occurrence;
 mod occurrence_table;
 mod parser;
 pub mod samples;
-#[cfg(test)]
-mod tests;
 mod token;
 
 pub use environment::Env;

@@ -28,6 +28,3 @@ pub use showing::show;
 pub use text::Text;
 pub use value::{ErrorCode, Value};
 pub use wellness::{MAX_DEPTH, MAX_WEIGHT, is_well};
-
-#[cfg(test)]
-mod tests;

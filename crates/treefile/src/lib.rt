@@ -18,6 +18,3 @@ pub use laws::{frames_are_read, headers_are_told, last_is_read, records_fit};
 pub use memory::MemDevice;
 pub use reading::{FrameFault, last_body};
 pub use writing::{WriteFault, Writer};
-
-#[cfg(test)]
-mod tests;

@@ -2,10 +2,13 @@
 
 ghost use Rattle.std.specs.Prelude.{[], false};
 
-use super::*;
 use ag_value::Value;
 use std::alloc::{AllocError, Global};
 use std::test::Fail;
+use treefile::{
+    Device, DeviceFault, FrameFault, FuseDevice, Kind, MemDevice, WriteFault, Writer, last_body,
+    split_body,
+};
 
 /// A device that keeps nothing. It tells another length at each call, and other bytes at each read:
 /// a magic, the number 3, and then the number of the read.

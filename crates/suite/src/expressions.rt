@@ -1,6 +1,6 @@
-//! Rows of the language, worked out by hand.
+//! Expressions by hand: their values, where they are refused, and their occurrences.
 
-use crate::{Env, ExprFault, Meter, eval, occurrences, read_expr};
+use ag_expr::{Env, ExprFault, Meter, eval, occurrences, read_expr};
 use ag_value::{ErrorCode, Text, Value, is_well, same};
 use std::alloc::{Alloc, Global};
 use std::process::Abort;
@@ -27,7 +27,7 @@ impl<'a> Env for Same<'a> {
 }
 
 /// The value of a text where every occurrence has this value.
-#[tactic(auto, using(crate::proofs::language::Values::are_well))]
+#[tactic(auto, using(ag_expr::proofs::language::Values::are_well))]
 fn value_where(
     rt: &(impl Abort + Alloc<A = Global>),
     text: &str,

@@ -1,5 +1,9 @@
 //! Values by hand: their spellings and texts, and what is refused.
-use super::*;
+
+use ag_value::{
+    ErrorCode, Items, Text, Value, ValueFault, copy, decode, depth, encode, is_well, same, show,
+    weight,
+};
 use std::alloc::Global;
 use std::process::Abort;
 use std::test::Fail;

@@ -1,0 +1,10 @@
+//! The tests of the library crates, over their public calls. A crate that has tests is proved a
+//! second time with them, so the tests of all libraries stand in this one, which has no other code.
+#![tactic(auto)]
+
+#[cfg(test)]
+mod expressions;
+#[cfg(test)]
+mod tree_files;
+#[cfg(test)]
+mod values;
