@@ -1,5 +1,6 @@
-//! Parsing sentences with one token of look-ahead: the sets that tell which production comes next, and why a grammar
-//! whose sets don't conflict has one tree of a sentence at most. What makes the sets, and parses by them, is to come.
+//! Parsing sentences with one token of look-ahead: the sets that tell which production comes next,
+//! and why a grammar whose sets don't conflict has one tree of a sentence at most. What makes the
+//! sets, and what parses by them, is to come.
 #![tactic(auto)]
 
 mod ahead;
