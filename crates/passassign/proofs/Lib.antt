@@ -1,0 +1,12 @@
+mod BothWays
+mod Earliest
+mod Growing
+mod Legal
+mod Made
+mod Marked
+mod Options
+mod Reasons
+mod Rest
+mod Sample
+mod Struck
+mod Whole

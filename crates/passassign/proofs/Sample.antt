@@ -1,0 +1,38 @@
+-- Strikes in the sample grammars.
+use Rattle.std.proofs.Common.{ℕ, ◌≡◌, ◌≤◌, inl, inr, List, [], ◌∷◌, Option, Some, None, refl, arith}
+use Rattle.ag_expr.specs.declared.grammar.Item.TheVariants as item
+use Rattle.ag_expr.specs.declared.grammar.Item.{Item}
+use Rattle.ag_expr.specs.declared.grammar.Production.{Production}
+use Rattle.ag_expr.specs.declared.grammar.Rule.{Rule}
+use Rattle.ag_expr.specs.declared.grammar.Target.{Target}
+use Rattle.ag_expr.specs.grammars.AttributeGrammar.{Grammar, IsProduction, item_at}
+use Rattle.ag_expr.specs.grammars.Passes.{Direction, IsBefore}
+use Rattle.ag_expr.specs.grammars.Sample.{attribute, production_r, production_a, rule_out, rule_s}
+use Rattle.passassign.specs.Certificate.{Attributes, Strikes, IsOneOf, IsReason, AreGood}
+use Rattle.passassign.specs.Sample.{strike}
+
+none_struck : (x : Option Item) (a : ℕ) → IsOneOf (Strikes []) x a → ⊥
+none_struck None a i = i
+none_struck (Some (item.Symbol s)) a i = i
+none_struck (Some (item.Terminal t)) a i = i
+
+-- where nothing is struck yet, an argument is no reason that stands neither at the target's child nor at a later one
+pub no_reason : (d : Direction) (candidate : Attributes) (q : Production) (j : ℕ) (o : Target) → (1 ≤ j → o.place ≡ j → ⊥) → (1 ≤ j → IsBefore d j o.place → ⊥) → IsReason d candidate [] q j o → ⊥
+no_reason d candidate q j o own later (inl i) = none_struck (item_at q o.place) o.attr i
+no_reason d candidate q j o own later (inr (inl (pos, e, i))) = own pos e
+no_reason d candidate q j o own later (inr (inr (pos, some, b))) = later pos b
+
+-- where A.i is struck, so are A.s and R.out
+pub others_good : (g : Grammar) (rules : List Rule) → IsProduction g 0 (production_r (rule_out ∷ rules)) → IsProduction g 1 production_a → (d : Direction) (candidate : Attributes) (p r : ℕ) → candidate 1 0 → candidate 0 0
+    → AreGood g d candidate (strike 1 1 p r ∷ []) (strike 1 0 1 0 ∷ strike 0 0 0 0 ∷ [])
+others_good g rules first second d candidate p r s out = (
+  s,
+  (λ i. elim i [ inl e ↦ (let b = e.1 in omega arith) | inr i ↦ i ]),
+  record { production = production_a; rule = rule_s; argument = attribute 0 1; is_production = second; is_rule = refl; is_argument = refl; symbol = refl; attr = refl; reason = inl (inl (refl, refl)) },
+  (
+    out,
+    (λ i. elim i [ inl e ↦ (let b = e.0 in omega arith) | inr i ↦ elim i [ inl e ↦ (let b = e.0 in omega arith) | inr i ↦ i ] ]),
+    record { production = production_r (rule_out ∷ rules); rule = rule_out; argument = attribute 1 0; is_production = first; is_rule = refl; is_argument = refl; symbol = refl; attr = refl; reason = inl (inl (refl, refl)) },
+    tt,
+  ),
+)

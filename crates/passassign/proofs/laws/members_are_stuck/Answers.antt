@@ -1,0 +1,5 @@
+use Rattle.passassign.proofs.Rest.{members_stuck}
+use Rattle.passassign.proofs.laws.members_are_stuck.Goals as goal
+
+pub returns : goal.returns
+returns c = members_stuck

@@ -1,0 +1,5 @@
+use Rattle.passassign.proofs.Rest.{rest_stuck}
+use Rattle.passassign.proofs.laws.rest_is_stuck.Goals as goal
+
+pub returns : goal.returns
+returns c = rest_stuck

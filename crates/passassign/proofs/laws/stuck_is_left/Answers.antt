@@ -1,0 +1,5 @@
+use Rattle.passassign.proofs.Whole.{stuck_left}
+use Rattle.passassign.proofs.laws.stuck_is_left.Goals as goal
+
+pub returns : goal.returns
+returns c = stuck_left

@@ -1,0 +1,77 @@
+-- What keeps attributes out of a pass, and a certificate that some can have none.
+use Rattle.std.specs.Prelude.{ℕ, ◌≡◌, ◌≤◌, ◌⊎◌, List, [], ◌∷◌, Option, Some, None, slice_get}
+use Rattle.ag_expr.specs.Lists.{Has, Differ}
+use Rattle.ag_expr.specs.declared.grammar.Item.TheVariants as item
+use Rattle.ag_expr.specs.declared.grammar.Item.{Item}
+use Rattle.ag_expr.specs.declared.grammar.Production.{Production}
+use Rattle.ag_expr.specs.declared.grammar.Rule.{Rule}
+use Rattle.ag_expr.specs.declared.grammar.Target.{Target}
+use Rattle.ag_expr.specs.grammars.AttributeGrammar.{Grammar, IsProduction, item_at}
+use Rattle.ag_expr.specs.grammars.Passes.{Direction, LeftToRight, RightToLeft, IsBefore}
+use Rattle.passassign.specs.declared.stuck.Strike.{Strike}
+use Rattle.passassign.specs.declared.stuck.Stuck.{Stuck}
+
+-- some attributes, by the numbers of their symbols and of themselves
+abbrev pub Attributes : Type 1
+Attributes = ℕ → ℕ → Type 0
+
+-- those that a list has
+abbrev pub Members : List (ℕ × ℕ) → ℕ → ℕ → Type 0
+Members set s a = Has set (s, a)
+
+-- those that a list strikes
+abbrev pub Strikes : List Strike → ℕ → ℕ → Type 0
+Strikes [] s a = ⊥
+Strikes (x ∷ xs) s a = ((x.symbol ≡ s) × (x.attr ≡ a)) ⊎ Strikes xs s a
+
+-- an item's attribute is one of some
+abbrev pub IsOneOf : Attributes → Option Item → ℕ → Type 0
+IsOneOf some None a = ⊥
+IsOneOf some (Some (item.Symbol s)) a = some s a
+IsOneOf some (Some (item.Terminal t)) a = ⊥
+
+-- Why an argument keeps a rule's target at place j out of a pass of this direction, whose candidates have no earlier pass
+-- (after Jazayeri and Walter 1975): it is struck itself; or it is a candidate at the same child, so it is not there before
+-- the pass enters that child; or it is at a child that the pass visits later.
+abbrev pub IsReason : Direction → Attributes → List Strike → Production → ℕ → Target → Type 0
+IsReason d candidate struck q j o =
+    IsOneOf (Strikes struck) (item_at q o.place) o.attr
+    ⊎ ((1 ≤ j) × (o.place ≡ j) × IsOneOf candidate (item_at q o.place) o.attr)
+    ⊎ ((1 ≤ j) × (1 ≤ o.place) × IsBefore d j o.place)
+
+-- A good strike: what it names is there, the target of its rule is its attribute, and the argument is a reason (this
+-- project's).
+pub record IsGood (g : Grammar) (d : Direction) (candidate : Attributes) (struck : List Strike) (x : Strike) : Type 0 where
+  pub production : Production
+  pub rule : Rule
+  pub argument : Target
+  pub is_production : IsProduction g x.production production
+  pub is_rule : slice_get production.rules x.rule ≡ Some rule
+  pub is_argument : slice_get rule.args x.arg ≡ Some argument
+  pub symbol : item_at production rule.target.place ≡ Some (item.Symbol x.symbol)
+  pub attr : rule.target.attr ≡ x.attr
+  pub reason : IsReason d candidate struck production rule.target.place argument
+
+-- Strikes one after the other: each is of a candidate that is not struck before, and is good after those before it.
+abbrev pub AreGood : Grammar → Direction → Attributes → List Strike → List Strike → Type 0
+AreGood g d candidate struck [] = Unit {0}
+AreGood g d candidate struck (x ∷ xs) =
+    candidate x.symbol x.attr × (Strikes struck x.symbol x.attr → ⊥) × IsGood g d candidate struck x × AreGood g d candidate (x ∷ struck) xs
+
+-- Good strikes of each candidate, and of nothing else.
+pub record StrikesAll (g : Grammar) (d : Direction) (candidate : Attributes) (xs : List Strike) : Type 0 where
+  pub good : AreGood g d candidate [] xs
+  pub all : (s a : ℕ) → candidate s a → Strikes xs s a
+
+-- A certificate: some attributes, none of them listed twice, all of which are struck in a pass of either direction (this
+-- project's).
+pub record IsCertificate (g : Grammar) (c : Stuck) : Type 0 where
+  pub some : (x : ℕ × ℕ) × Has c.set x
+  pub single : Differ c.set
+  pub odd : StrikesAll g RightToLeft (Members c.set) c.odd
+  pub even : StrikesAll g LeftToRight (Members c.set) c.even
+
+-- the certificate of two passes one after the other, the first of this direction, that strike the same attributes
+abbrev pub stuck_of : Direction → List (ℕ × ℕ) → (first second : List Strike) → Stuck
+stuck_of RightToLeft set first second = record { set = set; odd = first; even = second }
+stuck_of LeftToRight set first second = record { set = set; odd = second; even = first }

@@ -1,0 +1,60 @@
+-- Assignments of passes to some attributes alone, the least assignment, and which attributes no assignment can give a pass
+-- (after Jazayeri and Walter 1975).
+use Rattle.std.specs.Prelude.{ℕ, ◌≡◌, ◌≤◌, [], ◌∷◌, Option, Some, None, slice_get}
+use Rattle.ag_expr.specs.Lists.{Each}
+use Rattle.ag_expr.specs.declared.grammar.Item.TheVariants as item
+use Rattle.ag_expr.specs.declared.grammar.Item.{Item}
+use Rattle.ag_expr.specs.declared.grammar.Production.{Production}
+use Rattle.ag_expr.specs.declared.grammar.Target.{Target}
+use Rattle.ag_expr.specs.declared.grammar.Terminal.TheVariants.{Literal, Class}
+use Rattle.ag_expr.specs.grammars.AttributeGrammar.{Grammar, Kind, item_at, symbol_kinds}
+use Rattle.ag_expr.specs.grammars.Passes.{Passes, IsLegalFor, IsLegal}
+
+-- A partial assignment: the pass of an attribute, by the numbers of its symbol and of itself, where it has one (this
+-- project's).
+abbrev pub Partial : Type 0
+Partial = ℕ → ℕ → Option ℕ
+
+-- the assignment of all attributes, as a partial one
+abbrev pub partial_of : Passes → Partial
+partial_of m s a = slice_get (m s) a
+
+-- a symbol of this number has an attribute of this number
+abbrev pub IsAttribute : Grammar → ℕ → ℕ → Type 0
+IsAttribute g s a = (k : Kind) × (slice_get (symbol_kinds (slice_get g.symbols s)) a ≡ Some k)
+
+-- it gives passes to attributes that there are, and to nothing else
+abbrev pub IsOver : Grammar → Partial → Type 0
+IsOver g n = (s a p : ℕ) → n s a ≡ Some p → IsAttribute g s a
+
+-- The pass of an item's attribute, where it has one. A token's text has pass 0.
+abbrev pub pass_at : Partial → Option Item → ℕ → Option ℕ
+pass_at n None a = None
+pass_at n (Some (item.Symbol s)) a = n s a
+pass_at n (Some (item.Terminal (Class c))) a = slice_get (0 ∷ []) a
+pass_at n (Some (item.Terminal (Literal l))) a = None
+
+-- the attribute at a place has this pass
+abbrev pub GivesPass : Partial → Production → Target → ℕ → Type 0
+GivesPass n q o p = pass_at n (item_at q o.place) o.attr ≡ Some p
+
+-- A legal partial assignment: it gives passes of at least 1 to attributes that there are, and the arguments of their rules
+-- have passes too, such as they may use (after Jazayeri and Walter 1975).
+pub record IsLegalPartial (g : Grammar) (n : Partial) : Type 0 where
+  pub known : IsOver g n
+  pub positive : (s a p : ℕ) → n s a ≡ Some p → 1 ≤ p
+  pub allowed : Each (IsLegalFor (GivesPass n)) g.productions
+
+-- A stuck attribute: no legal partial assignment gives it a pass (this project's).
+abbrev pub IsStuck : Grammar → ℕ → ℕ → Type 0
+IsStuck g s a = (n : Partial) → IsLegalPartial g n → n s a ≡ None
+
+-- The least assignment: it is legal, and gives no attribute a later pass than any legal one does (after Jazayeri and Walter
+-- 1975).
+pub record IsLeast (g : Grammar) (m : Passes) : Type 0 where
+  pub legal : IsLegal g m
+  pub least : (other : Passes) → IsLegal g other → (s a p q : ℕ) → partial_of m s a ≡ Some p → partial_of other s a ≡ Some q → p ≤ q
+
+-- An alternating grammar: there is a legal assignment, with whatever number of passes (after Jazayeri and Walter 1975).
+abbrev pub IsAlternating : Grammar → Type 0
+IsAlternating g = (m : Passes) × IsLegal g m

@@ -1,0 +1,31 @@
+//! What shows that a grammar has no legal assignment, as plain data. When it does is defined over
+//! these types.
+
+use ag_value::Items;
+
+/// Why an attribute can't have a pass of some direction: an argument of a rule that gives it its
+/// value.
+#[derive(Clone, Copy, Debug, PartialEq, Eq)]
+pub struct Strike {
+    /// The number of the attribute's symbol.
+    pub symbol: u16,
+    /// The attribute's number at its symbol.
+    pub attr: u16,
+    /// The number of a production.
+    pub production: u16,
+    /// The number of one of its rules.
+    pub rule: u16,
+    /// The number of one of the rule's arguments.
+    pub arg: u16,
+}
+
+/// A set of attributes, and two lists of strikes of them, each in the order in which they are made.
+#[derive(Debug, Drop)]
+pub struct Stuck {
+    /// The attributes, each by its symbol's number and its own.
+    pub set: Items<(u16, u16)>,
+    /// The strikes of a pass from right to left, as the odd ones are.
+    pub odd: Items<Strike>,
+    /// The strikes of a pass from left to right, as the even ones are.
+    pub even: Items<Strike>,
+}
