@@ -1,6 +1,8 @@
+//! What the operators give for two values.
+
 ghost use Rattle.std.specs.Prelude.{◌≡◌, ◌+ℤ◌, ◌-ℤ◌, ◌*ℤ◌, int_div, int_rem};
 ghost use Rattle.ag_value.specs.Well.{IsWell};
-ghost use Rattle.ag_expr.specs.Evaluation.{applied, calculated, divided, number_value};
+ghost use Rattle.ag_expr.specs.language.Evaluation.{applied, calculated, divided, number_value};
 
 use crate::node::Operator;
 use ag_value::{ErrorCode, Value};

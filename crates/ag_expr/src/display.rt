@@ -1,3 +1,5 @@
+//! How a refusal of a text is printed.
+
 use crate::fault::ExprFault;
 use std::error::Error;
 use std::fmt;
@@ -5,7 +7,7 @@ use std::fmt;
 /// The number of the fault, and where it has one its offset: `X2 at 13`.
 impl fmt::Display for ExprFault {
     ghost use Rattle.std.specs.Prelude.{Some};
-    ghost use Rattle.ag_expr.specs.Faults.{printed};
+    ghost use Rattle.ag_expr.specs.language.Faults.{printed};
 
     ghost output = { λ fault. Some (printed fault) };
 

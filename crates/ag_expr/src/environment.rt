@@ -1,3 +1,5 @@
+//! What lends an evaluation the values of its occurrences.
+
 ghost use Rattle.std.specs.Prelude.{◌≡◌, ◌<◌, ℕ};
 
 use ag_value::Value;

@@ -1,6 +1,8 @@
+//! The value of an expression.
+
 ghost use Rattle.std.specs.Prelude.{◌≡◌, ◌+◌, ◌-◌, ◌^◌, ◌<◌, ◌≤◌, length, true, IfOk};
 ghost use Rattle.ag_value.specs.Well.{IsWell};
-ghost use Rattle.ag_expr.specs.Evaluation.{AreWell, is_below, value_of};
+ghost use Rattle.ag_expr.specs.language.Evaluation.{AreWell, is_below, value_of};
 
 use crate::arithmetic::apply;
 use crate::environment::Env;
@@ -32,8 +34,8 @@ fn tree_value<V: Env>(alloc: Global, expr: &Expr, node: &Node, env: &V) -> Resul
     }
 }
 
-/// The value of an expression where `env` lends the values of its occurrences. Takes memory for copies of values that
-/// are lent. The meter counts one more, also where memory is refused.
+/// The value of an expression where `env` lends the values of its occurrences. Takes memory for
+/// copies of values that are lent. The meter counts one more, also where memory is refused.
 pub fn eval<V: Env>(
     alloc: Global,
     expr: &Expr,

@@ -1,3 +1,5 @@
+//! Why a text is no expression, and why no token is cut.
+
 ghost use Rattle.std.specs.Prelude.{◌≡◌};
 ghost use Rattle.ag_expr.specs.declared.fault.ExprFault.TheVariants as expr_fault;
 
@@ -11,7 +13,8 @@ pub enum ExprFault {
     NoToken(usize),
     /// X2: no expression goes on with the token at this offset, or ends here, at the text's end.
     Unexpected(usize),
-    /// X3: at this offset stands a number above 9223372036854775807, or an occurrence with a place above 65535.
+    /// X3: at this offset stands a number above 9223372036854775807, or an occurrence with a place
+    /// above 65535.
     NumberTooLarge(usize),
     /// X4: at this offset an expression of level 65 begins.
     TooDeep(usize),

@@ -1,13 +1,17 @@
 //! Laws about the definitions alone.
 
-ghost use Rattle.ag_expr.specs.GrammarLaws.{ProductiveByTrees, OneSolution, OneTranslation, EquationsKept, PassesSolve};
+ghost use Rattle.ag_expr.specs.grammars.Laws.{ProductiveByTrees, OneSolution, OneTranslation};
+ghost use Rattle.ag_expr.specs.grammars.Laws.{EquationsKept, PassesSolve};
 
 /// A symbol derives a list of terminals exactly where there is a tree of it.
+#[tactic(auto, using(crate::proofs::grammars::Productive::by_trees))]
 pub fn productive_by_trees()
     ensures { ProductiveByTrees }
 {}
 
-/// Any two solutions on a tree of a complete and normal grammar with a legal assignment of passes are the same.
+/// Any two solutions on a tree of a complete and normal grammar with a legal assignment of passes
+/// are the same.
+#[tactic(auto, using(crate::proofs::grammars::OneSolution::one_solution))]
 pub fn one_solution()
     ensures { OneSolution }
 {}
@@ -18,6 +22,7 @@ pub fn one_translation()
 {}
 
 /// The equations of a pass stay true where the values of the passes so far are kept.
+#[tactic(auto, using(crate::proofs::grammars::Kept::equations_kept))]
 pub fn equations_kept()
     ensures { EquationsKept }
 {}

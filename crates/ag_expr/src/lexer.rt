@@ -1,14 +1,17 @@
-ghost use Rattle.std.specs.Prelude.{◌≡◌, ◌++◌, ◌∷◌, [], pos, length, chars, is_some, option_map, IfSome, MatchOption, encode_utf8, encode_utf8_all};
+//! Cutting the token at the front of a text.
+
+ghost use Rattle.std.specs.Prelude.{◌≡◌, ◌++◌, ◌∷◌, [], pos, length, chars, is_some, option_map};
+ghost use Rattle.std.specs.Prelude.{IfSome, MatchOption, encode_utf8, encode_utf8_all};
 ghost use Rattle.std.specs.Str.Parse.{digits_value};
-ghost use Rattle.ag_expr.specs.Left.{unspaced};
-ghost use Rattle.ag_expr.specs.Lexing as lexing;
-ghost use Rattle.ag_expr.specs.Lexing.{GivesToken, IsPast, back_of, front_in};
-ghost use Rattle.ag_expr.specs.Token as token;
-ghost use Rattle.ag_expr.specs.Tokens as tokens_spec;
-ghost use Rattle.ag_expr.specs.Tokens.{IsDigits};
+ghost use Rattle.ag_expr.specs.language.Left.{unspaced};
+ghost use Rattle.ag_expr.specs.language.Lexing as lexing;
+ghost use Rattle.ag_expr.specs.language.Lexing.{GivesToken, IsPast, back_of, front_in};
+ghost use Rattle.ag_expr.specs.language.Token as token;
+ghost use Rattle.ag_expr.specs.language.Tokens as tokens_spec;
+ghost use Rattle.ag_expr.specs.language.Tokens.{IsDigits};
 
 use crate::fault::TokenFault;
-use crate::token::{Sign, Token};
+use crate::token::{Punctuation, Token};
 
 /// A class of characters.
 #[derive(Clone, Copy, Debug, PartialEq, Eq)]
@@ -41,7 +44,7 @@ fn starts_name(c: char) -> bool
 
 /// The first character, and what stands behind it.
 fn first(text: &str) -> Option<(char, &str)>
-    ensures { MatchOption result (chars text.now ≡ []) (λ x. (chars text.now ≡ x.0 ∷ chars x.1.now) × (text.now ≡ encode_utf8 x.0 ++ x.1.now)) }
+    ensures { MatchOption result (chars text.now ≡ []) (λ x. lexing.IsSplit text.now x.0 x.1.now) }
 {
     let mut characters = text.chars();
     match characters.next() {
@@ -81,7 +84,7 @@ pub fn skip_separators(text: &str) -> &str
 
 /// The digits in front, where there are some, and what stands behind them.
 fn digits_in_front(text: &str) -> Option<(&str, &str)>
-    ensures value { option_map (λ x. (x.0.now, chars x.1.now)) result ≡ lexing.digits_from (chars text.now) }
+    ensures value { lexing.GivesDigits result (lexing.digits_from (chars text.now)) }
     ensures digits { IfSome result (λ x. IsDigits x.0.now) }
 {
     let (digits, rest) = split_behind(Class::Digit, text);
@@ -101,28 +104,29 @@ fn name_in_front(text: &str) -> Option<(&str, &str)>
     }
 }
 
-/// The sign that is one character.
-fn single_sign(c: char) -> Option<Sign>
-    ensures { result ≡ lexing.single_sign c }
+/// The punctuation that is one character.
+fn single_punctuation(c: char) -> Option<Punctuation>
+    ensures { result ≡ lexing.single_punctuation c }
 {
     match c {
-        '-' => Some(Sign::Minus),
-        '*' => Some(Sign::Times),
-        '<' => Some(Sign::Less),
-        '(' => Some(Sign::Open),
-        ')' => Some(Sign::Close),
-        '[' => Some(Sign::OpenList),
-        ']' => Some(Sign::CloseList),
-        '{' => Some(Sign::OpenTable),
-        '}' => Some(Sign::CloseTable),
-        ',' => Some(Sign::Comma),
-        ';' => Some(Sign::Semicolon),
+        '-' => Some(Punctuation::Minus),
+        '*' => Some(Punctuation::Times),
+        '<' => Some(Punctuation::Less),
+        '(' => Some(Punctuation::Open),
+        ')' => Some(Punctuation::Close),
+        '[' => Some(Punctuation::OpenList),
+        ']' => Some(Punctuation::CloseList),
+        '{' => Some(Punctuation::OpenTable),
+        '}' => Some(Punctuation::CloseTable),
+        ',' => Some(Punctuation::Comma),
+        ';' => Some(Punctuation::Semicolon),
         _ => None,
     }
 }
 
-/// One sign where its character stands twice, and another where it stands once, as it does before the text.
-fn doubled(twice: char, two: Sign, one: Sign, text: &str) -> (Sign, &str)
+/// One mark where its character stands twice, and another where it stands once, as it does before
+/// the text.
+fn doubled(twice: char, two: Punctuation, one: Punctuation, text: &str) -> (Punctuation, &str)
     ensures { (result.0, chars result.1.now) ≡ lexing.doubled twice two one (chars text.now) }
 {
     match first(text) {
@@ -131,14 +135,15 @@ fn doubled(twice: char, two: Sign, one: Sign, text: &str) -> (Sign, &str)
     }
 }
 
-/// The sign in front, and what stands behind it.
-fn sign_in_front(text: &str) -> Option<(Sign, &str)>
-    ensures { option_map (λ x. (x.0, chars x.1.now)) result ≡ lexing.sign_from (chars text.now) }
+/// The punctuation in front, and what stands behind it.
+fn punctuation_in_front(text: &str) -> Option<(Punctuation, &str)>
+    ensures { option_map (λ x. (x.0, chars x.1.now)) result
+        ≡ lexing.punctuation_from (chars text.now) }
 {
     match first(text)? {
-        ('+', rest) => Some(doubled('+', Sign::Join, Sign::Plus, rest)),
-        ('=', rest) => Some(doubled('=', Sign::Equal, Sign::Becomes, rest)),
-        (c, rest) => Some((single_sign(c)?, rest)),
+        ('+', rest) => Some(doubled('+', Punctuation::Join, Punctuation::Plus, rest)),
+        ('=', rest) => Some(doubled('=', Punctuation::EqualEqual, Punctuation::Equal, rest)),
+        (c, rest) => Some((single_punctuation(c)?, rest)),
     }
 }
 
@@ -159,10 +164,12 @@ fn past_escape(text: &str) -> Option<&str>
     }
 }
 
-/// What stands behind one character of a text literal: None at a quote, at an escape that is none, and at the end.
-#[tactic(auto, using(crate::proofs::TextTurns::past_escape, crate::proofs::TextTurns::past_plain))]
+/// What stands behind one character of a text literal: None at a quote, at an escape that is none,
+/// and at the end.
+#[tactic(auto, using(crate::proofs::language::TextTurns::past))]
 fn past_character(text: &str) -> Option<&str>
-    ensures { MatchOption result (lexing.character_from (chars text.now) ≡ None) (λ rest. IsPast text.now rest.now) }
+    ensures { MatchOption result (lexing.character_from (chars text.now) ≡ None)
+        (λ rest. IsPast text.now rest.now) }
 {
     match first(text)? {
         ('"', _) => None,
@@ -211,7 +218,8 @@ fn text_literal(text: &str) -> Result<(Token<'_>, &str), TokenFault>
 /// The number literal of these digits, in front of `rest`.
 fn number_literal<'t>(digits: &str, rest: &'t str) -> Result<(Token<'t>, &'t str), TokenFault>
     requires { IsDigits digits.now }
-    ensures { GivesToken result (Some (token.Number (pos (digits_value 10 digits.now)), chars rest.now)) }
+    ensures { GivesToken result
+        (Some (token.Number (pos (digits_value 10 digits.now)), chars rest.now)) }
 {
     match digits.parse::<i64>() {
         Ok(number) => Ok((Token::Number(number), rest)),
@@ -226,7 +234,8 @@ fn occurrence_of<'t>(
     rest: &'t str,
 ) -> Result<(Token<'t>, &'t str), TokenFault>
     requires { IsDigits digits.now }
-    ensures { GivesToken result (Some (token.Occurrence (digits_value 10 digits.now) attr.now, chars rest.now)) }
+    ensures { GivesToken result
+        (Some (token.Occurrence (digits_value 10 digits.now) attr.now, chars rest.now)) }
 {
     match digits.parse::<u16>() {
         Ok(place) => Ok((Token::Occurrence(place, attr), rest)),
@@ -244,7 +253,7 @@ fn occurrence(text: &str) -> Result<(Token<'_>, &str), TokenFault>
     occurrence_of(digits, attr, rest)
 }
 
-/// The number, name or sign in front.
+/// The number, name or punctuation in front.
 fn plain_token(text: &str) -> Result<(Token<'_>, &str), TokenFault>
     ensures { GivesToken result (lexing.plain_from (chars text.now)) }
 {
@@ -254,14 +263,14 @@ fn plain_token(text: &str) -> Result<(Token<'_>, &str), TokenFault>
     if let Some((name, rest)) = name_in_front(text) {
         return Ok((Token::Name(name), rest));
     }
-    match sign_in_front(text) {
-        Some((sign, rest)) => Ok((Token::Sign(sign), rest)),
+    match punctuation_in_front(text) {
+        Some((mark, rest)) => Ok((Token::Punctuation(mark), rest)),
         None => Err(TokenFault::Nothing),
     }
 }
 
 /// The token in front, and what stands behind it. Takes no memory.
-#[tactic(auto, unfolding(crate::specs::Lexing::token_from))]
+#[tactic(auto, unfolding(crate::specs::language::Lexing::token_from))]
 pub fn token_in_front(text: &str) -> Result<(Token<'_>, &str), TokenFault>
     ensures { GivesToken result (lexing.token_from (chars text.now)) }
 {

@@ -2,20 +2,21 @@
 #![tactic(auto)]
 
 mod arithmetic;
-mod directory;
+mod cursor;
 mod display;
 mod environment;
 mod evaluation;
 mod expression;
 mod fault;
+mod grammar;
 pub mod grammar_laws;
 pub mod laws;
 mod lexer;
 mod meter;
 mod node;
 mod occurrence;
+mod occurrence_table;
 mod parser;
-mod reader;
 pub mod samples;
 mod token;
 
@@ -23,6 +24,7 @@ pub use environment::Env;
 pub use evaluation::eval;
 pub use expression::{Expr, occurrences, read_expr};
 pub use fault::ExprFault;
+pub use grammar::{Item, Production, Rule, Symbol, Target, Terminal};
 pub use meter::Meter;
 pub use node::{Node, Operator};
 pub use occurrence::Occ;

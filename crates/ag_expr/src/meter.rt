@@ -1,3 +1,5 @@
+//! A counter of evaluations.
+
 ghost use Rattle.std.specs.Prelude.{◌≡◌, ◌+◌, ◌-◌, ◌^◌, ◌<◌, nat_eq};
 
 use std::marker::Model;

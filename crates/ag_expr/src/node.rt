@@ -1,3 +1,5 @@
+//! The tree of an expression.
+
 use ag_value::{Boxed, Items};
 
 /// What a chain does with the value so far and an operand's.

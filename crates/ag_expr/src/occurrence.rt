@@ -1,3 +1,5 @@
+//! An occurrence of an attribute in an expression.
+
 use ag_value::Text;
 use std::alloc::Global;
 use std::default::MadeWith;

@@ -1,6 +1,8 @@
-/// A sign of the language.
+//! The tokens of the language.
+
+/// Punctuation of the language, the operators that are no names among it.
 #[derive(Clone, Copy, Debug, PartialEq, Eq)]
-pub enum Sign {
+pub enum Punctuation {
     /// `+`
     Plus,
     /// `-`
@@ -10,11 +12,11 @@ pub enum Sign {
     /// `++`
     Join,
     /// `==`
-    Equal,
+    EqualEqual,
     /// `<`
     Less,
     /// `=`
-    Becomes,
+    Equal,
     /// `(`
     Open,
     /// `)`
@@ -44,6 +46,6 @@ pub enum Token<'t> {
     Name(&'t str),
     /// An occurrence of an attribute: `$`, a place, `.`, a name.
     Occurrence(u16, &'t str),
-    /// A sign.
-    Sign(Sign),
+    /// Punctuation.
+    Punctuation(Punctuation),
 }

@@ -1,12 +1,13 @@
--- Which texts read as no expression without occurrences.
-use Rattle.std.proofs.Common.{◌≡◌, ℕ, List, [], ap}
+-- Which texts read as no expression without occurrences, and what a refusal tells of them.
+use Rattle.std.proofs.Common.{◌≡◌, ℕ, List, [], Some, None, inl, ap, ◌∙◌}
 use Rattle.ag_expr.specs.declared.fault.ExprFault.{ExprFault}
 use Rattle.ag_expr.specs.declared.fault.ExprFault.TheVariants.{NoToken, Unexpected, NumberTooLarge, TooDeep, NoMemory}
 use Rattle.ag_expr.specs.declared.node.Node.{Node}
 use Rattle.ag_expr.specs.declared.occurrence.Occ.{Occ}
-use Rattle.ag_expr.specs.Expression.{IsRefused, ReadsAsExpr, ReadsAsNone}
+use Rattle.ag_expr.specs.Expression.{IsAt, IsRefused, ReadsAsExpr, ReadsAsNone}
 use Rattle.ag_expr.proofs.Texts.{one_expression}
-use Rattle.aggen.specs.Showing.{HasNone, IsExprFault}
+use Rattle.ag_value.specs.declared.value.Value.{Value}
+use Rattle.aggen.specs.Showing.{HasNone, HasValue, IsExplained, IsExprFault, IsUnexpectedAt, OccursAt, first_place}
 use Rattle.aggen.specs.Status.{expr_fault_of}
 
 none_closed : (text : List ℕ) → ReadsAsNone text → HasNone text
@@ -19,6 +20,26 @@ refused_none text (NumberTooLarge at) none is = none_closed text none
 refused_none text (TooDeep at) none is = none_closed text none
 refused_none text NoMemory none is = absurd is
 
--- the one expression of the text has occurrences
-pub listed_none : (text : List ℕ) (e : Node × List Occ) → ReadsAsExpr text e → (e.1 ≡ [] → ⊥) → HasNone text
-listed_none text e reads some is has = some (ap (λ (f : Node × List Occ). f.1) (one_expression text e (has.tree, []) reads has.reads))
+-- what `read_expr` says of a refusal is what X tells
+pub explained : (text : List ℕ) (e : ExprFault) → IsRefused text e → IsAt text e → IsExplained text (expr_fault_of e)
+explained text (NoToken at) none is = (none, is)
+explained text (Unexpected at) none is = inl (none, is)
+explained text (NumberTooLarge at) none is = (none, is)
+explained text (TooDeep at) none is = (none, is)
+explained text NoMemory none is = tt
+
+-- a text with occurrences is refused by `read_expr` for want of memory alone
+pub wanted : (text : List ℕ) (e : ExprFault) (at : ℕ) → IsRefused text e → OccursAt text at → IsUnexpectedAt at (expr_fault_of e)
+wanted text (NoToken k) at none occurs = absurd (none occurs.expr occurs.reads)
+wanted text (Unexpected k) at none occurs = absurd (none occurs.expr occurs.reads)
+wanted text (NumberTooLarge k) at none occurs = absurd (none occurs.expr occurs.reads)
+wanted text (TooDeep k) at none occurs = absurd (none occurs.expr occurs.reads)
+wanted text NoMemory at none occurs = tt
+
+-- the first occurrence of the one expression of the text is the first of any
+pub same_place : (text : List ℕ) (e : Node × List Occ) (at : ℕ) → ReadsAsExpr text e → OccursAt text at → first_place e.1 ≡ Some at
+same_place text e at reads occurs = ap (λ (f : Node × List Occ). first_place f.1) (one_expression text e occurs.expr reads occurs.reads) ∙ occurs.place
+
+-- a text with occurrences has no value
+pub no_value : (text : List ℕ) (at : ℕ) (is : Value) → OccursAt text at → HasValue text is → ⊥
+no_value text at is occurs has = let bad : None ≡ Some at = same_place text (has.tree, []) at has.reads occurs in absurd cc

@@ -1,6 +1,6 @@
 -- The record in the file of a value is the one that was put.
 use Rattle.std.proofs.Common.{◌≡◌, ℕ, zero, suc, List, [], ◌∷◌, Result, Ok, Err, sym, subst, ◌∙◌, arith}
-use Rattle.std.specs.Prelude.{All, MatchResult}
+use Rattle.std.specs.Prelude.{All, IsErrOf, MatchResult, length}
 use Rattle.ag_value.specs.declared.value.Value.{Value}
 use Rattle.ag_value.specs.Well.{IsWell}
 use Rattle.treefile.specs.declared.body.Kind.TheVariants.{Token}
@@ -8,7 +8,7 @@ use Rattle.treefile.specs.declared.reading.FrameFault.{FrameFault}
 use Rattle.treefile.specs.declared.reading.FrameFault.TheVariants.{NotATreeFile, Damaged, Device, NoMemory}
 use Rattle.treefile.specs.Ending.{Told, last_body_of, version_one_usable}
 use Rattle.treefile.specs.TreeFile.{body_of, version_one}
-use Rattle.treefile.proofs.Files.{last_of_file}
+use Rattle.treefile.proofs.Files.{damaged_at_end, last_of_file}
 use Rattle.treefile.proofs.Sizes.{body_size}
 use Rattle.aggen.specs.declared.fault.Fault.{Fault}
 use Rattle.aggen.specs.declared.fault.Fault.TheVariants as fault
@@ -30,6 +30,13 @@ want_told content body NotATreeFile is told = let bad : Err NotATreeFile ≡ Ok 
 want_told content body (Damaged at) is told = let bad : Err (Damaged at) ≡ Ok body = sym told ∙ is in absurd cc
 want_told content body Device is told = tt
 want_told content body NoMemory is told = tt
+
+-- a fault of the last body that is B2 is at the end of the content
+pub place_told : (content : List ℕ) (e : FrameFault) → Told (λ (x : List ℕ). x) (Err e) (last_body_of version_one content) → (at : ℕ) → IsErrOf (let r : Result Value Fault = Err (frame_fault_of e) in r) (fault.Damaged at) → at ≡ length content
+place_told content NotATreeFile told at is = absurd cc
+place_told content (Damaged k) told at is = damaged_at_end version_one content at (told ∙ cc)
+place_told content Device told at is = absurd cc
+place_told content NoMemory told at is = absurd cc
 
 -- a value that was read, or want of memory
 pub value_told : (value : Value) (r : Result Value Fault) → MatchResult r (λ found. found ≡ value) (λ e. e ≡ fault.NoMemory) → MatchResult r (λ found. found ≡ value) IsWant

@@ -1,11 +1,15 @@
 -- What it means to show a value: the expression of a text, the file that its value goes through, and the line that is
 -- written. All of this is this project's.
-use Rattle.std.specs.Prelude.{◌≡◌, ℕ, pos, List, [], ◌∷◌, ◌++◌, codes, Option}
+use Rattle.std.specs.Prelude.{◌≡◌, ◌⊎◌, ℕ, pos, List, [], ◌∷◌, ◌++◌, codes, Option, None, Some}
 use Rattle.std.specs.Io.KnownBytes.{Appends}
 use Rattle.ag_expr.specs.Evaluation.{value_of}
-use Rattle.ag_expr.specs.Expression.{ReadsAsExpr}
+use Rattle.ag_expr.specs.Expression.{IsAt, ReadsAsExpr, ReadsAsNone}
+use Rattle.ag_expr.specs.declared.fault.ExprFault.{ExprFault}
+use Rattle.ag_expr.specs.declared.fault.ExprFault.TheVariants as expr
 use Rattle.ag_expr.specs.declared.node.Node.{Node}
+use Rattle.ag_expr.specs.declared.occurrence.Occ.{Occ}
 use Rattle.ag_value.specs.Shown.{shown_of}
+use Rattle.ag_value.specs.Well.{IsWell}
 use Rattle.ag_value.specs.declared.value.Value.{Value}
 use Rattle.ag_value.specs.declared.value.Value.TheVariants as value
 use Rattle.treefile.specs.TreeFile.{body_of, file, version_one}
@@ -28,6 +32,24 @@ pub record HasValue (text : List ℕ) (is : Value) : Type 0 where
 abbrev pub HasNone : List ℕ → Type 0
 HasNone text = (is : Value) → HasValue text is → ⊥
 
+-- where the first of some occurrences stands, if there is one
+abbrev pub first_place : List Occ → Option ℕ
+first_place [] = None
+first_place (first ∷ others) = Some first.at
+
+-- the text reads as an expression with occurrences, and the `$` of the first one stands at the offset
+pub record OccursAt (text : List ℕ) (at : ℕ) : Type 0 where
+  pub expr : Node × List Occ
+  pub reads : ReadsAsExpr text expr
+  pub place : first_place expr.1 ≡ Some at
+
+-- What X1 to X4 tell of the text: it reads as no expression, and at the fault's offset stands what the fault says. X2
+-- may tell instead that it reads as an expression with occurrences, the first at the offset. Want of memory is no X.
+abbrev pub IsReason : List ℕ → ExprFault → Type 0
+IsReason text (expr.Unexpected at) = (ReadsAsNone text × IsAt text (expr.Unexpected at)) ⊎ OccursAt text at
+IsReason text expr.NoMemory = ⊥
+IsReason text e = ReadsAsNone text × IsAt text e
+
 -- the tree file of version 1 and pass 0 whose one record is a token of number 0 with this value
 abbrev pub file_of : Value → List ℕ
 file_of is = file version_one 0 (body_of Token 0 (is ∷ []) ∷ [])
@@ -48,6 +70,29 @@ pub record ShowsBeginning (text : List ℕ) (old new : Option (List ℕ)) : Type
   pub shown : Value
   pub has : HasValue text shown
   pub beginning : AppendsBeginning old new (line_of shown)
+
+-- the line of some well value was written
+pub record WritesLine (old new : Option (List ℕ)) : Type 0 where
+  pub shown : Value
+  pub well : IsWell shown
+  pub line : Appends old new (line_of shown)
+
+-- a beginning of the line of some well value was written
+pub record BeginsLine (old new : Option (List ℕ)) : Type 0 where
+  pub shown : Value
+  pub well : IsWell shown
+  pub beginning : AppendsBeginning old new (line_of shown)
+
+-- where the fault is one of X1 to X4, what it tells of the text is true
+abbrev pub IsExplained : List ℕ → Fault → Type 0
+IsExplained text (fault.Expr e) = IsReason text e
+IsExplained text _ = Unit {0}
+
+-- X2 at the offset, or want of memory
+abbrev pub IsUnexpectedAt : ℕ → Fault → Type 0
+IsUnexpectedAt at (fault.Expr e) = e ≡ expr.Unexpected at
+IsUnexpectedAt at fault.NoMemory = Unit {0}
+IsUnexpectedAt at _ = ⊥
 
 -- X1 to X4: the text is no expression
 abbrev pub IsExprFault : Fault → Type 0

@@ -2,6 +2,8 @@
 use Rattle.std.specs.Prelude.{ℕ}
 use Rattle.ag_expr.specs.declared.fault.ExprFault.{ExprFault}
 use Rattle.ag_expr.specs.declared.fault.ExprFault.TheVariants as expr
+use Rattle.treefile.specs.declared.device.DeviceFault.{DeviceFault}
+use Rattle.treefile.specs.declared.device.DeviceFault.TheVariants as device
 use Rattle.treefile.specs.declared.reading.FrameFault.{FrameFault}
 use Rattle.treefile.specs.declared.reading.FrameFault.TheVariants as frame
 use Rattle.treefile.specs.declared.writing.WriteFault.{WriteFault}
@@ -23,6 +25,11 @@ status_of fault.NoMemory = 7
 abbrev pub expr_fault_of : ExprFault → Fault
 expr_fault_of expr.NoMemory = fault.NoMemory
 expr_fault_of e = fault.Expr e
+
+-- the faults of a device, of writing a tree file, and of reading one
+abbrev pub device_fault_of : DeviceFault → Fault
+device_fault_of device.Failed = fault.Device
+device_fault_of device.NoMemory = fault.NoMemory
 
 abbrev pub write_fault_of : WriteFault → Fault
 write_fault_of writing.Device = fault.Device

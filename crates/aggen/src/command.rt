@@ -22,8 +22,9 @@ pub enum Request<'a> {
     Value(&'a str),
 }
 
-/// What the words ask for, the program's name first. Help and the version are printed on standard output, and what
-/// is wrong with the words on standard error; O2 Write where they can't be printed.
+/// What the words ask for, the program's name first. Help and the version are printed on standard
+/// output, and what is wrong with the words on standard error; O2 Write where they can't be
+/// printed.
 pub fn request_of<'a, R: Print + Eprint>(
     rt: &R,
     alloc: Global,

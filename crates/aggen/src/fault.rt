@@ -1,16 +1,18 @@
 //! The program's faults: their messages, their statuses, and the faults of the crates below.
 
 ghost use Rattle.std.specs.Prelude.{◌≡◌};
-ghost use Rattle.aggen.specs.Status.{expr_fault_of, frame_fault_of, status_of, write_fault_of};
+ghost use Rattle.aggen.specs.Status.{device_fault_of, expr_fault_of, frame_fault_of, status_of};
+ghost use Rattle.aggen.specs.Status.{write_fault_of};
 ghost use Rattle.aggen.specs.declared.fault.Fault.TheVariants as program_fault;
 
 use ag_expr::ExprFault;
 use ag_value::NoMemory;
 use std::alloc::AllocError;
 use thiserror::Error;
-use treefile::{FrameFault, WriteFault};
+use treefile::{DeviceFault, FrameFault, WriteFault};
 
-/// Why the program, or a call of it, did not do what it was asked for. Each has a number, which is printed first.
+/// Why the program, or a call of it, did not do what it was asked for. Each has a number, which is
+/// printed first.
 #[derive(Clone, Copy, Debug, PartialEq, Eq, Error)]
 pub enum Fault {
     /// The words of the command line are not as they should be.
@@ -22,7 +24,8 @@ pub enum Fault {
     /// B1: a device holds no tree file.
     #[error("B1 the device holds no tree file")]
     NotATreeFile,
-    /// B2: no frame ends at this offset in bytes, where one should, or its body is not as it should be.
+    /// B2: no frame ends at this offset in bytes, where one should, or its body is not as it should
+    /// be.
     #[error("B2 at {0}: the tree file is damaged here")]
     Damaged(u64),
     /// D1: a call of a device failed.
@@ -36,7 +39,8 @@ pub enum Fault {
     NoMemory,
 }
 
-/// The status that the program ends with after a fault: 2 usage; 3 X; 5 B1 and B2; 7 want of memory; 8 D1 and O2.
+/// The status that the program ends with after a fault: 2 usage; 3 X; 5 B1 and B2; 7 want of
+/// memory; 8 D1 and O2.
 pub fn status(fault: &Fault) -> u8
     ensures { result ≡ status_of fault.now }
 {
@@ -56,6 +60,17 @@ impl From<ExprFault> for Fault {
         match fault {
             ExprFault::NoMemory => Fault::NoMemory,
             _ => Fault::Expr(fault),
+        }
+    }
+}
+
+impl From<DeviceFault> for Fault {
+    ghost from_gives = { λ fault e. e ≡ device_fault_of fault };
+
+    fn from(fault: DeviceFault) -> Fault {
+        match fault {
+            DeviceFault::Failed => Fault::Device,
+            DeviceFault::NoMemory => Fault::NoMemory,
         }
     }
 }

@@ -1,6 +1,7 @@
 //! The tree file with one record that a value goes through, and the line that tells a value.
 
-ghost use Rattle.std.specs.Prelude.{◌≡◌, ◌+◌, ◌∷◌, ℕ, [], true, Ok, length, string_bytes, IfErr, IfOk, IsErrOf, MatchResult, OnOk};
+ghost use Rattle.std.specs.Prelude.{◌≡◌, ◌+◌, ◌∷◌, ℕ, [], true, Ok, length, string_bytes, IfErr};
+ghost use Rattle.std.specs.Prelude.{IfOk, IsErrOf, MatchResult, OnOk};
 ghost use Rattle.ag_value.specs.Well.{IsWell};
 ghost use Rattle.ag_value.specs.declared.value.Value.{Value as AttributeValue};
 ghost use Rattle.treefile.specs.Device.{LeavesContent, Persists, WhenHonest};
@@ -13,8 +14,8 @@ use ag_value::{Value, ValueFault, decode, show};
 use std::alloc::Global;
 use treefile::{Device, Kind, Writer, last_body, split_body};
 
-/// Makes the device a tree file of pass 0 whose one record is a token of number 0 with this value. D1 Device where
-/// the device failed.
+/// Makes the device a tree file of pass 0 whose one record is a token of number 0 with this value.
+/// D1 Device where the device failed.
 pub fn write_file<D: Device>(alloc: Global, device: &mut D, value: Value) -> Result<(), Fault>
     requires { IsWell value }
     ensures ok { OnOk result
@@ -28,37 +29,40 @@ pub fn write_file<D: Device>(alloc: Global, device: &mut D, value: Value) -> Res
     Ok(())
 }
 
-/// How many bytes of a tree file with one frame are not of its body.
-const BYTES_BESIDE_BODY: u64 = 10;
-
-/// The value in the last record of a tree file. B2 Damaged at the file's end where that record is no token of number 0
-/// with exactly one value; B1, B2 and D1 as `last_body` answers them.
+/// The value in the last record of a tree file. B2 Damaged at the file's end where that record is
+/// no token of number 0 with exactly one value; B1, B2 and D1 as `last_body` answers them.
 pub fn read_file<D: Device>(alloc: Global, device: &mut D) -> Result<Value, Fault>
     ensures found { WhenHonest (D.is_honest device.old) (IfOk result
         (λ value. last_body_of version_one (D.content device.old)
         ≡ Ok (body_of Kind.Token 0 (value ∷ [])))) }
+    ensures well { IfOk result (λ value. IsWell value) }
     ensures read { WhenHonest (D.is_honest device.old)
         ((value : AttributeValue) → IsWell value → D.content device.old ≡ file_of value →
         MatchResult result (λ found. found ≡ value) IsWant) }
     ensures err { IfErr result IsFileFault }
+    ensures place { WhenHonest (D.is_honest device.old)
+        ((at : ℕ) → IsErrOf result (Fault.Damaged at) → at ≡ length (D.content device.old)) }
     ensures content { LeavesContent (D.is_honest device.old)
         (D.content device.old) (D.content device.new) }
     ensures persists { Persists (D.is_honest device.old) (D.is_honest device.new)
         (D.failures device.old) (D.failures device.new) (IsErrOf result Fault.Device) }
 {
     let body = last_body(alloc, device)?;
-    value_in(alloc, body.as_slice())
+    let end = device.len()?;
+    value_in(alloc, body.as_slice(), end)
 }
 
-/// The value in the body of a record.
-fn value_in(alloc: Global, body: &[u8]) -> Result<Value, Fault>
+/// The value in the body of the last record of a file that ends at an offset.
+fn value_in(alloc: Global, body: &[u8], end: u64) -> Result<Value, Fault>
     ensures found { IfOk result (λ value. body.now ≡ body_of Kind.Token 0 (value ∷ [])) }
-    ensures read { (value : AttributeValue) → IsWell value → body.now ≡ body_of Kind.Token 0 (value ∷ []) → MatchResult result (λ found. found ≡ value) (λ e. e ≡ Fault.NoMemory) }
+    ensures well { IfOk result (λ value. IsWell value) }
+    ensures read { (value : AttributeValue) → IsWell value →
+        body.now ≡ body_of Kind.Token 0 (value ∷ []) →
+        MatchResult result (λ found. found ≡ value) (λ e. e ≡ Fault.NoMemory) }
     ensures err { IfErr result (λ e. IsFileFault e) }
-    ensures place { (at : ℕ) → IsErrOf result (Fault.Damaged at) → at ≡ length body.now + 10 }
+    ensures place { (at : ℕ) → IsErrOf result (Fault.Damaged at) → at ≡ end }
     ensures device { ¬ (IsErrOf result Fault.Device) }
 {
-    let end = body.len() as u64 + BYTES_BESIDE_BODY;
     let Some((kind, number, spelling)) = split_body(body) else {
         return Err(Fault::Damaged(end));
     };

@@ -1,7 +1,7 @@
 //! `aggen`: translators from attribute grammars.
 //!
-//! The program's one command so far is `value EXPR`: it evaluates an expression, takes its value through a tree file
-//! in memory, and prints what it reads back.
+//! The program's one command so far is `value EXPR`: it evaluates an expression, takes its value
+//! through a tree file in memory, and prints what it reads back.
 #![tactic(auto)]
 
 mod command;

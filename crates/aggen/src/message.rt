@@ -7,7 +7,8 @@ use std::fmt;
 /// How many characters of a token a message shows.
 const SHOWN: usize = 24;
 
-/// A fault of a text in one line for a reader: the fault's number, where it is, what stands there and what could.
+/// A fault of a text in one line for a reader: the fault's number, where it is, what stands there
+/// and what could.
 #[derive(Clone, Copy)]
 pub struct Message<'a> {
     pub fault: &'a Fault,
@@ -122,8 +123,8 @@ fn tell_found<W: fmt::Write>(f: &mut fmt::Formatter<W>, text: &str, at: usize) -
     write!(f, "`")
 }
 
-/// What can stand at an offset where a token was not expected: an operand behind an operator, an opening parenthesis
-/// or nothing, and else an operator.
+/// What can stand at an offset where a token was not expected: an operand behind an operator, an
+/// opening parenthesis or nothing, and else an operator.
 fn expected_at(text: &str, at: usize) -> &'static str {
     let before = text.get(..at).unwrap_or("").trim_end();
     let operators = ["+", "-", "*", "(", "div", "mod"];

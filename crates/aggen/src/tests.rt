@@ -54,6 +54,8 @@ fn refused_texts(rt: HostRuntime) -> Result<(), Fail> {
         ("1 +", ExprFault::Unexpected(3)),
         ("", ExprFault::Unexpected(0)),
         ("1 + $1.a", ExprFault::Unexpected(4)),
+        ("$2.b + $1.a", ExprFault::Unexpected(0)),
+        ("1 + $1.a @", ExprFault::NoToken(9)),
         ("\"abc", ExprFault::NoToken(0)),
         ("\"abc\"", ExprFault::Unexpected(0)),
         ("0 - 9223372036854775808", ExprFault::NumberTooLarge(4)),
@@ -169,8 +171,8 @@ fn each_call_of_the_device_fails_once(rt: HostRuntime) -> Result<(), Fail> {
         assert_eq!(rt; out.len(), 0);
         failed = call;
     }
-    // clear, append and append again, and at least a length and two reads
-    assert!(rt; failed >= 6 && failed < 99);
+    // clear, append and append again, and at least two lengths and two reads
+    assert!(rt; failed >= 7 && failed < 99);
     Ok(())
 }
 
@@ -220,7 +222,8 @@ fn files_that_are_not_what_was_written(rt: HostRuntime) -> Result<(), Fail> {
     assert_eq!(rt; none, Err(Fault::NotATreeFile));
     let header = told(alloc, b"AGT1\0\0")?;
     assert_eq!(rt; header, Err(Fault::Damaged(6)));
-    // a node, a token of class 1, a token without a value, one with two, and one with what is no value
+    // a node, a token of class 1, a token without a value, one with two, and one with what is no
+    // value
     let node = told(alloc, b"AGT1\0\0\0\0\0\x04\x01\0\0\0\x05")?;
     assert_eq!(rt; node, Err(Fault::Damaged(15)));
     let class = told(alloc, b"AGT1\0\0\x01\0\x01\x04\x01\0\0\0\x05")?;
@@ -231,6 +234,12 @@ fn files_that_are_not_what_was_written(rt: HostRuntime) -> Result<(), Fail> {
     assert_eq!(rt; two, Err(Fault::Damaged(17)));
     let bad = told(alloc, b"AGT1\0\0\x01\0\0\x04\x09\0\0\0\x05")?;
     assert_eq!(rt; bad, Err(Fault::Damaged(15)));
+    // of two frames the last one's end is told
+    let second = told(
+        alloc,
+        b"AGT1\0\0\x01\0\0\x04\x01\0\0\0\x05\0\0\0\x04\x01\0\0\0\x05",
+    )?;
+    assert_eq!(rt; second, Err(Fault::Damaged(24)));
     // another value is shown as it was read
     let other = told(alloc, b"AGT1\0\0\x01\0\0\x04\x02\0\0\0\x05")?;
     assert_eq!(rt; other, Ok(()));
@@ -249,7 +258,8 @@ fn messages(rt: HostRuntime) -> Result<(), Fail> {
         (
             Fault::Expr(ExprFault::Unexpected(6)),
             "1 +\n2 3",
-            "X2 at 6 (line 2, column 3): found `3`, where only one of + - * div mod, `)` or the end can stand",
+            "X2 at 6 (line 2, column 3): found `3`, where only one of + - * div mod, `)` or \
+             the end can stand",
         ),
         (
             Fault::Damaged(15),
@@ -271,7 +281,8 @@ fn messages(rt: HostRuntime) -> Result<(), Fail> {
     Ok(())
 }
 
-/// The expression that the words behind the program's name ask for, or nothing where they ask for help.
+/// The expression that the words behind the program's name ask for, or nothing where they ask for
+/// help.
 fn asked(rt: &HostRuntime, words: &[&str]) -> Result<Result<Option<String>, Fault>, Fail> {
     let alloc = rt.alloc();
     let mut line = vec![in alloc; String::from_str(alloc, "aggen")?]?;

@@ -1,10 +1,12 @@
 //! The program's one command: the value of an expression, by way of a tree file.
 
-ghost use Rattle.std.specs.Prelude.{◌≡◌, ◌≢◌, [], IfErr, IfOk, IsErrAnd, IsErrOf, OnOk};
+ghost use Rattle.std.specs.Prelude.{◌≡◌, ◌≢◌, ℕ, [], IfErr, IfOk, IsErrAnd, IsErrOf, OnOk};
 ghost use Rattle.ag_expr.specs.Expression.{ReadsAsExpr};
 ghost use Rattle.ag_value.specs.Well.{IsWell};
 ghost use Rattle.treefile.specs.Device.{Persists, WhenHonest};
-ghost use Rattle.aggen.specs.Showing.{HasNone, HasValue, IsDamage, IsExprFault, IsTextFault, Shows, ShowsBeginning};
+ghost use Rattle.aggen.specs.Showing.{BeginsLine, HasNone, HasValue, IsDamage, IsExplained};
+ghost use Rattle.aggen.specs.Showing.{IsExprFault, IsTextFault, IsUnexpectedAt, OccursAt, Shows};
+ghost use Rattle.aggen.specs.Showing.{ShowsBeginning, WritesLine, first_place};
 
 use crate::fault::Fault;
 use crate::file::{line_of, read_file, write_file};
@@ -15,12 +17,14 @@ use std::alloc::Global;
 use std::io::Write;
 use treefile::Device;
 
-/// Evaluates an expression without occurrences, puts its value as the one record of a tree file of pass 0 on the
-/// device, a token of number 0, reads the record back, and writes the text of the value that it read, and LF.
+/// Evaluates an expression without occurrences, puts its value as the one record of a tree file of
+/// pass 0 on the device, a token of number 0, reads the record back, and writes the text of the
+/// value that it read, and LF.
 ///
-/// The text is refused before the device is touched: X1 to X4 where it is no expression, X2 at its first `$` where it
-/// has occurrences. D1 Device where the device failed; B1 and B2 where it does not give back what was written. Only
-/// then is anything written: O2 Write where a write fails or takes no byte.
+/// The text is refused before the device is touched: X1 to X4 where it is no expression, X2 at its
+/// first `$` where it has occurrences. D1 Device where the device failed; B1 and B2 where it does
+/// not give back what was written. Only then is anything written: O2 Write where a write fails or
+/// takes no byte.
 pub fn show_value<D: Device, W: Write>(
     alloc: Global,
     text: &str,
@@ -30,10 +34,15 @@ pub fn show_value<D: Device, W: Write>(
     ensures shows { OnOk result (WhenHonest (D.is_honest device.old)
         (Shows text.now (W.contents out.old) (W.contents out.new) (D.content device.new))) }
 
-    // X exactly where no expression without occurrences is related to the text, and the device is untouched then
+    // X exactly where no expression without occurrences is related to the text, and the device is
+    // untouched then
     ensures refused { IfErr result (λ e. IsExprFault e → HasNone text.now) }
     ensures only { HasNone text.now → IsErrAnd result IsTextFault }
     ensures untouched { IfErr result (λ e. IsExprFault e → device.new ≡ device.old) }
+
+    // what X1 to X4 tell is true, and for occurrences it is X2 at the first `$`
+    ensures places { IfErr result (IsExplained text.now) }
+    ensures occurs { (at : ℕ) → OccursAt text.now at → IsErrAnd result (IsUnexpectedAt at) }
 
     // an honest device gives back what was written; D1 only where it failed
     ensures undamaged { WhenHonest (D.is_honest device.old) (IfErr result (λ e. ¬ (IsDamage e))) }
@@ -45,6 +54,11 @@ pub fn show_value<D: Device, W: Write>(
     ensures write { IsErrOf result Fault.Write → WhenHonest (D.is_honest device.old)
         (ShowsBeginning text.now (W.contents out.old) (W.contents out.new)) }
     ensures usage { ¬ (IsErrOf result Fault.Usage) }
+
+    // whatever the device gives back, the line of some well value is written, or a beginning of it
+    ensures line { OnOk result (WritesLine (W.contents out.old) (W.contents out.new)) }
+    ensures begins { IsErrOf result Fault.Write →
+        BeginsLine (W.contents out.old) (W.contents out.new) }
 {
     let value = value_of(alloc, text)?;
     write_file(alloc, device, value)?;
@@ -54,13 +68,15 @@ pub fn show_value<D: Device, W: Write>(
     Ok(())
 }
 
-/// The value of an expression without occurrences. X1 to X4 where the text is none; X2 at its first `$` where it has
-/// occurrences.
+/// The value of an expression without occurrences. X1 to X4 where the text is none; X2 at its first
+/// `$` where it has occurrences.
 fn value_of(alloc: Global, text: &str) -> Result<Value, Fault>
     ensures value { IfOk result (λ value. HasValue text.now value) }
     ensures well { IfOk result (λ value. IsWell value) }
     ensures kind { IfErr result IsTextFault }
     ensures refused { IfErr result (λ e. IsExprFault e → HasNone text.now) }
+    ensures places { IfErr result (IsExplained text.now) }
+    ensures occurs { (at : ℕ) → OccursAt text.now at → IsErrAnd result (IsUnexpectedAt at) }
 {
     let expr = read_closed(alloc, text)?;
     let env = Unasked {
@@ -76,15 +92,28 @@ fn read_closed(alloc: Global, text: &str) -> Result<Expr, Fault>
     ensures closed { IfOk result (λ expr. expr.1 ≡ []) }
     ensures kind { IfErr result IsTextFault }
     ensures refused { IfErr result (λ e. IsExprFault e → HasNone text.now) }
+    ensures places { IfErr result (IsExplained text.now) }
+    ensures occurs { (at : ℕ) → OccursAt text.now at → IsErrAnd result (IsUnexpectedAt at) }
 {
     let expr = read_expr(alloc, text)?;
-    if let Some(first) = occurrences(&expr).first() {
-        return Err(Fault::Expr(ExprFault::Unexpected(first.at)));
+    match first_occurrence(&expr) {
+        Some(at) => Err(Fault::Expr(ExprFault::Unexpected(at))),
+        None => Ok(expr),
     }
-    Ok(expr)
 }
 
-/// The environment of an expression without occurrences: it lends a number, and nothing asks for it.
+/// The offset of the first occurrence in an expression.
+fn first_occurrence(expr: &Expr) -> Option<usize>
+    ensures { result ≡ first_place expr.now.1 }
+{
+    match occurrences(expr) {
+        [first, ..] => Some(first.at),
+        [] => None,
+    }
+}
+
+/// The environment of an expression without occurrences: it lends a number, and nothing asks for
+/// it.
 #[derive(Drop)]
 struct Unasked {
     number: Value,

@@ -1,4 +1,4 @@
-//! Expressions by hand: their values, where they are refused, and their occurrences.
+//! Rows of the language, worked out by hand.
 
 use ag_expr::{Env, ExprFault, Meter, eval, occurrences, read_expr};
 use ag_value::{ErrorCode, Text, Value, is_well, same};
@@ -27,7 +27,7 @@ impl<'a> Env for Same<'a> {
 }
 
 /// The value of a text where every occurrence has this value.
-#[tactic(auto, using(ag_expr::proofs::Values::are_well))]
+#[tactic(auto, using(ag_expr::proofs::language::Values::are_well))]
 fn value_where(
     rt: &(impl Abort + Alloc<A = Global>),
     text: &str,

@@ -17,8 +17,9 @@ failures_of failures fuse = min (failures fuse.inner + fuse.failed) most_failure
 abbrev pub FusePersists : {D : Type 0} → (D → Bool) → (D → ℕ) → Fuse D → Fuse D → Type 0 → Type 0
 FusePersists honest failures old new failed = Persists (honest old.inner) (honest new.inner) (failures_of failures old) (failures_of failures new) failed
 
--- What a call does: it is one call less up to the one that fails. That one fails, and the device that gets the calls
--- is as before. Of any other call the device knows, and such a call fails only where that device's failures rose.
+-- What a call does: there is one call less up to the one that fails. That one fails, and the device that gets the calls
+-- is as before. Any other call goes on to that device: no failure is counted of which it knows nothing, and the call
+-- fails only where its failures rose.
 pub record Burns {D : Type 0} (failures : D → ℕ) (old new : Fuse D) (failed : Type 0) : Type 0 where
   pub left : new.left ≡ old.left - 1
   pub fails : old.left ≡ 1 → failed × (new.inner ≡ old.inner)

@@ -1,6 +1,6 @@
 use Rattle.std.proofs.Common.{◌≡◌, length, sym, subst, true}
-use Rattle.ag_expr.specs.Evaluation.{is_below}
-use Rattle.ag_expr.proofs.Below.{in_operands, value_of-Chain}
+use Rattle.ag_expr.specs.language.Evaluation.{is_below}
+use Rattle.ag_expr.proofs.language.Below.{in_operands, value_of-Chain}
 use Rattle.ag_expr.proofs.evaluation.+tree_value.Goals as goal
 
 pub loop-operator-init : goal.loop-operator-init

@@ -1,6 +1,6 @@
 use Rattle.std.proofs.Common.{◌≡◌, length, drop, map, true}
 use Rattle.ag_value.specs.Well.{IsWell}
-use Rattle.ag_expr.specs.Evaluation.{all_below, chain_value, value_of}
+use Rattle.ag_expr.specs.language.Evaluation.{all_below, chain_value, value_of}
 use Rattle.ag_expr.proofs.evaluation.+tree_value.Given as goal
 
 abbrev pub invariant-loop-operator : goal.invariant-loop-operator

@@ -1,4 +1,4 @@
-use Rattle.ag_expr.proofs.Texts.{one_expression}
+use Rattle.ag_expr.proofs.language.Texts.{one_expression}
 use Rattle.ag_expr.proofs.laws.a_text_reads_as_one_expression.Goals as goal
 
 pub returns : goal.returns

@@ -1,4 +1,4 @@
-use Rattle.ag_expr.proofs.TokenLaws.{token_sound, cut_longest, cut_none}
+use Rattle.ag_expr.proofs.language.TokenLaws.{token_sound, cut_longest, cut_none}
 use Rattle.ag_expr.proofs.laws.cutting_agrees_with_tokens.Goals as goal
 
 pub returns-clause-cut : goal.returns-clause-cut

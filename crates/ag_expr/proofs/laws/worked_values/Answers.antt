@@ -1,5 +1,5 @@
-use Rattle.ag_expr.proofs.Below.{value_of-Chain}
-use Rattle.ag_expr.proofs.Values.{value_of-Number, applied-Num}
+use Rattle.ag_expr.proofs.language.Below.{value_of-Chain}
+use Rattle.ag_expr.proofs.language.Values.{value_of-Number, applied-Num}
 use Rattle.ag_expr.proofs.laws.worked_values.Goals as goal
 
 pub returns-clause-sum_and_product : goal.returns-clause-sum_and_product

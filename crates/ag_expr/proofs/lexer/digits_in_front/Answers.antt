@@ -1,5 +1,5 @@
 use Rattle.std.proofs.Common.{chars, sym}
-use Rattle.ag_expr.proofs.Numerals.{no_digits_cut, digits_cut, digits_are}
+use Rattle.ag_expr.proofs.language.Numerals.{no_digits_cut, digits_cut, digits_are}
 use Rattle.ag_expr.proofs.lexer.digits_in_front.Goals as goal
 
 pub returns-then-is_empty-clause-value : goal.returns-then-is_empty-clause-value

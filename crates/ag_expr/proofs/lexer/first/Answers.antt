@@ -1,6 +1,6 @@
 use Rattle.std.proofs.Common.{◌≡◌, ◌++◌, length, encode_utf8, sym, ap, ◌∙◌}
 use Rattle.std.proofs.lemmas.Str.{chars_past_char}
-use Rattle.ag_expr.proofs.Spans.{empty_text}
+use Rattle.ag_expr.proofs.language.Spans.{empty_text}
 use Rattle.ag_expr.proofs.lexer.first.Goals as goal
 
 pub returns-in-Some : goal.returns-in-Some

@@ -1,4 +1,4 @@
-use Rattle.ag_expr.proofs.Numerals.{number_refused}
+use Rattle.ag_expr.proofs.language.Numerals.{number_refused}
 use Rattle.ag_expr.proofs.lexer.number_literal.Goals as goal
 
 pub returns-in-Err : goal.returns-in-Err

@@ -1,4 +1,4 @@
-use Rattle.ag_expr.proofs.Numerals.{place_refused}
+use Rattle.ag_expr.proofs.language.Numerals.{place_refused}
 use Rattle.ag_expr.proofs.lexer.occurrence_of.Goals as goal
 
 pub returns-in-Err : goal.returns-in-Err

@@ -1,5 +1,5 @@
 use Rattle.std.proofs.Common.{rules}
-use Rattle.ag_expr.proofs.TextTurns.{past_escape}
+use Rattle.ag_expr.proofs.language.TextTurns.{past_escape}
 use Rattle.ag_expr.proofs.lexer.past_character.Goals as goal
 
 pub returns-in-92-default : goal.returns-in-92-default

@@ -1,5 +1,5 @@
 use Rattle.std.proofs.Common.{rules, ap, ◌∙◌, chars}
-use Rattle.ag_expr.proofs.Spans.{goes_on, nearer, boundary, front_cut, back_cut}
+use Rattle.ag_expr.proofs.language.Spans.{goes_on, nearer, boundary, front_cut, back_cut}
 use Rattle.ag_expr.proofs.lexer.split_behind.Goals as goal
 
 pub loop-after-smaller : goal.loop-after-smaller

@@ -1,8 +1,8 @@
 use Rattle.std.proofs.Common.{length}
 use denote.Text.{Utf8}
 use denote.Shadow.{shadow}
-use Rattle.ag_expr.specs.Lexing.{is_in}
-use Rattle.ag_expr.proofs.Spans.{Passed}
+use Rattle.ag_expr.specs.language.Lexing.{is_in}
+use Rattle.ag_expr.proofs.language.Spans.{Passed}
 use Rattle.ag_expr.proofs.lexer.split_behind.Given as goal
 
 abbrev pub invariant-loop-after : goal.invariant-loop-after

@@ -1,6 +1,6 @@
 use Rattle.std.proofs.Common.{rules, refl, ap, ◌∙◌, chars}
-use Rattle.ag_expr.specs.Lexing.{unescaped}
-use Rattle.ag_expr.proofs.TextTurns.{starts, goes_on, stopped, boundary, body_is}
+use Rattle.ag_expr.specs.language.Lexing.{unescaped}
+use Rattle.ag_expr.proofs.language.TextTurns.{starts, goes_on, stopped, boundary, body_is}
 use Rattle.ag_expr.proofs.lexer.text_literal.Goals as goal
 
 pub loop-after-init : goal.loop-after-init

@@ -1,8 +1,8 @@
 use Rattle.std.proofs.Common.{[], length, chars}
 use denote.Text.{Utf8}
 use denote.Shadow.{shadow}
-use Rattle.ag_expr.specs.Lexing.{text_from}
-use Rattle.ag_expr.proofs.TextTurns.{Within}
+use Rattle.ag_expr.specs.language.Lexing.{text_from}
+use Rattle.ag_expr.proofs.language.TextTurns.{Within}
 use Rattle.ag_expr.proofs.lexer.text_literal.Given as goal
 
 abbrev pub invariant-loop-after : goal.invariant-loop-after

@@ -1,8 +1,6 @@
-use Rattle.std.proofs.Common.{List, ap, ◌∙◌}
+use Rattle.std.proofs.Common.{inr, sym, ◌∙◌}
 use Rattle.std.proofs.lemmas.Result.{err_from_is_err_and}
-use Rattle.std.specs.Prelude.{slice_get}
-use Rattle.ag_expr.specs.declared.occurrence.Occ.{Occ}
-use Rattle.aggen.proofs.Closed.{listed_none, refused_none}
+use Rattle.aggen.proofs.Closed.{explained, no_value, refused_none, same_place, wanted}
 use Rattle.aggen.proofs.value.read_closed.Goals as goal
 
 pub returns-in_err-expr-clause-refused : goal.returns-in_err-expr-clause-refused
@@ -10,8 +8,25 @@ returns-in_err-expr-clause-refused c =
     let p = err_from_is_err_and c.from_residual.result c.from_residual.ensures.1 in
     rw (p.1, p.2) (refused_none c.args.text.now c.in_err-expr.field-0.0 c.in_err-expr.ensures.refuses)
 
+pub returns-in_err-expr-clause-places : goal.returns-in_err-expr-clause-places
+returns-in_err-expr-clause-places c =
+    let p = err_from_is_err_and c.from_residual.result c.from_residual.ensures.1 in
+    rw (p.1, p.2) (explained c.args.text.now c.in_err-expr.field-0.0 c.in_err-expr.ensures.refuses c.in_err-expr.ensures.places)
+
+pub returns-in_err-expr-clause-occurs : goal.returns-in_err-expr-clause-occurs
+returns-in_err-expr-clause-occurs c = λ at occurs.
+    let p = err_from_is_err_and c.from_residual.result c.from_residual.ensures.1 in
+    rw (p.1, p.2) (wanted c.args.text.now c.in_err-expr.field-0.0 at c.in_err-expr.ensures.refuses occurs)
+
+-- the text has the occurrence that was found
 pub returns-in-Some-clause-refused : goal.returns-in-Some-clause-refused
-returns-in-Some-clause-refused c = λ is. listed_none c.args.text.now c.in_ok-expr.expr c.in_ok-expr.ensures.reads (λ none.
-    let empty = c.occurrences.ensures ∙ none in
-    let found = c.in-Some.ensures.value ∙ ap (λ (os : List Occ). slice_get os 0) empty in
-    cc)
+returns-in-Some-clause-refused c = λ x is has. no_value c.args.text.now c.in-Some.at is (record { expr = c.in_ok-expr.expr; reads = c.in_ok-expr.ensures.reads; place = sym c.first_occurrence.ensures ∙ c.in-Some.is }) has
+
+pub returns-in-Some-clause-places : goal.returns-in-Some-clause-places
+returns-in-Some-clause-places c = inr (record { expr = c.in_ok-expr.expr; reads = c.in_ok-expr.ensures.reads; place = sym c.first_occurrence.ensures ∙ c.in-Some.is })
+
+pub returns-in-Some-clause-occurs : goal.returns-in-Some-clause-occurs
+returns-in-Some-clause-occurs c = λ at occurs. let e = same_place c.args.text.now c.in_ok-expr.expr at c.in_ok-expr.ensures.reads occurs in cc
+
+pub returns-in-None-clause-occurs : goal.returns-in-None-clause-occurs
+returns-in-None-clause-occurs c = λ at occurs. let e = same_place c.args.text.now c.in_ok-expr.expr at c.in_ok-expr.ensures.reads occurs in absurd cc

@@ -1,5 +1,0 @@
-use Rattle.std.proofs.Common.{◌∙◌}
-use Rattle.ag_expr.proofs.directory.Directory.position.Goals as goal
-
-pub returns : goal.returns
-returns c = rw (← c.self.view_is) (c.copied.ensures ∙ c.get.ensures.value ∙ c.self.invariant (c.args.place, c.args.attr))

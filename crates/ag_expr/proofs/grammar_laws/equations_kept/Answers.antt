@@ -1,5 +1,0 @@
-use Rattle.ag_expr.proofs.Kept.{equations_kept}
-use Rattle.ag_expr.proofs.grammar_laws.equations_kept.Goals as goal
-
-pub returns : goal.returns
-returns c = equations_kept

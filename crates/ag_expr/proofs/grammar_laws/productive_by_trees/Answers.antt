@@ -1,5 +1,0 @@
-use Rattle.ag_expr.proofs.Productive.{by_trees}
-use Rattle.ag_expr.proofs.grammar_laws.productive_by_trees.Goals as goal
-
-pub returns : goal.returns
-returns c = by_trees

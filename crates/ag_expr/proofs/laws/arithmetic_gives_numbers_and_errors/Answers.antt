@@ -1,5 +1,0 @@
-use Rattle.ag_expr.proofs.Values.{stays_plain}
-use Rattle.ag_expr.proofs.laws.arithmetic_gives_numbers_and_errors.Goals as goal
-
-pub returns : goal.returns
-returns c tree env all = stays_plain tree env all

@@ -1,5 +1,0 @@
-use Rattle.ag_expr.proofs.NumberSample.{refused}
-use Rattle.ag_expr.proofs.samples.missing_refused.Goals as goal
-
-pub returns : goal.returns
-returns c = refused

@@ -1,5 +1,0 @@
-use Rattle.ag_expr.proofs.Refused.{not_legal}
-use Rattle.ag_expr.proofs.samples.not_legal.Goals as goal
-
-pub returns : goal.returns
-returns c = not_legal

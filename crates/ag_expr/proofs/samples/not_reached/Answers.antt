@@ -1,5 +1,0 @@
-use Rattle.ag_expr.proofs.Refused.{not_reached}
-use Rattle.ag_expr.proofs.samples.not_reached.Goals as goal
-
-pub returns : goal.returns
-returns c = not_reached

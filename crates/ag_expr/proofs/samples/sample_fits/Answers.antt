@@ -1,5 +1,0 @@
-use Rattle.ag_expr.proofs.NumberSample.{fits}
-use Rattle.ag_expr.proofs.samples.sample_fits.Goals as goal
-
-pub returns : goal.returns
-returns c = fits

@@ -1,5 +1,0 @@
-use Rattle.ag_expr.proofs.NumberSample.{unsolved}
-use Rattle.ag_expr.proofs.samples.sample_unsolved.Goals as goal
-
-pub returns : goal.returns
-returns c = unsolved

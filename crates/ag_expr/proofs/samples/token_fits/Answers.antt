@@ -1,5 +1,0 @@
-use Rattle.ag_expr.proofs.TokenSample.{fits}
-use Rattle.ag_expr.proofs.samples.token_fits.Goals as goal
-
-pub returns : goal.returns
-returns c = fits

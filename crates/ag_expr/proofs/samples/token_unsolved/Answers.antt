@@ -1,5 +1,0 @@
-use Rattle.ag_expr.proofs.TokenSample.{unsolved}
-use Rattle.ag_expr.proofs.samples.token_unsolved.Goals as goal
-
-pub returns : goal.returns
-returns c = unsolved

@@ -1,0 +1,14 @@
+-- The expression language: its tokens, its syntax, what an expression is worth.
+pub mod Evaluation
+pub mod Expression
+pub mod Faults
+pub mod Laws
+pub mod Left
+pub mod Lexing
+pub mod Numbers
+pub mod Occurrences
+pub mod Reading
+pub mod Syntax
+pub mod Token
+pub mod Tokens
+pub mod Worked

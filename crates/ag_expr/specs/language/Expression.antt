@@ -1,0 +1,57 @@
+-- Which texts read as which expressions: this project's language.
+use Rattle.std.specs.Prelude.{◌≡◌, ◌⊎◌, ℕ, Bool, true, false, List, [], length, chars}
+use Rattle.std.specs.List.{list_all}
+use Rattle.ag_expr.specs.declared.fault.ExprFault.{ExprFault}
+use Rattle.ag_expr.specs.declared.fault.ExprFault.TheVariants as fault
+use Rattle.ag_expr.specs.declared.token.Punctuation.TheVariants as punctuation
+use Rattle.ag_expr.specs.language.Token.{Token}
+use Rattle.ag_expr.specs.language.Token as token
+use Rattle.ag_expr.specs.declared.node.Node.{Node}
+use Rattle.ag_expr.specs.declared.occurrence.Occ.{Occ}
+use Rattle.ag_expr.specs.language.Tokens.{AreTokens, is_within, NoTokenAt, TooLargeAt, TokenAt, EndsAt}
+use Rattle.ag_expr.specs.language.Occurrences.{all_occurrences, different}
+use Rattle.ag_expr.specs.language.Syntax.{IsExpr}
+
+-- how many levels an expression has at most
+abbrev pub max_levels : ℕ
+max_levels = 64
+
+-- The text reads as the expression, which is a tree and a list of occurrences: the text is separators and longest tokens, each number within
+-- its limit; the list has the different occurrences among them; and they spell the tree.
+pub record ReadsAsExpr (text : List ℕ) (expr : Node × List Occ) : Type 0 where
+  pub tokens : List Token
+  pub offsets : List ℕ
+  pub are_tokens : AreTokens 0 (chars text) tokens offsets (length text) []
+  pub within : list_all is_within tokens ≡ true
+  pub listed : expr.1 ≡ different (all_occurrences tokens offsets)
+  pub spells : IsExpr expr.1 max_levels tokens expr.0
+
+-- the text reads as no expression
+abbrev pub ReadsAsNone : List ℕ → Type 0
+ReadsAsNone text = (expr : Node × List Occ) → ReadsAsExpr text expr → ⊥
+
+-- what a refusal says of the text: that it reads as no expression, unless memory ran out
+abbrev pub IsRefused : List ℕ → ExprFault → Type 0
+IsRefused text fault.NoMemory = Unit {0}
+IsRefused text e = ReadsAsNone text
+
+-- an expression begins with a number, an occurrence or `(`
+abbrev pub begins_expression : Token → Bool
+begins_expression (token.Number n) = true
+begins_expression (token.Occurrence place attr) = true
+begins_expression (token.Punctuation punctuation.Open) = true
+begins_expression _ = false
+
+-- What a fault says of its offset, where these characters stand from the offset `from` on: X1, no token begins there; X3, the
+-- token there has a number above its limit; X2, a token stands there, or the text ends there; X4, a token stands there with
+-- which an expression begins.
+abbrev pub Says : ℕ → List ℕ → ExprFault → Type 0
+Says from cs (fault.NoToken at) = NoTokenAt from cs at
+Says from cs (fault.NumberTooLarge at) = TooLargeAt from cs at
+Says from cs (fault.Unexpected at) = TokenAt from cs at ⊎ EndsAt from cs at
+Says from cs (fault.TooDeep at) = (t : TokenAt from cs at) × (begins_expression t.0.token ≡ true)
+Says from cs fault.NoMemory = Unit {0}
+
+-- the same of a whole text
+abbrev pub IsAt : List ℕ → ExprFault → Type 0
+IsAt text e = Says 0 (chars text) e

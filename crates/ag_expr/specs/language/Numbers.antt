@@ -1,0 +1,18 @@
+-- The numbers of occurrences by place and name. All of this is this project's.
+use Rattle.std.specs.Prelude.{ℕ, ◌≡◌, ◌&&◌, ◌==◌, Bool, List, bytes_eq}
+use Rattle.std.specs.HashMap.{HashMap, get}
+use Rattle.std.specs.Borrow.{Bor}
+use Rattle.ag_expr.specs.declared.occurrence.Occ.{Occ}
+use Rattle.ag_expr.specs.language.Occurrences.{position_of}
+
+-- a place and a lent name
+abbrev pub Key : Type 0
+Key = ℕ × Bor (List ℕ)
+
+-- two keys have the same place and the same name
+abbrev pub same_key : Key → Key → Bool
+same_key x y = x.0 == y.0 && bytes_eq x.1.now y.1.now
+
+-- at each place and name the map has the number of the first occurrence in the list that has them
+abbrev pub Follows : {S : Type 0} → HashMap Key ℕ S → List Occ → Type 0
+Follows numbers listed = (key : Key) → get same_key numbers key ≡ position_of listed key.0 key.1.now

@@ -1,0 +1,39 @@
+-- The different occurrences of attributes in a text. All of this is this project's.
+use Rattle.std.specs.Prelude.{ℕ, Bool, not, ◌&&◌, ◌==◌, cond, List, [], ◌∷◌, ◌++◌, filter, Option, position, bytes_eq}
+use Rattle.std.specs.List.{list_any}
+use Rattle.ag_expr.specs.language.Token.{Token}
+use Rattle.ag_expr.specs.language.Token as token
+use Rattle.ag_expr.specs.declared.occurrence.Occ.{Occ}
+
+-- an occurrence has this place and this name
+abbrev pub is_of : ℕ → List ℕ → Occ → Bool
+is_of place attr occurrence = occurrence.place == place && bytes_eq occurrence.attr attr
+
+-- the number of the first occurrence with this place and this name
+abbrev pub position_of : List Occ → ℕ → List ℕ → Option ℕ
+position_of listed place attr = position (is_of place attr) listed
+
+-- the occurrence that a token at an offset is
+abbrev pub occurrence_in : Token → ℕ → List Occ
+occurrence_in (token.Occurrence place attr) at = record { place = place; attr = attr; at = at } ∷ []
+occurrence_in _ at = []
+
+-- every occurrence among tokens, with their offsets, in order
+abbrev pub all_occurrences : List Token → List ℕ → List Occ
+all_occurrences [] ats = []
+all_occurrences (t ∷ ts) [] = []
+all_occurrences (t ∷ ts) (at ∷ ats) = occurrence_in t at ++ all_occurrences ts ats
+
+-- the first of each place and name: what stands behind it has another place or another name
+abbrev pub different : List Occ → List Occ
+different [] = []
+different (x ∷ xs) = x ∷ filter (λ y. not (is_of y.place y.attr x)) (different xs)
+
+-- the list of those so far, with one more unless its place and name are listed
+abbrev pub listed_with : List Occ → Occ → List Occ
+listed_with so_far x = cond (list_any (is_of x.place x.attr) so_far) so_far (so_far ++ x ∷ [])
+
+-- the list of those so far, with further ones
+abbrev pub listed_with_all : List Occ → List Occ → List Occ
+listed_with_all so_far [] = so_far
+listed_with_all so_far (x ∷ xs) = listed_with_all (listed_with so_far x) xs

@@ -1,0 +1,14 @@
+-- The tokens of the language, as what they stand for: this project's language.
+use Rattle.std.specs.Prelude.{ℕ, ℤ, List}
+use Rattle.ag_expr.specs.declared.token.Punctuation as punctuation
+
+pub data Token : Type 0 where
+  -- a number literal, by its number
+  Number : ℤ → Token
+  -- a text literal, by the bytes of the text that it stands for
+  Text : List ℕ → Token
+  -- a name, by its bytes
+  Name : List ℕ → Token
+  -- an occurrence of an attribute, by its place and the bytes of the attribute's name
+  Occurrence : ℕ → List ℕ → Token
+  Punctuation : punctuation.Punctuation → Token

@@ -1,0 +1,32 @@
+-- Tokens, numbers and trees for worked examples.
+use Rattle.std.specs.Prelude.{List, [], ◌∷◌, ℤ, pos, negsuc, codes}
+use Rattle.ag_expr.specs.declared.token.Punctuation.TheVariants as punctuation
+use Rattle.ag_expr.specs.language.Token.{Token}
+use Rattle.ag_expr.specs.language.Token as token
+use Rattle.ag_expr.specs.declared.node.Operator.TheVariants as operator
+use Rattle.ag_expr.specs.declared.node.Node.{Node}
+use Rattle.ag_expr.specs.declared.node.Node.TheVariants as node
+
+-- the least number
+abbrev pub least : ℤ
+least = negsuc 9223372036854775807
+
+-- the tokens of `$1.a + 2`
+abbrev pub occurrence_and_number : List Token
+occurrence_and_number = token.Occurrence 1 (codes "a") ∷ token.Punctuation punctuation.Plus ∷ token.Number (pos 2) ∷ []
+
+-- `2 + 3 * 4`
+abbrev pub sum_and_product : Node
+sum_and_product = node.Chain (node.Number (pos 2)) ((operator.Add, node.Chain (node.Number (pos 3)) ((operator.Multiply, node.Number (pos 4)) ∷ [])) ∷ [])
+
+-- `10 - 3 - 2`
+abbrev pub two_differences : Node
+two_differences = node.Chain (node.Number (pos 10)) ((operator.Subtract, node.Number (pos 3)) ∷ (operator.Subtract, node.Number (pos 2)) ∷ [])
+
+-- `9223372036854775807 + 1`
+abbrev pub past_the_greatest : Node
+past_the_greatest = node.Chain (node.Number (pos 9223372036854775807)) ((operator.Add, node.Number (pos 1)) ∷ [])
+
+-- `1 div 0`
+abbrev pub by_zero : Node
+by_zero = node.Chain (node.Number (pos 1)) ((operator.Divide, node.Number (pos 0)) ∷ [])

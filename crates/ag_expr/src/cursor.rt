@@ -1,0 +1,165 @@
+//! A cursor over the tokens of a text: it peeks at the token in front and bumps it, and lists the
+//! occurrences that it passes.
+
+ghost use Rattle.std.specs.Prelude.{◌≡◌, ◌≢◌, chars, drop, Some, false, option_map, IfErr, IfOk};
+ghost use Rattle.std.specs.Prelude.{OnOk};
+ghost use Rattle.ag_expr.specs.language.Left as left;
+ghost use Rattle.ag_expr.specs.language.Expression as spec;
+ghost use Rattle.ag_expr.specs.language.Expression.{Says};
+ghost use Rattle.ag_expr.specs.language.Left.{HasNumber, Keeps, PassesOther};
+ghost use Rattle.ag_expr.specs.language.Lexing.{token_of};
+ghost use Rattle.ag_expr.specs.language.Occurrences.{position_of};
+ghost use Rattle.ag_expr.specs.language.Token as token;
+ghost use Rattle.ag_expr.specs.declared.fault.ExprFault.TheVariants as fault;
+
+use crate::fault::{ExprFault, TokenFault};
+use crate::lexer::{skip_separators, token_in_front};
+use crate::occurrence::Occ;
+use crate::occurrence_table::OccurrenceTable;
+use crate::token::{Punctuation, Token};
+use ag_value::NoMemory;
+use smallvec::SmallVec;
+use std::alloc::Global;
+use std::marker::Model;
+
+/// What is left of a text, from the front of a token on, and the different occurrences that stand
+/// before. Each token is cut when the one before it is passed.
+#[derive(Drop)]
+pub struct Cursor<'t> {
+    text: &'t str,
+    /// What is left of the text.
+    rest: &'t str,
+    /// The token in front, and what stands behind it.
+    front: Result<(Token<'t>, &'t str), TokenFault>,
+    listed: OccurrenceTable<'t>,
+}
+
+impl<'t> Model for Cursor<'t> {
+    ghost use Rattle.std.specs.Prelude.{ℕ, List, chars};
+    ghost use Rattle.ag_expr.specs.declared.occurrence.Occ.{Occ};
+    ghost use Rattle.ag_expr.specs.language.Left.{IsReady};
+
+    ghost Value = { List Occ × (List ℕ × List ℕ) };
+
+    ghost view = { λ r. (r.listed, (chars r.text.now, chars r.rest.now)) };
+
+    ghost invariant = { λ r. IsReady r.text.now r.rest.now r.front };
+}
+
+/// Whether an expression begins with the token.
+fn begins_expression(token: Token<'_>) -> bool
+    ensures { result ≡ spec.begins_expression (token_of token.entry) }
+{
+    matches!(
+        token,
+        Token::Number(_) | Token::Occurrence(_, _) | Token::Punctuation(Punctuation::Open)
+    )
+}
+
+/// The fault of a text with no token in front of `rest`, which stands at this offset.
+fn fault_at(fault: TokenFault, at: usize, rest: &str) -> ExprFault
+    ensures { result ≡ left.fault_of (left.ending_by fault at (chars rest.now)) at }
+{
+    match fault {
+        TokenFault::TooLarge => ExprFault::NumberTooLarge(at),
+        TokenFault::Nothing if rest.is_empty() => ExprFault::Unexpected(at),
+        TokenFault::Nothing => ExprFault::NoToken(at),
+    }
+}
+
+impl<'t> Cursor<'t> {
+    /// A cursor at the front of a text. Takes no memory.
+    pub fn new(alloc: Global, text: &'t str) -> Cursor<'t>
+        ensures { result ≡ left.start_of text.now }
+    {
+        let rest = skip_separators(text);
+        Cursor {
+            text,
+            rest,
+            front: token_in_front(rest),
+            listed: OccurrenceTable::new(alloc),
+        }
+    }
+
+    /// The token in front. Takes no memory.
+    pub fn peek(&self) -> Option<Token<'t>>
+        ensures { option_map token_of result ≡ left.front_of (left.tokens self.now) }
+    {
+        match self.front {
+            Ok((token, _)) => Some(token),
+            Err(_) => None,
+        }
+    }
+
+    /// The offset of what is left.
+    pub fn offset(&self) -> usize
+        ensures { result ≡ left.offset self.now }
+    {
+        self.text.len() - self.rest.len()
+    }
+
+    /// Why the token in front cannot be taken, or why none is there.
+    pub fn refusal(&self) -> ExprFault
+        ensures { Says 0 (left.characters self.now) result }
+    {
+        match self.front {
+            Ok(_) => ExprFault::Unexpected(self.offset()),
+            Err(fault) => fault_at(fault, self.offset(), self.rest),
+        }
+    }
+
+    /// Why an expression that has no level left cannot begin here.
+    pub fn no_level(&self) -> ExprFault
+        ensures { Says 0 (left.characters self.now) result }
+    {
+        match self.front {
+            Ok((token, _)) if begins_expression(token) => ExprFault::TooDeep(self.offset()),
+            _ => self.refusal(),
+        }
+    }
+
+    /// Passes the token in front.
+    pub fn bump(&mut self)
+        ensures exact { self.new ≡ left.behind self.old }
+        ensures tokens { left.tokens self.new ≡ drop 1 (left.tokens self.old) }
+        ensures keeps { PassesOther self.old → Keeps self.old self.new }
+    {
+        if let Ok((_, behind)) = self.front {
+            self.rest = skip_separators(behind);
+            self.front = token_in_front(self.rest);
+        }
+    }
+
+    /// Passes the occurrence in front, and answers its number among the different ones. Takes
+    /// memory where it is the first with its place and name.
+    pub fn take_occurrence(
+        &mut self,
+        alloc: Global,
+        place: u16,
+        attr: &'t str,
+    ) -> Result<usize, NoMemory>
+        requires { left.front_of (left.tokens self.old) ≡ Some (token.Occurrence place attr.now) }
+        ensures number { IfOk result (λ k. HasNumber self.old place attr.now k) }
+        ensures tokens { OnOk result (left.tokens self.new ≡ drop 1 (left.tokens self.old)) }
+        ensures keeps { OnOk result (Keeps self.old self.new) }
+    {
+        let at = self.offset();
+        let number = self.listed.intern(alloc, place, attr, at)?;
+        self.bump();
+        Ok(number)
+    }
+
+    /// The different occurrences, at the end of the text; else why the text goes on with none or
+    /// with another token.
+    pub fn finish(self) -> Result<SmallVec<Occ, 4>, ExprFault>
+        ensures ended { IfOk result (λ _. left.IsEnded self.entry) }
+        ensures listed { IfOk result (λ list. list.items ≡ left.everything self.entry) }
+        ensures says { IfErr result (λ e. Says 0 (left.characters self.entry) e) }
+        ensures left { IfErr result (λ e. e ≢ fault.NoMemory → left.IsEnded self.entry → ⊥) }
+    {
+        if !self.rest.is_empty() {
+            return Err(self.refusal());
+        }
+        Ok(self.listed.into_list())
+    }
+}

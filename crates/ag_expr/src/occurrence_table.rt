@@ -1,0 +1,86 @@
+//! The different occurrences of a text, with the number of each by its place and name.
+
+ghost use Rattle.std.specs.Prelude.{◌≡◌, [], Some, IfOk, OnOk, OnErr};
+ghost use Rattle.ag_expr.specs.language.Occurrences as spec;
+
+use crate::occurrence::Occ;
+use ag_value::{NoMemory, Text};
+use smallvec::SmallVec;
+use std::alloc::Global;
+use std::collections::HashMap;
+use std::marker::Model;
+
+/// The different occurrences so far, and the number of each by its place and name.
+#[derive(Drop)]
+pub struct OccurrenceTable<'t> {
+    listed: SmallVec<Occ, 4>,
+    numbers: HashMap<(u16, &'t str), usize>,
+}
+
+impl<'t> Model for OccurrenceTable<'t> {
+    ghost use Rattle.std.specs.Prelude.{List};
+    ghost use Rattle.ag_expr.specs.declared.occurrence.Occ.{Occ};
+
+    ghost Value = { List Occ };
+
+    ghost use Rattle.ag_expr.specs.language.Numbers.{Follows};
+
+    ghost view = { λ table. table.listed.items };
+
+    ghost invariant = { λ table. Follows table.numbers table.listed.items };
+}
+
+impl<'t> OccurrenceTable<'t> {
+    /// An empty table. Takes no memory.
+    pub fn new(alloc: Global) -> OccurrenceTable<'t>
+        ensures { result ≡ [] }
+    {
+        OccurrenceTable {
+            listed: SmallVec::new(alloc),
+            numbers: HashMap::new(alloc),
+        }
+    }
+
+    /// The number of the listed occurrence with this place and name. Takes no memory.
+    fn position(&self, place: u16, attr: &'t str) -> Option<usize>
+        ensures { result ≡ spec.position_of self.now place attr.now }
+    {
+        self.numbers.get(&(place, attr)).copied()
+    }
+
+    /// Lists an occurrence at the end, unless its place and name are listed already, and answers
+    /// the number of the listed one. Takes memory; where that is refused, the list stays as it was.
+    pub fn intern(
+        &mut self,
+        alloc: Global,
+        place: u16,
+        attr: &'t str,
+        at: usize,
+    ) -> Result<usize, NoMemory>
+        ensures lists { OnOk result (self.new ≡ spec.listed_with self.old (
+            record { place = place; attr = attr.now; at = at })) }
+        ensures number { IfOk result (λ k. spec.position_of self.new place attr.now ≡ Some k) }
+        ensures stays { OnErr result (self.new ≡ self.old) }
+    {
+        if let Some(number) = self.position(place, attr) {
+            return Ok(number);
+        }
+        let copied = Text::from_string(String::from_str(alloc, attr)?);
+        self.listed.reserve(1)?;
+        let number = self.listed.len();
+        self.numbers.insert((place, attr), number)?;
+        self.listed.push_reserved(Occ {
+            place,
+            attr: copied,
+            at,
+        });
+        Ok(number)
+    }
+
+    /// The listed occurrences. Takes no memory.
+    pub fn into_list(self) -> SmallVec<Occ, 4>
+        ensures { result.items ≡ self.entry }
+    {
+        self.listed
+    }
+}
