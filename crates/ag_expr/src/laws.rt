@@ -52,7 +52,8 @@ pub fn worked_divisions()
     ensures remainder { calculated operator.Remainder (negsuc 6) (pos 2) ≡ value.Num (negsuc 0) }
     ensures other_quotient { calculated operator.Divide (pos 7) (negsuc 1) ≡ value.Num (negsuc 2) }
     ensures other_remainder { calculated operator.Remainder (pos 7) (negsuc 1) ≡ value.Num (pos 1) }
-    ensures least_quotient { calculated operator.Divide least (negsuc 0) ≡ value.Fault code.Overflow }
+    ensures least_quotient { calculated operator.Divide least (negsuc 0)
+        ≡ value.Fault code.Overflow }
     ensures least_remainder { calculated operator.Remainder least (negsuc 0) ≡ value.Num (pos 0) }
 {}
 

@@ -4,8 +4,8 @@ use Rattle.ag_expr.specs.declared.fault.ExprFault.{ExprFault}
 use Rattle.ag_expr.specs.declared.fault.ExprFault.TheVariants.{NoToken, Unexpected, NumberTooLarge, TooDeep, NoMemory}
 use Rattle.ag_expr.specs.declared.node.Node.{Node}
 use Rattle.ag_expr.specs.declared.occurrence.Occ.{Occ}
-use Rattle.ag_expr.specs.Expression.{IsAt, IsRefused, ReadsAsExpr, ReadsAsNone}
-use Rattle.ag_expr.proofs.Texts.{one_expression}
+use Rattle.ag_expr.specs.language.Expression.{IsAt, IsRefused, ReadsAsExpr, ReadsAsNone}
+use Rattle.ag_expr.proofs.language.Texts.{one_expression}
 use Rattle.ag_value.specs.declared.value.Value.{Value}
 use Rattle.aggen.specs.Showing.{HasNone, HasValue, IsExplained, IsExprFault, IsUnexpectedAt, OccursAt, first_place}
 use Rattle.aggen.specs.Status.{expr_fault_of}

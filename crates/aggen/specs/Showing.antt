@@ -2,8 +2,8 @@
 -- written. All of this is this project's.
 use Rattle.std.specs.Prelude.{◌≡◌, ◌⊎◌, ℕ, pos, List, [], ◌∷◌, ◌++◌, codes, Option, None, Some}
 use Rattle.std.specs.Io.KnownBytes.{Appends}
-use Rattle.ag_expr.specs.Evaluation.{value_of}
-use Rattle.ag_expr.specs.Expression.{IsAt, ReadsAsExpr, ReadsAsNone}
+use Rattle.ag_expr.specs.language.Evaluation.{value_of}
+use Rattle.ag_expr.specs.language.Expression.{IsAt, ReadsAsExpr, ReadsAsNone}
 use Rattle.ag_expr.specs.declared.fault.ExprFault.{ExprFault}
 use Rattle.ag_expr.specs.declared.fault.ExprFault.TheVariants as expr
 use Rattle.ag_expr.specs.declared.node.Node.{Node}

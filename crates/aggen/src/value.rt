@@ -1,7 +1,7 @@
 //! The program's one command: the value of an expression, by way of a tree file.
 
 ghost use Rattle.std.specs.Prelude.{◌≡◌, ◌≢◌, ℕ, [], IfErr, IfOk, IsErrAnd, IsErrOf, OnOk};
-ghost use Rattle.ag_expr.specs.Expression.{ReadsAsExpr};
+ghost use Rattle.ag_expr.specs.language.Expression.{ReadsAsExpr};
 ghost use Rattle.ag_value.specs.Well.{IsWell};
 ghost use Rattle.treefile.specs.Device.{Persists, WhenHonest};
 ghost use Rattle.aggen.specs.Showing.{BeginsLine, HasNone, HasValue, IsDamage, IsExplained};

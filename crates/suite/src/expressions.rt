@@ -1,4 +1,4 @@
-//! Rows of the language, worked out by hand.
+//! Expressions by hand: their values, where they are refused, and their occurrences.
 
 use ag_expr::{Env, ExprFault, Meter, eval, occurrences, read_expr};
 use ag_value::{ErrorCode, Text, Value, is_well, same};

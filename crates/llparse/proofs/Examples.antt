@@ -1,0 +1,33 @@
+-- The examples of conflicts.
+use Rattle.std.proofs.Common.{◌≡◌, ℕ, zero, suc, inl, refl, arith, sym, ◌∙◌}
+use Rattle.ag_expr.specs.declared.grammar.Production.{Production}
+use Rattle.ag_expr.specs.declared.grammar.Terminal.TheVariants.{Literal}
+use Rattle.ag_expr.specs.grammars.AttributeGrammar.{IsProduction}
+use Rattle.ag_expr.specs.grammars.Sample.{sample}
+use Rattle.llparse.specs.declared.ahead.Ahead.TheVariants as ahead
+use Rattle.llparse.specs.Ahead.{of_production, here, inside, HasNoConflict, IsConflict}
+use Rattle.llparse.specs.Worked.{left_recursive, production_more, production_one}
+
+pub left_recursion : IsConflict left_recursive 0 1 (ahead.Terminal (Literal 0))
+left_recursion = record {
+  one = production_more;
+  other = production_one;
+  first_is = refl;
+  second_is = refl;
+  earlier = omega arith;
+  of_one_symbol = refl;
+  one_predicts = inl (inside (of_production 1 production_one refl refl here));
+  other_predicts = inl here;
+}
+
+-- the number of a production of the sample is that of its left side
+left_is : (p : ℕ) (q : Production) → IsProduction sample p q → q.left ≡ p
+left_is zero q e = let h = e in sym (let f : 0 ≡ q.left = cc in f)
+left_is (suc zero) q e = sym (let f : 1 ≡ q.left = cc in f)
+left_is (suc (suc p)) q e = cc
+
+pub sample_free : HasNoConflict sample
+sample_free p r x c =
+    let same : p ≡ r = sym (left_is p c.one c.first_is) ∙ c.of_one_symbol ∙ left_is r c.other c.second_is in
+    let less = c.earlier in
+    omega arith

@@ -1,0 +1,10 @@
+-- What the laws of look-ahead state.
+use Rattle.std.specs.Prelude.{◌≡◌}
+use Rattle.ag_expr.specs.grammars.AttributeGrammar.{Grammar}
+use Rattle.ag_expr.specs.grammars.Tree.{Tree, IsTreeOf}
+use Rattle.ag_expr.specs.grammars.Yield.{yield_of}
+use Rattle.llparse.specs.Ahead.{HasNoConflict}
+
+-- A grammar without a conflict has at most one tree of a yield (the textbook).
+abbrev pub OneTree : Type 0
+OneTree = (g : Grammar) → HasNoConflict g → (t u : Tree) → IsTreeOf g t → IsTreeOf g u → yield_of g t ≡ yield_of g u → t ≡ u

@@ -1,0 +1,23 @@
+-- A grammar with a conflict: start L; symbol L syn out; L = L "x" .. L = "x" .. (its rules don't matter here).
+use Rattle.std.specs.Prelude.{List, [], ◌∷◌}
+use Rattle.ag_expr.specs.declared.grammar.Item.TheVariants as item
+use Rattle.ag_expr.specs.declared.grammar.Item.{Item}
+use Rattle.ag_expr.specs.declared.grammar.Production.{Production}
+use Rattle.ag_expr.specs.declared.grammar.Terminal.TheVariants.{Literal}
+use Rattle.ag_expr.specs.grammars.AttributeGrammar.{Grammar}
+
+-- a production of symbol 0 with this right side
+abbrev pub production_of : List Item → Production
+production_of items = record { left = 0; items = items; rules = [] }
+
+-- production 0: L = L "x"
+abbrev pub production_more : Production
+production_more = production_of (item.Symbol 0 ∷ item.Terminal (Literal 0) ∷ [])
+
+-- production 1: L = "x"
+abbrev pub production_one : Production
+production_one = production_of (item.Terminal (Literal 0) ∷ [])
+
+-- the grammar of the two
+abbrev pub left_recursive : Grammar
+left_recursive = record { symbols = []; productions = production_more ∷ production_one ∷ []; literals = (120 ∷ []) ∷ []; classes = []; start = 0 }
