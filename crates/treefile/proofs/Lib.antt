@@ -1,3 +1,5 @@
 pub mod Files
 pub mod Frames
+pub mod Orders
 pub mod Sizes
+pub mod WorkedFiles

@@ -2,5 +2,8 @@ pub mod Device
 pub mod Ending
 pub mod Faults
 pub mod Fuse
+pub mod Orders
+pub mod Records
 pub mod TreeFile
+pub mod Worked
 pub mod Writing

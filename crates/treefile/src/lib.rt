@@ -9,6 +9,7 @@ mod laws;
 mod layout;
 mod memory;
 mod reading;
+mod tree_laws;
 mod writing;
 
 pub use body::{Kind, split_body};
@@ -17,6 +18,7 @@ pub use fuse::FuseDevice;
 pub use laws::{frames_are_read, headers_are_told, last_is_read, records_fit};
 pub use memory::MemDevice;
 pub use reading::{FrameFault, last_body};
+pub use tree_laws::{lists_tell_trees, orders_turn_round, worked_files};
 pub use writing::{WriteFault, Writer};
 
 #[cfg(test)]
