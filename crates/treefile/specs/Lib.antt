@@ -1,3 +1,4 @@
+pub mod Backward
 pub mod Device
 pub mod Ending
 pub mod Faults

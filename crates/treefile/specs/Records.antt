@@ -1,5 +1,5 @@
 -- The records of a tree's nodes, and the file that a pass leaves of a tree. All of this is this project's.
-use Rattle.std.specs.Prelude.{◌≡◌, ℕ, suc, ◌≤◌, nat_le, List, [], ◌∷◌, ◌++◌, slice_get, if◌then◌else◌}
+use Rattle.std.specs.Prelude.{◌≡◌, ℕ, suc, ◌≤◌, nat_le, List, [], ◌∷◌, ◌++◌, slice_get, length, if◌then◌else◌}
 use Rattle.ag_value.specs.declared.value.Value.{Value, Text}
 use Rattle.ag_expr.specs.grammars.AttributeGrammar.{Grammar}
 use Rattle.ag_expr.specs.grammars.Tree as tree
@@ -37,6 +37,11 @@ abbrev mutual
 -- list of the direction of that pass.
 abbrev pub file_of_tree : Version → Grammar → Passes → ℕ → Tree → Valuation → List ℕ
 file_of_tree version g m k t v = file version k (postfix (direction_of k) (bodies_of g m k t v))
+
+-- No record has more values than the version allows: neither that of a token nor that of a node.
+pub record FitsVersion (version : Version) (m : Passes) : Type 0 where
+  pub tokens : 1 ≤ version.most_values
+  pub nodes : (s : ℕ) → length (m s) ≤ version.most_values
 
 -- A content is the file of pass k of a tree and its values: these give each leaf its text, and those up to pass k are well.
 pub record IsFileOfTree (version : Version) (g : Grammar) (m : Passes) (k : ℕ) (t : Tree) (v : Valuation) (content : List ℕ) : Type 0 where

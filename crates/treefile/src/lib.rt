@@ -15,10 +15,10 @@ mod writing;
 pub use body::{Kind, split_body};
 pub use device::{Device, DeviceFault};
 pub use fuse::FuseDevice;
-pub use laws::{frames_are_read, headers_are_told, last_is_read, records_fit};
+pub use laws::{files_are_read_back, frames_are_read, headers_are_told, last_is_read, records_fit};
 pub use memory::MemDevice;
 pub use reading::{FrameFault, last_body};
-pub use tree_laws::{lists_tell_trees, orders_turn_round, worked_files};
+pub use tree_laws::{lists_tell_trees, orders_turn_round, trees_are_read_back, worked_files};
 pub use writing::{WriteFault, Writer};
 
 #[cfg(test)]
