@@ -2,12 +2,17 @@
 use Rattle.std.specs.Prelude.{◌≡◌, ℕ, ◌-◌, nat_eq, List, [], ◌∷◌, length, slice_range, Option, Some, None, Result, Ok, Err, if◌then◌else◌}
 use Rattle.std.specs.Int.{w16, from_be_bytes}
 use Rattle.treefile.specs.declared.reading.FrameFault.{FrameFault}
-use Rattle.treefile.specs.Ending.{body_before, header_bytes, length_bytes}
+use Rattle.treefile.specs.declared.reading.FrameFault.TheVariants.{NotATreeFile}
+use Rattle.treefile.specs.Ending.{body_before, header_bytes, is_tree_file, length_bytes}
 use Rattle.treefile.specs.TreeFile.{Version}
 
 -- the number of the pass in a header: that in the two bytes behind the first four
 abbrev pub pass_of : List ℕ → ℕ
 pass_of content = from_be_bytes w16 (slice_range content 4 header_bytes)
+
+-- The pass of a tree file of a version, or B1 where a content is none.
+abbrev pub pass_in : Version → List ℕ → Result ℕ FrameFault
+pass_in version content = if is_tree_file version content then Ok (pass_of content) else Err NotATreeFile
 
 -- where the frame ends that stands before the one of a body that ends at an offset
 abbrev pub before_frame : ℕ → List ℕ → ℕ
