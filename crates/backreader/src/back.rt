@@ -13,7 +13,15 @@ ghost use Rattle.treefile.specs.declared.reading.FrameFault.TheVariants.{Damaged
 
 use std::alloc::Global;
 use std::marker::Model;
-use treefile::{Device, FrameFault, HEADER_BYTES, begins_tree_file, bytes_at, fits_before};
+use treefile::{
+    Device, FrameFault, HEADER_BYTES, LENGTH_BYTES, begins_tree_file, bytes_at, fits_before,
+};
+
+/// How many bytes a header has, the number of the pass being its last two.
+const HEADER: usize = HEADER_BYTES as usize;
+
+/// How many bytes the length behind a body has.
+const LENGTH: usize = LENGTH_BYTES as usize;
 
 /// Reads the bodies of a tree file from the last to the first. It holds no device: each call takes
 /// the one that it was started on. It is seen as the bytes that it was started on and how far it
@@ -77,7 +85,7 @@ impl Back {
         }
         let bytes = bytes_at(alloc, device, 0, end as usize)?;
         let mut number = [0; 2];
-        number.copy_from_slice(&bytes[4..6]);
+        number.copy_from_slice(&bytes[HEADER - 2..HEADER]);
         Ok(Back {
             at: bytes.len(),
             bytes,
@@ -144,7 +152,7 @@ impl Back {
         if let Some(fault) = self.fault {
             return Err(fault);
         }
-        if self.at as u64 == HEADER_BYTES {
+        if self.at == HEADER {
             return Ok(None);
         }
         let Some(length) = length_before(&self.bytes, self.at) else {
@@ -152,7 +160,7 @@ impl Back {
             self.fault = Some(fault);
             return Err(fault);
         };
-        self.at -= 4 + length;
+        self.at -= LENGTH + length;
         self.records += 1;
         Ok(Some(length))
     }
@@ -183,11 +191,11 @@ fn length_before(bytes: &[u8], at: usize) -> Option<usize>
     ensures greatest { IfSome result (λ count. count ≤ greatest_body version_one) }
     ensures none { IfNone result (body_before version_one bytes.now at ≡ Err (Damaged at)) }
 {
-    if at < 10 {
+    if at < HEADER + LENGTH {
         return None;
     }
     let mut number = [0; 4];
-    number.copy_from_slice(&bytes[at - 4..at]);
+    number.copy_from_slice(&bytes[at - LENGTH..at]);
     let length = u32::from_be_bytes(number);
     if fits_before(at as u64, u64::from(length)) {
         Some(length as usize)

@@ -4,3 +4,6 @@
 mod back;
 
 pub use back::Back;
+
+#[cfg(test)]
+mod tests;

@@ -94,6 +94,20 @@ fn two_nodes_with_values(rt: HostRuntime) -> Result<(), Fail> {
 }
 
 #[test]
+fn a_body_as_it_stands(rt: HostRuntime) -> Result<(), Fail> {
+    let alloc = rt.alloc();
+    let mut device = MemDevice::new(alloc);
+    let mut writer = Writer::begin(alloc, &mut device, 1)?;
+    writer.put_body(&mut device, &[9, 8, 7, 6])?;
+    assert_eq!(rt; writer.written(), 1);
+    assert_eq!(rt;
+        device.bytes(),
+        b"AGT1\0\x01\x09\x08\x07\x06\0\0\0\x04".as_slice()
+    );
+    Ok(())
+}
+
+#[test]
 fn calls_of_memory_that_cannot_fail(rt: HostRuntime) -> Result<(), Fail> {
     let mut device = MemDevice::from_bytes(vec![in rt.alloc(); 1, 2, 3]?);
     assert_eq!(rt; device.len().unwrap(), 3);
