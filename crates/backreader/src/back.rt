@@ -1,9 +1,9 @@
 //! A reader of tree files that goes from the end to the header.
 
-ghost use Rattle.std.specs.Prelude.{◌≡◌, ◌≢◌, ◌≤◌, ◌+◌, ◌-◌, ℕ, List, Option, Result, Ok, Err, Some};
-ghost use Rattle.std.specs.Prelude.{None, IfErr, IfNone, IfOk, IfSome, IsErrOf, length, slice_range};
+ghost use Rattle.std.specs.Prelude.{◌≡◌, ◌≢◌, ◌≤◌, ◌+◌, ◌-◌, Ok, Err, None, IfNone, IfOk};
+ghost use Rattle.std.specs.Prelude.{IfSome, IsErrOf, length, slice_range};
 ghost use Rattle.std.specs.Option.{option_map};
-ghost use Rattle.backreader.specs.Place.{HasRead, IsOver, bodies_of, body_so_long, progress_after};
+ghost use Rattle.backreader.specs.Place.{HasRead, IsOver, lent_body, body_so_long, progress_after};
 ghost use Rattle.treefile.specs.Backward.{next_before, pass_in};
 ghost use Rattle.treefile.specs.Device.{LeavesContent, Persists, WhenHonest};
 ghost use Rattle.treefile.specs.Ending.{IsBody, Told, body_before, greatest_body, header_bytes};
@@ -36,7 +36,7 @@ pub struct Back {
 }
 
 impl Model for Back {
-    ghost use Rattle.std.specs.Prelude.{◌≤◌, ◌<◌, ◌+◌, ◌*◌, ◌^◌, length};
+    ghost use Rattle.std.specs.Prelude.{◌≤◌, ◌<◌, ◌+◌, ◌^◌, length};
     ghost use Rattle.treefile.specs.Ending.{header_bytes};
     ghost use Rattle.backreader.specs.Place.{Place};
 
@@ -107,7 +107,7 @@ impl Back {
         // How far the reader has come, and that it is one of the same content
         ensures* after { sem 𝓛 (follows_so the_row the_row self.entry.ghost_name none (λ _ _. ⊤)
             (λ now. HasRead (D.is_honest device.old) (D.content device.old) self.old
-            (bodies_of (λ body. body.now) result) now)) }
+            (lent_body (λ body. body.now) result) now)) }
         // The body, None and B2, exactly as the content has them
         ensures told { self.old.progress.fault ≡ None → WhenHonest (D.is_honest device.old)
             (Told (option_map (λ body. body.now)) result
@@ -141,7 +141,7 @@ impl Back {
         ensures device { IsErrOf result FrameFault.Device → self.old.progress.fault ≢ None }
         ensures bytes { self.new.bytes ≡ self.old.bytes }
         ensures moved { self.new.progress
-            ≡ progress_after self.old.progress (bodies_of (body_so_long self.old) result) }
+            ≡ progress_after self.old.progress (lent_body (body_so_long self.old) result) }
         ensures least { IfOk result (λ found. IfSome found (λ count. least_body ≤ count)) }
         ensures greatest { IfOk result (λ found. IfSome found
             (λ count. count ≤ greatest_body version_one)) }

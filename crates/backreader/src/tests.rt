@@ -68,8 +68,8 @@ fn file_of(alloc: Global, productions: &[u8]) -> Result<Vec<u8>, Fail>
     Ok(Vec::from_slice(alloc, device.bytes())?)
 }
 
-/// The first refusal of a reader, its next answer if that is a refusal too, and how many bodies were
-/// lent before; `None` where all are lent. A want of memory ends the test.
+/// The first refusal of a reader, its next answer if that is a refusal too, and how many bodies
+/// were lent before; `None` where all are lent. A want of memory ends the test.
 fn refusal_of<D: Device>(
     alloc: Global,
     device: &mut D,

@@ -1,7 +1,7 @@
 //! What is true of the definitions of tree files alone, in every version.
 
-ghost use Rattle.std.specs.Prelude.{◌≡◌, ◌≤◌, ◌<◌, ◌^◌, ◌++◌, ◌∷◌, ◌↔◌, ℕ, List, [], length, take, true, All};
-ghost use Rattle.std.specs.Prelude.{Ok, Err, reverse};
+ghost use Rattle.std.specs.Prelude.{◌≡◌, ◌≤◌, ◌<◌, ◌^◌, ◌++◌, ◌∷◌, ◌↔◌, ℕ, List, [], All};
+ghost use Rattle.std.specs.Prelude.{Ok, Err, length, reverse, take, true};
 ghost use Rattle.ag_value.specs.Well.{IsWell};
 ghost use Rattle.ag_value.specs.declared.value.Value.{Value};
 ghost use Rattle.treefile.specs.Backward.{ReadsBack, pass_of};

@@ -3,8 +3,9 @@
 ghost use Rattle.std.specs.Prelude.{◌≡◌, ◌+◌, ◌<◌, ◌≤◌, ◌⊎◌, ◌^◌, length, IfErr, IfOk, IsErrOf};
 ghost use Rattle.std.specs.Prelude.{IsTrue, slice_range};
 ghost use Rattle.treefile.specs.Device.{LeavesContent, Persists, TakesNoMemory, WhenHonest};
-ghost use Rattle.treefile.specs.Ending.{Told, body_before, fits_before, greatest_body, header_bytes};
-ghost use Rattle.treefile.specs.Ending.{is_tree_file, last_body_of, least_body, length_bytes, number_before};
+ghost use Rattle.treefile.specs.Ending.{Told, body_before, fits_before, greatest_body};
+ghost use Rattle.treefile.specs.Ending.{header_bytes, is_tree_file, last_body_of, least_body};
+ghost use Rattle.treefile.specs.Ending.{length_bytes, number_before};
 ghost use Rattle.treefile.specs.Faults.{frame_fault_of};
 ghost use Rattle.treefile.specs.TreeFile.{version_one};
 ghost use Rattle.treefile.specs.declared.reading.FrameFault.TheVariants as frame_fault;
