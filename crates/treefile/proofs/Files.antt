@@ -27,11 +27,11 @@ told_as_file version content = (
   λ is. and_from (nat_le header_bytes (length content)) (starts_with nat_eq content version.magic) (le-leb header_bytes (length content) is.0) ((begins_with version content).1 (sym is.1)),
 )
 
-length-header : (version : Version) (pass : ℕ) → IsUsable version → length (header version pass) ≡ 6
+pub length-header : (version : Version) (pass : ℕ) → IsUsable version → length (header version pass) ≡ 6
 length-header version pass usable = omega (arith, usable.four, length-append version.magic (to_be_bytes w16 pass))
 
 -- what begins with a header is a tree file
-begins : (version : Version) (pass : ℕ) (rest : List ℕ) → IsUsable version → is_tree_file version (header version pass ++ rest) ≡ true
+pub begins : (version : Version) (pass : ℕ) (rest : List ℕ) → IsUsable version → is_tree_file version (header version pass ++ rest) ≡ true
 begins version pass rest usable =
     let long : header_bytes ≤ length (header version pass ++ rest) = omega (arith, length-header version pass usable, length-append (header version pass) rest) in
     let first : take (length version.magic) (header version pass ++ rest) ≡ version.magic = rw append_assoc (take_at version.magic (to_be_bytes w16 pass ++ rest) (length version.magic) refl) in

@@ -83,14 +83,14 @@ fit version at len e =
     let two = and_parts (nat_le least_body len) (nat_le len (greatest_body version)) all.0 in
     record { least = leb-true least_body len two.0; greatest = leb-true len (greatest_body version) two.1; room = leb-true (header_bytes + len + length_bytes) at all.1 }
 
-bytes_part : (bytes : List ℕ) (from to : ℕ) → IsBytes bytes → IsBytes (slice_range bytes from to)
+pub bytes_part : (bytes : List ℕ) (from to : ℕ) → IsBytes bytes → IsBytes (slice_range bytes from to)
 bytes_part bytes from to is i =
     elim (cases_lt i (to - from)) [
       | inl lt ↦ rw (get_or-take (to - from) (drop from bytes) i 0 lt, get_or-drop) (is (from + i))
       | inr le ↦ rw (get_or_past (slice_range bytes from to) i 0 (omega (arith, length-take (to - from) (drop from bytes)))) (omega arith)
     ]
 
-length_part : (content : List ℕ) (from to : ℕ) → from ≤ to → to ≤ length content → length (slice_range content from to) ≡ to - from
+pub length_part : (content : List ℕ) (from to : ℕ) → from ≤ to → to ≤ length content → length (slice_range content from to) ≡ to - from
 length_part content from to a b = omega (arith, length-take (to - from) (drop from content), length-drop from content)
 
 -- a content in four parts

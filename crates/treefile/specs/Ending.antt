@@ -24,6 +24,11 @@ least_body = 3
 abbrev pub greatest_body : Version → ℕ
 greatest_body version = least_body + version.most_values * max_weight
 
+-- A body may stand in a frame: it is neither shorter than the least nor longer than the greatest.
+pub record IsBody (version : Version) (body : List ℕ) : Type 0 where
+  pub least : least_body ≤ length body
+  pub greatest : length body ≤ greatest_body version
+
 -- A version whose files can be read: its magic has four bytes, and the length of its greatest body fits four.
 pub record IsUsable (version : Version) : Type 0 where
   pub four : length version.magic ≡ 4

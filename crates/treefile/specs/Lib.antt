@@ -1,6 +1,10 @@
+pub mod Backward
 pub mod Device
 pub mod Ending
 pub mod Faults
 pub mod Fuse
+pub mod Orders
+pub mod Records
 pub mod TreeFile
+pub mod Worked
 pub mod Writing

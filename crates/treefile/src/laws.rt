@@ -1,10 +1,11 @@
 //! What is true of the definitions of tree files alone, in every version.
 
-ghost use Rattle.std.specs.Prelude.{◌≡◌, ◌≤◌, ◌++◌, ◌∷◌, ◌↔◌, ℕ, List, [], length, take, true, All};
-ghost use Rattle.std.specs.Prelude.{Ok, Err};
+ghost use Rattle.std.specs.Prelude.{◌≡◌, ◌≤◌, ◌<◌, ◌^◌, ◌++◌, ◌∷◌, ◌↔◌, ℕ, List, [], All};
+ghost use Rattle.std.specs.Prelude.{Ok, Err, length, reverse, take, true};
 ghost use Rattle.ag_value.specs.Well.{IsWell};
 ghost use Rattle.ag_value.specs.declared.value.Value.{Value};
-ghost use Rattle.treefile.specs.Ending.{IsBodyBefore, IsBytes, IsUsable, body_before};
+ghost use Rattle.treefile.specs.Backward.{ReadsBack, pass_of};
+ghost use Rattle.treefile.specs.Ending.{IsBody, IsBodyBefore, IsBytes, IsUsable, body_before};
 ghost use Rattle.treefile.specs.Ending.{greatest_body, header_bytes, is_tree_file, last_body_of};
 ghost use Rattle.treefile.specs.Ending.{least_body};
 ghost use Rattle.treefile.specs.TreeFile.{Version, body_of, file, frame};
@@ -46,6 +47,22 @@ pub fn last_is_read()
         last_body_of version (file version pass []) ≡ Err (Damaged 6) }
     ensures place { (version : Version) (content : List ℕ) (at : ℕ) →
         last_body_of version content ≡ Err (Damaged at) → at ≡ length content }
+{}
+
+/// A file begins as a tree file of its pass does, and is read back from its end to its header as
+/// its bodies, the last one first. A content of bytes that begins so and is read back so is the
+/// file of these bodies.
+pub fn files_are_read_back()
+    ensures begins { (version : Version) (pass : ℕ) (bodies : List (List ℕ)) → IsUsable version →
+        pass < 2 ^ 16 → (is_tree_file version (file version pass bodies) ≡ true)
+        × (pass_of (file version pass bodies) ≡ pass) }
+    ensures bodies { (version : Version) (pass : ℕ) (bodies : List (List ℕ)) → IsUsable version →
+        All (IsBody version) bodies → ReadsBack version (file version pass bodies)
+        (length (file version pass bodies)) (reverse bodies) }
+    ensures only { (version : Version) (content : List ℕ) (bodies : List (List ℕ)) →
+        IsUsable version → IsBytes content → is_tree_file version content ≡ true →
+        ReadsBack version content (length content) bodies →
+        content ≡ file version (pass_of content) (reverse bodies) }
 {}
 
 /// The body of a record of well values, at most as many as the version allows, is neither shorter

@@ -7,10 +7,10 @@ ghost use Rattle.treefile.specs.TreeFile.{header, version_one};
 pub(crate) const MAGIC: [u8; 4] = [b'A', b'G', b'T', b'1'];
 
 /// How many bytes a header has: those four, and the number of the pass in two.
-pub(crate) const HEADER_BYTES: u64 = 6;
+pub const HEADER_BYTES: u64 = 6;
 
 /// How many bytes the length behind a body has.
-pub(crate) const LENGTH_BYTES: u64 = 4;
+pub const LENGTH_BYTES: u64 = 4;
 
 /// How many bytes a body has at least: a kind and a number.
 pub(crate) const LEAST_BODY: u64 = 3;

@@ -9,12 +9,15 @@ mod laws;
 mod layout;
 mod memory;
 mod reading;
+mod tree_laws;
 mod writing;
 
 pub use body::{Kind, split_body};
 pub use device::{Device, DeviceFault};
 pub use fuse::FuseDevice;
-pub use laws::{frames_are_read, headers_are_told, last_is_read, records_fit};
+pub use laws::{files_are_read_back, frames_are_read, headers_are_told, last_is_read, records_fit};
+pub use layout::{HEADER_BYTES, LENGTH_BYTES};
 pub use memory::MemDevice;
-pub use reading::{FrameFault, last_body};
+pub use reading::{FrameFault, begins_tree_file, bytes_at, fits_before, last_body};
+pub use tree_laws::{lists_tell_trees, orders_turn_round, trees_are_read_back, worked_files};
 pub use writing::{WriteFault, Writer};

@@ -2,9 +2,10 @@
 
 ghost use Rattle.std.specs.Prelude.{◌≡◌, ◌+◌, ◌<◌, ◌≤◌, ◌⊎◌, ◌^◌, length, IfErr, IfOk, IsErrOf};
 ghost use Rattle.std.specs.Prelude.{IsTrue, slice_range};
-ghost use Rattle.treefile.specs.Device.{LeavesContent, Persists, WhenHonest};
-ghost use Rattle.treefile.specs.Ending.{Told, body_before, fits_before, header_bytes, is_tree_file};
-ghost use Rattle.treefile.specs.Ending.{length_bytes, last_body_of, number_before};
+ghost use Rattle.treefile.specs.Device.{LeavesContent, Persists, TakesNoMemory, WhenHonest};
+ghost use Rattle.treefile.specs.Ending.{Told, body_before, fits_before, greatest_body};
+ghost use Rattle.treefile.specs.Ending.{header_bytes, is_tree_file, last_body_of, least_body};
+ghost use Rattle.treefile.specs.Ending.{length_bytes, number_before};
 ghost use Rattle.treefile.specs.Faults.{frame_fault_of};
 ghost use Rattle.treefile.specs.TreeFile.{version_one};
 ghost use Rattle.treefile.specs.declared.reading.FrameFault.TheVariants as frame_fault;
@@ -45,12 +46,15 @@ impl From<AllocError> for FrameFault {
     }
 }
 
-/// Whether the device has a header, and its first four bytes are those of a tree file.
+/// Whether a device with so many bytes has a header, and its first four bytes are those of a tree
+/// file. Takes no memory.
 #[tactic(auto, unfolding(crate::specs::Ending::is_tree_file))]
-fn begins_tree_file<D: Device>(device: &mut D, end: u64) -> Result<bool, DeviceFault>
+pub fn begins_tree_file<D: Device>(device: &mut D, end: u64) -> Result<bool, DeviceFault>
     requires { WhenHonest (D.is_honest device.old) (end ≡ length (D.content device.old)) }
     ensures found { WhenHonest (D.is_honest device.old)
         (IfOk result (λ found. found ≡ is_tree_file version_one (D.content device.old))) }
+    ensures room { IfOk result (λ found. IsTrue found → header_bytes ≤ end) }
+    ensures memory { TakesNoMemory result }
     ensures content { LeavesContent (D.is_honest device.old)
         (D.content device.old) (D.content device.new) }
     ensures persists { Persists (D.is_honest device.old) (D.is_honest device.new)
@@ -80,19 +84,21 @@ fn number_before<D: Device>(device: &mut D, at: u64) -> Result<u32, DeviceFault>
     Ok(u32::from_be_bytes(bytes))
 }
 
-/// Whether a frame with a body of so many bytes may end at an offset.
+/// Whether a frame with a body of so many bytes may end at an offset. Takes no memory.
 #[tactic(auto, unfolding(crate::specs::Ending::fits_before))]
-fn fits_before(at: u64, length: u64) -> bool
+pub fn fits_before(at: u64, length: u64) -> bool
     requires { length < 2 ^ 32 }
     ensures exact { result ≡ fits_before version_one at length }
+    ensures least { IsTrue result → least_body ≤ length }
+    ensures greatest { IsTrue result → length ≤ greatest_body version_one }
     ensures room { IsTrue result → header_bytes + length + length_bytes ≤ at }
 {
     LEAST_BODY <= length && length <= GREATEST_BODY && HEADER_BYTES + length + LENGTH_BYTES <= at
 }
 
-/// So many bytes from an offset on.
+/// So many bytes of a device from an offset on. Takes memory for them.
 #[tactic(auto, using(std::proofs::lemmas::List::take_at))]
-fn bytes_at<D: Device>(
+pub fn bytes_at<D: Device>(
     alloc: Global,
     device: &mut D,
     at: u64,
@@ -102,6 +108,7 @@ fn bytes_at<D: Device>(
     ensures found { WhenHonest (D.is_honest device.old)
         (IfOk result
         (λ found. found.items ≡ slice_range (D.content device.old) at (at + count))) }
+    ensures count { IfOk result (λ found. length found.items ≡ count) }
     ensures memory { IfErr result
         (λ fault. (fault ≡ FrameFault.Device) ⊎ (fault ≡ FrameFault.NoMemory)) }
     ensures content { LeavesContent (D.is_honest device.old)

@@ -1,11 +1,12 @@
 //! Writing a tree file: its header, and then the frame of one record after another.
 
 ghost use Rattle.std.specs.Prelude.{◌≡◌, ◌++◌, ◌+◌, ◌-◌, ◌<◌, ◌≤◌, ◌^◌, ◌⊎◌, [], length, true};
-ghost use Rattle.std.specs.Prelude.{false, All, IfOk, IsErrOf, OnOk};
+ghost use Rattle.std.specs.Prelude.{false, All, IfOk, IsErrOf, Ok, OnOk};
 ghost use Rattle.std.specs.List.{flat_map};
 ghost use Rattle.ag_value.specs.Spelling.{spelling_of};
 ghost use Rattle.ag_value.specs.Well.{IsWell};
 ghost use Rattle.treefile.specs.Device.{AppendsFront, LeavesContent, Persists, WhenHonest};
+ghost use Rattle.treefile.specs.Ending.{IsBody};
 ghost use Rattle.treefile.specs.Faults.{write_fault_of};
 ghost use Rattle.treefile.specs.TreeFile.{body_of, frame, header, version_one};
 ghost use Rattle.treefile.specs.declared.writing.WriteFault.TheVariants as write_fault;
@@ -14,7 +15,7 @@ use crate::body::Kind;
 use crate::device::{Device, DeviceFault};
 use crate::layout::header_of;
 use ag_value::{NoMemory, Value, encode};
-use std::alloc::Global;
+use std::alloc::{AllocError, Global};
 use std::marker::Model;
 
 /// Why nothing was written.
@@ -34,6 +35,14 @@ impl From<DeviceFault> for WriteFault {
             DeviceFault::Failed => WriteFault::Device,
             DeviceFault::NoMemory => WriteFault::NoMemory,
         }
+    }
+}
+
+impl From<AllocError> for WriteFault {
+    ghost from_gives = { λ _ e. e ≡ write_fault.NoMemory };
+
+    fn from(_error: AllocError) -> WriteFault {
+        WriteFault::NoMemory
     }
 }
 
@@ -134,11 +143,68 @@ impl Writer {
             (D.failures device.old) (D.failures device.new)
             (IsErrOf result WriteFault.Device × (self.old.is_broken ≡ false)) }
     {
+        // A broken writer doesn't touch the device.
         if self.is_broken {
             return Err(WriteFault::Device);
         }
         fill_frame(&mut self.buffer, kind, number, values)?;
-        match device.append(self.buffer.as_slice()) {
+        let answer = device.append(self.buffer.as_slice());
+        self.settle(answer)
+    }
+
+    /// Appends the frame of a body as it stands, by one call of the device. Takes memory for the
+    /// frame.
+    ///
+    /// Asks for a body of 3 to 16,777,219 bytes, and for fewer than u64::MAX frames put before.
+    ///
+    /// Refuses as `put` does.
+    pub fn put_body<D: Device>(&mut self, device: &mut D, body: &[u8]) -> Result<(), WriteFault>
+        requires body { IsBody version_one body.now }
+        requires room { self.old.written < 2 ^ 64 - 1 }
+        ensures frame { OnOk result (WhenHonest (D.is_honest device.old)
+            (D.content device.new ≡ D.content device.old ++ frame body.now)) }
+        ensures counted { OnOk result
+            (self.new ≡ record self.old { written = self.old.written + 1 }) }
+
+        // D1: a beginning of the frame, and a broken writer
+        ensures device { IsErrOf result WriteFault.Device → WhenHonest (D.is_honest device.old)
+            (AppendsFront (frame body.now) (D.content device.old) (D.content device.new)) }
+        ensures breaks { IsErrOf result WriteFault.Device →
+            self.new ≡ record self.old { is_broken = true } }
+        ensures broken { self.old.is_broken ≡ true →
+            IsErrOf result WriteFault.Device × (device.new ≡ device.old) }
+
+        // no memory: nothing changes
+        ensures memory { IsErrOf result WriteFault.NoMemory →
+            LeavesContent (D.is_honest device.old) (D.content device.old) (D.content device.new) }
+        ensures unchanged { IsErrOf result WriteFault.NoMemory → self.new ≡ self.old }
+
+        ensures persists { Persists (D.is_honest device.old) (D.is_honest device.new)
+            (D.failures device.old) (D.failures device.new)
+            (IsErrOf result WriteFault.Device × (self.old.is_broken ≡ false)) }
+    {
+        if self.is_broken {
+            return Err(WriteFault::Device);
+        }
+        self.buffer.clear();
+        self.buffer.extend_from_slice(body)?;
+        close_frame(&mut self.buffer)?;
+        let answer = device.append(self.buffer.as_slice());
+        self.settle(answer)
+    }
+
+    /// What a device's answer to an append of a frame means: the frame is counted, or the writer is
+    /// broken, or nothing.
+    fn settle(&mut self, answer: Result<(), DeviceFault>) -> Result<(), WriteFault>
+        requires { self.old.written < 2 ^ 64 - 1 }
+        ensures counted { OnOk answer ((result ≡ Ok tt)
+            × (self.new ≡ record self.old { written = self.old.written + 1 })) }
+        ensures breaks { IsErrOf answer DeviceFault.Failed → IsErrOf result WriteFault.Device
+            × (self.new ≡ record self.old { is_broken = true }) }
+        ensures unchanged { IsErrOf answer DeviceFault.NoMemory →
+            IsErrOf result WriteFault.NoMemory × (self.new ≡ self.old) }
+    {
+        match answer {
             Ok(()) => {
                 self.written += 1;
                 Ok(())
@@ -171,6 +237,15 @@ fn fill_frame(
     ensures { OnOk result (buffer.new.items ≡ frame (body_of kind number values.now)) }
 {
     fill_body(buffer, kind, number, values)?;
+    close_frame(buffer)?;
+    Ok(())
+}
+
+/// Makes a buffer that has a body have its frame.
+fn close_frame(buffer: &mut Vec<u8>) -> Result<(), AllocError>
+    requires { IsBody version_one buffer.old.items }
+    ensures { OnOk result (buffer.new.items ≡ frame buffer.old.items) }
+{
     let length = buffer.len() as u32;
     buffer.extend_from_slice(&length.to_be_bytes())?;
     Ok(())

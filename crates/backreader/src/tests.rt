@@ -1,0 +1,186 @@
+//! What no clause says: files read back by hand, and devices that fail or lie.
+
+ghost use Rattle.std.specs.Prelude.{◌≡◌, ◌<◌, [], false, IfOk, length, map};
+ghost use Rattle.treefile.specs.Backward.{ReadsBack};
+ghost use Rattle.treefile.specs.Device.{WhenHonest};
+ghost use Rattle.treefile.specs.TreeFile.{version_one};
+
+use super::*;
+use std::alloc::{AllocError, Global};
+use std::test::Fail;
+use treefile::{Device, DeviceFault, FrameFault, FuseDevice, MemDevice, Writer};
+
+/// A device that keeps nothing, and says that it has a tree file of 2^63 bytes.
+#[derive(Drop)]
+struct LyingDevice {}
+
+impl Device for LyingDevice {
+    ghost content = { λ _. [] };
+
+    ghost is_honest = { λ _. false };
+
+    ghost failures = { λ _. 0 };
+
+    fn len(&mut self) -> Result<u64, DeviceFault> {
+        Ok(1 << 63)
+    }
+
+    fn append(&mut self, _bytes: &[u8]) -> Result<(), DeviceFault> {
+        Ok(())
+    }
+
+    fn read_at(&mut self, _at: u64, out: &mut [u8]) -> Result<(), DeviceFault> {
+        for (byte, letter) in out.iter_mut().zip(*b"AGT1") {
+            *byte = letter;
+        }
+        Ok(())
+    }
+
+    fn clear(&mut self) -> Result<(), DeviceFault> {
+        Ok(())
+    }
+}
+
+/// The bodies of a tree file, from the last to the first.
+fn bodies_back<D: Device>(alloc: Global, device: &mut D) -> Result<Vec<Vec<u8>>, Fail>
+    ensures { WhenHonest (D.is_honest device.old)
+        (IfOk result (λ found. ReadsBack version_one (D.content device.old)
+        (length (D.content device.old)) (map (λ body. body.items) found.items))) }
+{
+    let mut back = Back::start(alloc, device)?;
+    let mut found = Vec::new(alloc);
+    while let Some(body) = back.back(device)? {
+        let body = Vec::from_slice(alloc, body)?;
+        found.push(body)?;
+    }
+    Ok(found)
+}
+
+/// The file of pass 0 with bodies of three bytes: nodes of these productions.
+fn file_of(alloc: Global, productions: &[u8]) -> Result<Vec<u8>, Fail>
+    requires { length productions.now < 100 }
+{
+    let mut device = MemDevice::new(alloc);
+    let mut writer = Writer::begin(alloc, &mut device, 0)?;
+    for production in productions {
+        writer.put_body(&mut device, &[0, 0, *production])?;
+    }
+    Ok(Vec::from_slice(alloc, device.bytes())?)
+}
+
+/// The first refusal of a reader, its next answer if that is a refusal too, and how many bodies
+/// were lent before; `None` where all are lent. A want of memory ends the test.
+fn refusal_of<D: Device>(
+    alloc: Global,
+    device: &mut D,
+) -> Result<Option<(FrameFault, Option<FrameFault>, u64)>, Fail> {
+    let mut back = match Back::start(alloc, device) {
+        Ok(back) => back,
+        Err(FrameFault::NoMemory) => return Ok(Err(FrameFault::NoMemory)?),
+        Err(fault) => return Ok(Some((fault, None, 0))),
+    };
+    for _turn in 0..100 {
+        let fault = match back.back(device) {
+            Ok(Some(_)) => continue,
+            Ok(None) => return Ok(None),
+            Err(FrameFault::NoMemory) => return Ok(Err(FrameFault::NoMemory)?),
+            Err(fault) => fault,
+        };
+        let again = back.back(device).err();
+        return Ok(Some((fault, again, back.records())));
+    }
+    Ok(None)
+}
+
+/// What is told of a damaged content: this offset, twice, behind so many bodies.
+fn damaged(at: u64, records: u64) -> Option<(FrameFault, Option<FrameFault>, u64)> {
+    let fault = FrameFault::Damaged(at);
+    Some((fault, Some(fault), records))
+}
+
+#[test]
+fn sixteen_bodies_of_three_bytes(rt: HostRuntime) -> Result<(), Fail> {
+    let alloc = rt.alloc();
+    let productions = [7, 4, 3, 1, 0, 7, 4, 3, 1, 0, 7, 4, 3, 1, 0, 2];
+    let bytes = file_of(alloc, &productions)?;
+    assert_eq!(rt; bytes.len(), 118);
+    let mut device = MemDevice::from_bytes(bytes);
+    let bodies = bodies_back(alloc, &mut device)?;
+    assert_eq!(rt; bodies.len(), 16);
+    for (body, production) in bodies.iter().zip(productions.iter().rev()) {
+        assert_eq!(rt; body.as_slice(), [0, 0, *production].as_slice());
+    }
+    let mut back = Back::start(alloc, &mut device)?;
+    assert_eq!(rt; back.records(), 0);
+    assert_eq!(rt; back.back(&mut device)?, Some([0, 0, 2].as_slice()));
+    assert_eq!(rt; back.back(&mut device)?, Some([0, 0, 0].as_slice()));
+    assert_eq!(rt; back.records(), 2);
+    Ok(())
+}
+
+#[test]
+fn files_that_are_damaged(rt: HostRuntime) -> Result<(), Fail> {
+    let alloc = rt.alloc();
+    let mut cut = file_of(alloc, &[9; 16])?;
+    cut.truncate(117);
+    let mut device = MemDevice::from_bytes(cut);
+    assert_eq!(rt; refusal_of(alloc, &mut device)?, damaged(117, 0));
+    let mut long = file_of(alloc, &[9; 16])?;
+    long.truncate(114);
+    long.extend_from_slice(&1000u32.to_be_bytes())?;
+    let mut device = MemDevice::from_bytes(long);
+    assert_eq!(rt; refusal_of(alloc, &mut device)?, damaged(118, 0));
+    let mut twice = MemDevice::from_bytes(file_of(alloc, &[9; 32])?);
+    assert_eq!(rt; bodies_back(alloc, &mut twice)?.len(), 32);
+    let odd = b"AGT1\0\0\x07\0\0\x01\0\0\0\x03\0\0\x02\0\0\0\x03";
+    let mut device = MemDevice::from_bytes(Vec::from_slice(alloc, odd)?);
+    assert_eq!(rt; refusal_of(alloc, &mut device)?, damaged(7, 2));
+    Ok(())
+}
+
+#[test]
+fn headers(rt: HostRuntime) -> Result<(), Fail> {
+    let alloc = rt.alloc();
+    let mut device = MemDevice::from_bytes(Vec::from_slice(alloc, b"AGT1\x01\x02")?);
+    let mut back = Back::start(alloc, &mut device)?;
+    assert_eq!(rt; back.pass(), 258);
+    assert_eq!(rt; back.back(&mut device)?, None);
+    assert_eq!(rt; back.back(&mut device)?, None);
+    assert_eq!(rt; back.records(), 0);
+    for bytes in [b"".as_slice(), b"AGT1\0", b"AGT2\0\0"] {
+        let mut device = MemDevice::from_bytes(Vec::from_slice(alloc, bytes)?);
+        let refusal = Some((FrameFault::NotATreeFile, None, 0));
+        assert_eq!(rt; refusal_of(alloc, &mut device)?, refusal);
+    }
+    Ok(())
+}
+
+#[test]
+fn a_device_that_fails_at_each_call(rt: HostRuntime) -> Result<(), Fail> {
+    let alloc = rt.alloc();
+    let bytes = file_of(alloc, &[1, 2, 3])?;
+    for call in 1..100 {
+        let memory = MemDevice::from_bytes(Vec::from_slice(alloc, &bytes)?);
+        let mut device = FuseDevice::new(memory, call);
+        match refusal_of(alloc, &mut device)? {
+            None => {
+                assert!(rt; call > 1);
+                return Ok(());
+            }
+            Some((fault, again, records)) => {
+                assert_eq!(rt; fault, FrameFault::Device);
+                assert!(rt; again.is_none() || again == Some(fault));
+                assert!(rt; records < 3);
+                assert_eq!(rt; bodies_back(alloc, &mut device)?.len(), 3);
+            }
+        }
+    }
+    assert!(rt; false);
+    Ok(())
+}
+
+#[test]
+fn a_device_that_lies(rt: HostRuntime) {
+    let told = Back::start(rt.alloc(), &mut LyingDevice {});
+    assert!(rt; matches!(told, Err(FrameFault::NoMemory)));
+}

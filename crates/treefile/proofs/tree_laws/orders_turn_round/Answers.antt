@@ -1,0 +1,5 @@
+use Rattle.treefile.proofs.Orders.{turned}
+use Rattle.treefile.proofs.tree_laws.orders_turn_round.Goals as goal
+
+pub returns : goal.returns
+returns c = turned

@@ -1,0 +1,50 @@
+-- Trees whose nodes are bodies, and the two orders in which a list has the bodies of a tree.
+use Rattle.std.specs.Prelude.{◌≡◌, ℕ, suc, List, [], ◌∷◌, ◌++◌, Option, Some}
+use Rattle.ag_expr.specs.grammars.Passes.{Direction, LeftToRight, RightToLeft}
+
+mutual
+  -- A node has its body and one tree for each child, from left to right (this project's).
+  pub data BodyTree : Type 0 where
+    branch : (body : List ℕ) → BodyForest → BodyTree
+
+  pub data BodyForest : Type 0 where
+    none : BodyForest
+    more : BodyTree → BodyForest → BodyForest
+
+-- In a direction the list of a child and that of the children right of it: from left to right the child's comes first, and
+-- from right to left it comes last (this project's).
+abbrev pub joined : Direction → List (List ℕ) → List (List ℕ) → List (List ℕ)
+joined LeftToRight child others = child ++ others
+joined RightToLeft child others = others ++ child
+
+-- The postfix list of a direction: the children in that direction, each whole, and then the node (the textbook's postorder).
+abbrev mutual
+  pub postfix : Direction → BodyTree → List (List ℕ)
+  postfix d (branch body ts) = postfix_all d ts ++ body ∷ []
+
+  pub postfix_all : Direction → BodyForest → List (List ℕ)
+  postfix_all d none = []
+  postfix_all d (more t ts) = joined d (postfix d t) (postfix_all d ts)
+
+-- The prefix list of a direction: the node, and then the children in that direction, each whole (the textbook's preorder).
+abbrev mutual
+  pub prefix : Direction → BodyTree → List (List ℕ)
+  prefix d (branch body ts) = body ∷ prefix_all d ts
+
+  pub prefix_all : Direction → BodyForest → List (List ℕ)
+  prefix_all d none = []
+  prefix_all d (more t ts) = joined d (prefix d t) (prefix_all d ts)
+
+-- how many trees there are
+abbrev pub tree_count : BodyForest → ℕ
+tree_count none = 0
+tree_count (more t ts) = suc (tree_count ts)
+
+-- Each node has as many children as a function tells of its body (the textbook's ranked trees).
+abbrev mutual
+  pub IsRanked : (List ℕ → Option ℕ) → BodyTree → Type 0
+  IsRanked rank (branch body ts) = (rank body ≡ Some (tree_count ts)) × AreRanked rank ts
+
+  pub AreRanked : (List ℕ → Option ℕ) → BodyForest → Type 0
+  AreRanked rank none = Unit {0}
+  AreRanked rank (more t ts) = IsRanked rank t × AreRanked rank ts
