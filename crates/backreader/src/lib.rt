@@ -4,6 +4,3 @@
 mod back;
 
 pub use back::Back;
-
-#[cfg(test)]
-mod tests;

@@ -5,7 +5,7 @@ ghost use Rattle.treefile.specs.Backward.{ReadsBack};
 ghost use Rattle.treefile.specs.Device.{WhenHonest};
 ghost use Rattle.treefile.specs.TreeFile.{version_one};
 
-use super::*;
+use backreader::Back;
 use std::alloc::{AllocError, Global};
 use std::test::Fail;
 use treefile::{Device, DeviceFault, FrameFault, FuseDevice, MemDevice, Writer};
