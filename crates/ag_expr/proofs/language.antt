@@ -1,19 +1,21 @@
 -- Lemmas on the expression language.
 pub mod Agree
 pub mod Below
-pub mod Cuts
+pub mod Exact
 pub mod Examples
 pub mod Expressions
 pub mod Fronts
 pub mod Lexed
+pub mod Lexes
 pub mod Listing
 pub mod Numbered
 pub mod Numerals
+pub mod Places
 pub mod Spans
 pub mod States
+pub mod Steady
 pub mod TextTurns
 pub mod Texts
 pub mod TokenLaws
 pub mod Turns
-pub mod Unique
 pub mod Values

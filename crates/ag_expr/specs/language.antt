@@ -1,4 +1,5 @@
 -- The expression language: its tokens, its syntax, what an expression is worth.
+pub mod Ending
 pub mod Evaluation
 pub mod Expression
 pub mod Faults
@@ -7,6 +8,8 @@ pub mod Left
 pub mod Lexing
 pub mod Numbers
 pub mod Occurrences
+pub mod Placed
+pub mod Places
 pub mod Reading
 pub mod Syntax
 pub mod Token

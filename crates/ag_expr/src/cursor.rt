@@ -1,16 +1,14 @@
 //! A cursor over the tokens of a text: it peeks at the token in front and bumps it, and lists the
 //! occurrences that it passes.
 
-ghost use Rattle.std.specs.Prelude.{◌≡◌, ◌≢◌, chars, drop, Some, false, option_map, IfErr, IfOk};
-ghost use Rattle.std.specs.Prelude.{OnOk};
+ghost use Rattle.std.specs.Prelude.{◌≡◌, chars, Some, IfOk, OnOk, option_map};
 ghost use Rattle.ag_expr.specs.language.Left as left;
+ghost use Rattle.ag_expr.specs.language.Left.{HasNumber, Keeps, PassesOther, Reads, everything};
+ghost use Rattle.ag_expr.specs.language.Left.{input};
 ghost use Rattle.ag_expr.specs.language.Expression as spec;
-ghost use Rattle.ag_expr.specs.language.Expression.{Says};
-ghost use Rattle.ag_expr.specs.language.Left.{HasNumber, Keeps, PassesOther};
 ghost use Rattle.ag_expr.specs.language.Lexing.{token_of};
-ghost use Rattle.ag_expr.specs.language.Occurrences.{position_of};
+ghost use Rattle.ag_expr.specs.language.Reading as reading;
 ghost use Rattle.ag_expr.specs.language.Token as token;
-ghost use Rattle.ag_expr.specs.declared.fault.ExprFault.TheVariants as fault;
 
 use crate::fault::{ExprFault, TokenFault};
 use crate::lexer::{skip_separators, token_in_front};
@@ -56,9 +54,19 @@ fn begins_expression(token: Token<'_>) -> bool
     )
 }
 
+/// Whether a token is this punctuation.
+fn is_mark(mark: Punctuation, token: Token<'_>) -> bool
+    ensures { result ≡ reading.is_mark mark (token_of token.entry) }
+{
+    match token {
+        Token::Punctuation(other) => other == mark,
+        _ => false,
+    }
+}
+
 /// The fault of a text with no token in front of `rest`, which stands at this offset.
 fn fault_at(fault: TokenFault, at: usize, rest: &str) -> ExprFault
-    ensures { result ≡ left.fault_of (left.ending_by fault at (chars rest.now)) at }
+    ensures { result ≡ reading.ending_fault (left.ending_by fault at (chars rest.now)) }
 {
     match fault {
         TokenFault::TooLarge => ExprFault::NumberTooLarge(at),
@@ -83,7 +91,7 @@ impl<'t> Cursor<'t> {
 
     /// The token in front. Takes no memory.
     pub fn peek(&self) -> Option<Token<'t>>
-        ensures { option_map token_of result ≡ left.front_of (left.tokens self.now) }
+        ensures { option_map token_of result ≡ reading.front (input self.now) }
     {
         match self.front {
             Ok((token, _)) => Some(token),
@@ -100,7 +108,7 @@ impl<'t> Cursor<'t> {
 
     /// Why the token in front cannot be taken, or why none is there.
     pub fn refusal(&self) -> ExprFault
-        ensures { Says 0 (left.characters self.now) result }
+        ensures { result ≡ reading.refusal (input self.now) }
     {
         match self.front {
             Ok(_) => ExprFault::Unexpected(self.offset()),
@@ -110,7 +118,7 @@ impl<'t> Cursor<'t> {
 
     /// Why an expression that has no level left cannot begin here.
     pub fn no_level(&self) -> ExprFault
-        ensures { Says 0 (left.characters self.now) result }
+        ensures { result ≡ left.no_level self.now }
     {
         match self.front {
             Ok((token, _)) if begins_expression(token) => ExprFault::TooDeep(self.offset()),
@@ -121,7 +129,7 @@ impl<'t> Cursor<'t> {
     /// Passes the token in front.
     pub fn bump(&mut self)
         ensures exact { self.new ≡ left.behind self.old }
-        ensures tokens { left.tokens self.new ≡ drop 1 (left.tokens self.old) }
+        ensures tokens { input self.new ≡ reading.next (input self.old) }
         ensures keeps { PassesOther self.old → Keeps self.old self.new }
     {
         if let Ok((_, behind)) = self.front {
@@ -138,9 +146,9 @@ impl<'t> Cursor<'t> {
         place: u16,
         attr: &'t str,
     ) -> Result<usize, NoMemory>
-        requires { left.front_of (left.tokens self.old) ≡ Some (token.Occurrence place attr.now) }
+        requires { reading.front (input self.old) ≡ Some (token.Occurrence place attr.now) }
         ensures number { IfOk result (λ k. HasNumber self.old place attr.now k) }
-        ensures tokens { OnOk result (left.tokens self.new ≡ drop 1 (left.tokens self.old)) }
+        ensures tokens { OnOk result (input self.new ≡ reading.next (input self.old)) }
         ensures keeps { OnOk result (Keeps self.old self.new) }
     {
         let at = self.offset();
@@ -149,13 +157,34 @@ impl<'t> Cursor<'t> {
         Ok(number)
     }
 
+    /// Whether this punctuation stands in front.
+    pub fn sees(&self, mark: Punctuation) -> bool
+        ensures { result ≡ reading.sees (reading.is_mark mark) (input self.now) }
+    {
+        match self.peek() {
+            Some(token) => is_mark(mark, token),
+            None => false,
+        }
+    }
+
+    /// Passes this punctuation.
+    pub fn expect(&mut self, mark: Punctuation) -> Result<(), ExprFault>
+        ensures { Reads (λ _. reading.expect mark) self.old result self.new }
+    {
+        match self.peek() {
+            Some(token) if is_mark(mark, token) => {
+                self.bump();
+                Ok(())
+            }
+            _ => Err(self.refusal()),
+        }
+    }
+
     /// The different occurrences, at the end of the text; else why the text goes on with none or
     /// with another token.
     pub fn finish(self) -> Result<SmallVec<Occ, 4>, ExprFault>
-        ensures ended { IfOk result (λ _. left.IsEnded self.entry) }
-        ensures listed { IfOk result (λ list. list.items ≡ left.everything self.entry) }
-        ensures says { IfErr result (λ e. Says 0 (left.characters self.entry) e) }
-        ensures left { IfErr result (λ e. e ≢ fault.NoMemory → left.IsEnded self.entry → ⊥) }
+        ensures reads { left.Finishes self.entry result }
+        ensures listed { IfOk result (λ list. list.items ≡ everything self.entry) }
     {
         if !self.rest.is_empty() {
             return Err(self.refusal());

@@ -3,6 +3,7 @@
 ghost use Rattle.std.specs.Prelude.{◌≡◌, length, true, IfOk, IfErr};
 ghost use Rattle.ag_expr.specs.language.Evaluation.{is_below};
 ghost use Rattle.ag_expr.specs.language.Expression.{ReadsAsExpr, IsRefused, IsAt};
+ghost use Rattle.ag_expr.specs.language.Places.{IsFirstOf, IsRead};
 
 use crate::cursor::Cursor;
 use crate::fault::ExprFault;
@@ -53,6 +54,8 @@ pub fn occurrences(expr: &Expr) -> &[Occ]
 /// with it, or at the text's end; X4, where it begins an expression of level 65. A refusal other
 /// than for memory means that the text reads as no expression.
 pub fn read_expr(alloc: Global, text: &str) -> Result<Expr, ExprFault>
+    ensures exact { IsRead text.now result }
+    ensures first { IfErr result (λ e. IsFirstOf text.now e) }
     ensures reads { IfOk result (λ e. ReadsAsExpr text.now e) }
     ensures refuses { IfErr result (λ e. IsRefused text.now e) }
     ensures places { IfErr result (λ e. IsAt text.now e) }

@@ -8,16 +8,30 @@ ghost use Rattle.ag_expr.specs.declared.node.Operator.TheVariants as operator;
 ghost use Rattle.ag_expr.specs.language.Evaluation.{calculated};
 ghost use Rattle.ag_expr.specs.language.Expression.{ReadsAsExpr};
 ghost use Rattle.ag_expr.specs.language.Laws.{ReadingAgrees, LongestIsCut, NothingIsCut};
-ghost use Rattle.ag_expr.specs.language.Laws.{OneExpression, StaysPlain, IsAlways};
+ghost use Rattle.ag_expr.specs.language.Laws.{OneExpression, OneInput, StaysPlain, IsAlways};
+ghost use Rattle.ag_expr.specs.language.Laws.{RefusesAtTheFirst};
 ghost use Rattle.ag_expr.specs.language.Tokens.{AreTokens};
 ghost use Rattle.ag_expr.specs.language.Worked.{by_zero, least, occurrence_and_number};
 ghost use Rattle.ag_expr.specs.language.Worked.{past_the_greatest, sum_and_product};
 ghost use Rattle.ag_expr.specs.language.Worked.{two_differences};
 
-/// What is read from tokens is what the syntax relates to them, and the other way round.
+/// What is read from tokens, to their end, is what the syntax relates to them, and the other way
+/// round.
 #[tactic(auto, using(crate::proofs::language::Agree::exact))]
 pub fn reading_agrees_with_the_syntax()
     ensures { ReadingAgrees }
+{}
+
+/// A text has one list of placed tokens and one ending.
+#[tactic(auto, using(crate::proofs::language::Lexes::one_input))]
+pub fn a_text_has_one_list_of_tokens()
+    ensures { OneInput }
+{}
+
+/// What is refused is refused at the first token that can't be taken.
+#[tactic(auto, using(crate::proofs::language::Places::refuses_at_the_first))]
+pub fn the_first_wrong_token_is_told()
+    ensures { RefusesAtTheFirst }
 {}
 
 /// What is cut from the front of characters is their longest token, and where nothing is cut no
@@ -60,7 +74,7 @@ pub fn worked_divisions()
 /// The tokens of `$1.a + 2`, with their offsets.
 #[tactic(auto, using(crate::proofs::language::Examples::occurrence_and_number))]
 pub fn worked_tokens()
-    ensures { AreTokens 0 (codes "$1.a + 2") occurrence_and_number (0 ∷ 5 ∷ 7 ∷ []) 8 [] }
+    ensures { AreTokens 0 (codes "$1.a + 2") occurrence_and_number 8 [] }
 {}
 
 /// What `2 + 3 * 4` reads as.

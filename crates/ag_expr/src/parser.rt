@@ -1,13 +1,13 @@
 //! The parser of expressions, by recursive descent over a cursor.
 
-ghost use Rattle.std.specs.Prelude.{◌≡◌, IfNone, IfOk, option_map};
+ghost use Rattle.std.specs.Prelude.{◌≡◌, [], IfOk, option_map};
 ghost use Rattle.ag_expr.specs.language.Syntax as syntax;
-ghost use Rattle.ag_expr.specs.language.Left.{Keeps, Takes, TakesAs, tokens};
+ghost use Rattle.ag_expr.specs.language.Syntax.{closer};
+ghost use Rattle.ag_expr.specs.language.Left.{Reads, ReadsAs, input};
 ghost use Rattle.ag_expr.specs.language.Lexing.{token_of};
 ghost use Rattle.ag_expr.specs.language.Reading as reading;
-ghost use Rattle.ag_expr.specs.language.Reading.{atom_from, chain_from, close_from, expr_from};
-ghost use Rattle.ag_expr.specs.language.Reading.{further_from, operand_from, operator_from};
-ghost use Rattle.ag_expr.specs.language.Reading.{parenthesized_from};
+ghost use Rattle.ag_expr.specs.language.Reading.{atom_from, chain_from, expr_from, other_from};
+ghost use Rattle.ag_expr.specs.language.Reading.{parenthesized_from, ranked_from};
 
 use crate::cursor::Cursor;
 use crate::fault::ExprFault;
@@ -29,61 +29,85 @@ enum Precedence {
     Product,
 }
 
-/// The operator of a sum that a token is.
-fn sum_operator(token: Token<'_>) -> Option<Operator>
-    ensures { result ≡ syntax.sum_operator (token_of token.entry) }
+/// The punctuation that is an operator: its precedence, and what it does.
+fn marked_operator(mark: Punctuation) -> Option<(Precedence, Operator)>
+    ensures { result ≡ syntax.marked_operator mark }
 {
-    match token {
-        Token::Punctuation(Punctuation::Plus) => Some(Operator::Add),
-        Token::Punctuation(Punctuation::Minus) => Some(Operator::Subtract),
+    match mark {
+        Punctuation::Plus => Some((Precedence::Sum, Operator::Add)),
+        Punctuation::Minus => Some((Precedence::Sum, Operator::Subtract)),
+        Punctuation::Times => Some((Precedence::Product, Operator::Multiply)),
         _ => None,
     }
 }
 
-/// The operator of a product that a token is.
-fn product_operator(token: Token<'_>) -> Option<Operator>
-    ensures { result ≡ syntax.product_operator (token_of token.entry) }
-{
-    match token {
-        Token::Punctuation(Punctuation::Times) => Some(Operator::Multiply),
-        Token::Name(name) => named_operator(name),
-        _ => None,
-    }
-}
-
-/// The operator that is a reserved name.
-fn named_operator(name: &str) -> Option<Operator>
+/// The reserved name that is an operator: its precedence, and what it does.
+fn named_operator(name: &str) -> Option<(Precedence, Operator)>
     ensures { result ≡ syntax.named_operator name.now }
 {
     if name == "div" {
-        Some(Operator::Divide)
+        Some((Precedence::Product, Operator::Divide))
     } else if name == "mod" {
-        Some(Operator::Remainder)
+        Some((Precedence::Product, Operator::Remainder))
     } else {
         None
     }
 }
 
-/// The operator of a precedence that a token is.
-fn operator_of(precedence: Precedence, token: Token<'_>) -> Option<Operator>
-    ensures { result ≡ reading.operator_of precedence (token_of token.entry) }
+/// The operator that a token is: its precedence, and what it does.
+fn binary_operator(token: Token<'_>) -> Option<(Precedence, Operator)>
+    ensures { result ≡ syntax.binary_operator (token_of token.entry) }
 {
-    match precedence {
-        Precedence::Sum => sum_operator(token),
-        Precedence::Product => product_operator(token),
+    match token {
+        Token::Punctuation(mark) => marked_operator(mark),
+        Token::Name(name) => named_operator(name),
+        _ => None,
     }
 }
 
-/// Passes the operator of a precedence that stands in front, where one does.
-fn take_operator(cursor: &mut Cursor<'_>, precedence: Precedence) -> Option<Operator>
-    ensures takes { option_map (λ o. (o, tokens cursor.new)) result
-        ≡ operator_from (reading.operator_of precedence) (tokens cursor.old) }
-    ensures stays { IfNone result (cursor.new ≡ cursor.old) }
-    ensures keeps { Keeps cursor.old cursor.new }
+/// The operator of a precedence that a token is.
+fn operator_of(precedence: Precedence, token: Token<'_>) -> Option<Operator>
+    ensures { result ≡ syntax.operator_of precedence (token_of token.entry) }
 {
-    let operator = operator_of(precedence, cursor.peek()?)?;
-    cursor.bump();
-    Some(operator)
+    match binary_operator(token) {
+        Some((other, operator)) => {
+            if precedence == other {
+                return Some(operator);
+            }
+            None
+        }
+        None => None,
+    }
+}
+
+/// The operator of a precedence that stands in front.
+fn next_operator(cursor: &Cursor<'_>, precedence: Precedence) -> Option<Operator>
+    ensures { result ≡ reading.operator_from precedence (reading.front (input cursor.now)) }
+{
+    match cursor.peek() {
+        Some(token) => operator_of(precedence, token),
+        None => None,
+    }
+}
+
+/// Whether an operator of a precedence stands in front.
+fn goes_on(cursor: &Cursor<'_>, precedence: Precedence) -> bool
+    ensures { result ≡ reading.sees (reading.is_of precedence) (input cursor.now) }
+{
+    next_operator(cursor, precedence).is_some()
+}
+
+/// Passes an operator of a precedence.
+fn operator(cursor: &mut Cursor<'_>, precedence: Precedence) -> Result<Operator, ExprFault>
+    ensures { Reads (λ _. reading.operator precedence) cursor.old result cursor.new }
+{
+    match next_operator(cursor, precedence) {
+        Some(operator) => {
+            cursor.bump();
+            Ok(operator)
+        }
+        None => Err(cursor.refusal()),
+    }
 }
 
 /// One operand alone, or a chain.
@@ -96,24 +120,11 @@ fn chained(alloc: Global, first: Node, others: Vec<(Operator, Node)>) -> Result<
     Ok(Node::Chain(Boxed::new(alloc, first)?, Items::from_vec(others)))
 }
 
-/// Passes the closing parenthesis in front.
-fn close(cursor: &mut Cursor<'_>) -> Result<(), ExprFault>
-    ensures { Takes (λ _. close_from) cursor.old result cursor.new }
-{
-    match cursor.peek() {
-        Some(Token::Punctuation(Punctuation::Close)) => {
-            cursor.bump();
-            Ok(())
-        }
-        _ => Err(cursor.refusal()),
-    }
-}
-
 /// Passes an expression of at most so many levels, and answers its tree.
 #[cycle(parsing)]
 #[tactic(auto, using(crate::proofs::language::Turns::one_level), unfolding(crate::specs::language::Reading::expr_from))]
 fn expression(alloc: Global, cursor: &mut Cursor<'_>, levels: usize) -> Result<Node, ExprFault>
-    ensures { Takes (λ all. expr_from all levels) cursor.old result cursor.new }
+    ensures { Reads (λ all. expr_from all levels) cursor.old result cursor.new }
 {
     if levels == 0 {
         return Err(cursor.no_level());
@@ -123,14 +134,16 @@ fn expression(alloc: Global, cursor: &mut Cursor<'_>, levels: usize) -> Result<N
 
 /// Passes a chain of a precedence, whose parentheses have at most so many levels.
 #[cycle(parsing)]
+#[tactic(auto, unfolding(crate::specs::language::Reading::chain_from))]
 fn chain(
     alloc: Global,
     cursor: &mut Cursor<'_>,
     levels: usize,
     precedence: Precedence,
 ) -> Result<Node, ExprFault>
-    ensures { Takes (λ all. chain_from (reading.operator_of precedence)
-        (operand_from precedence all (expr_from all levels))) cursor.old result cursor.new }
+    ensures { Reads (λ all. chain_from precedence
+        (ranked_from (atom_from all (expr_from all levels)) (closer precedence)))
+        cursor.old result cursor.new }
 {
     let first = operand(alloc, cursor, levels, precedence)?;
     let others = further(alloc, cursor, levels, precedence)?;
@@ -139,14 +152,14 @@ fn chain(
 
 /// Passes an operand of a precedence: a chain of the next precedence, or behind the last an atom.
 #[cycle(parsing)]
-#[tactic(auto, unfolding(crate::specs::language::Reading::product_from))]
+#[tactic(auto, unfolding(crate::specs::language::Reading::ranked_from))]
 fn operand(
     alloc: Global,
     cursor: &mut Cursor<'_>,
     levels: usize,
     precedence: Precedence,
 ) -> Result<Node, ExprFault>
-    ensures { Takes (λ all. operand_from precedence all (expr_from all levels))
+    ensures { Reads (λ all. ranked_from (atom_from all (expr_from all levels)) (closer precedence))
         cursor.old result cursor.new }
 {
     match precedence {
@@ -163,15 +176,35 @@ fn further(
     levels: usize,
     precedence: Precedence,
 ) -> Result<Vec<(Operator, Node)>, ExprFault>
-    ensures { TakesAs (λ others. others.items) (λ all. further_from (reading.operator_of precedence)
-        (operand_from precedence all (expr_from all levels))) cursor.old result cursor.new }
+    ensures { ReadsAs (λ others. others.items) (λ all. reading.many (reading.is_of precedence)
+        (other_from precedence
+        (ranked_from (atom_from all (expr_from all levels)) (closer precedence))) [])
+        cursor.old result cursor.new }
 {
     let mut others = Vec::new(alloc);
-    while let Some(operator) = take_operator(cursor, precedence) {
-        let operand = operand(alloc, cursor, levels, precedence)?;
-        others.push((operator, operand))?;
+    while goes_on(cursor, precedence) {
+        let other = other(alloc, cursor, levels, precedence)?;
+        others.push(other)?;
     }
     Ok(others)
+}
+
+/// Passes an operator and the operand behind it.
+#[cycle(parsing)]
+#[tactic(auto, unfolding(crate::specs::language::Reading::other_from))]
+fn other(
+    alloc: Global,
+    cursor: &mut Cursor<'_>,
+    levels: usize,
+    precedence: Precedence,
+) -> Result<(Operator, Node), ExprFault>
+    ensures { Reads (λ all. other_from precedence
+        (ranked_from (atom_from all (expr_from all levels)) (closer precedence)))
+        cursor.old result cursor.new }
+{
+    let operator = operator(cursor, precedence)?;
+    let operand = operand(alloc, cursor, levels, precedence)?;
+    Ok((operator, operand))
 }
 
 /// Passes a number, an occurrence or an expression in parentheses, which has at most so many
@@ -179,7 +212,17 @@ fn further(
 #[cycle(parsing)]
 #[tactic(auto, unfolding(crate::specs::language::Reading::atom_from))]
 fn atom(alloc: Global, cursor: &mut Cursor<'_>, levels: usize) -> Result<Node, ExprFault>
-    ensures { Takes (λ all. atom_from all (expr_from all levels)) cursor.old result cursor.new }
+    ensures { Reads (λ all. atom_from all (expr_from all levels)) cursor.old result cursor.new }
+{
+    if cursor.sees(Punctuation::Open) {
+        return parenthesized(alloc, cursor, levels);
+    }
+    operand_alone(alloc, cursor)
+}
+
+/// Passes a number or an occurrence.
+fn operand_alone(alloc: Global, cursor: &mut Cursor<'_>) -> Result<Node, ExprFault>
+    ensures { Reads (λ all. reading.alone_from all) cursor.old result cursor.new }
 {
     match cursor.peek() {
         Some(Token::Number(number)) => {
@@ -189,28 +232,26 @@ fn atom(alloc: Global, cursor: &mut Cursor<'_>, levels: usize) -> Result<Node, E
         Some(Token::Occurrence(place, attr)) => {
             Ok(Node::Occurrence(cursor.take_occurrence(alloc, place, attr)?))
         }
-        Some(Token::Punctuation(Punctuation::Open)) => {
-            cursor.bump();
-            parenthesized(alloc, cursor, levels)
-        }
         _ => Err(cursor.refusal()),
     }
 }
 
-/// Passes an expression whose opening parenthesis stood before, and the closing one.
+/// Passes an expression in parentheses.
 #[cycle(parsing)]
+#[tactic(auto, unfolding(crate::specs::language::Reading::parenthesized_from))]
 fn parenthesized(alloc: Global, cursor: &mut Cursor<'_>, levels: usize) -> Result<Node, ExprFault>
-    ensures { Takes (λ all. parenthesized_from (expr_from all levels))
+    ensures { Reads (λ all. parenthesized_from (expr_from all levels))
         cursor.old result cursor.new }
 {
+    cursor.expect(Punctuation::Open)?;
     let inner = expression(alloc, cursor, levels)?;
-    close(cursor)?;
+    cursor.expect(Punctuation::Close)?;
     Ok(inner)
 }
 
 /// Passes an expression, and answers its tree.
 pub fn parse(alloc: Global, cursor: &mut Cursor<'_>) -> Result<Node, ExprFault>
-    ensures { Takes (λ all. expr_from all 64) cursor.old result cursor.new }
+    ensures { Reads (λ all. expr_from all 64) cursor.old result cursor.new }
 {
     expression(alloc, cursor, LEVELS)
 }

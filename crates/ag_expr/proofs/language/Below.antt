@@ -1,6 +1,6 @@
 -- The numbers of all occurrences in a tree are below n.
 use Rattle.std.proofs.lemmas.Bool.{and_parts}
-use Rattle.std.proofs.Common.{◌≡◌, ◌<◌, ℕ, ℤ, zero, suc, nat_lt, length, Option, Some, IfSome, subst, List, [], ◌∷◌, Bool, true, ◌&&◌, map, refl, ap, sym, ◌∙◌}
+use Rattle.std.proofs.Common.{◌≡◌, ◌<◌, ℕ, ℤ, zero, suc, nat_lt, length, Option, Some, IfSome, subst, List, [], ◌∷◌, Bool, true, ◌&&◌, map, None, inl, inr, refl, ap, sym, ◌∙◌}
 use Rattle.ag_expr.specs.declared.node.Operator.{Operator}
 use Rattle.ag_expr.specs.declared.node.Node.{Node}
 use Rattle.ag_expr.specs.declared.node.Node.TheVariants as node
@@ -9,8 +9,12 @@ use Rattle.ag_expr.specs.declared.node.Node.TheOpen.{Node-F}
 use Rattle.ag_expr.specs.declared.node.Node.TheFolds.{fold-roll-Node}
 use Rattle.ag_expr.specs.declared.occurrence.Occ.{Occ}
 use Rattle.ag_expr.specs.language.Token.{Token}
+use Rattle.ag_expr.specs.language.Token as token
+use Rattle.ag_expr.specs.declared.parser.Precedence.{Precedence}
+use Rattle.std.proofs.lemmas.Option.{same_Some}
+use Rattle.std.specs.Prelude.{option_map}
 use Rattle.ag_expr.specs.language.Occurrences.{is_of, position_of}
-use Rattle.ag_expr.specs.language.Syntax.{chained, sum_operator, product_operator, IsRest, stop, next, IsChain, IsAtom, number, occurrence, parentheses, IsProduct, IsExpr}
+use Rattle.ag_expr.specs.language.Syntax.{Many, none, more, precedences, chained, operand_of, IsOther, IsRanked, IsAtom, IsExpr}
 use Rattle.ag_expr.proofs.language.Numbered.{within}
 use Rattle.std.proofs.lemmas.Bool.{lt-ltb}
 use Rattle.ag_expr.specs.language.Evaluation.{Meaning, value_step, value_of, chain_value, is_below, all_below, below_step}
@@ -37,12 +41,16 @@ value_of-Chain e xs env = ap (λ (m : Meaning). m env) (ap value_of (sym (rolls-
 abbrev Below : ℕ → (List Token → Node → Type 0) → Type 0
 Below n R = (ts : List Token) (e : Node) → R ts e → is_below n e ≡ true
 
-rest_below : (n : ℕ) (operator : Token → Option Operator) (operand : List Token → Node → Type 0) → Below n operand → {ts : List Token} {xs : List (Operator × Node)} → IsRest operator operand ts xs → all_below n xs ≡ true
-rest_below n operator operand below stop = refl
-rest_below n operator operand below (next t o us vs f xs is one more) = both (is_below n f) (all_below n xs) (below us f one) (rest_below n operator operand below more)
+others_below : (n : ℕ) (k : Precedence) (operand : List Token → Node → Type 0) → Below n operand → {ts : List Token} {xs : List (Operator × Node)} → Many (IsOther k operand) ts xs → all_below n xs ≡ true
+others_below n k operand below none = refl
+others_below n k operand below (more us vs x xs (ws, zs, o, e, is, (ys, qs, f, d, one, (no_more, same))) others) =
+    both (is_below n x.1) (all_below n xs) (ap (λ (p : Operator × Node). is_below n p.1) same ∙ below ys f one) (others_below n k operand below others)
 
-chains_below : (n : ℕ) (operator : Token → Option Operator) (operand : List Token → Node → Type 0) → Below n operand → Below n (IsChain operator operand)
-chains_below n operator operand below ts e (us, vs, f, xs, split, one, more, same) = ap (is_below n) same ∙ in_chain n f xs (below us f one) (rest_below n operator operand below more)
+ranked_below : (n : ℕ) (atom : List Token → Node → Type 0) → Below n atom → (ks : List Precedence) → Below n (IsRanked atom ks)
+ranked_below n atom below [] ts e is = below ts e is
+ranked_below n atom below (k ∷ ks) ts e (us, vs, f, split, one, (ws, zs, xs, d, others, (no_more, same))) =
+    let inner = ranked_below n atom below ks in
+    ap (is_below n) same ∙ in_chain n f xs (inner us f one) (others_below n k (IsRanked atom ks) inner others)
 
 pub number_below : (n : ℕ) (z : ℤ) → is_below n (node.Number z) ≡ true
 number_below n z = ap (is_below n) (sym (rolls-Number z)) ∙ fold-roll-Node Bool (below_step n) (Node-F.Number z)
@@ -53,13 +61,20 @@ found_below listed place attr k e = lt-ltb k (length listed) (subst (λ o. IfSom
 pub occurrence_below : (listed : List Occ) (k : ℕ) → nat_lt k (length listed) ≡ true → is_below (length listed) (node.Occurrence k) ≡ true
 occurrence_below listed k less = ap (is_below (length listed)) (sym (rolls-Occurrence k)) ∙ fold-roll-Node Bool (below_step (length listed)) (Node-F.Occurrence k) ∙ less
 
+alone_below : (listed : List Occ) (t : Token) (e : Node) → operand_of listed t ≡ Some e → is_below (length listed) e ≡ true
+alone_below listed (token.Number z) e h = ap (is_below (length listed)) (sym (same_Some _ _ h)) ∙ number_below (length listed) z
+alone_below listed (token.Occurrence place attr) e h = go (position_of listed place attr) refl h
+  where
+    go : (o : Option ℕ) → position_of listed place attr ≡ o → option_map node.Occurrence o ≡ Some e → is_below (length listed) e ≡ true
+    go None is h = let bad : ⊥ = cc in absurd bad
+    go (Some k) is h = ap (is_below (length listed)) (sym (same_Some _ _ h)) ∙ occurrence_below listed k (found_below listed place attr k is)
+alone_below listed _ e h = let bad : ⊥ = cc in absurd bad
+
 atoms_below : (listed : List Occ) (inner : List Token → Node → Type 0) → Below (length listed) inner → Below (length listed) (IsAtom listed inner)
-atoms_below listed inner below ts e (number z) = number_below (length listed) z
-atoms_below listed inner below ts e (occurrence place attr k is) = occurrence_below listed k (found_below listed place attr k is)
-atoms_below listed inner below ts e (parentheses us f is) = below us f is
+atoms_below listed inner below ts e (inl (us, vs, u, d, opens, (ws, zs, f, c, is, (ys, qs, v, b, closes, (no_more, same))))) = ap (is_below (length listed)) same ∙ below ws f is
+atoms_below listed inner below ts e (inr (t, one, is)) = alone_below listed t e is
 
 pub expr_below : (listed : List Occ) (levels : ℕ) → Below (length listed) (IsExpr listed levels)
+unfolding IsExpr
 expr_below listed zero ts e is = absurd is
-expr_below listed (suc levels) ts e is =
-    chains_below (length listed) sum_operator (IsProduct listed (IsExpr listed levels))
-    (chains_below (length listed) product_operator (IsAtom listed (IsExpr listed levels)) (atoms_below listed (IsExpr listed levels) (expr_below listed levels))) ts e is
+expr_below listed (suc levels) ts e is = ranked_below (length listed) (IsAtom listed (IsExpr listed levels)) (atoms_below listed (IsExpr listed levels) (expr_below listed levels)) precedences ts e is

@@ -1,18 +1,20 @@
 -- Examples worked out by hand.
-use Rattle.std.proofs.Common.{◌≡◌, ℕ, ℤ, List, [], ◌∷◌, Some, pos, codes, lit<, refl, sym, subst}
+use Rattle.std.proofs.Common.{◌≡◌, ℕ, ℤ, List, [], ◌∷◌, Some, Ok, pos, codes, lit<, refl, sym, subst}
 use Rattle.std.proofs.lemmas.Str.{encode_ascii}
 use Rattle.std.specs.Str.{chars}
 use Rattle.unicode_ident.proofs.IdentLemmas.{is_xid_start-ascii, is_xid_continue-ascii}
 use Rattle.ag_expr.specs.declared.token.Punctuation.TheVariants as punctuation
+use Rattle.ag_expr.specs.language.Ending as ending
+use Rattle.ag_expr.specs.language.Placed.{Placed}
 use Rattle.ag_expr.specs.language.Token.{Token}
 use Rattle.ag_expr.specs.language.Token as token
-use Rattle.ag_expr.specs.language.Tokens.{AreTokens}
+use Rattle.ag_expr.specs.language.Tokens.{AreTokens, ended, separator}
 use Rattle.ag_expr.specs.language.Lexing.{token_from}
-use Rattle.ag_expr.specs.language.Reading.{expr_of, expr_from, sum_from, product_from, atom_from, rest_from}
+use Rattle.ag_expr.specs.language.Reading.{expr_of, expr_from, ranked_from, chain_from, other_from, atom_from, many_from}
 use Rattle.ag_expr.specs.language.Expression.{ReadsAsExpr}
-use Rattle.ag_expr.specs.language.Worked.{sum_and_product}
+use Rattle.ag_expr.specs.language.Worked.{placed, sum_and_product}
 use Rattle.ag_expr.proofs.language.Agree as agree
-use Rattle.ag_expr.proofs.language.Lexed.{begun, one_more}
+use Rattle.ag_expr.proofs.language.Lexed.{one_more}
 use Rattle.ag_expr.proofs.language.TokenLaws.{no_start, punctuation_cut}
 
 cut_occurrence : token_from (codes "$1.a + 2") ≡ Some (token.Occurrence 1 (codes "a"), codes " + 2")
@@ -32,32 +34,35 @@ cut_numbers : (rest : List ℕ) → IsNumber (pos 2) (50 ∷ 32 ∷ rest) (32 �
 unfolding token_from
 cut_numbers rest = (refl, refl, refl, refl)
 
-pub occurrence_and_number : AreTokens 0 (codes "$1.a + 2") (token.Occurrence 1 (codes "a") ∷ token.Punctuation punctuation.Plus ∷ token.Number (pos 2) ∷ []) (0 ∷ 5 ∷ 7 ∷ []) 8 []
+abbrev plus : Token
+plus = token.Punctuation punctuation.Plus
+
+abbrev times : Token
+times = token.Punctuation punctuation.Times
+
+abbrev number : ℕ → Token
+number n = token.Number (pos n)
+
+pub occurrence_and_number : AreTokens 0 (codes "$1.a + 2") (placed 0 (token.Occurrence 1 (codes "a")) ∷ placed 5 plus ∷ placed 7 (number 2) ∷ []) 8 []
 occurrence_and_number =
-    let all = codes "$1.a + 2" in
-    let none = begun all 0 refl in
-    let one = one_more all [] [] 0 all (token.Occurrence 1 (codes "a")) (codes " + 2") 1 none cut_occurrence refl refl in
-    let two = one_more all _ _ 5 (codes "+ 2") (token.Punctuation punctuation.Plus) (codes " 2") 1 one (cut_plus (50 ∷ [])) refl refl in
-    let three = one_more all _ _ 7 (codes "2") (token.Number (pos 2)) [] 0 two (cut_numbers []).2 refl refl in
-    three.tokens
+    let three = one_more 7 (codes "2") (number 2) [] [] 8 [] (cut_numbers []).2 (ended 8 []) in
+    let two = one_more 5 (codes "+ 2") plus (codes " 2") _ 8 [] (cut_plus (50 ∷ [])) (separator 6 32 (codes "2") _ 8 [] refl three) in
+    one_more 0 (codes "$1.a + 2") (token.Occurrence 1 (codes "a")) (codes " + 2") _ 8 [] cut_occurrence (separator 4 32 (codes "+ 2") _ 8 [] refl two)
 
-sum_tokens : List Token
-sum_tokens = token.Number (pos 2) ∷ token.Punctuation punctuation.Plus ∷ token.Number (pos 3) ∷ token.Punctuation punctuation.Times ∷ token.Number (pos 4) ∷ []
+sum_tokens : List Placed
+sum_tokens = placed 0 (number 2) ∷ placed 2 plus ∷ placed 4 (number 3) ∷ placed 6 times ∷ placed 8 (number 4) ∷ []
 
-are_sum_tokens : AreTokens 0 (codes "2 + 3 * 4") sum_tokens (0 ∷ 2 ∷ 4 ∷ 6 ∷ 8 ∷ []) 9 []
+are_sum_tokens : AreTokens 0 (codes "2 + 3 * 4") sum_tokens 9 []
 unfolding sum_tokens
 are_sum_tokens =
-    let all = codes "2 + 3 * 4" in
-    let none = begun all 0 refl in
-    let one = one_more all [] [] 0 all (token.Number (pos 2)) (codes " + 3 * 4") 1 none (cut_numbers (codes "+ 3 * 4")).0 refl refl in
-    let two = one_more all _ _ 2 (codes "+ 3 * 4") (token.Punctuation punctuation.Plus) (codes " 3 * 4") 1 one (cut_plus (codes "3 * 4")) refl refl in
-    let three = one_more all _ _ 4 (codes "3 * 4") (token.Number (pos 3)) (codes " * 4") 1 two (cut_numbers (codes "* 4")).1 refl refl in
-    let four = one_more all _ _ 6 (codes "* 4") (token.Punctuation punctuation.Times) (codes " 4") 1 three (cut_times (codes " 4")) refl refl in
-    let five = one_more all _ _ 8 (codes "4") (token.Number (pos 4)) [] 0 four (cut_numbers []).3 refl refl in
-    five.tokens
+    let five = one_more 8 (codes "4") (number 4) [] [] 9 [] (cut_numbers []).3 (ended 9 []) in
+    let four = one_more 6 (codes "* 4") times (codes " 4") _ 9 [] (cut_times (codes " 4")) (separator 7 32 (codes "4") _ 9 [] refl five) in
+    let three = one_more 4 (codes "3 * 4") (number 3) (codes " * 4") _ 9 [] (cut_numbers (codes "* 4")).1 (separator 5 32 (codes "* 4") _ 9 [] refl four) in
+    let two = one_more 2 (codes "+ 3 * 4") plus (codes " 3 * 4") _ 9 [] (cut_plus (codes "3 * 4")) (separator 3 32 (codes "3 * 4") _ 9 [] refl three) in
+    one_more 0 (codes "2 + 3 * 4") (number 2) (codes " + 3 * 4") _ 9 [] (cut_numbers (codes "+ 3 * 4")).0 (separator 1 32 (codes "+ 3 * 4") _ 9 [] refl two)
 
-sum_is_parsed : expr_of [] 64 sum_tokens ≡ Some sum_and_product
-unfolding sum_tokens expr_of expr_from sum_from product_from atom_from rest_from
+sum_is_parsed : expr_of [] 64 (record { left = sum_tokens; ending = ending.EndsAt 9 }) ≡ Ok (sum_and_product, record { left = []; ending = ending.EndsAt 9 })
+unfolding sum_tokens expr_of expr_from ranked_from chain_from other_from atom_from many_from
 sum_is_parsed = refl
 
 sum_characters : chars (codes "2 + 3 * 4") ≡ codes "2 + 3 * 4"
@@ -67,10 +72,8 @@ sum_characters = refl
 pub sum_is_read : ReadsAsExpr (codes "2 + 3 * 4") (sum_and_product, [])
 unfolding sum_tokens
 sum_is_read = record {
-  tokens = sum_tokens;
-  offsets = 0 ∷ 2 ∷ 4 ∷ 6 ∷ 8 ∷ [];
-  are_tokens = subst (λ cs. AreTokens 0 cs sum_tokens (0 ∷ 2 ∷ 4 ∷ 6 ∷ 8 ∷ []) 9 []) (sym sum_characters) are_sum_tokens;
-  within = refl;
+  placed = sum_tokens;
+  lexes = record { rest = []; before = subst (λ cs. AreTokens 0 cs sum_tokens 9 []) (sym sum_characters) are_sum_tokens; within = refl; stops = refl };
   listed = refl;
-  spells = (agree.exact [] 64 sum_tokens sum_and_product).0 sum_is_parsed;
+  spells = (agree.exact [] 64 9 sum_tokens sum_and_product).0 sum_is_parsed;
 }

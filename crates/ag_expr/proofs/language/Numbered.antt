@@ -1,8 +1,9 @@
 -- A map that follows a list follows it on with one more occurrence in both.
-use Rattle.std.proofs.Common.{ℕ, ◌≡◌, ◌+◌, Bool, true, false, cond, ◌||◌, List, [], ◌∷◌, ◌++◌, length, Some, None, position, nat_lt, is_some, IfSome, ◌<◌, subst, refl, ap, sym, ◌∙◌, arith}
+use Rattle.std.proofs.Common.{ℕ, ◌≡◌, ◌+◌, Bool, true, false, cond, ◌||◌, List, [], ◌∷◌, ◌++◌, length, Option, Some, None, position, nat_lt, is_some, IfSome, ◌<◌, subst, refl, ap, sym, ◌∙◌, arith}
 use Rattle.std.proofs.lemmas.Bool.{ltb-true, eq-eqb}
 use Rattle.std.proofs.lemmas.Slice.Eq.{bytes_eq-Decides}
 use Rattle.std.proofs.lemmas.Iterator.Adapters.{position_from-zero}
+use Rattle.std.proofs.lemmas.List.Folds.{list_any-append}
 use Rattle.std.specs.HashMap.{HashMap, get, Updates}
 use Rattle.std.specs.List.{list_any, position_from, position_or_len}
 use Rattle.ag_expr.specs.declared.occurrence.Occ.{Occ}
@@ -98,6 +99,18 @@ stays_with listed place attr k x e = go (list_any (is_of x.place x.attr) listed)
 pub position_stays : (listed : List Occ) (place : ℕ) (attr : List ℕ) (k : ℕ) (more : List Occ) → position_of listed place attr ≡ Some k → position_of (listed_with_all listed more) place attr ≡ Some k
 position_stays listed place attr k [] e = e
 position_stays listed place attr k (x ∷ more) e = position_stays (listed_with listed x) place attr k more (stays_with listed place attr k x e)
+
+-- one that is listed has a number
+pub has_number : (listed : List Occ) (x : Occ) → (k : ℕ) × (position_of (listed_with listed x) x.place x.attr ≡ Some k)
+has_number listed x = some (position_of (listed_with listed x) x.place x.attr) (found (is_of x.place x.attr) (listed_with listed x) ∙ go (list_any (is_of x.place x.attr) listed) refl)
+  where
+    go : (b : Bool) → list_any (is_of x.place x.attr) listed ≡ b → list_any (is_of x.place x.attr) (cond b listed (listed ++ x ∷ [])) ≡ true
+    go true h = h
+    go false h = rw (list_any-append, h, is_own x.place x.attr x.at) refl
+
+    some : (o : Option ℕ) → is_some o ≡ true → (k : ℕ) × (o ≡ Some k)
+    some None h = let bad : ⊥ = cc in absurd bad
+    some (Some k) h = (k, refl)
 
 -- an occurrence of a key
 abbrev at_key : Key → ℕ → Occ

@@ -1,108 +1,185 @@
--- What is read is what the text reads as, and a text that is refused reads as nothing.
-use Rattle.std.proofs.lemmas.Option.{same_Some}
-use Rattle.std.proofs.Common.{◌≡◌, ◌≢◌, ℕ, suc, List, [], ◌∷◌, length, Some, None, Result, Ok, Err, IfErr, chars, IsUtf8, refl, ap, sym, ◌∙◌, subst, arith}
+-- What is answered is what reading the tokens of the text gives, and what follows of the text.
+use Rattle.std.proofs.Common.{◌≡◌, ◌≢◌, ℕ, ◌+◌, true, false, List, [], ◌∷◌, ◌++◌, length, Result, Ok, Err, IfErr, chars, IsUtf8, inl, inr, refl, ap, sym, ◌∙◌, subst, arith, length-append}
+use Rattle.std.proofs.lemmas.Bool.{and_parts}
 use Rattle.std.specs.Result.{IsErrAnd}
 use Rattle.ag_expr.specs.declared.fault.ExprFault.{ExprFault}
 use Rattle.ag_expr.specs.declared.fault.ExprFault.TheVariants as fault
-use Rattle.ag_expr.specs.language.Token.{Token}
 use Rattle.ag_expr.specs.declared.node.Node.{Node}
 use Rattle.ag_expr.specs.declared.occurrence.Occ.{Occ}
-use Rattle.ag_expr.specs.language.Tokens.{AreTokens, width}
-use Rattle.ag_expr.specs.language.Left.{Ending, whole, no_token, too_large, Left, State, start_of, left_of, tokens, ending, everything, unspaced, Keeps, IsEnded}
+use Rattle.ag_expr.specs.language.Ending.{Ending, offset_of}
+use Rattle.ag_expr.specs.language.Ending as ending
+use Rattle.ag_expr.specs.language.Expression.{max_levels, ReadsAsExpr, ReadsAsNone, IsRefused, IsAt, Says, begins_expression}
+use Rattle.ag_expr.specs.language.Left.{start_of, input, everything}
 use Rattle.ag_expr.specs.language.Occurrences.{all_occurrences, different}
+use Rattle.ag_expr.specs.language.Placed.{Placed, Input, tokens}
+use Rattle.ag_expr.specs.language.Places.{IsFirstOf, IsRead, IsToldFirst, answer_of, occurrences_of, read_from}
+use Rattle.ag_expr.specs.language.Reading.{Outcome, expr_from, expr_of, ending_fault, refusal, refusal_of, is_end}
 use Rattle.ag_expr.specs.language.Syntax.{IsExpr}
-use Rattle.ag_expr.specs.language.Reading.{expr_from, expr_of, at_end}
-use Rattle.ag_expr.specs.language.Expression.{max_levels, ReadsAsExpr, ReadsAsNone, IsRefused}
-use Rattle.ag_expr.proofs.language.Agree as agree
-use Rattle.ag_expr.proofs.language.Cuts.{IsCut, begins_at, ends_at}
-use Rattle.ag_expr.proofs.language.Lexed.{width-chars}
+use Rattle.ag_expr.specs.language.Tokens.{AreTokens, ended, separator, word, AnyTokenAt, TokenAt, HasNoToken, width, is_within, all_within, Lexes}
+use Rattle.ag_expr.proofs.language.Agree.{whole_is, read_whole, read_to_end, read_of}
+use Rattle.ag_expr.proofs.language.Lexed.{separator_width, width-append, width-chars}
+use Rattle.ag_expr.proofs.language.Lexes.{cut_of, cut_first, cut_only}
 use Rattle.ag_expr.proofs.language.Listing.{listed_are_different}
-use Rattle.ag_expr.proofs.language.Unique.{one_list, no_list, no_list_within}
+use Rattle.ag_expr.proofs.language.Places.{refuses_at_the_first}
 
 -- a reader at the front has all tokens of the text before it
-start_ends : (text : List ℕ) → IsCut (chars text) (left_of (start_of text))
-start_ends text = let cs = chars text in ends_at (suc (length (unspaced cs))) cs [] [] (unspaced cs) (omega arith) (begins_at cs)
+starts : (text : List ℕ) → Lexes 0 (chars text) (input (start_of text))
+unfolding input cut_of
+starts text = cut_first (chars text)
 
--- all of the text was cut into tokens, and they were read
-pub read_whole : (text : List ℕ) (e : Node) → IsUtf8 text → ending (start_of text) ≡ whole
-    → expr_of (everything (start_of text)) 64 (tokens (start_of text)) ≡ Some e → ReadsAsExpr text (e, everything (start_of text))
-unfolding tokens ending everything
-read_whole text e utf8 ends read =
-    let left = left_of (start_of text) in
-    let are : IsCut (chars text) (record { tokens = left.tokens; offsets = left.offsets; ending = whole }) =
-    subst (λ x. IsCut (chars text) (record { tokens = left.tokens; offsets = left.offsets; ending = x })) ends (start_ends text) in
-    record {
-      tokens = left.tokens;
-      offsets = left.offsets;
-      are_tokens = subst (λ n. AreTokens 0 (chars text) left.tokens left.offsets n []) (width-chars text utf8) are.0;
-      within = are.1;
-      listed = listed_are_different (all_occurrences left.tokens left.offsets);
-      spells = (agree.exact (everything (start_of text)) max_levels left.tokens e).0 read;
-    }
+only : (text : List ℕ) (i : Input) → Lexes 0 (chars text) i → i ≡ input (start_of text)
+unfolding input cut_of
+only text i lexes = cut_only (chars text) i lexes
 
--- a text that is read has no other ending, and nothing else is read
-none_read : (text : List ℕ) → (ending (start_of text) ≡ whole → expr_of (everything (start_of text)) 64 (tokens (start_of text)) ≡ None) → ReadsAsNone text
-unfolding tokens ending everything
-none_read text none expr reads = go (left_of (start_of text)).ending refl
+all_different : (text : List ℕ) → everything (start_of text) ≡ occurrences_of (input (start_of text))
+unfolding everything
+all_different text = listed_are_different (all_occurrences (input (start_of text)).left)
+
+-- ---- what the parts of reading come to
+
+module _ (text : List ℕ) where
+  abbrev all : List Occ
+  all = everything (start_of text)
+
+  abbrev first : Input
+  first = input (start_of text)
+
+  read_at : (o : Outcome Node) → expr_of all max_levels first ≡ o → (i : Input) → Lexes 0 (chars text) i → read_from i ≡ answer_of all o
+  read_at o h i lexes = ap read_from (only text i lexes) ∙ ap (λ os. answer_of os (expr_of os max_levels first)) (sym (all_different text)) ∙ ap (answer_of all) h
+
+  pub refused_within : (r : Result (Node × List Occ) ExprFault) (e : ExprFault) → IsErrAnd r (λ x. x ≡ e) → (e ≢ fault.NoMemory → expr_from all max_levels first ≡ Err e) → IsRead text r
+  unfolding expr_of
+  refused_within (Ok x) e is h = absurd is
+  refused_within (Err x) e is h = λ i lexes memory. read_at (Err x) (rw (h (λ q. memory (ap Err (is ∙ q)))) (ap Err (sym is))) i lexes
+
+  pub refused_behind : (r : Result (Node × List Occ) ExprFault) (e : ExprFault) (f : Node) (j : Input) → IsErrAnd r (λ x. x ≡ e) → expr_from all max_levels first ≡ Ok (f, j) → is_end j.ending j.left ≡ false → e ≡ refusal j → IsRead text r
+  unfolding expr_of
+  refused_behind (Ok x) e f j is read more says = absurd is
+  refused_behind (Err x) e f j is read more says = λ i lexes memory. read_at (Err x) (rw (read, more) (ap Err (sym (is ∙ says)))) i lexes
+
+  pub read_all : (f : Node) (j : Input) (listed : List Occ) → expr_from all max_levels first ≡ Ok (f, j) → is_end j.ending j.left ≡ true → listed ≡ all → IsRead text (Ok (f, listed))
+  read_all f j listed read ends same = λ i lexes memory. read_at (Ok (f, j)) (read_of all max_levels first j f read ends) i lexes ∙ ap (λ os. Ok (f, os)) (sym same)
+
+-- ---- what follows of the text
+
+ends_wide : {at : ℕ} {cs : List ℕ} {ps : List Placed} {end : ℕ} {rest : List ℕ} → AreTokens at cs ps end rest → at + width cs ≡ end + width rest
+ends_wide (ended at cs) = refl
+ends_wide (separator at c cs ps end rest h are) = let one = separator_width c h in let more = ends_wide are in omega arith
+ends_wide (word at all w cs t ps end rest split is longest are) = let more = ends_wide are in omega (arith, ap width split, width-append w cs)
+
+answered_tree : (listed : List Occ) (o : Outcome Node) (x : Node × List Occ) → answer_of listed o ≡ Ok x → (j : Input) × (o ≡ Ok (x.0, j)) × (x.1 ≡ listed)
+answered_tree listed (Ok (e, j)) x h = let same : (e, listed) ≡ x = cc in (j, ap (λ (y : Node × List Occ). Ok (y.0, j)) same, sym (ap (λ (y : Node × List Occ). y.1) same))
+answered_tree listed (Err f) x h = let bad : ⊥ = cc in absurd bad
+
+answered_fault : (listed : List Occ) (o : Outcome Node) (e : ExprFault) → answer_of listed o ≡ Err e → o ≡ Err e
+answered_fault listed (Ok x) e h = let bad : ⊥ = cc in absurd bad
+answered_fault listed (Err f) e h = let same : f ≡ e = cc in ap Err same
+
+pub reads_of : (text : List ℕ) (x : Node × List Occ) → IsUtf8 text → IsRead text (Ok x) → ReadsAsExpr text x
+reads_of text x utf8 is =
+    let i = input (start_of text) in
+    let lexes = starts text in
+    let one = answered_tree (occurrences_of i) (expr_of (occurrences_of i) max_levels i) x (is i lexes (λ q. cc)) in
+    let read = read_to_end (occurrences_of i) max_levels i one.0 x.0 one.1 in
+    let whole = whole_is (occurrences_of i) max_levels i one.0 x.0 read.0 read.1 in
+    go i.left i.ending lexes whole.0 whole.1 one.2 whole.2
   where
-    left : Left
-    left = left_of (start_of text)
+    go : (ps : List Placed) (e : Ending) → Lexes 0 (chars text) (record { left = ps; ending = e }) → (at : ℕ) → e ≡ ending.EndsAt at → x.1 ≡ different (all_occurrences ps) → IsExpr (different (all_occurrences ps)) max_levels (tokens ps) x.0 → ReadsAsExpr text x
+    go ps (ending.EndsAt n) lexes at ends listed spells =
+        let wide : n ≡ length text = omega (arith, ends_wide lexes.before, ap width lexes.stops, width-chars text utf8) in
+        record { placed = ps; lexes = subst (λ m. Lexes 0 (chars text) (record { left = ps; ending = ending.EndsAt m })) wide lexes; listed = listed; spells = subst (λ os. IsExpr os max_levels (tokens ps) x.0) (sym listed) spells }
+    go ps (ending.NoTokenAt n) lexes at ends listed spells = let bad : ⊥ = cc in absurd bad
+    go ps (ending.TooLargeAt n) lexes at ends listed spells = let bad : ⊥ = cc in absurd bad
 
-    ends : (x : Ending) → left.ending ≡ x → IsCut (chars text) (record { tokens = left.tokens; offsets = left.offsets; ending = x })
-    ends x e = subst (λ x. IsCut (chars text) (record { tokens = left.tokens; offsets = left.offsets; ending = x })) e (start_ends text)
+-- and what reads as an expression is read
+read_back : (text : List ℕ) (x : Node × List Occ) (reads : ReadsAsExpr text x) → read_from (record { left = reads.placed; ending = ending.EndsAt (length text) }) ≡ Ok x
+read_back text x reads =
+    let i : Input = record { left = reads.placed; ending = ending.EndsAt (length text) } in
+    ap (λ os. answer_of os (expr_of os max_levels i)) (sym reads.listed) ∙ ap (answer_of x.1) (read_whole x.1 max_levels (length text) reads.placed x.0 reads.spells)
 
-    go : (x : Ending) → left.ending ≡ x → ⊥
-    go whole e =
-        let are = ends whole e in
-        let same = one_list 0 (chars text) left.tokens reads.tokens left.offsets reads.offsets (width (chars text)) (length text) are.0 reads.are_tokens in
-        let all = everything (start_of text) in
-        let occurrences : expr.1 ≡ all =
-        reads.listed ∙ ap (λ us. different (all_occurrences us reads.offsets)) same.0 ∙ ap (λ uats. different (all_occurrences left.tokens uats)) same.1 ∙ sym (listed_are_different (all_occurrences left.tokens left.offsets)) in
-        let spells = subst (λ us. IsExpr all max_levels us expr.0) same.0 (subst (λ os. IsExpr os max_levels reads.tokens expr.0) occurrences reads.spells) in
-        let found : expr_of all max_levels left.tokens ≡ Some expr.0 = (agree.exact all max_levels left.tokens expr.0).1 spells in
-        let bad : None ≡ Some expr.0 = sym (none e) ∙ found in
-        cc
-    go (no_token at) e = no_list (chars text) at reads.tokens reads.offsets (length text) (ends (no_token at) e) reads.are_tokens
-    go (too_large at) e = no_list_within (chars text) at reads.tokens reads.offsets (length text) (ends (too_large at) e) reads.are_tokens reads.within
+none_of : (text : List ℕ) (e : ExprFault) → e ≢ fault.NoMemory → IsRead text (Err e) → ReadsAsNone text
+none_of text e memory is x reads = let clash = sym (is _ reads.lexes (λ q. memory cc)) ∙ read_back text x reads in cc
 
--- what a fault says of the text
-pub is_refused : (text : List ℕ) (e : ExprFault) → (e ≢ fault.NoMemory → ending (start_of text) ≡ whole → expr_of (everything (start_of text)) 64 (tokens (start_of text)) ≡ None) → IsRefused text e
-is_refused text fault.NoMemory none = tt
-is_refused text (fault.NoToken at) none = none_read text (none (λ e. cc))
-is_refused text (fault.Unexpected at) none = none_read text (none (λ e. cc))
-is_refused text (fault.NumberTooLarge at) none = none_read text (none (λ e. cc))
-is_refused text (fault.TooDeep at) none = none_read text (none (λ e. cc))
+pub refuses_of : (text : List ℕ) (r : Result (Node × List Occ) ExprFault) → IsRead text r → IfErr r (IsRefused text)
+refuses_of text (Ok x) is = tt
+refuses_of text (Err fault.NoMemory) is = tt
+refuses_of text (Err (fault.NoToken at)) is = none_of text _ (λ e. cc) is
+refuses_of text (Err (fault.Unexpected at)) is = none_of text _ (λ e. cc) is
+refuses_of text (Err (fault.NumberTooLarge at)) is = none_of text _ (λ e. cc) is
+refuses_of text (Err (fault.TooDeep at)) is = none_of text _ (λ e. cc) is
 
--- what is read from all of the tokens
-pub whole_read : (s : State) (next : List Token) (e : Node) → next ≡ [] → expr_from (everything s) 64 (tokens s) ≡ Some (e, next) → expr_of (everything s) 64 (tokens s) ≡ Some e
-unfolding expr_of
-whole_read s next e none read = rw (read, none) refl
+first_fault : (text : List ℕ) (e : ExprFault) → IsRead text (Err e) → IsFirstOf text e
+first_fault text e is i lexes memory = refuses_at_the_first (occurrences_of i) max_levels i e (answered_fault (occurrences_of i) (expr_of (occurrences_of i) max_levels i) e (is i lexes (λ q. memory cc)))
 
-pub none_whole : (s : State) → expr_from (everything s) 64 (tokens s) ≡ None → expr_of (everything s) 64 (tokens s) ≡ None
-unfolding expr_of
-none_whole s read = rw read refl
+pub first_of : (text : List ℕ) (r : Result (Node × List Occ) ExprFault) → IsRead text r → IfErr r (IsFirstOf text)
+first_of text (Ok x) is = tt
+first_of text (Err e) is = first_fault text e is
 
--- and where more is left
-pub left_over : (s next : State) (e : Node) → expr_from (everything s) 64 (tokens s) ≡ Some (e, tokens next) → Keeps s next → (IsEnded next → ⊥) → ending s ≡ whole → expr_of (everything s) 64 (tokens s) ≡ None
-unfolding expr_of
-left_over s next e read keeps more ends = rw read (go (tokens next) refl)
-  where
-    go : (ts : List Token) → tokens next ≡ ts → at_end (e, ts) ≡ None
-    go [] none = absurd (more (none, keeps.1 ∙ ends))
-    go (t ∷ ts) some = refl
+-- ---- what stands at the place
 
--- a fault that is answered
-pub answered : {X : Type 0} (r : Result X ExprFault) (e : ExprFault) (P : ExprFault → Type 0) → IsErrAnd r (λ x. x ≡ e) → P e → IfErr r P
-answered (Ok x) e P is says = absurd is
-answered (Err x) e P is says = subst P (sym is) says
+placed_inner : (us : List Placed) (p : Placed) (ps : List Placed) → all_within (us ++ p ∷ ps) ≡ true → is_within p.token ≡ true
+placed_inner [] p ps h = (and_parts (is_within p.token) (all_within ps) h).0
+placed_inner (u ∷ us) p ps h = placed_inner us p ps ((and_parts (is_within u.token) (all_within (us ++ p ∷ ps)) h).1)
+
+-- a token of the text stands at its offset
+token_at : {from : ℕ} {cs : List ℕ} {qs : List Placed} {end : ℕ} {rest : List ℕ} → AreTokens from cs qs end rest → (us : List Placed) (p : Placed) (ps : List Placed) → qs ≡ us ++ p ∷ ps → (there : AnyTokenAt from cs p.at) × (there.token ≡ p.token)
+token_at (ended at cs) us p ps e = let bad : ⊥ = omega (arith, ap length e, length-append us (p ∷ ps)) in absurd bad
+token_at (separator at c cs qs end rest h are) us p ps e =
+    let one = token_at are us p ps e in
+    let there = one.0 in
+    let before = there.reaches in (
+      record { word = there.word; token = there.token; rest = there.rest; reaches = record { placed = before.placed; before = separator at c cs before.placed p.at (there.word ++ there.rest) h before.before }; is = there.is; longest = there.longest },
+      one.1,
+    )
+token_at (word at all w cs t qs end rest split is longest are) [] p ps e =
+    let same : record { at = at; token = t } ≡ p = cc in
+    subst (λ (q : Placed). (there : AnyTokenAt at all q.at) × (there.token ≡ q.token)) same (record { word = w; token = t; rest = cs; reaches = record { placed = []; before = subst (λ ds. AreTokens at all [] at ds) split (ended at all) }; is = is; longest = longest }, refl)
+token_at (word at all w cs t qs end rest split is longest are) (u ∷ us) p ps e =
+    let tail : qs ≡ us ++ p ∷ ps = cc in
+    let one = token_at are us p ps tail in
+    let there = one.0 in
+    let before = there.reaches in (
+      record { word = there.word; token = there.token; rest = there.rest; reaches = record { placed = record { at = at; token = t } ∷ before.placed; before = word at all w cs t before.placed p.at (there.word ++ there.rest) split is longest before.before }; is = there.is; longest = there.longest },
+      one.1,
+    )
+
+module _ (cs : List ℕ) (i : Input) (lexes : Lexes 0 cs i) where
+  stands_at : (us : List Placed) (p : Placed) (ps : List Placed) → i.left ≡ us ++ p ∷ ps → (there : TokenAt 0 cs p.at) × (there.0.token ≡ p.token)
+  stands_at us p ps cut = let one = token_at lexes.before us p ps cut in ((one.0, ap is_within one.1 ∙ placed_inner us p ps (sym (ap all_within cut) ∙ lexes.within)), one.1)
+
+  told_at : (listed : List Occ) (levels : ℕ) (f : ExprFault) → IsToldFirst listed levels i f → Says 0 cs f
+  told_at listed levels f (inl w) = subst (Says 0 cs) (sym w.says) (here w.rest w.cut)
+    where
+      ends : (ps : List Placed) (e : Ending) → Lexes 0 cs (record { left = ps; ending = e }) → Says 0 cs (ending_fault e)
+      ends ps (ending.EndsAt at) is = inr (record { placed = ps; before = subst (AreTokens 0 cs ps at) is.stops is.before })
+      ends ps (ending.NoTokenAt at) is = by is.rest is.before is.stops
+        where
+          by : (rest : List ℕ) → AreTokens 0 cs ps at rest → HasNoToken rest → Says 0 cs (fault.NoToken at)
+          by [] before none = absurd none
+          by (c ∷ rest) before none = record { first = c; rest = rest; reaches = record { placed = ps; before = before }; no_separator = none.0; no_token = none.1 }
+      ends ps (ending.TooLargeAt at) is =
+          let t = is.stops in
+          (record { word = t.word; token = t.token; rest = t.behind; reaches = record { placed = ps; before = subst (AreTokens 0 cs ps at) t.split is.before }; is = t.is; longest = t.longest }, t.large)
+
+      here : (rest : List Placed) → i.left ≡ w.before ++ rest → Says 0 cs (refusal_of i.ending rest)
+      here [] cut = ends i.left i.ending lexes
+      here (p ∷ ps) cut = inl (stands_at w.before p ps cut).0
+  told_at listed levels f (inr d) = let one = stands_at d.before d.first d.rest d.cut in subst (Says 0 cs) (sym d.says) (one.0, ap begins_expression one.1 ∙ d.begins_one)
+
+says_of : (text : List ℕ) (e : ExprFault) → e ≢ fault.NoMemory → IsRead text (Err e) → IsAt text e
+says_of text e memory is = told_at (chars text) (input (start_of text)) (starts text) (occurrences_of (input (start_of text))) max_levels e (first_fault text e is (input (start_of text)) (starts text) memory)
+
+pub places_of : (text : List ℕ) (r : Result (Node × List Occ) ExprFault) → IsRead text r → IfErr r (IsAt text)
+places_of text (Ok x) is = tt
+places_of text (Err fault.NoMemory) is = tt
+places_of text (Err (fault.NoToken at)) is = says_of text _ (λ e. cc) is
+places_of text (Err (fault.Unexpected at)) is = says_of text _ (λ e. cc) is
+places_of text (Err (fault.NumberTooLarge at)) is = says_of text _ (λ e. cc) is
+places_of text (Err (fault.TooDeep at)) is = says_of text _ (λ e. cc) is
 
 -- a text reads as one expression at most
 pub one_expression : (text : List ℕ) (one other : Node × List Occ) → ReadsAsExpr text one → ReadsAsExpr text other → one ≡ other
 one_expression text one other is also =
-    let same = one_list 0 (chars text) is.tokens also.tokens is.offsets also.offsets (length text) (length text) is.are_tokens also.are_tokens in
-    let listed : other.1 ≡ one.1 = also.listed ∙ ap (λ us. different (all_occurrences us also.offsets)) same.0 ∙ ap (λ uats. different (all_occurrences is.tokens uats)) same.1 ∙ sym is.listed in
-    let spells = subst (λ us. IsExpr one.1 max_levels us other.0) same.0 (subst (λ os. IsExpr os max_levels also.tokens other.0) listed also.spells) in
-    let first : expr_of one.1 max_levels is.tokens ≡ Some one.0 = (agree.exact one.1 max_levels is.tokens one.0).1 is.spells in
-    let second : expr_of one.1 max_levels is.tokens ≡ Some other.0 = (agree.exact one.1 max_levels is.tokens other.0).1 spells in
-    let tree : one.0 ≡ other.0 = same_Some _ _ (sym first ∙ second) in
-    ap (λ e. (e, one.1)) tree ∙ ap (λ os. (other.0, os)) (sym listed)
+    let same = only text _ is.lexes ∙ sym (only text _ also.lexes) in
+    let both = sym (read_back text one is) ∙ ap read_from same ∙ read_back text other also in
+    cc

@@ -18,7 +18,7 @@ use Rattle.ag_expr.specs.declared.token.Punctuation.{Punctuation}
 use Rattle.ag_expr.specs.declared.token.Punctuation.TheVariants as punctuation
 use Rattle.ag_expr.specs.language.Token.{Token}
 use Rattle.ag_expr.specs.language.Token as token
-use Rattle.ag_expr.specs.language.Reading.{where_some}
+use Rattle.ag_expr.specs.language.Lexing.{where_some}
 use Rattle.ag_expr.specs.language.Tokens.{starts_name, is_separator, escaped, IsDigits, IsName, IsBody, empty, plain, escape, punctuation_text, IsToken, IsLongest, BeginsNoToken}
 use Rattle.ag_expr.specs.language.Lexing.{digits_from, name_from, single_punctuation, doubled, punctuation_from, escape_from, character_from, unquoted, undotted, text_from, occurrence_from, plain_from, token_from}
 use Rattle.ag_expr.proofs.language.Fronts.{front_passes, front_reaches, front_ends}

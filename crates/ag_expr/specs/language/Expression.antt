@@ -1,6 +1,5 @@
 -- Which texts read as which expressions: this project's language.
-use Rattle.std.specs.Prelude.{◌≡◌, ◌⊎◌, ℕ, Bool, true, false, List, [], length, chars}
-use Rattle.std.specs.List.{list_all}
+use Rattle.std.specs.Prelude.{◌≡◌, ◌⊎◌, ℕ, Bool, true, false, List, length, chars}
 use Rattle.ag_expr.specs.declared.fault.ExprFault.{ExprFault}
 use Rattle.ag_expr.specs.declared.fault.ExprFault.TheVariants as fault
 use Rattle.ag_expr.specs.declared.token.Punctuation.TheVariants as punctuation
@@ -8,7 +7,9 @@ use Rattle.ag_expr.specs.language.Token.{Token}
 use Rattle.ag_expr.specs.language.Token as token
 use Rattle.ag_expr.specs.declared.node.Node.{Node}
 use Rattle.ag_expr.specs.declared.occurrence.Occ.{Occ}
-use Rattle.ag_expr.specs.language.Tokens.{AreTokens, is_within, NoTokenAt, TooLargeAt, TokenAt, EndsAt}
+use Rattle.ag_expr.specs.language.Ending as ending
+use Rattle.ag_expr.specs.language.Placed.{Placed, tokens}
+use Rattle.ag_expr.specs.language.Tokens.{Lexes, NoTokenAt, TooLargeAt, TokenAt, EndsAt}
 use Rattle.ag_expr.specs.language.Occurrences.{all_occurrences, different}
 use Rattle.ag_expr.specs.language.Syntax.{IsExpr}
 
@@ -19,12 +20,10 @@ max_levels = 64
 -- The text reads as the expression, which is a tree and a list of occurrences: the text is separators and longest tokens, each number within
 -- its limit; the list has the different occurrences among them; and they spell the tree.
 pub record ReadsAsExpr (text : List ℕ) (expr : Node × List Occ) : Type 0 where
-  pub tokens : List Token
-  pub offsets : List ℕ
-  pub are_tokens : AreTokens 0 (chars text) tokens offsets (length text) []
-  pub within : list_all is_within tokens ≡ true
-  pub listed : expr.1 ≡ different (all_occurrences tokens offsets)
-  pub spells : IsExpr expr.1 max_levels tokens expr.0
+  pub placed : List Placed
+  pub lexes : Lexes 0 (chars text) (record { left = placed; ending = ending.EndsAt (length text) })
+  pub listed : expr.1 ≡ different (all_occurrences placed)
+  pub spells : IsExpr expr.1 max_levels (tokens placed) expr.0
 
 -- the text reads as no expression
 abbrev pub ReadsAsNone : List ℕ → Type 0

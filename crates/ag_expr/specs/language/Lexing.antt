@@ -12,12 +12,16 @@ use Rattle.ag_expr.specs.declared.token.Punctuation.{Punctuation}
 use Rattle.ag_expr.specs.declared.token.Punctuation.TheVariants as punctuation
 use Rattle.ag_expr.specs.language.Token.{Token}
 use Rattle.ag_expr.specs.language.Token as token
-use Rattle.ag_expr.specs.language.Reading.{where_some}
 use Rattle.ag_expr.specs.declared.lexer.Class.{Class}
 use Rattle.ag_expr.specs.declared.lexer.Class.TheVariants as class
 use Rattle.ag_expr.specs.declared.token.Token as lent
 use Rattle.ag_expr.specs.declared.token.Token.TheVariants as lent_token
 use Rattle.ag_expr.specs.language.Tokens.{escaped, starts_name, is_separator, is_within, IsBody}
+
+-- the first where there is nothing, else the second of what there is
+abbrev pub where_some : {A B : Type 0} → Option A → B → (A → B) → B
+where_some None b f = b
+where_some (Some x) b f = f x
 
 -- the characters of a class
 abbrev pub is_in : Class → ℕ → Bool

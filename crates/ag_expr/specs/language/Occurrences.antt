@@ -1,6 +1,7 @@
 -- The different occurrences of attributes in a text. All of this is this project's.
 use Rattle.std.specs.Prelude.{ℕ, Bool, not, ◌&&◌, ◌==◌, cond, List, [], ◌∷◌, ◌++◌, filter, Option, position, bytes_eq}
 use Rattle.std.specs.List.{list_any}
+use Rattle.ag_expr.specs.language.Placed.{Placed}
 use Rattle.ag_expr.specs.language.Token.{Token}
 use Rattle.ag_expr.specs.language.Token as token
 use Rattle.ag_expr.specs.declared.occurrence.Occ.{Occ}
@@ -18,11 +19,10 @@ abbrev pub occurrence_in : Token → ℕ → List Occ
 occurrence_in (token.Occurrence place attr) at = record { place = place; attr = attr; at = at } ∷ []
 occurrence_in _ at = []
 
--- every occurrence among tokens, with their offsets, in order
-abbrev pub all_occurrences : List Token → List ℕ → List Occ
-all_occurrences [] ats = []
-all_occurrences (t ∷ ts) [] = []
-all_occurrences (t ∷ ts) (at ∷ ats) = occurrence_in t at ++ all_occurrences ts ats
+-- every occurrence among tokens, in order
+abbrev pub all_occurrences : List Placed → List Occ
+all_occurrences [] = []
+all_occurrences (p ∷ ps) = occurrence_in p.token p.at ++ all_occurrences ps
 
 -- the first of each place and name: what stands behind it has another place or another name
 abbrev pub different : List Occ → List Occ

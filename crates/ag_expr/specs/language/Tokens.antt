@@ -1,5 +1,5 @@
 -- What the tokens of a text are, by longest match: this project's language. A text stands here as the list of its characters.
-use Rattle.std.specs.Prelude.{◌≡◌, ℕ, ◌+◌, ◌<◌, ◌≤◌, pos, int_le, nat_le, Bool, true, false, cond, ◌||◌, ◌==◌, ◌≢◌, List, [], ◌∷◌, ◌++◌, length, Option, Some, None, encode_utf8, encode_utf8_all}
+use Rattle.std.specs.Prelude.{◌≡◌, ℕ, ◌+◌, ◌<◌, ◌≤◌, pos, int_le, nat_le, Bool, true, false, cond, ◌||◌, ◌&&◌, ◌==◌, ◌≢◌, List, [], ◌∷◌, ◌++◌, length, Option, Some, None, encode_utf8, encode_utf8_all}
 use Rattle.std.specs.Char.{is_ascii_digit, len_utf8}
 use Rattle.std.specs.List.{list_all}
 use Rattle.std.specs.Str.Parse.{digits_value}
@@ -8,6 +8,9 @@ use Rattle.ag_expr.specs.declared.token.Punctuation.{Punctuation}
 use Rattle.ag_expr.specs.declared.token.Punctuation.TheVariants as punctuation
 use Rattle.ag_expr.specs.language.Token.{Token}
 use Rattle.ag_expr.specs.language.Token as token
+use Rattle.ag_expr.specs.language.Ending.{Ending, offset_of}
+use Rattle.ag_expr.specs.language.Ending as ending
+use Rattle.ag_expr.specs.language.Placed.{Placed, Input}
 
 -- space, tab, CR and LF separate tokens
 abbrev pub is_separator : ℕ → Bool
@@ -77,12 +80,13 @@ abbrev pub width : List ℕ → ℕ
 width [] = 0
 width (c ∷ cs) = len_utf8 c + width cs
 
--- From the byte offset `at` on, the characters are separators and the longest tokens `ts`, at the offsets `ats`, up to the offset `end`,
+-- From the byte offset `at` on, the characters are separators and the longest tokens `placed`, each at its offset, up to the offset `end`,
 -- from which on `rest` stands.
-pub data AreTokens : ℕ → List ℕ → List Token → List ℕ → ℕ → List ℕ → Type 0 where
-  ended : (at : ℕ) (cs : List ℕ) → AreTokens at cs [] [] at cs
-  separator : (at c : ℕ) (cs : List ℕ) (ts : List Token) (ats : List ℕ) (end : ℕ) (rest : List ℕ) → is_separator c ≡ true → AreTokens (at + 1) cs ts ats end rest → AreTokens at (c ∷ cs) ts ats end rest
-  word : (at : ℕ) (all word cs : List ℕ) (t : Token) (ts : List Token) (ats : List ℕ) (end : ℕ) (rest : List ℕ) → all ≡ word ++ cs → IsToken word t → IsLongest word cs → AreTokens (at + width word) cs ts ats end rest → AreTokens at all (t ∷ ts) (at ∷ ats) end rest
+pub data AreTokens : ℕ → List ℕ → List Placed → ℕ → List ℕ → Type 0 where
+  ended : (at : ℕ) (cs : List ℕ) → AreTokens at cs [] at cs
+  separator : (at c : ℕ) (cs : List ℕ) (placed : List Placed) (end : ℕ) (rest : List ℕ) → is_separator c ≡ true → AreTokens (at + 1) cs placed end rest → AreTokens at (c ∷ cs) placed end rest
+  word : (at : ℕ) (all word cs : List ℕ) (t : Token) (placed : List Placed) (end : ℕ) (rest : List ℕ) → all ≡ word ++ cs → IsToken word t → IsLongest word cs → AreTokens (at + width word) cs placed end rest
+      → AreTokens at all (record { at = at; token = t } ∷ placed) end rest
 
 -- A number literal is at most 9223372036854775807, and a place at most 65535.
 abbrev pub is_within : Token → Bool
@@ -93,9 +97,8 @@ is_within _ = true
 -- From the byte offset `from` on, where the characters `cs` stand, whole tokens and separators stand up to the offset `at`,
 -- and `rest` stands there.
 pub record Reaches (from : ℕ) (cs : List ℕ) (at : ℕ) (rest : List ℕ) : Type 0 where
-  pub tokens : List Token
-  pub offsets : List ℕ
-  pub before : AreTokens from cs tokens offsets at rest
+  pub placed : List Placed
+  pub before : AreTokens from cs placed at rest
 
 -- At the offset `at`, which whole tokens and separators reach, stands a character that is no separator and begins no token.
 pub record NoTokenAt (from : ℕ) (cs : List ℕ) (at : ℕ) : Type 0 where
@@ -125,3 +128,36 @@ TokenAt from cs at = (there : AnyTokenAt from cs at) × (is_within there.token �
 -- or the characters end there.
 abbrev pub EndsAt : ℕ → List ℕ → ℕ → Type 0
 EndsAt from cs at = Reaches from cs at []
+
+-- Each of the tokens has its number within the limit.
+abbrev pub all_within : List Placed → Bool
+all_within [] = true
+all_within (p ∷ ps) = is_within p.token && all_within ps
+
+-- a character that is no separator stands in front, and no token begins with it
+abbrev pub HasNoToken : List ℕ → Type 0
+HasNoToken [] = ⊥
+HasNoToken (c ∷ cs) = (is_separator c ≡ false) × BeginsNoToken (c ∷ cs)
+
+-- a token stands in front, the longest there, with a number above its limit
+pub record HasTooLarge (cs : List ℕ) : Type 0 where
+  pub word : List ℕ
+  pub token : Token
+  pub behind : List ℕ
+  pub split : cs ≡ word ++ behind
+  pub is : IsToken word token
+  pub longest : IsLongest word behind
+  pub large : is_within token ≡ false
+
+-- what stands where the tokens of a text end
+abbrev pub Stops : Ending → List ℕ → Type 0
+Stops (ending.EndsAt at) rest = rest ≡ []
+Stops (ending.NoTokenAt at) rest = HasNoToken rest
+Stops (ending.TooLargeAt at) rest = HasTooLarge rest
+
+-- From the byte offset `from` on, the characters are these tokens, each with its number within the limit, and this ending.
+pub record Lexes (from : ℕ) (cs : List ℕ) (i : Input) : Type 0 where
+  pub rest : List ℕ
+  pub before : AreTokens from cs i.left (offset_of i.ending) rest
+  pub within : all_within i.left ≡ true
+  pub stops : Stops i.ending rest

@@ -1,6 +1,7 @@
 -- Tokens, numbers and trees for worked examples.
-use Rattle.std.specs.Prelude.{List, [], ◌∷◌, ℤ, pos, negsuc, codes}
+use Rattle.std.specs.Prelude.{ℕ, List, [], ◌∷◌, ℤ, pos, negsuc, codes}
 use Rattle.ag_expr.specs.declared.token.Punctuation.TheVariants as punctuation
+use Rattle.ag_expr.specs.language.Placed.{Placed}
 use Rattle.ag_expr.specs.language.Token.{Token}
 use Rattle.ag_expr.specs.language.Token as token
 use Rattle.ag_expr.specs.declared.node.Operator.TheVariants as operator
@@ -11,9 +12,12 @@ use Rattle.ag_expr.specs.declared.node.Node.TheVariants as node
 abbrev pub least : ℤ
 least = negsuc 9223372036854775807
 
+abbrev pub placed : ℕ → Token → Placed
+placed at t = record { at = at; token = t }
+
 -- the tokens of `$1.a + 2`
-abbrev pub occurrence_and_number : List Token
-occurrence_and_number = token.Occurrence 1 (codes "a") ∷ token.Punctuation punctuation.Plus ∷ token.Number (pos 2) ∷ []
+abbrev pub occurrence_and_number : List Placed
+occurrence_and_number = placed 0 (token.Occurrence 1 (codes "a")) ∷ placed 5 (token.Punctuation punctuation.Plus) ∷ placed 7 (token.Number (pos 2)) ∷ []
 
 -- `2 + 3 * 4`
 abbrev pub sum_and_product : Node

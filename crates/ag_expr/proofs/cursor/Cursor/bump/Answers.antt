@@ -1,7 +1,5 @@
 use Rattle.std.proofs.Common.{refl, sym, ap, ◌∙◌, subst, chars}
-use Rattle.ag_expr.specs.language.Left.{tokens, Keeps}
-use Rattle.ag_expr.specs.language.Lexing.{token_of}
-use Rattle.ag_expr.proofs.language.Cuts.{reached_on}
+use Rattle.ag_expr.specs.language.Left.{input, Keeps}
 use Rattle.ag_expr.proofs.language.Lexed.{width-chars}
 use Rattle.ag_expr.proofs.language.States.{stands, advanced, left_narrower, passed, passed_keeps, none_stands, none_behind}
 use Rattle.ag_expr.proofs.cursor.Cursor.bump.Goals as goal
@@ -13,7 +11,6 @@ invariant_of-self c =
     let within = rw (← c.self.invariant.rest_wide) at c.self.invariant.fewer in
     record {
       cut_front = c.token_in_front-self-inside.ensures;
-      reached = reached_on _ (chars c.self.inside.rest.now) _ _ (token_of c.in-Ok.field-0-0) c.self.invariant.reached given.0 given.1 c.skip_separators-self-inside.ensures;
       fewer = left_narrower (chars c.self.inside.rest.now) c.skip_separators-self-inside.result.now (c.in-Ok.field-0-0, c.in-Ok.behind) _ given c.skip_separators-self-inside.ensures wide within;
       text_wide = c.self.invariant.text_wide;
       rest_wide = wide;
@@ -27,7 +24,7 @@ returns-in-Ok-clause-exact c =
 pub returns-in-Ok-clause-tokens : goal.returns-in-Ok-clause-tokens
 returns-in-Ok-clause-tokens c =
     let given = rw (c.in-Ok.is, ap (λ s. s.1.1) c.self.view_is) at c.self.invariant.cut_front in
-    ap tokens (returns-in-Ok-clause-exact c) ∙ passed c.args.self.now _ (stands c.args.self.now (c.in-Ok.field-0-0, c.in-Ok.behind) given)
+    ap input (returns-in-Ok-clause-exact c) ∙ passed c.args.self.now _ (stands c.args.self.now (c.in-Ok.field-0-0, c.in-Ok.behind) given)
 
 pub returns-in-Ok-clause-keeps : goal.returns-in-Ok-clause-keeps
 returns-in-Ok-clause-keeps c other =

@@ -1,5 +1,3 @@
-use Rattle.std.proofs.Common.{chars}
-use Rattle.ag_expr.proofs.language.Cuts.{reached_first}
 use Rattle.ag_expr.proofs.language.Lexed.{width-chars}
 use Rattle.ag_expr.proofs.language.Spans.{left_within}
 use Rattle.ag_expr.proofs.cursor.Cursor.new.Goals as goal
@@ -7,7 +5,6 @@ use Rattle.ag_expr.proofs.cursor.Cursor.new.Goals as goal
 pub invariant_of-result : goal.invariant_of-result
 invariant_of-result c = record {
   cut_front = c.token_in_front.ensures;
-  reached = reached_first (chars c.args.text.now) (chars c.skip_separators-rest.result.now) c.skip_separators-rest.ensures;
   fewer = left_within c.args.text.now c.skip_separators-rest.result.now c.utf8.text c.skip_separators-rest.utf8 c.skip_separators-rest.ensures;
   text_wide = width-chars c.args.text.now c.utf8.text;
   rest_wide = width-chars c.skip_separators-rest.result.now c.skip_separators-rest.utf8;

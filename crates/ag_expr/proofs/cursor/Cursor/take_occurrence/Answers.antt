@@ -1,4 +1,5 @@
-use Rattle.std.proofs.Common.{ap, ◌∙◌, drop}
+use Rattle.std.proofs.Common.{ap, ◌∙◌}
+use Rattle.ag_expr.specs.language.Reading.{next}
 use Rattle.ag_expr.proofs.language.States.{first_stands, taken_number, taken_keeps, taken_tokens}
 use Rattle.ag_expr.proofs.cursor.Cursor.take_occurrence.Goals as goal
 
@@ -10,7 +11,7 @@ returns-clause-number c =
     rw (← c.self.view_is) (taken_number _ c.args.place c.args.attr.now c.intern.new.self st listed c.in_ok-number.number c.in_ok-number.ensures.number)
 
 pub returns-clause-tokens : goal.returns-clause-tokens
-returns-clause-tokens c = rw (← c.self.view_is) (c.bump.ensures.tokens ∙ ap (drop 1) (taken_tokens _ c.args.place c.args.attr.now c.intern.new.self))
+returns-clause-tokens c = rw (← c.self.view_is) (c.bump.ensures.tokens ∙ ap next (taken_tokens _ c.args.place c.args.attr.now c.intern.new.self))
 
 pub returns-clause-keeps : goal.returns-clause-keeps
 returns-clause-keeps c =
