@@ -92,7 +92,7 @@ fn next_operator(cursor: &Cursor<'_>, precedence: Precedence) -> Option<Operator
 
 /// Whether an operator of a precedence stands in front.
 fn goes_on(cursor: &Cursor<'_>, precedence: Precedence) -> bool
-    ensures { result ≡ reading.sees (reading.is_of precedence) (input cursor.now) }
+    ensures { result ≡ reading.sees (reading.is_operator_of precedence) (input cursor.now) }
 {
     next_operator(cursor, precedence).is_some()
 }
@@ -176,7 +176,7 @@ fn further(
     levels: usize,
     precedence: Precedence,
 ) -> Result<Vec<(Operator, Node)>, ExprFault>
-    ensures { ReadsAs (λ others. others.items) (λ all. reading.many (reading.is_of precedence)
+    ensures { ReadsAs (λ others. others.items) (λ all. reading.many (reading.is_operator_of precedence)
         (other_from precedence
         (ranked_from (atom_from all (expr_from all levels)) (closer precedence))) [])
         cursor.old result cursor.new }

@@ -17,16 +17,16 @@ use Rattle.ag_expr.specs.language.Placed.{Placed, Input, tokens}
 use Rattle.ag_expr.specs.language.Syntax as syntax
 use Rattle.ag_expr.specs.language.Syntax.{gives, spelled, Many, binary_operator, precedences, closer, same_precedence, of_precedence, chained, IsOther, IsChain, IsRanked, IsParenthesized, IsAtom, by_itself, operand_of, IsExpr}
 use Rattle.ag_expr.specs.language.Reading as reading
-use Rattle.ag_expr.specs.language.Reading.{expr_of, at_end, pure, is_end, refusal, Parser, operand_from, is_mark, is_of, other_from, chain_from, ranked_from, begins, alone_from, parenthesized_from, atom_from, expr_from}
+use Rattle.ag_expr.specs.language.Reading.{expr_of, at_end, pure, is_end, refusal, Parser, operand_from, is_mark, is_operator_of, other_from, chain_from, ranked_from, alone_from, parenthesized_from, atom_from, expr_from}
 use Rattle.ag_expr.specs.language.Token.{Token}
 use Rattle.ag_expr.specs.language.Token as token
-use Rattle.ag_expr.proofs.language.Exact.{Leads, Starts, Exact, nowhere, Apart, without, Before, before, then_exact, or_exact, many_leads, many_exact, mark_exact, operator_exact, then_starts, starts_with, ends_exact, token_then, start_then, neither, opened, answered, taken_exact, or_starts}
+use Rattle.ag_expr.proofs.language.Exact.{Leads, Starts, Exact, nowhere, Apart, without, Before, before, then_exact, or_exact, many_leads, many_exact, mark_exact, operator_exact, then_starts, starts_with, ends_exact, token_then, start_then, neither, opened, answered, taken_exact}
 
 -- ---- precedences
 
 abbrev pub in_precedences : List Precedence → Token → Bool
 in_precedences [] t = false
-in_precedences (r ∷ rs) t = is_of r t || in_precedences rs t
+in_precedences (r ∷ rs) t = is_operator_of r t || in_precedences rs t
 
 abbrev absent : Precedence → List Precedence → Bool
 absent r [] = true
@@ -34,7 +34,7 @@ absent r (q ∷ qs) = not (same_precedence q r) && absent r qs
 
 abbrev pub AllApart : List Precedence → Type 0
 AllApart [] = Unit {0}
-AllApart (r ∷ rs) = Apart (is_of r) (in_precedences rs) × AllApart rs
+AllApart (r ∷ rs) = Apart (is_operator_of r) (in_precedences rs) × AllApart rs
 
 of_one : (r : Precedence) (o : Option (Precedence × Operator)) → is_some (of_precedence r o) ≡ true → (x : Operator) × (o ≡ Some (r, x))
 of_one r None h = let bad : ⊥ = cc in absurd bad
@@ -44,11 +44,11 @@ of_one r (Some (q, x)) h = go (same_precedence r q) refl h
     go true e h = (x, ap (λ z. Some (z, x)) (sym (same_true the_type (search rules) r q e)))
     go false e h = let bad : ⊥ = cc in absurd bad
 
-apart : (r : Precedence) (rs : List Precedence) → absent r rs ≡ true → Apart (is_of r) (in_precedences rs)
+apart : (r : Precedence) (rs : List Precedence) → absent r rs ≡ true → Apart (is_operator_of r) (in_precedences rs)
 apart r [] a t h = refl
 apart r (q ∷ qs) a t h = go (same_precedence q r) refl (apart r qs) a
   where
-    go : (b : Bool) → same_precedence q r ≡ b → (absent r qs ≡ true → Apart (is_of r) (in_precedences qs)) → (not b && absent r qs) ≡ true → in_precedences (q ∷ qs) t ≡ false
+    go : (b : Bool) → same_precedence q r ≡ b → (absent r qs ≡ true → Apart (is_operator_of r) (in_precedences qs)) → (not b && absent r qs) ≡ true → in_precedences (q ∷ qs) t ≡ false
     go true e ih a = let bad : ⊥ = cc in absurd bad
     go false e ih a = let one = of_one r (binary_operator t) h in let others = ih a t h in rw (one.1, e) others
 
@@ -66,17 +66,17 @@ pub other_exact : (r : Precedence) {stops : Token → Bool} {L : List Token → 
 unfolding other_from
 other_exact r x = token_then (operator_exact r) (λ o. ends_exact (λ e. (o, e)) x)
 
-pub operated_starts : (r : Precedence) (L : List Token → Node → Type 0) → Starts (is_of r) (IsOther r L)
-operated_starts r L = then_starts (record { leads = λ ts o (t, e, h). subst (Leads (is_of r)) (sym e) (rw h refl) })
+pub operated_starts : (r : Precedence) (L : List Token → Node → Type 0) → Starts (is_operator_of r) (IsOther r L)
+operated_starts r L = then_starts (record { leads = λ ts o (t, e, h). subst (Leads (is_operator_of r)) (sym e) (rw h refl) })
 
-chain_exact : (r : Precedence) {stops : Token → Bool} {L : List Token → Node → Type 0} {l : Parser Node} → Exact stops L l → Apart (is_of r) stops → Exact (λ t. is_of r t || stops t) (IsChain r L) (chain_from r l)
+chain_exact : (r : Precedence) {stops : Token → Bool} {L : List Token → Node → Type 0} {l : Parser Node} → Exact stops L l → Apart (is_operator_of r) stops → Exact (λ t. is_operator_of r t || stops t) (IsChain r L) (chain_from r l)
 unfolding chain_from
 chain_exact r {stops} {L} {l} x away = then_exact x (λ first. ends_exact (chained first) (many_exact (other_exact r x) (operated_starts r L) away)) behind
   where
-    behind : (first : Node) → Before (λ t. is_of r t || stops t) stops (syntax.◌>>=◌ (Many (IsOther r L)) (λ others. gives (chained first others)))
+    behind : (first : Node) → Before (λ t. is_operator_of r t || stops t) stops (syntax.◌>>=◌ (Many (IsOther r L)) (λ others. gives (chained first others)))
     behind first vs rest b (us, ws, xs, e, are, (no_more, same)) h =
         let all : vs ≡ us = e ∙ ap (λ ys. us ++ ys) no_more ∙ append-nil us in
-        rw all (many_leads (is_of r) stops (IsOther r L) (operated_starts r L) away us xs are rest (without _ stops (λ t e. (neither (is_of r t) (stops t) e).1) rest h))
+        rw all (many_leads (is_operator_of r) stops (IsOther r L) (operated_starts r L) away us xs are rest (without _ stops (λ t e. (neither (is_operator_of r t) (stops t) e).1) rest h))
 
 pub ranked_exact : {L : List Token → Node → Type 0} {l : Parser Node} → Exact nowhere L l → (rs : List Precedence) → AllApart rs → Exact (in_precedences rs) (IsRanked L rs) (ranked_from l rs)
 unfolding ranked_from
@@ -99,9 +99,6 @@ mark_apart s stops no_stop _ h = let bad : ⊥ = cc in absurd bad
 module _ (listed : List Occ) (inner : List Token → Node → Type 0) where
   alone_starts : Starts (λ t. is_some (operand_of listed t)) (by_itself listed)
   alone_starts = record { leads = λ ts e (t, is, h). subst (Leads (λ t. is_some (operand_of listed t))) (sym is) (rw h refl) }
-
-  pub atom_starts : Starts (begins listed) (IsAtom listed inner)
-  atom_starts = or_starts (starts_with punctuation.Open) alone_starts
 
   module _ (read : Parser Node) (x : Exact operators inner read) where
     parenthesized_exact : Exact nowhere (IsParenthesized inner) (parenthesized_from read)

@@ -18,7 +18,7 @@ use Rattle.ag_expr.specs.language.Laws.{RefusesAtTheFirst}
 use Rattle.ag_expr.specs.language.Placed.{Placed, Input, tokens}
 use Rattle.ag_expr.specs.language.Places.{NoneGoesOn, IsToldFirst}
 use Rattle.ag_expr.specs.language.Reading as reading
-use Rattle.ag_expr.specs.language.Reading.{Outcome, Parser, front, front_of, front_is, sees, refusal, refusal_of, is_end, at_end, as_mark, expect, is_mark, is_of, operator_from, operand_from, other_from, chain_from, ranked_from, begins, alone_from, parenthesized_from, atom_from, no_level_of, expr_from, expr_of}
+use Rattle.ag_expr.specs.language.Reading.{Outcome, Parser, front, front_of, front_is, sees, refusal, refusal_of, is_end, at_end, as_mark, expect, is_mark, is_operator_of, operator_from, operand_from, other_from, chain_from, ranked_from, begins, alone_from, parenthesized_from, atom_from, no_level_of, expr_from, expr_of}
 use Rattle.ag_expr.specs.language.Syntax.{spelled, operated, operand_of, by_itself, none, precedences, chained, IsOther, IsChain, IsRanked, IsParenthesized, IsAtom, IsExpr}
 use Rattle.ag_expr.specs.language.Token.{Token}
 use Rattle.ag_expr.specs.language.Token as token
@@ -42,7 +42,7 @@ other_steady k x = then_steady (operator_steady k) (λ o. ends_steady (λ e. (o,
 
 chain_steady : (k : Precedence) {stops : Token → Bool} {L M : List Token → Node → Type 0} {r q : Parser Node} → Steady M r q → Exact stops L r → Exact stops M q → Steady (IsChain k M) (chain_from k r) (chain_from k q)
 unfolding chain_from
-chain_steady k {stops} {L} {M} x y z = then_steady x (λ first. ends_steady (chained first) (many_steady (is_of k) (other_steady k x) (shortens (other_exact k y) (operated_starts k L)) (shortens (other_exact k z) (operated_starts k M))))
+chain_steady k {stops} {L} {M} x y z = then_steady x (λ first. ends_steady (chained first) (many_steady (is_operator_of k) (other_steady k x) (shortens (other_exact k y) (operated_starts k L)) (shortens (other_exact k z) (operated_starts k M))))
 
 ranked_steady : {L M : List Token → Node → Type 0} {r q : Parser Node} → Steady M r q → Exact nowhere L r → Exact nowhere M q → (ks : List Precedence) → AllApart ks → Steady (IsRanked M ks) (ranked_from r ks) (ranked_from q ks)
 unfolding ranked_from

@@ -106,6 +106,7 @@ unfoldable pub many_from : {A : Type 0} → (Token → Bool) → Parser A → �
 many_from begins item zero found = pure found
 many_from begins item (suc n) found = choose begins (item >>= λ x. many_from begins item n (found ++ x ∷ [])) (pure found)
 
+-- as many as there are
 abbrev pub many : {A : Type 0} → (Token → Bool) → Parser A → List A → Parser (List A)
 many begins item found = λ i. many_from begins item (length i.left) found i
 
@@ -118,8 +119,9 @@ operator_from k (Some t) = operator_of k t
 abbrev pub operator : Precedence → Parser Operator
 operator k = λ i. taken (operator_from k (front i)) i
 
-abbrev pub is_of : Precedence → Token → Bool
-is_of k t = is_some (operator_of k t)
+-- whether the token is an operator of the precedence
+abbrev pub is_operator_of : Precedence → Token → Bool
+is_operator_of k t = is_some (operator_of k t)
 
 unfoldable pub other_from : Precedence → Parser Node → Parser (Operator × Node)
 other_from k operand = do
@@ -130,7 +132,7 @@ other_from k operand = do
 unfoldable pub chain_from : Precedence → Parser Node → Parser Node
 chain_from k operand = do
   first ← operand
-  others ← many (is_of k) (other_from k operand) []
+  others ← many (is_operator_of k) (other_from k operand) []
   pure (chained first others)
 
 unfoldable pub ranked_from : Parser Node → List Precedence → Parser Node

@@ -1,6 +1,6 @@
 use Rattle.std.proofs.Common.{[], ◌∙◌, refl, sym}
 use Rattle.ag_expr.specs.language.Left.{everything}
-use Rattle.ag_expr.specs.language.Reading.{atom_from, expr_from, is_of, many, other_from, ranked_from}
+use Rattle.ag_expr.specs.language.Reading.{atom_from, expr_from, is_operator_of, many, other_from, ranked_from}
 use Rattle.ag_expr.specs.language.Syntax.{closer}
 use Rattle.ag_expr.proofs.language.Agree.{other_shortens}
 use Rattle.ag_expr.proofs.language.Turns.{goes_on, failed, stopped, answered}
@@ -9,7 +9,7 @@ use Rattle.ag_expr.proofs.parser.+parsing.Goals as goal
 pub further-returns-in_err-other : goal.further-returns-in_err-other
 further-returns-in_err-other t c =
     let read = rw c.loop-alloc.invariant.keeps at c.in_err-other.ensures in
-    answered (λ others. others.items) (λ all. many (is_of c.args.precedence) (other_from c.args.precedence (ranked_from (atom_from all (expr_from all c.args.levels)) (closer c.args.precedence))) []) c.args.cursor.now c.other.new.cursor _ _ c.from_residual.ensures.1
+    answered (λ others. others.items) (λ all. many (is_operator_of c.args.precedence) (other_from c.args.precedence (ranked_from (atom_from all (expr_from all c.args.levels)) (closer c.args.precedence))) []) c.args.cursor.now c.other.new.cursor _ _ c.from_residual.ensures.1
     (λ memory. failed _ _ _ _ _ c.loop-alloc.invariant.going (other_shortens (everything c.args.cursor.now) c.args.levels c.args.precedence) (sym c.loop-alloc-test.ensures) _ (read memory))
 
 pub further-loop-alloc-smaller : goal.further-loop-alloc-smaller

@@ -1,6 +1,6 @@
 use Rattle.std.proofs.Common.{[], ◌≡◌, ℕ, ◌+◌, ◌*◌, length}
 use Rattle.ag_expr.specs.language.Left.{Keeps, everything, input}
-use Rattle.ag_expr.specs.language.Reading.{many, is_of, other_from, ranked_from, atom_from, expr_from}
+use Rattle.ag_expr.specs.language.Reading.{many, is_operator_of, other_from, ranked_from, atom_from, expr_from}
 use Rattle.ag_expr.specs.language.Syntax.{closer}
 use Rattle.ag_expr.specs.declared.parser.Precedence.{Precedence}
 use Rattle.ag_expr.specs.declared.parser.Precedence.TheVariants as precedence
@@ -36,8 +36,8 @@ decreases-parenthesized l = 12 * l.levels + 1
 abbrev pub invariant-further-loop-alloc : goal.invariant-further-loop-alloc
 invariant-further-loop-alloc l = record {
   keeps : Keeps l.fn.cursor l.cursor;
-  going : Going (is_of l.fn.precedence) (other_from l.fn.precedence (ranked_from (atom_from (everything l.fn.cursor) (expr_from (everything l.fn.cursor) l.fn.levels)) (closer l.fn.precedence))) l.others.items (input l.cursor)
-      (many (is_of l.fn.precedence) (other_from l.fn.precedence (ranked_from (atom_from (everything l.fn.cursor) (expr_from (everything l.fn.cursor) l.fn.levels)) (closer l.fn.precedence))) [] (input l.fn.cursor));
+  going : Going (is_operator_of l.fn.precedence) (other_from l.fn.precedence (ranked_from (atom_from (everything l.fn.cursor) (expr_from (everything l.fn.cursor) l.fn.levels)) (closer l.fn.precedence))) l.others.items (input l.cursor)
+      (many (is_operator_of l.fn.precedence) (other_from l.fn.precedence (ranked_from (atom_from (everything l.fn.cursor) (expr_from (everything l.fn.cursor) l.fn.levels)) (closer l.fn.precedence))) [] (input l.fn.cursor));
   same : l.levels ≡ l.fn.levels;
   ranked : l.precedence ≡ l.fn.precedence;
 }
