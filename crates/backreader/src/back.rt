@@ -4,9 +4,10 @@ ghost use Rattle.std.specs.Prelude.{◌≡◌, ◌≢◌, ◌≤◌, ◌+◌, �
 ghost use Rattle.std.specs.Prelude.{IfSome, IsErrOf, length, slice_range};
 ghost use Rattle.std.specs.Option.{option_map};
 ghost use Rattle.backreader.specs.Place.{HasRead, IsOver, lent_body, body_so_long, progress_after};
-ghost use Rattle.treefile.specs.Backward.{next_before, pass_in};
+ghost use Rattle.treefile.specs.Backward.{next_before, pass_in, pass_of};
 ghost use Rattle.treefile.specs.Device.{LeavesContent, Persists, WhenHonest};
-ghost use Rattle.treefile.specs.Ending.{IsBody, Told, body_before, greatest_body, header_bytes};
+ghost use Rattle.treefile.specs.Ending.{IsBody, IsBytes, Told, body_before, greatest_body};
+ghost use Rattle.treefile.specs.Ending.{header_bytes};
 ghost use Rattle.treefile.specs.Ending.{least_body, length_bytes};
 ghost use Rattle.treefile.specs.TreeFile.{version_one};
 ghost use Rattle.treefile.specs.declared.reading.FrameFault.TheVariants.{Damaged};
@@ -73,6 +74,7 @@ impl Back {
             (IfOk result (λ back. back.progress.at ≡ length (D.content device.old))) }
         ensures fresh { IfOk result (λ back. back.progress.records ≡ 0) }
         ensures unbroken { IfOk result (λ back. back.progress.fault ≡ None) }
+        ensures bytes { IfOk result (λ back. IsBytes back.bytes) }
         ensures content { LeavesContent (D.is_honest device.old)
             (D.content device.old) (D.content device.new) }
         // D1 only where the number of failures rose
@@ -84,12 +86,11 @@ impl Back {
             return Err(FrameFault::NotATreeFile);
         }
         let bytes = bytes_at(alloc, device, 0, end as usize)?;
-        let mut number = [0; 2];
-        number.copy_from_slice(&bytes[HEADER - 2..HEADER]);
+        let pass = pass_in_header(&bytes);
         Ok(Back {
             at: bytes.len(),
             bytes,
-            pass: u16::from_be_bytes(number),
+            pass,
             records: 0,
             fault: None,
         })
@@ -172,12 +173,30 @@ impl Back {
         self.pass
     }
 
+    /// The offset at which the next frame should end.
+    pub(crate) fn end(&self) -> u64
+        ensures { result ≡ self.now.progress.at }
+    {
+        self.at as u64
+    }
+
     /// How many bodies were lent.
     pub fn records(&self) -> u64
         ensures { result ≡ self.now.progress.records }
     {
         self.records
     }
+}
+
+/// The number of the pass in the header of a tree file.
+fn pass_in_header(bytes: &[u8]) -> u16
+    requires { header_bytes ≤ length bytes.now }
+    ensures number { result ≡ pass_of bytes.now }
+    ensures bytes { IsBytes bytes.now }
+{
+    let mut number = [0; 2];
+    number.copy_from_slice(&bytes[HEADER - 2..HEADER]);
+    u16::from_be_bytes(number)
 }
 
 /// The length of the body whose frame ends at an offset.

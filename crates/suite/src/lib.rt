@@ -9,4 +9,6 @@ mod reading_back;
 #[cfg(test)]
 mod tree_files;
 #[cfg(test)]
+mod turning;
+#[cfg(test)]
 mod values;

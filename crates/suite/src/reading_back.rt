@@ -1,6 +1,6 @@
 //! What no clause says: files read back by hand, and devices that fail or lie.
 
-ghost use Rattle.std.specs.Prelude.{◌≡◌, ◌<◌, [], false, IfOk, length, map};
+ghost use Rattle.std.specs.Prelude.{◌≡◌, [], false, IfOk, length, map};
 ghost use Rattle.treefile.specs.Backward.{ReadsBack};
 ghost use Rattle.treefile.specs.Device.{WhenHonest};
 ghost use Rattle.treefile.specs.TreeFile.{version_one};
@@ -57,9 +57,7 @@ fn bodies_back<D: Device>(alloc: Global, device: &mut D) -> Result<Vec<Vec<u8>>,
 }
 
 /// The file of pass 0 with bodies of three bytes: nodes of these productions.
-fn file_of(alloc: Global, productions: &[u8]) -> Result<Vec<u8>, Fail>
-    requires { length productions.now < 100 }
-{
+pub(crate) fn file_of(alloc: Global, productions: &[u8]) -> Result<Vec<u8>, Fail> {
     let mut device = MemDevice::new(alloc);
     let mut writer = Writer::begin(alloc, &mut device, 0)?;
     for production in productions {

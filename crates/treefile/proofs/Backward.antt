@@ -1,5 +1,5 @@
 -- A file is read back as its bodies, the last one first, and what is read back so is a file.
-use Rattle.std.proofs.Common.{◌≡◌, ℕ, ◌+◌, ◌^◌, ◌≤◌, ◌<◌, Bool, true, false, cond, List, [], ◌∷◌, ◌++◌, length, take, drop, slice_range, reverse, Some, None, Result, Ok, Err, All, refl, ap, sym, subst, ◌∙◌, append_assoc, append-nil, arith}
+use Rattle.std.proofs.Common.{◌≡◌, ℕ, ◌+◌, ◌^◌, ◌≤◌, ◌<◌, Bool, true, false, cond, List, [], ◌∷◌, ◌++◌, length, take, drop, slice_range, reverse, Some, None, Result, Ok, Err, All, ◌⊎◌, inl, inr, refl, ap, sym, subst, ◌∙◌, append_assoc, append-nil, arith}
 use Rattle.std.specs.Prelude.{nat_eq}
 use Rattle.std.specs.Int.{w16, w32, from_be_bytes, to_be_bytes}
 use Rattle.std.specs.List.{flat_map}
@@ -9,11 +9,12 @@ use Rattle.std.proofs.lemmas.List.Elements.{All-append, All-cons, All-head, All-
 use Rattle.std.proofs.lemmas.Grind.{flat_map-append}
 use Rattle.std.proofs.lemmas.Nat.{be_bytes_2, from_be_bytes-to_be_bytes_2}
 use Rattle.treefile.specs.declared.reading.FrameFault.{FrameFault}
-use Rattle.treefile.specs.Backward.{ReadsBack, before_frame, next_before, pass_of, some_body}
+use Rattle.treefile.specs.declared.reading.FrameFault.TheVariants.{Damaged, NotATreeFile}
+use Rattle.treefile.specs.Backward.{ReadsBack, ReadsTo, before_frame, next_before, pass_of, some_body}
 use Rattle.treefile.specs.Ending.{IsBody, IsBodyBefore, IsBytes, IsUsable, body_before, header_bytes, is_tree_file}
 use Rattle.treefile.specs.TreeFile.{Version, file, frame, header}
 use Rattle.treefile.proofs.Files.{file_grows, length-header, told_as_file}
-use Rattle.treefile.proofs.Frames.{bytes_part, frame_is_read, length_part, read_is_frame}
+use Rattle.treefile.proofs.Frames.{answers, bytes_part, frame_is_read, length_part, read_is_frame}
 
 -- a list from its end, one element more
 reverse-cons : {A : Type 0} (x : A) (xs : List A) → reverse (x ∷ xs) ≡ reverse xs ++ x ∷ []
@@ -118,3 +119,72 @@ module _ (version : Version) (content : List ℕ) (bytes : IsBytes content) wher
   pub back_is_file : (bodies : List (List ℕ)) → IsUsable version → is_tree_file version content ≡ true → ReadsBack version content (length content) bodies → content ≡ file version (pass_of content) (reverse bodies)
   back_is_file bodies usable told back =
       sym (take_all (length content) content (omega arith)) ∙ stands_back bodies (length content) (omega arith) back ∙ ap (λ (xs : List ℕ). xs ++ flat_map frame (reverse bodies)) (begins_so usable told)
+
+-- ---- what is read in parts
+
+module _ (version : Version) (content : List ℕ) where
+  pub reads_on : (bodies others : List (List ℕ)) (at between start : ℕ) → ReadsTo version content at bodies between → ReadsTo version content between others start → ReadsTo version content at (bodies ++ others) start
+  reads_on [] others at between start first second = subst (λ (n : ℕ). ReadsTo version content n others start) (sym first) second
+  reads_on (body ∷ bodies) others at between start first second = (first.0, reads_on bodies others (before_frame at body) between start first.1 second)
+
+  pub reads_whole : (bodies : List (List ℕ)) (at start : ℕ) → ReadsTo version content at bodies start → next_before version content start ≡ Ok None → ReadsBack version content at bodies
+  reads_whole [] at start read ends = subst (λ (n : ℕ). next_before version content n ≡ Ok None) (sym read) ends
+  reads_whole (body ∷ bodies) at start read ends = (read.0, reads_whole bodies (before_frame at body) start read.1 ends)
+
+  -- what is read up to an offset is the beginning of what is read to the header
+  pub reads_apart : (bodies all : List (List ℕ)) (at start : ℕ) → ReadsTo version content at bodies start → ReadsBack version content at all → (rest : List (List ℕ)) × (all ≡ bodies ++ rest) × ReadsBack version content start rest
+  reads_apart [] all at start read back = (all, refl, subst (λ (n : ℕ). ReadsBack version content n all) read back)
+  reads_apart (body ∷ bodies) [] at start read back =
+      let e : Ok (Some body) ≡ Ok None = sym read.0 ∙ back in
+      absurd cc
+  reads_apart (body ∷ bodies) (first ∷ all) at start read back =
+      let e : Ok (Some body) ≡ Ok (Some first) = sym read.0 ∙ back.0 in
+      let same : first ≡ body = cc in
+      let later : ReadsBack version content (before_frame at body) all = subst (λ (b : List ℕ). ReadsBack version content (before_frame at b) all) same back.1 in
+      let rest = reads_apart bodies all (before_frame at body) start read.1 later in
+      (rest.0, ap (λ (b : List ℕ). b ∷ all) same ∙ ap (λ (bs : List (List ℕ)). body ∷ bs) rest.1, rest.2)
+
+  -- what is read to the header is one list
+  pub reads_same : (bodies others : List (List ℕ)) (at : ℕ) → ReadsBack version content at bodies → ReadsBack version content at others → bodies ≡ others
+  reads_same [] [] at first second = refl
+  reads_same [] (another ∷ others) at first second =
+      let e : Ok None ≡ Ok (Some another) = sym first ∙ second.0 in
+      absurd cc
+  reads_same (body ∷ bodies) [] at first second =
+      let e : Ok (Some body) ≡ Ok None = sym first.0 ∙ second in
+      absurd cc
+  reads_same (body ∷ bodies) (another ∷ others) at first second =
+      let e : Ok (Some another) ≡ Ok (Some body) = sym second.0 ∙ first.0 in
+      let same : another ≡ body = cc in
+      let later : ReadsBack version content (before_frame at body) others = subst (λ (b : List ℕ). ReadsBack version content (before_frame at b) others) same second.1 in
+      ap (λ (bs : List (List ℕ)). body ∷ bs) (reads_same bodies others (before_frame at body) first.1 later) ∙ ap (λ (b : List ℕ). b ∷ others) (sym same)
+
+  -- each body that is read may stand in a frame
+  pub read_bodies : IsBytes content → (bodies : List (List ℕ)) (at start : ℕ) → at ≤ length content → ReadsTo version content at bodies start → All (IsBody version) bodies
+  read_bodies bytes [] at start within read = All-nil (IsBody version)
+  read_bodies bytes (body ∷ bodies) at start within read =
+      let is : IsBodyBefore version content at body = read_is_frame version content body at bytes within (some_is_body version content body at read.0) in
+      All-cons (IsBody version) body bodies (record { least = is.least; greatest = is.greatest }) (read_bodies bytes bodies (before_frame at body) start (omega arith) read.1)
+
+  -- B2 is told with the offset, and B1 never
+  pub damage_is_there : (at other : ℕ) → next_before version content at ≡ Err (Damaged other) → other ≡ at
+  unfolding next_before
+  damage_is_there at other e = by_test (nat_eq at header_bytes) (body_before version content at) (answers version content at) e
+    where
+      by_test : (b : Bool) (read : Result (List ℕ) FrameFault) → ((body : List ℕ) × (read ≡ Ok body)) ⊎ (read ≡ Err (Damaged at)) → cond b (Ok None) (some_body read) ≡ Err (Damaged other) → other ≡ at
+      by_test true read told e = absurd cc
+      by_test false (Ok body) told e = absurd cc
+      by_test false (Err fault) (inl told) e = absurd cc
+      by_test false (Err fault) (inr told) e = cc
+
+  pub never_no_file : (at : ℕ) → next_before version content at ≡ Err NotATreeFile → ⊥
+  unfolding next_before
+  never_no_file at e = by_test (nat_eq at header_bytes) (body_before version content at) (answers version content at) e
+    where
+      by_test : (b : Bool) (read : Result (List ℕ) FrameFault) → ((body : List ℕ) × (read ≡ Ok body)) ⊎ (read ≡ Err (Damaged at)) → cond b (Ok None) (some_body read) ≡ Err NotATreeFile → ⊥
+      by_test true read told e = cc
+      by_test false (Ok body) told e = cc
+      by_test false (Err fault) (inl told) e =
+          let e2 : Err fault ≡ Ok told.0 = told.1 in
+          cc
+      by_test false (Err fault) (inr told) e = cc

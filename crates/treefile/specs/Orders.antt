@@ -1,5 +1,5 @@
 -- Trees whose nodes are bodies, and the two orders in which a list has the bodies of a tree.
-use Rattle.std.specs.Prelude.{◌≡◌, ℕ, suc, List, [], ◌∷◌, ◌++◌, Option, Some}
+use Rattle.std.specs.Prelude.{◌≡◌, ℕ, suc, ◌+◌, max, List, [], ◌∷◌, ◌++◌, Option, Some, refl}
 use Rattle.ag_expr.specs.grammars.Passes.{Direction, LeftToRight, RightToLeft}
 
 mutual
@@ -48,3 +48,31 @@ abbrev mutual
   pub AreRanked : (List ℕ → Option ℕ) → BodyForest → Type 0
   AreRanked rank none = Unit {0}
   AreRanked rank (more t ts) = IsRanked rank t × AreRanked rank ts
+
+-- The depth: 1 for a node without children, else one more than that of the deepest child (this project's).
+abbrev mutual
+  pub depth_of : BodyTree → ℕ
+  depth_of (branch body ts) = suc (deepest ts)
+
+  pub deepest : BodyForest → ℕ
+  deepest none = 0
+  deepest (more t ts) = max (depth_of t) (deepest ts)
+
+-- how many nodes there are (this project's)
+abbrev mutual
+  pub node_count : BodyTree → ℕ
+  node_count (branch body ts) = suc (node_counts ts)
+
+  pub node_counts : BodyForest → ℕ
+  node_counts none = 0
+  node_counts (more t ts) = node_count t + node_counts ts
+
+-- a node with two children, the second of which has one: three levels, and four nodes
+abbrev pub small_tree : BodyTree
+small_tree = branch (9 ∷ []) (more (branch (7 ∷ []) none) (more (branch (8 ∷ []) (more (branch [] none) none)) none))
+
+pub depth_of_small : depth_of small_tree ≡ 3
+depth_of_small = refl
+
+pub nodes_of_small : node_count small_tree ≡ 4
+nodes_of_small = refl
