@@ -19,3 +19,4 @@ pub mod TextTurns
 pub mod Texts
 pub mod TokenLaws
 pub mod Turns
+pub mod Until

@@ -21,7 +21,7 @@ pub mod samples;
 mod token;
 
 pub use environment::Env;
-pub use expression::{Expr, occurrences, read_expr};
+pub use expression::{Expr, occurrences, read_expr, read_until};
 pub use fault::ExprFault;
 pub use grammar::{Item, Production, Rule, Symbol, Target, Terminal};
 pub use literal::Literal;

@@ -179,6 +179,7 @@ fn called(cursor: &mut Cursor<'_>) -> Result<Call, ExprFault>
         crate::specs::language::Reading::expr_in,
         crate::specs::language::Reading::whole_from,
         crate::specs::language::Reading::ranked_from,
+        ,
     )
 )]
 fn expression<'t>(
@@ -479,6 +480,7 @@ fn table(cursor: &mut Cursor<'_>) -> Result<Node, ExprFault>
     unfolding(
         crate::specs::language::Reading::list_from,
         crate::specs::language::Reading::none_from,
+        ,
     )
 )]
 fn list<'t>(
