@@ -235,7 +235,6 @@ fn character(text: &str) -> Option<(char, &str)>
     using(
         crate::proofs::language::TextTurns::piece_some,
         crate::proofs::language::TextTurns::piece_none,
-        ,
     )
 )]
 pub fn unescaped(alloc: Global, body: &str) -> Result<Text, NoMemory>

@@ -179,7 +179,6 @@ fn called(cursor: &mut Cursor<'_>) -> Result<Call, ExprFault>
         crate::specs::language::Reading::expr_in,
         crate::specs::language::Reading::whole_from,
         crate::specs::language::Reading::ranked_from,
-        ,
     )
 )]
 fn expression<'t>(
@@ -480,7 +479,6 @@ fn table(cursor: &mut Cursor<'_>) -> Result<Node, ExprFault>
     unfolding(
         crate::specs::language::Reading::list_from,
         crate::specs::language::Reading::none_from,
-        ,
     )
 )]
 fn list<'t>(
