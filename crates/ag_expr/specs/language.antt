@@ -6,6 +6,7 @@ pub mod Faults
 pub mod Laws
 pub mod Left
 pub mod Lexing
+pub mod Names
 pub mod Numbers
 pub mod Occurrences
 pub mod Placed
@@ -14,4 +15,6 @@ pub mod Reading
 pub mod Syntax
 pub mod Token
 pub mod Tokens
+pub mod Trees
+pub mod Until
 pub mod Worked

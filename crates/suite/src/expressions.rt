@@ -7,6 +7,7 @@ use std::process::Abort;
 use std::test::Fail;
 
 mod corners;
+mod reading;
 
 /// Lends one value for every occurrence.
 #[derive(Drop)]
@@ -105,9 +106,7 @@ fn refusals(rt: HostRuntime) -> Result<(), Fail> {
         ("1 -- 1", ExprFault::Unexpected(3)),
         ("1 2", ExprFault::Unexpected(2)),
         ("(1", ExprFault::Unexpected(2)),
-        ("\"abc\"", ExprFault::Unexpected(0)),
         ("abc", ExprFault::Unexpected(0)),
-        ("1 ++ 2", ExprFault::Unexpected(2)),
         ("1;", ExprFault::Unexpected(1)),
         ("9223372036854775808", ExprFault::NumberTooLarge(0)),
         ("1 99999999999999999999", ExprFault::NumberTooLarge(2)),

@@ -1,0 +1,69 @@
+-- Reading an expression up to a semicolon: this project's language.
+use Rattle.std.specs.Prelude.{◌≡◌, ◌≢◌, ℕ, cond, List, [], ◌∷◌, ◌++◌, drop, Option, Some, None, Result, Ok, Err, chars}
+use Rattle.ag_expr.specs.declared.fault.ExprFault.{ExprFault}
+use Rattle.ag_expr.specs.declared.fault.ExprFault.TheVariants as fault
+use Rattle.ag_expr.specs.declared.node.Node.{Node}
+use Rattle.ag_expr.specs.declared.occurrence.Occ.{Occ}
+use Rattle.ag_expr.specs.declared.token.Punctuation.TheVariants as punctuation
+use Rattle.ag_expr.specs.language.Ending.{Ending}
+use Rattle.ag_expr.specs.language.Ending as ending
+use Rattle.ag_expr.specs.language.Expression.{max_levels}
+use Rattle.ag_expr.specs.language.Occurrences.{all_occurrences, different}
+use Rattle.ag_expr.specs.language.Placed.{Placed, Input, tokens}
+use Rattle.ag_expr.specs.language.Places.{read_from}
+use Rattle.ag_expr.specs.language.Reading.{is_sign, ending_fault}
+use Rattle.ag_expr.specs.language.Syntax.{IsExpr}
+use Rattle.ag_expr.specs.language.Token.{mark}
+use Rattle.ag_expr.specs.language.Token as token
+use Rattle.ag_expr.specs.language.Tokens.{Lexes}
+
+-- an expression that was read, with the offset of the semicolon behind it
+abbrev pub Ended : Type 0
+Ended = (Node × List Occ) × ℕ
+
+-- the offset of the first semicolon among tokens, and the tokens before it
+abbrev pub first_semicolon : List Placed → Option ℕ
+first_semicolon [] = None
+first_semicolon (p ∷ ps) = cond (is_sign (mark punctuation.Semicolon) p.token) (Some p.at) (first_semicolon ps)
+
+abbrev pub before_semicolon : List Placed → List Placed
+before_semicolon [] = []
+before_semicolon (p ∷ ps) = cond (is_sign (mark punctuation.Semicolon) p.token) [] (p ∷ before_semicolon ps)
+
+abbrev pub with_offset : ℕ → Result (Node × List Occ) ExprFault → Result Ended ExprFault
+with_offset at (Ok x) = Ok (x, at)
+with_offset at (Err f) = Err f
+
+-- no answer but a fault: the one that there is, or else this
+abbrev pub or_fault : ExprFault → Result (Node × List Occ) ExprFault → Result Ended ExprFault
+or_fault e (Ok x) = Err e
+or_fault e (Err f) = Err f
+
+-- The tokens before the first semicolon are read as those of a text that ends there. Where no semicolon stands the fault is that of all tokens, or
+-- that of their end.
+abbrev pub until_by : Option ℕ → Input → Result Ended ExprFault
+until_by (Some at) i = with_offset at (read_from (record { left = before_semicolon i.left; ending = ending.EndsAt at }))
+until_by None i = or_fault (ending_fault i.ending) (read_from i)
+
+abbrev pub read_until_from : Input → Result Ended ExprFault
+read_until_from i = until_by (first_semicolon i.left) i
+
+-- The answer is what reading the tokens of the text gives from the offset `from` on up to a semicolon, or that memory ran out.
+abbrev pub IsReadUntil : List ℕ → ℕ → Result Ended ExprFault → Type 0
+IsReadUntil text from answer = (i : Input) → Lexes from (chars (drop from text)) i → answer ≢ Err fault.NoMemory → read_until_from i ≡ answer
+
+-- From the offset `from` on the text reads as the expression up to its first semicolon: the tokens before it spell the tree, and the list has the
+-- different occurrences among them.
+pub record ReadsUntil (text : List ℕ) (from : ℕ) (x : Ended) : Type 0 where
+  pub placed : List Placed
+  pub rest : List Placed
+  pub ending : Ending
+  pub lexes : Lexes from (chars (drop from text)) (record { left = placed ++ record { at = x.1; token = token.Punctuation punctuation.Semicolon } ∷ rest; ending = ending })
+  pub first : first_semicolon placed ≡ None
+  pub listed : x.0.1 ≡ different (all_occurrences placed)
+  pub spells : IsExpr x.0.1 max_levels (tokens placed) x.0.0
+
+-- what a refusal says of the text: that no expression stands there up to a semicolon, unless memory ran out
+abbrev pub IsRefusedUntil : List ℕ → ℕ → ExprFault → Type 0
+IsRefusedUntil text from fault.NoMemory = Unit {0}
+IsRefusedUntil text from e = (x : Ended) → ReadsUntil text from x → ⊥
