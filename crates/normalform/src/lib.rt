@@ -2,7 +2,17 @@
 //! the limits.
 #![tactic(auto)]
 
+mod clause;
+mod declared;
+mod fault;
 mod grammar;
+mod names;
+mod naming;
+mod placed;
+mod rules;
+mod search;
+mod targets;
 
 pub use ag_expr::{Item, Production, Rule, Symbol, Target, Terminal};
+pub use fault::{LimitKind, NormalFault};
 pub use grammar::Grammar;

@@ -1,0 +1,6 @@
+pub mod Clauses
+pub mod Faults
+pub mod Names
+pub mod Numbers
+pub mod Placed
+pub mod Search
