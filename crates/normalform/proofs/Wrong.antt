@@ -104,3 +104,6 @@ mapped f xs i d lt = sym (get_or-map f xs i d (f (get_or xs i d)) lt)
 
 pub within : {X Y : Type 0} (f : X → Y) (xs : List X) (i : ℕ) → i < length xs → i < length (map f xs)
 within f xs i lt = rw (length-map xs f) lt
+
+pub none_of : (xs ys : List Place) → None ≡ first_wrong xs → None ≡ first_wrong ys → None ≡ first_wrong (xs ++ ys)
+none_of xs ys e f = f ∙ rest_of xs ys e

@@ -1,8 +1,6 @@
 -- What follows from clauses (Dowling and Gallier 1984): a number follows where it is the head of a clause of whose body each
 -- number does. Which symbols are productive, and which are reached, are found in this way.
-use Rattle.std.specs.Prelude.{ℕ, map, flat_map, ◌+◌, ◌-◌, ◌≡◌, ◌<◌, ◌≤◌, ◌⊎◌, Bool, true, false, List, [], ◌∷◌, length, take, Some, slice_get, slice_index, slice_index_or, count_by, All, Contains}
-use Rattle.std.specs.List.{list_all}
-use Rattle.std.specs.Global.{Vec}
+use Rattle.std.specs.Prelude.{ℕ, map, flat_map, ◌≡◌, List, [], ◌∷◌, Some, slice_get}
 use Rattle.ag_expr.specs.declared.grammar.Symbol.{Symbol}
 use Rattle.ag_text.specs.declared.raw.RawItem.{RawItem}
 use Rattle.ag_text.specs.declared.raw.RawItem.TheVariants as raw_item

@@ -1,15 +1,17 @@
 -- The faults of a raw grammar, kind by kind, and which comes first (this project's; complete and productive are Knuth's 1968
 -- and the textbook's). A kind is the list of its places, in the order of the text.
-use Rattle.std.specs.Prelude.{ℕ, zero, suc, cond, fold, ◌⊎◌, ◌+◌, ◌≡◌, ◌<◌, ◌≤◌, nat_eq, nat_le, not, Bool, true, false, ◌&&◌, List, [], ◌∷◌, ◌++◌, length, map, flat_map, find, Option, Some, None, bytes_eq, slice_get}
+use Rattle.std.specs.Prelude.{All, ℕ, zero, suc, cond, fold, ◌⊎◌, ◌+◌, ◌≡◌, ◌<◌, ◌≤◌, nat_eq, nat_le, not, Bool, true, false, ◌&&◌, List, [], ◌∷◌, ◌++◌, length, map, flat_map, find, Option, Some, None, bytes_eq, slice_get}
 use Rattle.std.specs.List.{list_any, list_all, range_with_len}
 use Rattle.std.specs.Option.{option_map}
 use Rattle.ag_expr.specs.Lists.{Each}
 use Rattle.ag_expr.specs.declared.grammar.Item.{Item}
 use Rattle.ag_expr.specs.declared.grammar.Item.TheVariants as item
+use Rattle.ag_expr.specs.declared.grammar.Production.{Production}
+use Rattle.ag_expr.specs.declared.grammar.Rule.{Rule}
 use Rattle.ag_expr.specs.declared.grammar.Symbol.{Symbol}
 use Rattle.ag_expr.specs.declared.grammar.Target.{Target}
 use Rattle.ag_expr.specs.declared.occurrence.Occ.{Occ}
-use Rattle.ag_expr.specs.grammars.Accepted.{IsProductive, IsReached, IsSeparator, class_count, out_name, most_symbols, most_attributes, most_productions, most_items, most_stored, most_literals, most_literal_bytes}
+use Rattle.ag_expr.specs.grammars.Accepted.{IsAccepted, IsProductive, IsReached, IsSeparator, class_count, out_name, most_symbols, most_attributes, most_productions, most_items, most_stored, most_literals, most_literal_bytes}
 use Rattle.ag_expr.specs.grammars.AttributeGrammar.{Kind, Synthesized, Inherited, attribute_names, item_kinds, given_kind, found_kind}
 use Rattle.ag_expr.specs.language.Evaluation.{is_below}
 use Rattle.ag_text.specs.declared.raw.Named.{Named}
@@ -196,26 +198,34 @@ few_stored ss q = nat_le (length (placed ss q)) (1 + most_stored)
 abbrev pub is_short : List ℕ → Bool
 is_short text = nat_le (length text) most_literal_bytes
 
-abbrev pub limit_places : List Symbol → List RawProduction → List Place
-limit_places ss qs =
-    (fault.Limit limit.Symbols, nat_le (length ss) most_symbols)
-    ∷ (fault.Limit limit.Attributes, list_all few_attributes ss)
-    ∷ (fault.Limit limit.Productions, nat_le (length qs) most_productions)
+abbrev pub symbol_limits : List Symbol → List Place
+symbol_limits ss = (fault.Limit limit.Symbols, nat_le (length ss) most_symbols) ∷ (fault.Limit limit.Attributes, list_all few_attributes ss) ∷ []
+
+abbrev pub production_limits : List Symbol → List RawProduction → List Place
+production_limits ss qs =
+    (fault.Limit limit.Productions, nat_le (length qs) most_productions)
     ∷ (fault.Limit limit.Items, list_all few_items qs)
     ∷ (fault.Limit limit.Stored, list_all (few_stored ss) qs)
-    ∷ (fault.Limit limit.LiteralLength, list_all is_short (literals_of qs))
-    ∷ (fault.Limit limit.Literals, nat_le (length (literals_of qs)) most_literals)
     ∷ []
+
+abbrev pub literal_limits : List (List ℕ) → List Place
+literal_limits texts = (fault.Limit limit.LiteralLength, list_all is_short texts) ∷ (fault.Limit limit.Literals, nat_le (length texts) most_literals) ∷ []
+
+abbrev pub limit_places : List Symbol → List RawProduction → List Place
+limit_places ss qs = symbol_limits ss ++ production_limits ss qs ++ literal_limits (literals_of qs)
 
 -- the places of the kinds before N4: names, and the start symbol
 abbrev pub naming_places : RawGrammar → List Place
 naming_places raw = let ss = map symbol_of raw.symbols in
     unknown ss raw.productions ++ doubled raw.symbols ++ start_places ss raw.start
 
--- the places of the kinds behind N5: rules, and the limits
+-- the places of the kinds about rules
+abbrev pub rule_kinds : List Symbol → List RawProduction → List Place
+rule_kinds ss qs = missing ss qs ++ doubled_rules ss qs ++ not_given ss qs ++ not_found ss qs
+
+-- the places of the kinds behind N5
 abbrev pub further_places : RawGrammar → List Place
-further_places raw = let ss = map symbol_of raw.symbols in
-    missing ss raw.productions ++ doubled_rules ss raw.productions ++ not_given ss raw.productions ++ not_found ss raw.productions ++ limit_places ss raw.productions
+further_places raw = let ss = map symbol_of raw.symbols in rule_kinds ss raw.productions ++ limit_places ss raw.productions
 
 -- each declared symbol is so
 abbrev pub AreAll : (ℕ → Type 0) → RawGrammar → Type 0
@@ -248,9 +258,22 @@ abbrev pub IsReadable : RawGrammar → Type 0
 IsReadable raw = Each (λ q. Each IsReadableItem q.items) raw.productions
 
 -- each occurrence in a rule's expression is one of those listed with it
-abbrev pub AreListed : RawGrammar → Type 0
-AreListed raw = Each (λ q. Each (λ r. is_below (length r.expr.1) r.expr.0 ≡ true) q.rules) raw.productions
+abbrev pub IsListed : Rule → Type 0
+IsListed r = is_below (length r.expr.1) r.expr.0 ≡ true
+
+abbrev pub AreListedIn : Production → Type 0
+AreListedIn q = All IsListed q.rules
+
+-- Symbols and literals within the limits, so that their numbers and those of attributes are small.
+pub record IsSmall (ss : List Symbol) (literals : List (List ℕ)) : Type 0 where
+  pub symbols : length ss ≤ most_symbols
+  pub attributes : list_all few_attributes ss ≡ true
+  pub texts : length literals ≤ most_literals
+
+-- the name of the symbol of a number
+abbrev pub IsNameAt : List RawSymbol → ℕ → Named → Type 0
+IsNameAt ss number name = (s : RawSymbol) × (slice_get ss number ≡ Some s) × (s.name ≡ name)
 
 -- what a refusal says is so
 abbrev pub IsTrueOf : RawGrammar → NormalFault → Type 0
-IsTrueOf raw f = (f ≡ fault.NoMemory) ⊎ IsFirstFault raw f
+IsTrueOf raw f = (f ≡ fault.NoMemory) ⊎ (IsFirstFault raw f × (IsAccepted (numbered raw) → ⊥))

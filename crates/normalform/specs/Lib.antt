@@ -1,5 +1,6 @@
 pub mod Clauses
 pub mod Faults
+pub mod Found
 pub mod Names
 pub mod Numbers
 pub mod Placed

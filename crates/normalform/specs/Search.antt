@@ -1,5 +1,5 @@
 -- The search for what follows from clauses.
-use Rattle.std.specs.Prelude.{ℕ, map, ◌+◌, ◌-◌, ◌≡◌, ◌<◌, ◌≤◌, ◌⊎◌, Bool, true, false, List, [], ◌∷◌, length, take, Some, slice_get, slice_index, slice_index_or, count_by, All, Contains}
+use Rattle.std.specs.Prelude.{ℕ, map, ◌+◌, ◌-◌, ◌≡◌, ◌<◌, ◌≤◌, ◌⊎◌, Bool, true, false, List, [], length, take, slice_index, slice_index_or, count_by, All, Contains}
 use Rattle.std.specs.List.{list_all}
 use Rattle.std.specs.Global.{Vec}
 use Rattle.normalform.specs.Clauses.{Follows}
@@ -59,3 +59,9 @@ pub record IsFirstUnmarked (marks : List Bool) (n : ℕ) : Type 0 where
   pub within : n < length marks
   pub unmarked : is_marked marks n ≡ false
   pub before : (t : ℕ) → t < n → is_marked marks t ≡ true
+
+-- the first number below a count that does not follow from clauses
+pub record IsFirstLeft (clauses : List Clause) (count : ℕ) (n : ℕ) : Type 0 where
+  pub within : n < count
+  pub left : Follows clauses n → ⊥
+  pub before : (t : ℕ) → t < n → Follows clauses t

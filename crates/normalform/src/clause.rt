@@ -79,11 +79,7 @@ fn push_edges(alloc: Global, edges: &mut Vec<Clause>, clause: &Clause) -> Result
 }
 
 /// The clauses of what is reached from a start: the start, and each number of a body from the head.
-pub fn reaching(
-    alloc: Global,
-    start: usize,
-    clauses: &[Clause],
-) -> Result<Vec<Clause>, NoMemory>
+pub fn reaching(alloc: Global, start: usize, clauses: &[Clause]) -> Result<Vec<Clause>, NoMemory>
     ensures { IfOk result (λ edges. edges.items ≡ spec.reaching start clauses.now) }
 {
     let mut edges = Vec::new(alloc);

@@ -56,10 +56,7 @@ fn names_of<'t>(alloc: Global, symbols: &'t [RawSymbol]) -> Result<Names<'t>, No
 }
 
 /// The names of each symbol's attributes.
-fn attributes<'t>(
-    alloc: Global,
-    symbols: &'t [RawSymbol],
-) -> Result<Vec<Names<'t>>, NoMemory>
+fn attributes<'t>(alloc: Global, symbols: &'t [RawSymbol]) -> Result<Vec<Names<'t>>, NoMemory>
     ensures { IfOk result (λ names. names.items
         ≡ map attribute_names (map symbol_of symbols.now)) }
 {
@@ -289,9 +286,7 @@ impl<'t> Declared<'t> {
         ensures { result ≡ spec.is_start (slice_get self.now symbol) }
     {
         match self.symbol(symbol) {
-            Some(raw) => {
-                raw.inh.as_slice().is_empty() && self.has_attribute_of(symbol, "out")
-            }
+            Some(raw) => { raw.inh.as_slice().is_empty() && self.has_attribute_of(symbol, "out") }
             None => false,
         }
     }

@@ -94,6 +94,13 @@ impl<'t> Names<'t> {
         self.numbers.contains_key(text)
     }
 
+    /// How many texts there are.
+    pub fn count(&self) -> usize
+        ensures { result ≡ length self.now }
+    {
+        self.listed.len()
+    }
+
     /// The texts, lent.
     pub fn listed(&self) -> &[&'t str]
         ensures { map (λ t. t.now) result.now ≡ self.now }

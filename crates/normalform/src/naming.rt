@@ -84,11 +84,7 @@ fn unknown_among(
 }
 
 /// The first fault of a rule.
-fn unknown_in_rule(
-    declared: &Declared<'_>,
-    items: &[Placed],
-    rule: &RawRule,
-) -> Option<NormalFault>
+fn unknown_in_rule(declared: &Declared<'_>, items: &[Placed], rule: &RawRule) -> Option<NormalFault>
     ensures { result
         ≡ first_wrong (rule_places declared.now (map item_placed items.now) rule.now) }
 {
@@ -130,11 +126,7 @@ fn unknown_in_production(
         return Ok(Some(fault));
     }
     let items = places_of(alloc, declared, production)?;
-    Ok(unknown_in_rules(
-        declared,
-        items.as_slice(),
-        production.rules.as_slice(),
-    ))
+    Ok(unknown_in_rules(declared, items.as_slice(), production.rules.as_slice()))
 }
 
 /// N1: the first symbol of a production that is not declared, or occurrence whose place or
@@ -155,10 +147,7 @@ pub fn unknown(
 }
 
 /// The fault of a name that is among those before; it is then among them.
-fn doubled_name<'t>(
-    seen: &mut Names<'t>,
-    name: &'t Named,
-) -> Result<Option<NormalFault>, NoMemory>
+fn doubled_name<'t>(seen: &mut Names<'t>, name: &'t Named) -> Result<Option<NormalFault>, NoMemory>
     ensures fault { IfOk result (λ f. f ≡ first_wrong (new_place seen.old name.now)) }
     ensures seen { OnOk result (seen.new ≡ with_text seen.old name.now.name) }
 {
@@ -213,10 +202,7 @@ fn doubled_in_symbol<'t>(
 }
 
 /// N2: the first symbol that is declared again, or attribute that is named again in its symbol.
-pub fn doubled<'t>(
-    alloc: Global,
-    symbols: &'t [RawSymbol],
-) -> Result<Option<NormalFault>, NoMemory>
+pub fn doubled<'t>(alloc: Global, symbols: &'t [RawSymbol]) -> Result<Option<NormalFault>, NoMemory>
     ensures { IfOk result (λ f. f ≡ first_wrong (spec.doubled symbols.now)) }
 {
     let mut seen = Names::new(alloc);

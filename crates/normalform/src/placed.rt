@@ -45,9 +45,7 @@ pub fn places_of(
         ≡ placed declared.now production.now) }
 {
     let mut items = Vec::new(alloc);
-    items.push(Placed::Symbol(
-        declared.number(production.left.name.as_str()),
-    ))?;
+    items.push(Placed::Symbol(declared.number(production.left.name.as_str())))?;
     for item in production.items.as_slice() {
         place_item(&mut items, declared, item)?;
     }

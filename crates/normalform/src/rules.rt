@@ -202,11 +202,7 @@ pub fn doubled_rules(
 }
 
 /// The fault of a rule whose target the rules of its production do not give.
-fn not_given_rule(
-    declared: &Declared<'_>,
-    items: &[Placed],
-    rule: &RawRule,
-) -> Option<NormalFault>
+fn not_given_rule(declared: &Declared<'_>, items: &[Placed], rule: &RawRule) -> Option<NormalFault>
     ensures { result ≡ first_wrong (given_place declared.now (map item_placed items.now) rule.now
         ∷ []) }
 {
@@ -243,11 +239,7 @@ fn not_given_in_production(
     ensures { IfOk result (λ f. f ≡ first_wrong (not_given_in declared.now production.now)) }
 {
     let items = places_of(alloc, declared, production)?;
-    Ok(not_given_among(
-        declared,
-        items.as_slice(),
-        production.rules.as_slice(),
-    ))
+    Ok(not_given_among(declared, items.as_slice(), production.rules.as_slice()))
 }
 
 /// N8: the first target that is inherited at place 0, or synthesized at a later place.
@@ -325,11 +317,7 @@ fn not_found_in_production(
     ensures { IfOk result (λ f. f ≡ first_wrong (not_found_in declared.now production.now)) }
 {
     let items = places_of(alloc, declared, production)?;
-    Ok(not_found_in_rules(
-        declared,
-        items.as_slice(),
-        production.rules.as_slice(),
-    ))
+    Ok(not_found_in_rules(declared, items.as_slice(), production.rules.as_slice()))
 }
 
 /// N9: the first argument that is synthesized at place 0, or inherited at a later place.

@@ -5,7 +5,7 @@ ghost use Rattle.std.specs.Prelude.{Contains, IfOk, OnOk, IfSome, None, slice_in
 ghost use Rattle.std.specs.List.{list_all};
 ghost use Rattle.normalform.specs.Clauses.{Follows};
 ghost use Rattle.normalform.specs.Search.{is_marked, IsClauseBelow, IsSearch, IsSettled, Grows};
-ghost use Rattle.normalform.specs.Search.{turns_left, Notes, row, rows, IsFirstUnmarked};
+ghost use Rattle.normalform.specs.Search.{turns_left, Notes, row, rows, IsFirstUnmarked, IsFirstLeft};
 
 use crate::clause::Clause;
 use ag_value::NoMemory;
@@ -50,16 +50,16 @@ impl<'g> Search<'g> {
     fn advance(&mut self, clause: usize) -> bool
         requires clause { clause < length self.old.clauses.now }
         requires search { IsSearch self.old.clauses.now self.old.marks.items self.old.work.items
-        self.old.passed.items }
+            self.old.passed.items }
         ensures clauses { self.new.clauses.now ≡ self.old.clauses.now }
         ensures marks { self.new.marks.items ≡ self.old.marks.items }
         ensures work { self.new.work.items ≡ self.old.work.items }
         ensures search { IsSearch self.new.clauses.now self.new.marks.items self.new.work.items
-        self.new.passed.items }
+            self.new.passed.items }
         ensures whole { (d : Clause) → result ≡ true → list_all (is_marked self.old.marks.items)
-        (slice_index_or self.old.clauses.now clause d).body ≡ true }
+            (slice_index_or self.old.clauses.now clause d).body ≡ true }
         ensures stops { (d : Clause) → result ≡ false → IsSettled self.old.marks.items
-        self.old.work.items (slice_index_or self.old.clauses.now clause d) }
+            self.old.work.items (slice_index_or self.old.clauses.now clause d) }
     {
         let body = self.clauses[clause].body.as_slice();
         let passed = known_in_front(self.marks.as_slice(), body, self.passed[clause]);
@@ -72,15 +72,15 @@ impl<'g> Search<'g> {
         requires number { number < length self.old.marks.items }
         requires follows { Follows self.old.clauses.now number }
         requires search { IsSearch self.old.clauses.now self.old.marks.items self.old.work.items
-        self.old.passed.items }
+            self.old.passed.items }
         ensures clauses { OnOk result (self.new.clauses.now ≡ self.old.clauses.now) }
         ensures search { OnOk result (IsSearch self.new.clauses.now self.new.marks.items
-        self.new.work.items self.new.passed.items) }
+            self.new.work.items self.new.passed.items) }
         ensures grows { OnOk result (Grows self.old.marks.items self.old.work.items
-        self.new.marks.items self.new.work.items) }
+            self.new.marks.items self.new.work.items) }
         ensures marked { OnOk result (is_marked self.new.marks.items number ≡ true) }
         ensures turns { OnOk result (turns_left self.new.marks.items self.new.work.items ≤
-        turns_left self.old.marks.items self.old.work.items) }
+            turns_left self.old.marks.items self.old.work.items) }
     {
         if !self.marks[number] {
             self.work.push(number)?;
@@ -93,16 +93,16 @@ impl<'g> Search<'g> {
     fn visit(&mut self, clause: usize) -> Result<(), NoMemory>
         requires clause { clause < length self.old.clauses.now }
         requires search { IsSearch self.old.clauses.now self.old.marks.items self.old.work.items
-        self.old.passed.items }
+            self.old.passed.items }
         ensures clauses { OnOk result (self.new.clauses.now ≡ self.old.clauses.now) }
         ensures search { OnOk result (IsSearch self.new.clauses.now self.new.marks.items
-        self.new.work.items self.new.passed.items) }
+            self.new.work.items self.new.passed.items) }
         ensures grows { OnOk result (Grows self.old.marks.items self.old.work.items
-        self.new.marks.items self.new.work.items) }
+            self.new.marks.items self.new.work.items) }
         ensures settles { (d : Clause) → OnOk result (IsSettled self.new.marks.items
-        self.new.work.items (slice_index_or self.old.clauses.now clause d)) }
+            self.new.work.items (slice_index_or self.old.clauses.now clause d)) }
         ensures turns { OnOk result (turns_left self.new.marks.items self.new.work.items ≤
-        turns_left self.old.marks.items self.old.work.items) }
+            turns_left self.old.marks.items self.old.work.items) }
     {
         if self.advance(clause) {
             let clauses = self.clauses;
@@ -115,17 +115,17 @@ impl<'g> Search<'g> {
     fn visit_all(&mut self, visited: &[usize]) -> Result<(), NoMemory>
         requires clauses { All (λ p. p < length self.old.clauses.now) visited.now }
         requires search { IsSearch self.old.clauses.now self.old.marks.items self.old.work.items
-        self.old.passed.items }
+            self.old.passed.items }
         ensures clauses { OnOk result (self.new.clauses.now ≡ self.old.clauses.now) }
         ensures search { OnOk result (IsSearch self.new.clauses.now self.new.marks.items
-        self.new.work.items self.new.passed.items) }
+            self.new.work.items self.new.passed.items) }
         ensures count { OnOk result (length self.new.marks.items ≡ length self.old.marks.items) }
         ensures settles { OnOk result ((p : ℕ) (d : Clause) → IsSettled self.old.marks.items
-        self.old.work.items (slice_index_or self.old.clauses.now p d) ⊎ Contains visited.now p →
-        IsSettled self.new.marks.items self.new.work.items (slice_index_or self.old.clauses.now p
-        d)) }
+            self.old.work.items (slice_index_or self.old.clauses.now p d) ⊎ Contains visited.now p →
+            IsSettled self.new.marks.items self.new.work.items (slice_index_or self.old.clauses.now p
+            d)) }
         ensures turns { OnOk result (turns_left self.new.marks.items self.new.work.items ≤
-        turns_left self.old.marks.items self.old.work.items) }
+            turns_left self.old.marks.items self.old.work.items) }
     {
         for clause in visited {
             self.visit(*clause)?;
@@ -177,11 +177,7 @@ fn uses(alloc: Global, clauses: &[Clause], count: usize) -> Result<Vec<Vec<usize
 }
 
 /// Which of the numbers below a count follow from clauses.
-pub fn followers(
-    alloc: Global,
-    clauses: &[Clause],
-    count: usize,
-) -> Result<Vec<bool>, NoMemory>
+pub fn followers(alloc: Global, clauses: &[Clause], count: usize) -> Result<Vec<bool>, NoMemory>
     requires { All (IsClauseBelow count) clauses.now }
     ensures len { IfOk result (λ marks. length marks.items ≡ count) }
     ensures marks { IfOk result (λ marks. (s : ℕ) → is_marked marks.items s ≡ true ↔ Follows
@@ -215,4 +211,18 @@ pub fn first_unmarked(marks: &[bool]) -> Option<usize>
         }
     }
     None
+}
+
+/// The first number below a count that does not follow from clauses.
+pub fn first_left(
+    alloc: Global,
+    clauses: &[Clause],
+    count: usize,
+) -> Result<Option<usize>, NoMemory>
+    requires { All (IsClauseBelow count) clauses.now }
+    ensures found { IfOk result (λ o. IfSome o (λ n. IsFirstLeft clauses.now count n)) }
+    ensures none { IfOk result (λ o. o ≡ None → (t : ℕ) → t < count → Follows clauses.now t) }
+{
+    let marks = followers(alloc, clauses, count)?;
+    Ok(first_unmarked(marks.as_slice()))
 }

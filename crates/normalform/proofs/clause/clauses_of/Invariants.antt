@@ -1,4 +1,4 @@
-use Rattle.std.proofs.Common.{◌≡◌, map, take}
+use Rattle.std.proofs.Common.{◌≡◌, take}
 use Rattle.normalform.specs.Clauses.{clauses_of}
 use Rattle.normalform.proofs.clause.clauses_of.Given as goal
 

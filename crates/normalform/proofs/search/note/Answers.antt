@@ -1,5 +1,4 @@
 -- A clause is noted in the row of the number, and the other rows stay.
-use Rattle.std.proofs.Common.{◌≡◌, ◌<◌, length}
 use Rattle.std.proofs.lemmas.List.{length-map}
 use Rattle.normalform.specs.Search.{rows}
 use Rattle.normalform.proofs.Marks.{notes_at, noted_at, rows_set}

@@ -1,4 +1,4 @@
-use Rattle.std.proofs.Common.{ℕ, ◌≡◌, take_all, sym, ◌∙◌}
+use Rattle.std.proofs.Common.{take_all}
 use Rattle.normalform.proofs.Marks.{noted_more, notes_on}
 use Rattle.normalform.proofs.search.note_all.Goals as goal
 
