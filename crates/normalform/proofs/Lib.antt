@@ -7,6 +7,7 @@ pub mod Marks
 pub mod Known
 pub mod Pairs
 pub mod Placing
+pub mod Tested
 pub mod Reduced
 pub mod Right
 pub mod Ruled

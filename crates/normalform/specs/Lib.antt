@@ -4,4 +4,5 @@ pub mod Found
 pub mod Names
 pub mod Numbers
 pub mod Placed
+pub mod Readable
 pub mod Search

@@ -234,9 +234,12 @@ fn refusal(found: Found, raw: RawGrammar) -> NormalFault
     }
 }
 
-/// Checks a raw grammar: Ok is the grammar that it is by numbers, and that is accepted. A refusal is
-/// the first fault, in the order of `NormalFault`, and within a kind the first place in the order of
-/// the lists; then the grammar by numbers is not accepted. The raw grammar is given up on a refusal.
+/// Checks a raw grammar. Ok is the grammar that it is by numbers, which is accepted; names and
+/// expressions are moved into it.
+///
+/// A refusal is the first fault: of the kinds in the order of `NormalFault` the first that has one,
+/// and within a kind the first place in the order of the lists. Then the grammar by numbers is not
+/// accepted, and the raw grammar is given up. `NoMemory` comes only where a growth was refused.
 /// Takes memory.
 #[tactic(auto, using(crate::proofs::Accepting::refused))]
 pub fn check(alloc: Global, raw: RawGrammar) -> Result<Grammar, NormalFault>

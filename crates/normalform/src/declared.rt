@@ -1,5 +1,6 @@
 //! The declared symbols, with their names and those of their attributes looked up by hash.
-ghost use Rattle.std.specs.Prelude.{◌≡◌, ◌++◌, ℕ, List, length, map, bytes_eq, IfOk, OnOk, IfSome, Some, None};
+ghost use Rattle.std.specs.Prelude.{◌≡◌, ◌++◌, length, map, bytes_eq, IfOk, OnOk, IfSome};
+ghost use Rattle.std.specs.Prelude.{ℕ, List, Some, None};
 ghost use Rattle.std.specs.Prelude.{slice_get, [], ◌∷◌, ◌≤◌, ◌-◌};
 ghost use Rattle.std.specs.List.{list_any, range_with_len};
 ghost use Rattle.ag_expr.specs.declared.grammar.Item.TheVariants as Item;
@@ -143,7 +144,8 @@ impl<'t> Declared<'t> {
 
     /// A symbol has an attribute.
     fn has_attribute_of(&self, symbol: usize, name: &str) -> bool
-        ensures { result ≡ list_any (bytes_eq name.now) (attributes_of (slice_get self.now symbol)) }
+        ensures { result
+            ≡ list_any (bytes_eq name.now) (attributes_of (slice_get self.now symbol)) }
     {
         match self.attributes.get(symbol) {
             Some(names) => names.has(name),
@@ -186,7 +188,6 @@ impl<'t> Declared<'t> {
     }
 
     /// A symbol has a synthesized attribute of the number.
-    #[tactic(auto, using(crate::proofs::KindAt::synthesizes_is))]
     fn synthesizes(&self, symbol: usize, number: usize) -> bool
         ensures { result
             ≡ is_kind Synthesized (slice_get (symbol_kinds (slice_get self.now symbol)) number) }
@@ -198,7 +199,6 @@ impl<'t> Declared<'t> {
     }
 
     /// A symbol has an inherited attribute of the number.
-    #[tactic(auto, using(crate::proofs::KindAt::inherits_behind, crate::proofs::KindAt::inherits_none))]
     fn inherits(&self, symbol: usize, number: usize) -> bool
         ensures { result
             ≡ is_kind Inherited (slice_get (symbol_kinds (slice_get self.now symbol)) number) }

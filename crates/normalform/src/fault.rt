@@ -24,8 +24,8 @@ pub enum LimitKind {
     Literals,
 }
 
-/// Why a raw grammar is refused. The kinds are looked for in this order, and within a kind the first
-/// place in the order of the lists is told.
+/// Why a raw grammar is refused. The kinds are looked for in this order, and within a kind the
+/// first place in the order of the lists is told.
 #[derive(Debug, Drop)]
 pub enum NormalFault {
     /// N1: at this offset stands a symbol in a production that is not declared, or an occurrence
@@ -41,8 +41,9 @@ pub enum NormalFault {
     Unproductive(Named),
     /// N5: this is the first declared symbol that the start symbol does not reach.
     Unreachable(Named),
-    /// N6: the production of this number has no rule for the attribute of this number (the third) at
-    /// this place (the second), a synthesized one at place 0 or an inherited one at a later place.
+    /// N6: the production of this number has no rule for the attribute of this number (the third)
+    /// at this place (the second), a synthesized one at place 0 or an inherited one at a later
+    /// place.
     RuleMissing(usize, usize, usize),
     /// N7: the target at this offset is one that an earlier rule of the production has.
     RuleDoubled(usize),

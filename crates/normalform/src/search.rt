@@ -5,7 +5,8 @@ ghost use Rattle.std.specs.Prelude.{Contains, IfOk, OnOk, IfSome, None, slice_in
 ghost use Rattle.std.specs.List.{list_all};
 ghost use Rattle.normalform.specs.Clauses.{Follows};
 ghost use Rattle.normalform.specs.Search.{is_marked, IsClauseBelow, IsSearch, IsSettled, Grows};
-ghost use Rattle.normalform.specs.Search.{turns_left, Notes, row, rows, IsFirstUnmarked, IsFirstLeft};
+ghost use Rattle.normalform.specs.Search.{turns_left, Notes, row, rows, IsFirstUnmarked};
+ghost use Rattle.normalform.specs.Search.{IsFirstLeft};
 
 use crate::clause::Clause;
 use ag_value::NoMemory;
@@ -122,7 +123,8 @@ impl<'g> Search<'g> {
         ensures count { OnOk result (length self.new.marks.items ≡ length self.old.marks.items) }
         ensures settles { OnOk result ((p : ℕ) (d : Clause) → IsSettled self.old.marks.items
             self.old.work.items (slice_index_or self.old.clauses.now p d) ⊎ Contains visited.now p →
-            IsSettled self.new.marks.items self.new.work.items (slice_index_or self.old.clauses.now p
+            IsSettled self.new.marks.items self.new.work.items
+            (slice_index_or self.old.clauses.now p
             d)) }
         ensures turns { OnOk result (turns_left self.new.marks.items self.new.work.items ≤
             turns_left self.old.marks.items self.old.work.items) }
