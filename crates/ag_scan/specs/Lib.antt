@@ -1,0 +1,4 @@
+pub mod Words
+pub mod Tokens
+pub mod Cutting
+pub mod Table
