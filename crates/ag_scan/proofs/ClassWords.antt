@@ -32,7 +32,7 @@ pub record CutsClass (classes cs : List ℕ) (f : Front) : Type 0 where
 same_number : (a b : ℕ) → (a == b) ≡ true → a ≡ b
 same_number a b e = eqb-true a b e
 
-digit_no_name : (c : ℕ) → is_ascii_digit c ≡ true → starts_name c ≡ false
+pub digit_no_name : (c : ℕ) → is_ascii_digit c ≡ true → starts_name c ≡ false
 digit_no_name c digit =
     let small : c < 128 = grind (arith, nat_tests) in
     let letter : is_ascii_alphabetic c ≡ false = grind (arith, nat_tests) in

@@ -3,6 +3,7 @@ pub mod ClassWords
 pub mod Fitting
 pub mod Listing
 pub mod LiteralWords
+pub mod OneAnswer
 pub mod Orders
 pub mod Spans
 pub mod Tables

@@ -1,4 +1,5 @@
-pub mod Words
-pub mod Tokens
 pub mod Cutting
+pub mod Laws
 pub mod Table
+pub mod Tokens
+pub mod Words

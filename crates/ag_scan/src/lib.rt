@@ -3,6 +3,7 @@
 
 mod fault;
 mod front;
+pub mod laws;
 mod literals;
 mod scanning;
 mod token;
