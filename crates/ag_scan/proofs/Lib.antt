@@ -1,3 +1,4 @@
+pub mod Answered
 pub mod Choosing
 pub mod ClassWords
 pub mod Fitting
