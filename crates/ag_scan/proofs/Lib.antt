@@ -1,6 +1,7 @@
 pub mod Answered
 pub mod Choosing
 pub mod ClassWords
+pub mod Examples
 pub mod Fitting
 pub mod Listing
 pub mod LiteralWords

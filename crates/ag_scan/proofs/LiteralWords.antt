@@ -28,7 +28,7 @@ split_characters text word rest utf8 front e =
 bytes_front : (text word more : List ℕ) → IsUtf8 text → chars text ≡ word ++ more → IsFront (encode_utf8_all word) text
 bytes_front text word more utf8 split = (encode_utf8_all more, sym (encodes-chars text utf8) ∙ ap encode_utf8_all split ∙ encodes-append word more)
 
-encoded_width : (cs : List ℕ) → length (encode_utf8_all cs) ≡ width cs
+pub encoded_width : (cs : List ℕ) → length (encode_utf8_all cs) ≡ width cs
 encoded_width [] = refl
 encoded_width (c ∷ cs) = let more = encoded_width cs in omega (arith, length-append (encode_utf8 c) (encode_utf8_all cs), length-encode c)
 

@@ -3,3 +3,4 @@ pub mod Laws
 pub mod Table
 pub mod Tokens
 pub mod Words
+pub mod Worked
