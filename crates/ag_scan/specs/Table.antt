@@ -3,6 +3,7 @@ use Rattle.std.specs.Prelude.{◌≡◌, ℕ, ◌+◌, ◌<◌, ◌≤◌, false
 use Rattle.std.specs.Cmp.Lexicographic.{slice_cmp}
 use Rattle.std.specs.Ordering.{nat_cmp, is_gt}
 use Rattle.ag_expr.specs.Lists.{Each}
+use Rattle.ag_expr.specs.grammars.Accepted.{most_literals}
 use Rattle.ag_scan.specs.declared.literals.Word.{Word}
 
 -- the text begins with the bytes `front`
@@ -58,7 +59,7 @@ pub record IsTable (literals : List (List ℕ)) (words : List Word) (shorter : L
   pub ordered : AreOrdered words
   pub linked : AreLinked words shorter
   pub equally_long : length shorter ≡ length words
-  pub few : length words ≤ 1024
+  pub few : length words ≤ most_literals
 
 -- The word is a literal with its number, and the longest that the text begins with.
 pub record IsLongestFront (literals : List (List ℕ)) (text : List ℕ) (w : Word) : Type 0 where

@@ -7,6 +7,13 @@ ghost use Rattle.ag_scan.specs.Cutting as cutting;
 
 use ag_expr::Terminal;
 
+/// The numbers of the classes.
+const NAME: u16 = 0;
+
+const NUMBER: u16 = 1;
+
+const TEXT: u16 = 2;
+
 /// A span of characters.
 #[derive(Clone, Copy, Debug, PartialEq, Eq)]
 enum Span {
@@ -111,7 +118,7 @@ fn text_in_front(text: &str) -> Option<Front<'_>>
     let (lex, behind) = split_behind(Span::Quotable, text);
     match first(behind) {
         Some(('"', rest)) => Some(Front {
-            kind: Terminal::Class(2),
+            kind: Terminal::Class(TEXT),
             lex,
             rest,
         }),
@@ -127,18 +134,18 @@ pub fn class_in_front<'t>(classes: &[u16], text: &'t str) -> Option<Front<'t>>
 {
     let (c, behind) = first(text)?;
     if starts_name(c) {
-        if !classes.contains(&0) {
+        if !classes.contains(&NAME) {
             return None;
         }
-        return Some(span_in_front(Span::NameParts, 0, text));
+        return Some(span_in_front(Span::NameParts, NAME, text));
     }
     if c.is_ascii_digit() {
-        if !classes.contains(&1) {
+        if !classes.contains(&NUMBER) {
             return None;
         }
-        return Some(span_in_front(Span::Digits, 1, text));
+        return Some(span_in_front(Span::Digits, NUMBER, text));
     }
-    if c == '"' && classes.contains(&2) {
+    if c == '"' && classes.contains(&TEXT) {
         return text_in_front(behind);
     }
     None

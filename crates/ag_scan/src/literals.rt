@@ -2,6 +2,7 @@
 //! text.
 
 ghost use Rattle.std.specs.Prelude.{◌≡◌, ◌≤◌, length, Some, IfOk, MatchBool, MatchOption};
+ghost use Rattle.ag_expr.specs.grammars.Accepted.{most_literals};
 ghost use Rattle.ag_scan.specs.Table.{AreLinked, AreLiterals, AreOrdered, AreUpTo, GivesLast};
 ghost use Rattle.ag_scan.specs.Table.{HasNoFront, IsFront, IsLongestFront, IsTable, NoFront};
 ghost use Rattle.ag_scan.specs.Table.{behind_last};
@@ -67,7 +68,7 @@ fn behind(last: Option<u16>) -> usize
 
 /// The last of the first `bound` words that the text begins with.
 fn last_front(words: &[Word<'_>], shorter: &[Option<u16>], bound: usize, text: &str) -> Option<u16>
-    requires many { bound ≤ 1024 }
+    requires many { bound ≤ most_literals }
     requires words { bound ≤ length words.now }
     requires links { bound ≤ length shorter.now }
     requires ordered { AreOrdered words.now }
@@ -88,7 +89,7 @@ fn last_front(words: &[Word<'_>], shorter: &[Option<u16>], bound: usize, text: &
 
 /// The literals with their numbers.
 fn numbered<'g>(alloc: Global, literals: &'g [Text]) -> Result<Vec<Word<'g>>, NoMemory>
-    requires { length literals.now ≤ 1024 }
+    requires { length literals.now ≤ most_literals }
     ensures literals { IfOk result (λ ws. AreLiterals literals.now ws.items) }
     ensures many { IfOk result (λ ws. length ws.items ≡ length literals.now) }
 {
@@ -104,7 +105,7 @@ fn numbered<'g>(alloc: Global, literals: &'g [Text]) -> Result<Vec<Word<'g>>, No
 
 /// The literals in the order of their texts.
 fn ordered<'g>(alloc: Global, literals: &'g [Text]) -> Result<Vec<Word<'g>>, NoMemory>
-    requires { length literals.now ≤ 1024 }
+    requires { length literals.now ≤ most_literals }
     ensures literals { IfOk result (λ ws. AreLiterals literals.now ws.items) }
     ensures many { IfOk result (λ ws. length ws.items ≡ length literals.now) }
     ensures ordered { IfOk result (λ ws. AreOrdered ws.items) }
@@ -116,7 +117,7 @@ fn ordered<'g>(alloc: Global, literals: &'g [Text]) -> Result<Vec<Word<'g>>, NoM
 
 /// For each word the last one before it that its text begins with.
 fn linked(alloc: Global, words: &[Word<'_>]) -> Result<Vec<Option<u16>>, NoMemory>
-    requires many { length words.now ≤ 1024 }
+    requires many { length words.now ≤ most_literals }
     requires ordered { AreOrdered words.now }
     ensures many { IfOk result (λ s. length s.items ≡ length words.now) }
     ensures linked { IfOk result (λ s. AreLinked words.now s.items) }
@@ -131,15 +132,18 @@ fn linked(alloc: Global, words: &[Word<'_>]) -> Result<Vec<Option<u16>>, NoMemor
 
 /// The longest literal that the text begins with, by the table of the literals.
 fn longest_of<'g>(
-    _literals: &[Text],
+    texts: &[Text],
     words: &[Word<'g>],
     shorter: &[Option<u16>],
     text: &str,
 ) -> Option<Word<'g>>
-    requires { IsTable _literals.now words.now shorter.now }
-    ensures { MatchOption result (HasNoFront _literals.now text.now)
-        (λ w. IsLongestFront _literals.now text.now w) }
+    requires { IsTable texts.now words.now shorter.now }
+    ensures { MatchOption result (HasNoFront texts.now text.now)
+        (λ w. IsLongestFront texts.now text.now w) }
 {
+    if texts.is_empty() {
+        return None;
+    }
     let bound = count_up_to(words, text);
     let index = last_front(words, shorter, bound, text)?;
     Some(words[index as usize])
@@ -148,7 +152,7 @@ fn longest_of<'g>(
 impl<'g> Literals<'g> {
     /// The table of a grammar's literals. Takes memory for each.
     pub fn new(alloc: Global, texts: &'g [Text]) -> Result<Literals<'g>, NoMemory>
-        requires { length texts.now ≤ 1024 }
+        requires { length texts.now ≤ most_literals }
         ensures { IfOk result (λ l. l ≡ texts.now) }
     {
         let words = ordered(alloc, texts)?;

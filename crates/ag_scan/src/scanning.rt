@@ -3,6 +3,7 @@
 ghost use Rattle.std.specs.Prelude.{◌≡◌, ◌≤◌, ◌++◌, length, nat_lt, chars, encode_utf8_all};
 ghost use Rattle.std.specs.Prelude.{◌↔◌, IfOk, IfErr, IsTrue, MatchOption, Some, slice_get};
 ghost use Rattle.ag_expr.specs.Lists.{Has};
+ghost use Rattle.ag_expr.specs.grammars.Accepted.{most_literals};
 ghost use Rattle.ag_expr.specs.grammars.Tree.{IsTokenText};
 ghost use Rattle.ag_expr.specs.language.Tokens.{width};
 ghost use Rattle.ag_scan.specs.Cutting.{CutsLiteral, CutsToken, front_of};
@@ -89,7 +90,7 @@ fn token_in_front<'t>(
     text: &'t str,
     at: usize,
 ) -> Result<(Token, &'t str), ScanFault>
-    requires { at ≤ 1048576 }
+    requires { at ≤ most_sentence_bytes }
     ensures took { IfOk result (λ x.
         TakesToken (over literals.now classes.now) (chars text.now) at x.0 (chars x.1.now)) }
     ensures stopped { IfErr result (λ e.
@@ -145,7 +146,7 @@ fn scan_over(
     classes: &[u16],
     sentence: &[u8],
 ) -> Result<Vec<Token>, ScanFault>
-    requires many { length literals.now ≤ 1024 }
+    requires many { length literals.now ≤ most_literals }
     requires words { HasNoEmpty literals.now }
     ensures tokens { IfOk result (λ ts.
         AreTokensOf (over literals.now classes.now) sentence.now ts.items) }
