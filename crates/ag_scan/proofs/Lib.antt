@@ -1,0 +1,11 @@
+pub mod Answered
+pub mod Choosing
+pub mod ClassWords
+pub mod Examples
+pub mod Fitting
+pub mod Listing
+pub mod LiteralWords
+pub mod OneAnswer
+pub mod Orders
+pub mod Spans
+pub mod Tables

@@ -1,0 +1,10 @@
+use Rattle.std.proofs.Common.{◌<◌, length, arith}
+use Rattle.std.proofs.lemmas.Option.{slice_get-get_or}
+use Rattle.ag_scan.proofs.Tables.{last_is_longest}
+use Rattle.ag_scan.proofs.literals.longest_of.Goals as goal
+
+pub returns : goal.returns
+returns c =
+    let within : c.in_ok-index.index < length c.args.words.now = omega (arith, c.in_ok-index.ensures.below) in
+    last_is_longest c.args.texts.now c.args.words.now c.args.shorter.now c.requires c.count_up_to-bound.result c.args.text.now c.count_up_to-bound.ensures.up_to c.count_up_to-bound.ensures.others c.in_ok-index.index _ c.in_ok-index.ensures
+    (slice_get-get_or c.args.words.now c.in_ok-index.index _ within)

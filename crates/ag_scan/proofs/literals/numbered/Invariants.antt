@@ -1,0 +1,5 @@
+use Rattle.ag_scan.proofs.Tables.{AreFirst}
+use Rattle.ag_scan.proofs.literals.numbered.Given as goal
+
+abbrev pub invariant-loop-number : goal.invariant-loop-number
+invariant-loop-number l = AreFirst l.literals l.words.items l.number

@@ -1,0 +1,86 @@
+-- Cutting the word of a class from the front of characters: the plain function, which agrees with the definition of words.
+use Rattle.std.specs.Prelude.{◌≡◌, ℕ, Bool, true, cond, ◌==◌, List, [], ◌∷◌, ◌++◌, take, drop, Option, Some, None, slice_get, chars, encode_utf8, encode_utf8_all}
+use Rattle.std.specs.Borrow.{Bor}
+use Rattle.std.specs.Char.{is_ascii_digit}
+use Rattle.std.specs.List.{prefix_len, list_any}
+use Rattle.unicode_ident.specs.Ident.{is_xid_continue}
+use Rattle.ag_expr.specs.declared.grammar.Terminal.{Terminal}
+use Rattle.ag_expr.specs.declared.grammar.Terminal.TheVariants.{Literal, Class}
+use Rattle.ag_expr.specs.language.Tokens.{is_separator, starts_name}
+use Rattle.ag_scan.specs.declared.front.Span.{Span}
+use Rattle.ag_scan.specs.declared.front.Span.TheVariants as span
+use Rattle.ag_scan.specs.declared.front.Front as lent
+use Rattle.ag_scan.specs.Words.{Vocabulary, is_quotable, IsLiteral, IsLongest, IsToken}
+
+-- A word that is cut: its terminal, the text that it has, and what stands behind it.
+pub record Front : Type 0 where
+  pub kind : Terminal
+  pub lex : List ℕ
+  pub rest : List ℕ
+
+-- the characters of a span
+abbrev pub is_in : Span → ℕ → Bool
+is_in span.Separators = is_separator
+is_in span.Digits = is_ascii_digit
+is_in span.NameParts = is_xid_continue
+is_in span.Quotable = is_quotable
+
+-- the longest front whose characters pass, and what stands behind it
+abbrev pub front_in : (ℕ → Bool) → List ℕ → List ℕ
+front_in p cs = take (prefix_len p cs) cs
+
+abbrev pub back_of : (ℕ → Bool) → List ℕ → List ℕ
+back_of p cs = drop (prefix_len p cs) cs
+
+-- the word of a class that is a longest front
+abbrev pub span_from : (ℕ → Bool) → ℕ → List ℕ → Front
+span_from p class cs = record { kind = Class class; lex = encode_utf8_all (front_in p cs); rest = back_of p cs }
+
+-- the TEXT whose text is `body`, where a quote stands behind that
+abbrev pub closed : List ℕ → List ℕ → Option Front
+closed body [] = None
+closed body (c ∷ cs) = cond (c == 34) (Some (record { kind = Class 2; lex = body; rest = cs })) None
+
+-- the TEXT whose first quote stood before
+abbrev pub text_from : List ℕ → Option Front
+text_from cs = closed (encode_utf8_all (front_in is_quotable cs)) (back_of is_quotable cs)
+
+-- whether a class is one of those in use
+abbrev pub uses : List ℕ → ℕ → Bool
+uses classes k = list_any (λ d. d == k) classes
+
+-- the word of a class in use that stands in front
+unfoldable pub class_from : List ℕ → List ℕ → Option Front
+class_from classes [] = None
+class_from classes (c ∷ cs) =
+    cond (starts_name c) (cond (uses classes 0) (Some (span_from is_xid_continue 0 (c ∷ cs))) None)
+    (cond (is_ascii_digit c) (cond (uses classes 1) (Some (span_from is_ascii_digit 1 (c ∷ cs))) None) (cond (c == 34) (cond (uses classes 2) (text_from cs) None) None))
+
+-- what a lent front is
+abbrev pub front_of : lent.Front → Front
+front_of f = record { kind = f.kind; lex = f.lex.now; rest = chars f.rest.now }
+
+-- the text is a character and what stands behind it
+abbrev pub IsSplit : List ℕ → ℕ → List ℕ → Type 0
+IsSplit text c rest = (chars text ≡ c ∷ chars rest) × (text ≡ encode_utf8 c ++ rest)
+
+-- what stands behind a first character that passes, and none stands in front where there is nothing
+abbrev pub PassesOne : (ℕ → Bool) → List ℕ → Option (Bor (List ℕ)) → Type 0
+PassesOne p text None = prefix_len p (chars text) ≡ 0
+PassesOne p text (Some rest) = (c : ℕ) × (p c ≡ true) × IsSplit text c rest.now
+
+-- A literal is cut from the front of the characters, the longest that stands there.
+pub record CutsLiteral (literals : List (List ℕ)) (cs : List ℕ) (f : Front) : Type 0 where
+  pub number : ℕ
+  pub word : List ℕ
+  pub kind : f.kind ≡ Literal number
+  pub split : cs ≡ word ++ f.rest
+  pub there : slice_get literals number ≡ Some (encode_utf8_all word)
+  pub text : f.lex ≡ encode_utf8_all word
+  pub longest : IsLongest (IsLiteral literals) word f.rest
+
+-- A token is cut from the front of the characters.
+pub record CutsToken (v : Vocabulary) (cs : List ℕ) (f : Front) : Type 0 where
+  pub word : List ℕ
+  pub split : cs ≡ word ++ f.rest
+  pub token : IsToken v f.kind f.lex word f.rest

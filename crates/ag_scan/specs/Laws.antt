@@ -1,0 +1,26 @@
+-- What the law of sentences states.
+use Rattle.std.specs.Prelude.{◌≡◌, List, ℕ, Result, Ok, Err}
+use Rattle.ag_expr.specs.grammars.Accepted.{IsAccepted}
+use Rattle.ag_expr.specs.grammars.AttributeGrammar.{Grammar}
+use Rattle.ag_scan.specs.Tokens.{AreTokensOf, IsRefused}
+use Rattle.ag_scan.specs.Words.{Vocabulary, vocabulary_of}
+use Rattle.ag_scan.specs.declared.fault.ScanFault.{ScanFault}
+use Rattle.ag_scan.specs.declared.fault.ScanFault.TheVariants as fault
+use Rattle.ag_scan.specs.declared.token.Token.{Token}
+
+-- An answer to a sentence: its tokens, or why it has none. Want of memory is none.
+abbrev pub IsAnswer : Vocabulary → List ℕ → Result (List Token) ScanFault → Type 0
+IsAnswer v sentence (Ok ts) = AreTokensOf v sentence ts
+IsAnswer v sentence (Err fault.NoMemory) = ⊥
+IsAnswer v sentence (Err fault.TooLong) = IsRefused v sentence fault.TooLong
+IsAnswer v sentence (Err (fault.BadUtf8 at)) = IsRefused v sentence (fault.BadUtf8 at)
+IsAnswer v sentence (Err (fault.NoToken at)) = IsRefused v sentence (fault.NoToken at)
+IsAnswer v sentence (Err (fault.LongToken at)) = IsRefused v sentence (fault.LongToken at)
+
+-- No sentence has two answers over an accepted grammar, be they lists of tokens or refusals.
+abbrev pub AtMostOneAnswer : Type 0
+AtMostOneAnswer = (g : Grammar) → IsAccepted g → (sentence : List ℕ) (q r : Result (List Token) ScanFault) → IsAnswer (vocabulary_of g) sentence q → IsAnswer (vocabulary_of g) sentence r → q ≡ r
+
+-- Each sentence has an answer over an accepted grammar.
+abbrev pub AnAnswer : Type 0
+AnAnswer = (g : Grammar) → IsAccepted g → (sentence : List ℕ) → (q : Result (List Token) ScanFault) × IsAnswer (vocabulary_of g) sentence q

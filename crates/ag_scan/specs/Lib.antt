@@ -1,0 +1,6 @@
+pub mod Cutting
+pub mod Laws
+pub mod Table
+pub mod Tokens
+pub mod Words
+pub mod Worked

@@ -1,0 +1,72 @@
+-- Looking up the longest literal in front of a text. All of this is this project's. Texts stand here as the lists of their bytes.
+use Rattle.std.specs.Prelude.{◌≡◌, ℕ, ◌+◌, ◌<◌, ◌≤◌, false, List, ◌++◌, Option, Some, None, slice_get, length}
+use Rattle.std.specs.Cmp.Lexicographic.{slice_cmp}
+use Rattle.std.specs.Ordering.{nat_cmp, is_gt}
+use Rattle.ag_expr.specs.Lists.{Each}
+use Rattle.ag_expr.specs.grammars.Accepted.{most_literals}
+use Rattle.ag_scan.specs.declared.literals.Word.{Word}
+
+-- the text begins with the bytes `front`
+abbrev pub IsFront : List ℕ → List ℕ → Type 0
+IsFront front text = (rest : List ℕ) × (text ≡ front ++ rest)
+
+-- the bytes stand no later in the order of texts than others
+pub record IsUpTo (xs ys : List ℕ) : Type 0 where
+  pub up : is_gt (slice_cmp nat_cmp xs ys) ≡ false
+
+-- each of the first `bound` words stands no later than the text
+pub record AreUpTo (words : List Word) (bound : ℕ) (text : List ℕ) : Type 0 where
+  pub each : (i : ℕ) (w : Word) → i < bound → slice_get words i ≡ Some w → IsUpTo w.text.now text
+
+-- no word from the index `low` on, below `high`, is in front of the text
+pub record NoFront (words : List Word) (low high : ℕ) (text : List ℕ) : Type 0 where
+  pub none : (i : ℕ) (w : Word) → low ≤ i → i < high → slice_get words i ≡ Some w → IsFront w.text.now text → ⊥
+
+-- The word of the index k is in front of the text, and it is the last such word of the first `bound`.
+pub record IsLastFront (words : List Word) (bound : ℕ) (text : List ℕ) (k : ℕ) : Type 0 where
+  pub below : k < bound
+  pub word : Word
+  pub there : slice_get words k ≡ Some word
+  pub front : IsFront word.text.now text
+  pub last : NoFront words (k + 1) bound text
+
+-- the last of the first `bound` words in front of the text, where there is one
+abbrev pub GivesLast : List Word → ℕ → List ℕ → Option ℕ → Type 0
+GivesLast words bound text None = NoFront words 0 bound text
+GivesLast words bound text (Some k) = IsLastFront words bound text k
+
+-- how many words stand up to the last one, none where there is none
+abbrev pub behind_last : Option ℕ → ℕ
+behind_last None = 0
+behind_last (Some k) = k + 1
+
+-- Each word of the list has, at its index, the index of the last word before it that is in front of its own text.
+pub record AreLinked (words : List Word) (shorter : List (Option ℕ)) : Type 0 where
+  pub each : (i : ℕ) (w : Word) (o : Option ℕ) → slice_get words i ≡ Some w → slice_get shorter i ≡ Some o → GivesLast words i w.text.now o
+
+-- The words are in the order of their texts.
+pub record AreOrdered (words : List Word) : Type 0 where
+  pub each : (i j : ℕ) (a b : Word) → i ≤ j → slice_get words i ≡ Some a → slice_get words j ≡ Some b → IsUpTo a.text.now b.text.now
+
+-- The words are the literals, each with its number.
+pub record AreLiterals (literals : List (List ℕ)) (words : List Word) : Type 0 where
+  pub numbered : Each (λ w. slice_get literals w.number ≡ Some w.text.now) words
+  pub whole : (n : ℕ) (x : List ℕ) → slice_get literals n ≡ Some x → (k : ℕ) × (w : Word) × (slice_get words k ≡ Some w) × (w.text.now ≡ x)
+
+-- The words are the literals in the order of their texts, each linked to the last shorter one in front of it.
+pub record IsTable (literals : List (List ℕ)) (words : List Word) (shorter : List (Option ℕ)) : Type 0 where
+  pub literals_all : AreLiterals literals words
+  pub ordered : AreOrdered words
+  pub linked : AreLinked words shorter
+  pub equally_long : length shorter ≡ length words
+  pub few : length words ≤ most_literals
+
+-- The word is a literal with its number, and the longest that the text begins with.
+pub record IsLongestFront (literals : List (List ℕ)) (text : List ℕ) (w : Word) : Type 0 where
+  pub numbered : slice_get literals w.number ≡ Some w.text.now
+  pub front : IsFront w.text.now text
+  pub longest : Each (λ x. IsFront x text → length x ≤ length w.text.now) literals
+
+-- the text begins with no literal
+abbrev pub HasNoFront : List (List ℕ) → List ℕ → Type 0
+HasNoFront literals text = Each (λ x. IsFront x text → ⊥) literals

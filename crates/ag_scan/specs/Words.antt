@@ -1,0 +1,73 @@
+-- The words of a sentence: what is a word of a literal or of a class. All of this is this project's. A text stands here as the list of its characters.
+use Rattle.std.specs.Prelude.{◌≡◌, ℕ, zero, suc, ◌≤◌, Bool, true, not, ◌||◌, ◌==◌, List, [], ◌∷◌, ◌++◌, length, Some, slice_get, encode_utf8_all}
+use Rattle.std.specs.List.{list_all}
+use Rattle.ag_expr.specs.Lists.{Each, Has}
+use Rattle.ag_expr.specs.declared.grammar.Terminal.{Terminal}
+use Rattle.ag_expr.specs.declared.grammar.Terminal.TheVariants.{Literal, Class}
+use Rattle.ag_expr.specs.grammars.AttributeGrammar.{Grammar}
+use Rattle.ag_expr.specs.language.Tokens.{IsDigits, IsName}
+
+-- What the words are taken from: the texts of the literals by their numbers, and the classes in use.
+pub record Vocabulary : Type 0 where
+  pub literals : List (List ℕ)
+  pub classes : List ℕ
+
+abbrev pub over : List (List ℕ) → List ℕ → Vocabulary
+over literals classes = record { literals = literals; classes = classes }
+
+-- the literals of a grammar, and the classes that it uses
+abbrev pub vocabulary_of : Grammar → Vocabulary
+vocabulary_of g = over g.literals g.classes
+
+-- what may stand between the quotes of a TEXT: any character but a double quote and LF, and there are no escapes
+abbrev pub is_quotable : ℕ → Bool
+is_quotable c = not (c == 34 || c == 10)
+
+-- The characters are a word of the class, 0 being NAME, 1 NUMBER and 2 TEXT, and `lex` is the text that it has: of a TEXT what stands between its
+-- quotes, of the others the word itself.
+abbrev pub IsWordOfClass : ℕ → List ℕ → List ℕ → Type 0
+IsWordOfClass zero word lex = IsName word × (lex ≡ encode_utf8_all word)
+IsWordOfClass (suc zero) word lex = IsDigits word × (lex ≡ encode_utf8_all word)
+IsWordOfClass (suc (suc zero)) word lex = (body : List ℕ) × (word ≡ 34 ∷ (body ++ 34 ∷ [])) × (list_all is_quotable body ≡ true) × (lex ≡ encode_utf8_all body)
+IsWordOfClass (suc (suc (suc c))) word lex = ⊥
+
+-- The characters are a word of the terminal: the text of a literal, or a word of a class in use.
+abbrev pub IsWord : Vocabulary → Terminal → List ℕ → List ℕ → Type 0
+IsWord v (Literal l) word lex = (slice_get v.literals l ≡ Some (encode_utf8_all word)) × (lex ≡ encode_utf8_all word)
+IsWord v (Class c) word lex = Has v.classes c × IsWordOfClass c word lex
+
+-- no literal is empty
+abbrev pub HasNoEmpty : List (List ℕ) → Type 0
+HasNoEmpty literals = Each (λ x. 1 ≤ length x) literals
+
+-- the characters are one of the literals,
+abbrev pub IsLiteral : List (List ℕ) → List ℕ → Type 0
+IsLiteral literals word = Has literals (encode_utf8_all word)
+
+-- a word of one of the classes,
+abbrev pub IsClassed : List ℕ → List ℕ → Type 0
+IsClassed classes word = (c : ℕ) × (lex : List ℕ) × Has classes c × IsWordOfClass c word lex
+
+-- or of any terminal
+abbrev pub IsAnyWord : Vocabulary → List ℕ → Type 0
+IsAnyWord v word = (t : Terminal) × (lex : List ℕ) × IsWord v t word lex
+
+-- No longer beginning of the characters than the word is so.
+abbrev pub IsLongest : (List ℕ → Type 0) → List ℕ → List ℕ → Type 0
+IsLongest P word rest = (longer more : List ℕ) → word ++ rest ≡ longer ++ more → P longer → length longer ≤ length word
+
+-- no beginning of the characters is so
+abbrev pub BeginsNone : (List ℕ → Type 0) → List ℕ → Type 0
+BeginsNone P cs = (word more : List ℕ) → cs ≡ word ++ more → P word → ⊥
+
+-- a word that is also a literal has the literal's kind
+abbrev pub LiteralWins : Vocabulary → Terminal → List ℕ → Type 0
+LiteralWins v (Literal l) word = Unit {0}
+LiteralWins v (Class c) word = IsLiteral v.literals word → ⊥
+
+-- The word in front of `rest` is a token of the terminal: it is a word of it, no longer beginning of the characters is a word of any, and a literal
+-- wins a tie.
+pub record IsToken (v : Vocabulary) (t : Terminal) (lex word rest : List ℕ) : Type 0 where
+  pub is : IsWord v t word lex
+  pub longest : IsLongest (IsAnyWord v) word rest
+  pub tie : LiteralWins v t word

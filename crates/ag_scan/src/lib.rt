@@ -1,0 +1,14 @@
+//! The tokens of a sentence, by longest match over a grammar's literals and the classes it uses.
+#![tactic(auto)]
+
+mod fault;
+mod front;
+pub mod laws;
+mod literals;
+mod scanning;
+mod token;
+
+pub use ag_expr::Terminal;
+pub use fault::ScanFault;
+pub use scanning::{fits, scan};
+pub use token::Token;

@@ -1,0 +1,179 @@
+//! The literals of a grammar in the order of their texts, and the longest one at the front of a
+//! text.
+
+ghost use Rattle.std.specs.Prelude.{◌≡◌, ◌≤◌, length, Some, IfOk, MatchBool, MatchOption};
+ghost use Rattle.ag_expr.specs.grammars.Accepted.{most_literals};
+ghost use Rattle.ag_scan.specs.Table.{AreLinked, AreLiterals, AreOrdered, AreUpTo, GivesLast};
+ghost use Rattle.ag_scan.specs.Table.{HasNoFront, IsFront, IsLongestFront, IsTable, NoFront};
+ghost use Rattle.ag_scan.specs.Table.{behind_last};
+
+use ag_value::{NoMemory, Text};
+use std::alloc::Global;
+use std::marker::Model;
+
+/// A literal: its text and its number.
+#[derive(Clone, Copy, Debug)]
+pub struct Word<'g> {
+    pub text: &'g str,
+    pub number: u16,
+}
+
+/// The literals in the order of their texts, each with the index of the last one before it that its
+/// own text begins with. Contracts see it as the list of the texts by their numbers.
+#[derive(Drop)]
+pub struct Literals<'g> {
+    texts: &'g [Text],
+    words: Vec<Word<'g>>,
+    shorter: Vec<Option<u16>>,
+}
+
+impl<'g> Model for Literals<'g> {
+    ghost use Rattle.std.specs.Prelude.{List, ℕ};
+    ghost use Rattle.ag_scan.specs.Table.{IsTable};
+
+    ghost Value = { List (List ℕ) };
+
+    ghost view = { λ l. l.texts.now };
+
+    ghost invariant = { λ l. IsTable l.texts.now l.words.items l.shorter.items };
+}
+
+/// Whether the text begins with a word.
+fn begins_with(text: &str, word: &str) -> bool
+    ensures { MatchBool result (IsFront word.now text.now) (IsFront word.now text.now → ⊥) }
+{
+    text.as_bytes().starts_with(word.as_bytes())
+}
+
+/// How many words stand no later than the text in the order of texts; the text begins with none of
+/// the others.
+fn count_up_to(words: &[Word<'_>], text: &str) -> usize
+    requires { AreOrdered words.now }
+    ensures within { result ≤ length words.now }
+    ensures up_to { AreUpTo words.now result text.now }
+    ensures others { NoFront words.now result (length words.now) text.now }
+{
+    words.partition_point(|word| word.text <= text)
+}
+
+/// How many words stand up to the last one.
+fn behind(last: Option<u16>) -> usize
+    ensures { result ≡ behind_last last }
+{
+    match last {
+        Some(k) => k as usize + 1,
+        None => 0,
+    }
+}
+
+/// The last of the first `bound` words that the text begins with.
+fn last_front(words: &[Word<'_>], shorter: &[Option<u16>], bound: usize, text: &str) -> Option<u16>
+    requires many { bound ≤ most_literals }
+    requires words { bound ≤ length words.now }
+    requires links { bound ≤ length shorter.now }
+    requires ordered { AreOrdered words.now }
+    requires linked { AreLinked words.now shorter.now }
+    requires up_to { AreUpTo words.now bound text.now }
+    ensures { GivesLast words.now bound text.now result }
+{
+    let mut limit = bound;
+    while limit > 0 {
+        let last = limit - 1;
+        if begins_with(text, words[last].text) {
+            return Some(last as u16);
+        }
+        limit = behind(shorter[last]);
+    }
+    None
+}
+
+/// The literals with their numbers.
+fn numbered<'g>(alloc: Global, literals: &'g [Text]) -> Result<Vec<Word<'g>>, NoMemory>
+    requires { length literals.now ≤ most_literals }
+    ensures literals { IfOk result (λ ws. AreLiterals literals.now ws.items) }
+    ensures many { IfOk result (λ ws. length ws.items ≡ length literals.now) }
+{
+    let mut words = Vec::new(alloc);
+    for number in 0..literals.len() {
+        words.push(Word {
+            text: literals[number].as_str(),
+            number: number as u16,
+        })?;
+    }
+    Ok(words)
+}
+
+/// The literals in the order of their texts.
+fn ordered<'g>(alloc: Global, literals: &'g [Text]) -> Result<Vec<Word<'g>>, NoMemory>
+    requires { length literals.now ≤ most_literals }
+    ensures literals { IfOk result (λ ws. AreLiterals literals.now ws.items) }
+    ensures many { IfOk result (λ ws. length ws.items ≡ length literals.now) }
+    ensures ordered { IfOk result (λ ws. AreOrdered ws.items) }
+{
+    let mut words = numbered(alloc, literals)?;
+    words.sort_by_key(|word| word.text)?;
+    Ok(words)
+}
+
+/// For each word the last one before it that its text begins with.
+fn linked(alloc: Global, words: &[Word<'_>]) -> Result<Vec<Option<u16>>, NoMemory>
+    requires many { length words.now ≤ most_literals }
+    requires ordered { AreOrdered words.now }
+    ensures many { IfOk result (λ s. length s.items ≡ length words.now) }
+    ensures linked { IfOk result (λ s. AreLinked words.now s.items) }
+{
+    let mut shorter: Vec<Option<u16>> = Vec::new(alloc);
+    for index in 0..words.len() {
+        let link = last_front(words, shorter.as_slice(), index, words[index].text);
+        shorter.push(link)?;
+    }
+    Ok(shorter)
+}
+
+/// The longest literal that the text begins with, by the table of the literals.
+fn longest_of<'g>(
+    texts: &[Text],
+    words: &[Word<'g>],
+    shorter: &[Option<u16>],
+    text: &str,
+) -> Option<Word<'g>>
+    requires { IsTable texts.now words.now shorter.now }
+    ensures { MatchOption result (HasNoFront texts.now text.now)
+        (λ w. IsLongestFront texts.now text.now w) }
+{
+    if texts.is_empty() {
+        return None;
+    }
+    let bound = count_up_to(words, text);
+    let index = last_front(words, shorter, bound, text)?;
+    Some(words[index as usize])
+}
+
+impl<'g> Literals<'g> {
+    /// The table of a grammar's literals. Takes memory for each.
+    pub fn new(alloc: Global, texts: &'g [Text]) -> Result<Literals<'g>, NoMemory>
+        requires { length texts.now ≤ most_literals }
+        ensures { IfOk result (λ l. l ≡ texts.now) }
+    {
+        let words = ordered(alloc, texts)?;
+        let shorter = linked(alloc, words.as_slice())?;
+        Ok(Literals {
+            texts,
+            words,
+            shorter,
+        })
+    }
+
+    /// The longest literal that the text begins with. Takes no memory.
+    pub fn longest(&self, text: &str) -> Option<Word<'g>>
+        ensures { MatchOption result (HasNoFront self.now text.now)
+            (λ w. IsLongestFront self.now text.now w) }
+    {
+        longest_of(
+            self.texts,
+            self.words.as_slice(),
+            self.shorter.as_slice(),
+            text,
+        )
+    }
+}
