@@ -1,8 +1,11 @@
 //! The least assignment of passes to the attributes of a grammar, and why there may be none.
 #![tactic(auto)]
 
+mod assignment;
 pub mod laws;
 pub mod samples;
 mod stuck;
+mod table;
 
+pub use assignment::Assignment;
 pub use stuck::{Strike, Stuck};
