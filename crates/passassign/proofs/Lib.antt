@@ -1,3 +1,5 @@
+pub mod Adding
+pub mod DependentRows
 mod BothWays
 mod Earliest
 mod Growing

@@ -38,17 +38,17 @@ found states i xs is h = record { all = λ s a. (there s a, in_it s a); ordered 
     there s a m = elim (has_cases xs (i / 16, i % 16) (s, a) m) [
       | inl old ↦ (let o = (h.all s a).0 old in (o.0, omega (arith, o.1), o.2))
       | inr new ↦ (
-        let q : i / 16 ≡ s = ap (λ (x : ℕ × ℕ). x.0) new in
-        let r : i % 16 ≡ a = ap (λ (x : ℕ × ℕ). x.1) new in
-        let e : place_of s a ≡ i = omega arith in
-        (omega arith, omega arith, ap (state_at states) e ∙ is))
+          let q : i / 16 ≡ s = ap (λ (x : ℕ × ℕ). x.0) new in
+          let r : i % 16 ≡ a = ap (λ (x : ℕ × ℕ). x.1) new in
+          let e : place_of s a ≡ i = omega arith in
+          (omega arith, omega arith, ap (state_at states) e ∙ is))
     ]
 
     in_it : (s a : ℕ) → (a < 16) × (place_of s a < i + 1) × (state_at states (place_of s a) ≡ Open) → Has (xs ++ (i / 16, i % 16) ∷ []) (s, a)
     in_it s a m = elim (cases_eq (place_of s a) i) [
       | inl e ↦ (
-        let p = place_split s a i m.0 e in
-        subst (λ x. Has (xs ++ (i / 16, i % 16) ∷ []) (x, a)) p.0 (subst (λ x. Has (xs ++ (i / 16, i % 16) ∷ []) (i / 16, x)) p.1 (has_put xs (i / 16, i % 16))))
+          let p = place_split s a i m.0 e in
+          subst (λ x. Has (xs ++ (i / 16, i % 16) ∷ []) (x, a)) p.0 (subst (λ x. Has (xs ++ (i / 16, i % 16) ∷ []) (i / 16, x)) p.1 (has_put xs (i / 16, i % 16))))
       | inr e ↦ has_kept xs (i / 16, i % 16) (s, a) ((h.all s a).1 (m.0, omega (arith, m.1), m.2))
     ]
 
@@ -60,8 +60,8 @@ found states i xs is h = record { all = λ s a. (there s a, in_it s a); ordered 
       ]
       | inr newy ↦ elim (get_push_cases xs (i / 16, i % 16) x j ex) [
         | inl oldx ↦ (
-          let o = (h.all x.0 x.1).0 (j, oldx) in
-          subst (λ (y : ℕ × ℕ). (x.0 < y.0) ⊎ ((x.0 ≡ y.0) × (x.1 < y.1))) newy.1 (before x i o.0 o.1))
+            let o = (h.all x.0 x.1).0 (j, oldx) in
+            subst (λ (y : ℕ × ℕ). (x.0 < y.0) ⊎ ((x.0 ≡ y.0) × (x.1 < y.1))) newy.1 (before x i o.0 o.1))
         | inr newx ↦ absurd (let e = newx.0 in let f = newy.0 in omega arith)
       ]
     ]

@@ -1,8 +1,10 @@
 pub mod Answer
 pub mod Certificate
+pub mod Dependencies
 pub mod Laws
 pub mod Least
 pub mod Making
 pub mod Rows
 pub mod Sample
+pub mod Searching
 pub mod Tables

@@ -2,6 +2,8 @@
 #![tactic(auto)]
 
 mod assignment;
+mod dependency;
+mod direction;
 pub mod laws;
 pub mod samples;
 mod stuck;

@@ -1,0 +1,77 @@
+-- What holds while a pass's strikes are looked for.
+use Rattle.std.specs.Prelude.{ℕ, ◌≡◌, ◌+◌, ◌<◌, ◌≤◌, ◌⊎◌, ◌↔◌, List, [], ◌∷◌, ◌++◌, Option, Some, None, Bool, true, false, cond, ◌&&◌, not, nat_lt, slice_get, slice_index_or, slice_set, count_by, length}
+use Rattle.ag_expr.specs.Lists.{Has}
+use Rattle.ag_expr.specs.grammars.Accepted.{IsAccepted}
+use Rattle.ag_expr.specs.grammars.AttributeGrammar.{Grammar}
+use Rattle.ag_expr.specs.grammars.Passes.{LeftToRight, RightToLeft, IsBefore}
+use Rattle.ag_expr.specs.grammars.Passes as passes
+use Rattle.passassign.specs.declared.direction.Direction.{Direction}
+use Rattle.passassign.specs.declared.direction.Direction.TheVariants as direction
+use Rattle.passassign.specs.declared.dependency.Dependency.{Dependency}
+use Rattle.passassign.specs.declared.stuck.Strike.{Strike}
+use Rattle.passassign.specs.declared.table.State.{State}
+use Rattle.passassign.specs.declared.table.State.TheVariants.{Open}
+use Rattle.passassign.specs.Certificate.{AreGood}
+use Rattle.passassign.specs.Dependencies.{AreDependencies}
+use Rattle.passassign.specs.Making.{IsOpen}
+use Rattle.passassign.specs.Tables.{place_of, state_at, is_open, is_marked, table_passes, IsTable}
+
+-- the program's directions are those of the definitions
+abbrev pub way : Direction → passes.Direction
+way direction.LeftToRight = LeftToRight
+way direction.RightToLeft = RightToLeft
+
+-- where a table has what a strike strikes
+abbrev pub struck_place : Strike → ℕ
+struck_place x = place_of x.symbol x.attr
+
+-- what stands at a place can be struck
+abbrev pub is_due : List State → List Bool → ℕ → Bool
+is_due states marks k = is_open (state_at states k) && not (is_marked marks k)
+
+-- an attribute has no pass yet
+abbrev pub IsOpenAt : List State → Option ℕ → Type 0
+IsOpenAt states None = ⊥
+IsOpenAt states (Some k) = state_at states k ≡ Open
+
+-- An argument keeps a dependency's target out of a pass, whatever is struck: it is at the target's own child and has no pass
+-- yet, or it is at a child that is visited later.
+abbrev pub IsBarred : passes.Direction → List State → Dependency → Type 0
+IsBarred d states u = (1 ≤ u.place) × (1 ≤ u.from) × (((u.from ≡ u.place) × IsOpenAt states u.argument) ⊎ IsBefore d u.place u.from)
+
+-- what stands at a place is struck
+abbrev pub IsStruckAt : List Strike → ℕ → Type 0
+IsStruckAt xs k = (x : Strike) × Has xs x × (struck_place x ≡ k)
+
+-- the argument of a dependency is struck
+abbrev pub IsOnStruck : List Strike → Option ℕ → Type 0
+IsOnStruck xs None = ⊥
+IsOnStruck xs (Some k) = IsStruckAt xs k
+
+-- Why the target of a dependency is struck.
+pub record IsReasoned (all : List Dependency) (d : passes.Direction) (states : List State) (xs : List Strike) (u : Dependency) : Type 0 where
+  pub among : Has all u
+  pub why : IsBarred d states u ⊎ IsOnStruck xs u.argument
+
+-- the target of a dependency is struck, if it has no pass
+abbrev pub IsSettled : List State → List Bool → Dependency → Type 0
+IsSettled states marks u = state_at states u.target ≡ Open → is_marked marks u.target ≡ true
+
+-- A list of dependencies and a table are those of a grammar.
+pub record AreOf (g : Grammar) (all : List Dependency) (states : List State) : Type 0 where
+  pub accepted : IsAccepted g
+  pub dependencies : AreDependencies g.productions all
+  pub table : IsTable g.symbols states
+
+-- What holds of strikes and marks of what they strike.
+pub record IsSearch (all : List Dependency) (d : passes.Direction) (states : List State) (xs : List Strike) (marks : List Bool) : Type 0 where
+  pub len : length marks ≡ length states
+  pub count : length xs ≡ count_by (λ b. b) marks
+  pub marked : (k : ℕ) → (is_marked marks k ≡ true) ↔ IsStruckAt xs k
+  pub good : (g : Grammar) → AreOf g all states → AreGood g d (IsOpen g (table_passes states)) [] xs
+
+-- strikes and marks go on
+pub record Grows (xs ys : List Strike) (old new : List Bool) : Type 0 where
+  pub len : length new ≡ length old
+  pub strikes : (k : ℕ) (x : Strike) → slice_get xs k ≡ Some x → slice_get ys k ≡ Some x
+  pub marks : (k : ℕ) → is_marked old k ≡ true → is_marked new k ≡ true
