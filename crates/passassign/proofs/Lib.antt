@@ -2,9 +2,12 @@ pub mod Adding
 pub mod DependentRows
 mod BothWays
 mod Earliest
+pub mod Finishing
+pub mod Following
 mod Growing
 mod Legal
 pub mod Lists
+pub mod Linked
 mod Made
 mod Marked
 pub mod OpenOnes

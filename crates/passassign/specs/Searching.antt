@@ -13,7 +13,7 @@ use Rattle.passassign.specs.declared.table.State.{State}
 use Rattle.passassign.specs.declared.table.State.TheVariants.{Open}
 use Rattle.passassign.specs.Certificate.{AreGood}
 use Rattle.passassign.specs.Dependencies.{AreDependencies}
-use Rattle.passassign.specs.Making.{IsOpen}
+use Rattle.passassign.specs.Making.{IsOpen, AreFinished}
 use Rattle.passassign.specs.Tables.{place_of, state_at, is_open, is_marked, table_passes, IsTable}
 
 -- the program's directions are those of the definitions
@@ -51,6 +51,7 @@ IsOnStruck xs (Some k) = IsStruckAt xs k
 -- Why the target of a dependency is struck.
 pub record IsReasoned (all : List Dependency) (d : passes.Direction) (states : List State) (xs : List Strike) (u : Dependency) : Type 0 where
   pub among : Has all u
+  pub target : u.target ≡ struck_place u.strike
   pub why : IsBarred d states u ⊎ IsOnStruck xs u.argument
 
 -- the target of a dependency is struck, if it has no pass
@@ -75,3 +76,18 @@ pub record Grows (xs ys : List Strike) (old new : List Bool) : Type 0 where
   pub len : length new ≡ length old
   pub strikes : (k : ℕ) (x : Strike) → slice_get xs k ≡ Some x → slice_get ys k ≡ Some x
   pub marks : (k : ℕ) → is_marked old k ≡ true → is_marked new k ≡ true
+
+-- Strikes and marks go on by the targets of some dependencies that have no pass: where there was a reason to strike these,
+-- what holds of a search goes on to hold.
+pub record Follows (states : List State) (P : Dependency → Type 0) (xs ys : List Strike) (old new : List Bool) : Type 0 where
+  pub grows : Grows xs ys old new
+  pub settled : (u : Dependency) → P u → IsSettled states new u
+  pub search : (all : List Dependency) (d : passes.Direction) → ((u : Dependency) → P u → IsReasoned all d states xs u) → IsSearch all d states xs old → IsSearch all d states ys new
+
+-- the dependencies' targets are what their strikes strike
+abbrev pub ArePlaced : List Dependency → Type 0
+ArePlaced all = (u : Dependency) → Has all u → u.target ≡ struck_place u.strike
+
+-- No other attribute can be struck.
+abbrev pub IsFinished : List Dependency → passes.Direction → List State → List Strike → Type 0
+IsFinished all d states xs = (g : Grammar) → AreOf g all states → AreFinished g d (IsOpen g (table_passes states)) xs

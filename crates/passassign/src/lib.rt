@@ -6,6 +6,7 @@ mod dependency;
 mod direction;
 pub mod laws;
 pub mod samples;
+mod search;
 mod stuck;
 mod table;
 
