@@ -1,8 +1,8 @@
 -- The rows of a table of dependencies, as they are made.
-use Rattle.std.proofs.Common.{ℕ, ◌≡◌, ◌<◌, ◌≤◌, ◌+◌, ◌↔◌, ◌++◌, List, [], ◌∷◌, Some, slice_get, length, get_or, map, set, inl, inr, refl, ap, ◌∙◌, sym, subst, arith}
+use Rattle.std.proofs.Common.{ℕ, ◌≡◌, ◌<◌, ◌≤◌, ◌+◌, ◌++◌, List, [], ◌∷◌, Some, slice_get, length, get_or, map, set, inl, inr, ap, ◌∙◌, sym, subst, arith}
 use Rattle.std.proofs.lemmas.Bool.{cases_eq}
 use Rattle.std.proofs.lemmas.Option.{slice_get_within}
-use Rattle.std.proofs.lemmas.List.{get_or-set_other, get_or-set_same, map-set, length-map}
+use Rattle.std.proofs.lemmas.List.{get_or-set_other, get_or-set_same, map-set}
 use Rattle.std.specs.Global.{Vec}
 use Rattle.ag_expr.specs.Lists.{Has}
 use Rattle.passassign.specs.Dependencies.{Adds, row_at, AreRows, AreRowsOfFront, PutsAt, Puts}

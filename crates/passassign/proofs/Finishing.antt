@@ -1,5 +1,5 @@
 -- The list of strikes as a work list.
-use Rattle.std.proofs.Common.{ℕ, zero, suc, ◌≡◌, ◌<◌, ◌≤◌, ◌+◌, ◌↔◌, ◌⊎◌, ◌++◌, Bool, true, false, ◌&&◌, nat_lt, List, [], ◌∷◌, Option, Some, None, slice_get, length, count_by, get_or, inl, inr, refl, ap, ◌∙◌, sym, subst, arith}
+use Rattle.std.proofs.Common.{ℕ, zero, suc, ◌≡◌, ◌<◌, ◌≤◌, ◌+◌, Bool, true, false, List, [], ◌∷◌, Option, Some, None, slice_get, length, count_by, get_or, inl, inr, refl, ap, ◌∙◌, sym, subst, arith}
 use Rattle.std.proofs.lemmas.Bool.{cases_eq, cases_lt, false≢true}
 use Rattle.std.proofs.lemmas.List.Sums.{count_by-le-length}
 use Rattle.std.proofs.lemmas.Option.{slice_get-get_or, slice_get_within}
@@ -9,18 +9,17 @@ use Rattle.ag_expr.specs.Lists.{Has}
 use Rattle.ag_expr.specs.declared.grammar.Item.TheVariants as item
 use Rattle.ag_expr.specs.declared.grammar.Item.{Item}
 use Rattle.ag_expr.specs.grammars.AttributeGrammar.{Grammar, item_at}
-use Rattle.ag_expr.specs.grammars.Passes.{Direction, IsBefore}
+use Rattle.ag_expr.specs.grammars.Passes.{Direction}
 use Rattle.passassign.specs.Certificate.{Strikes, IsOneOf, IsReason, IsGood}
-use Rattle.passassign.specs.Dependencies.{places_of, symbol_of, table_place, dependency_of, head_of, IsDependency, AreRows, row_at}
-use Rattle.passassign.specs.Making.{IsOpen, AreFinished}
-use Rattle.passassign.specs.Searching.{struck_place, IsOpenAt, IsBarred, IsStruckAt, IsOnStruck, IsReasoned, IsSettled, AreOf, IsSearch, Grows, Follows, ArePlaced, IsFinished}
+use Rattle.passassign.specs.Dependencies.{places_of, symbol_of, table_place, dependency_of, head_of, AreRows, row_at}
+use Rattle.passassign.specs.Making.{IsOpen}
+use Rattle.passassign.specs.Searching.{struck_place, IsOpenAt, IsBarred, IsStruckAt, IsOnStruck, IsReasoned, IsSettled, AreOf, IsSearch, Follows, ArePlaced, IsFinished}
 use Rattle.passassign.specs.Tables.{place_of, state_at, is_marked, table_passes}
 use Rattle.passassign.specs.declared.dependency.Dependency.{Dependency}
 use Rattle.passassign.specs.declared.stuck.Strike.{Strike}
 use Rattle.passassign.specs.declared.table.State.{State}
-use Rattle.passassign.specs.declared.table.State.TheVariants.{Open}
-use Rattle.passassign.proofs.Following.{strikes_has, at_struck, grows_none}
-use Rattle.passassign.proofs.Linked.{open_state, open_there, places_item}
+use Rattle.passassign.proofs.Following.{strikes_has, at_struck}
+use Rattle.passassign.proofs.Linked.{open_state, places_item}
 
 count_none : (marks : List Bool) → ((k : ℕ) → is_marked marks k ≡ false) → count_by (λ b. b) marks ≡ 0
 count_none [] none = refl

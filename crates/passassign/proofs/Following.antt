@@ -11,7 +11,7 @@ use Rattle.ag_expr.specs.declared.grammar.Item.{Item}
 use Rattle.ag_expr.specs.grammars.AttributeGrammar.{Grammar, item_at}
 use Rattle.ag_expr.specs.grammars.Passes.{Direction, IsBefore}
 use Rattle.passassign.specs.Certificate.{Attributes, Strikes, IsOneOf, IsReason, IsGood, AreGood}
-use Rattle.passassign.specs.Dependencies.{IsDependency, symbol_of, table_place}
+use Rattle.passassign.specs.Dependencies.{symbol_of, table_place}
 use Rattle.passassign.specs.Making.{IsOpen}
 use Rattle.passassign.specs.Searching.{struck_place, is_due, IsOpenAt, IsBarred, IsStruckAt, IsOnStruck, IsReasoned, IsSettled, AreOf, IsSearch, Grows, Follows}
 use Rattle.passassign.specs.Tables.{place_of, state_at, is_open, is_marked, table_passes}

@@ -2,6 +2,7 @@ pub mod Adding
 pub mod DependentRows
 mod BothWays
 mod Earliest
+pub mod Finally
 pub mod Finishing
 pub mod Following
 mod Growing
@@ -12,7 +13,9 @@ mod Made
 mod Marked
 pub mod OpenOnes
 mod Options
+pub mod PassMade
 mod Reasons
+pub mod Refusing
 mod Rest
 mod Sample
 mod Struck

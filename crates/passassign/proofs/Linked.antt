@@ -1,10 +1,9 @@
 -- How the places of a table and the dependencies in a list stand for a grammar's attributes and arguments.
-use Rattle.std.proofs.Common.{ℕ, zero, suc, ◌≡◌, ◌<◌, ◌≤◌, ◌+◌, ◌*◌, ◌↔◌, ◌⊎◌, ◌++◌, Bool, true, false, cond, nat_lt, List, [], ◌∷◌, Option, Some, None, slice_get, length, map, inl, inr, refl, ap, ◌∙◌, sym, subst, arith}
-use Rattle.std.proofs.lemmas.Bool.{cases_lt, lt-ltb, ltb-true}
+use Rattle.std.proofs.Common.{ℕ, zero, suc, ◌≡◌, ◌<◌, cond, List, Option, Some, None, slice_get, length, map, refl, ap, ◌∙◌, sym, subst, arith}
+use Rattle.std.proofs.lemmas.Bool.{lt-ltb}
 use Rattle.std.proofs.lemmas.Option.{slice_get_within}
 use Rattle.std.proofs.lemmas.List.{length-map}
 use Rattle.std.proofs.Math.ListN.{length-append}
-use Rattle.ag_expr.specs.Lists.{Has}
 use Rattle.ag_expr.specs.declared.grammar.Item.TheVariants as item
 use Rattle.ag_expr.specs.declared.grammar.Item.{Item}
 use Rattle.ag_expr.specs.declared.grammar.Production.{Production}
@@ -12,8 +11,8 @@ use Rattle.ag_expr.specs.declared.grammar.Rule.{Rule}
 use Rattle.ag_expr.specs.declared.grammar.Symbol.{Symbol}
 use Rattle.ag_expr.specs.declared.grammar.Target.{Target}
 use Rattle.ag_expr.specs.grammars.Accepted.{IsAccepted}
-use Rattle.ag_expr.specs.grammars.AttributeGrammar.{Grammar, Kind, Synthesized, Inherited, IsProduction, item_at, item_kinds, found_kind, given_kind, symbol_kinds, symbol_names, attribute_names}
-use Rattle.passassign.specs.Dependencies.{places_of, symbol_of, table_place, dependency_of, head_of, IsDependency, AreDependencies}
+use Rattle.ag_expr.specs.grammars.AttributeGrammar.{Grammar, Synthesized, Inherited, IsProduction, item_at, item_kinds, found_kind, given_kind, symbol_kinds, symbol_names}
+use Rattle.passassign.specs.Dependencies.{places_of, symbol_of, table_place, IsDependency, AreDependencies}
 use Rattle.passassign.specs.Least.{IsAttribute}
 use Rattle.passassign.specs.Making.{IsOpen}
 use Rattle.passassign.specs.Searching.{AreOf, ArePlaced, struck_place}

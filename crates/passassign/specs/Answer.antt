@@ -2,6 +2,8 @@
 use Rattle.std.specs.Prelude.{ℕ, ◌≡◌, ◌<◌, ◌⊎◌, ◌↔◌, List, Some, slice_get}
 use Rattle.ag_expr.specs.grammars.AttributeGrammar.{Grammar}
 use Rattle.ag_expr.specs.grammars.Passes.{direction_of}
+use Rattle.passassign.specs.declared.assigning.AssignFault.{AssignFault}
+use Rattle.passassign.specs.declared.assigning.AssignFault.TheVariants as fault
 use Rattle.passassign.specs.declared.stuck.Strike.{Strike}
 use Rattle.passassign.specs.declared.stuck.Stuck.{Stuck}
 use Rattle.passassign.specs.Certificate.{Members, IsCertificate, stuck_of}
@@ -30,3 +32,8 @@ pub record IsRefused (g : Grammar) (c : Stuck) : Type 0 where
   pub ordered : IsInDeclaredOrder c.set
   pub certificate : IsCertificate g c
   pub made : IsOfIdlePasses g c
+
+-- Why `assign` may answer a fault: where it is about memory nothing is said.
+abbrev pub IsFault : Grammar → AssignFault → Type 0
+IsFault g (fault.Stuck c) = IsRefused g c
+IsFault g fault.NoMemory = Unit {0}

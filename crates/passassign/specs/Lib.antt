@@ -4,6 +4,7 @@ pub mod Dependencies
 pub mod Laws
 pub mod Least
 pub mod Making
+pub mod Progress
 pub mod Rows
 pub mod Sample
 pub mod Searching

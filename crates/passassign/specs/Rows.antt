@@ -1,5 +1,5 @@
 -- An assignment as rows of passes, one row for each symbol.
-use Rattle.std.specs.Prelude.{ℕ, ◌≡◌, ◌≤◌, ◌⊎◌, List, [], Some, map, slice_get, slice_index_or}
+use Rattle.std.specs.Prelude.{ℕ, ◌≡◌, ◌≤◌, ◌⊎◌, List, [], map, slice_index_or}
 use Rattle.std.specs.Global.{Vec}
 use Rattle.ag_expr.specs.Lists.{Each, Has}
 use Rattle.ag_expr.specs.grammars.Passes.{Passes}

@@ -1,5 +1,5 @@
 -- What holds while a pass's strikes are looked for.
-use Rattle.std.specs.Prelude.{ℕ, ◌≡◌, ◌+◌, ◌<◌, ◌≤◌, ◌⊎◌, ◌↔◌, List, [], ◌∷◌, ◌++◌, Option, Some, None, Bool, true, false, cond, ◌&&◌, not, nat_lt, slice_get, slice_index_or, slice_set, count_by, length}
+use Rattle.std.specs.Prelude.{ℕ, ◌≡◌, ◌≤◌, ◌⊎◌, ◌↔◌, List, [], Option, Some, None, Bool, true, ◌&&◌, not, slice_get, count_by, length}
 use Rattle.ag_expr.specs.Lists.{Has}
 use Rattle.ag_expr.specs.grammars.Accepted.{IsAccepted}
 use Rattle.ag_expr.specs.grammars.AttributeGrammar.{Grammar}

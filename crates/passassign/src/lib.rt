@@ -1,6 +1,7 @@
 //! The least assignment of passes to the attributes of a grammar, and why there may be none.
 #![tactic(auto)]
 
+mod assigning;
 mod assignment;
 mod dependency;
 mod direction;
@@ -10,5 +11,6 @@ mod search;
 mod stuck;
 mod table;
 
+pub use assigning::{AssignFault, assign};
 pub use assignment::Assignment;
 pub use stuck::{Strike, Stuck};

@@ -1,5 +1,5 @@
 use Rattle.std.proofs.Common.{[]}
-use Rattle.passassign.specs.Dependencies.{OfFront, Adds, IsByArgument, IsByRule, IsByProduction}
+use Rattle.passassign.specs.Dependencies.{OfFront, Adds, IsByProduction}
 use Rattle.passassign.proofs.dependency.all_dependencies.Given as goal
 
 abbrev pub invariant-loop-index : goal.invariant-loop-index

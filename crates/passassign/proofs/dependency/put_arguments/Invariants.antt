@@ -1,5 +1,4 @@
-use Rattle.std.proofs.Common.{[]}
-use Rattle.passassign.specs.Dependencies.{OfFront, Adds, IsByArgument, IsByRule, IsByProduction}
+use Rattle.passassign.specs.Dependencies.{OfFront, Adds, IsByArgument}
 use Rattle.passassign.proofs.dependency.put_arguments.Given as goal
 
 abbrev pub invariant-loop-index : goal.invariant-loop-index

@@ -1,6 +1,4 @@
-use Rattle.std.proofs.Common.{ℕ, ◌≡◌, ◌<◌, ◌↔◌, length, Some, slice_get}
-use Rattle.ag_expr.specs.Lists.{Has}
-use Rattle.passassign.specs.declared.dependency.Dependency.{Dependency}
+use Rattle.std.proofs.Common.{◌≡◌, length}
 use Rattle.passassign.specs.Dependencies.{AreRowsOfFront}
 use Rattle.passassign.proofs.dependency.rows_of.Given as goal
 

@@ -1,4 +1,4 @@
-use Rattle.std.proofs.Common.{◌≡◌, ◌<◌, ◌≤◌, length, subst, sym, ap, ◌∙◌, refl, arith}
+use Rattle.std.proofs.Common.{◌≡◌, ◌<◌, length, subst, ap, ◌∙◌, refl, arith}
 use Rattle.std.proofs.lemmas.Option.{slice_get_read}
 use Rattle.ag_expr.specs.Lists.{Has}
 use Rattle.passassign.specs.Dependencies.{row_at}
@@ -17,7 +17,7 @@ loop-at-preserved c =
     let last = c.index-last.result.now in
     let lt : c.loop-at.at < length c.loop-at.struck.strikes.items = omega (arith, c.len.ensures) in
     let row : c.row-dependents.result.now ≡ row_at c.args.dependencies.now.rows.items (struck_place last) =
-        c.row-dependents.ensures ∙ ap (λ rows. row_at rows c.slot.result) c.as_slice-in-loop-at.ensures.value ∙ ap (row_at c.args.dependencies.now.rows.items) c.slot.ensures in
+    c.row-dependents.ensures ∙ ap (λ rows. row_at rows c.slot.result) c.as_slice-in-loop-at.ensures.value ∙ ap (row_at c.args.dependencies.now.rows.items) c.slot.ensures in
     looked_more c.args.dependencies.now.all.items c.args.dependencies.now.rows.items (way c.args.direction) c.args.states.now c.loop-at.at last c.loop-at.struck.strikes.items c.strike_all.new.struck.strikes.items c.loop-at.struck.marks.items c.strike_all.new.struck.marks.items c.requires.placed c.requires.rows c.requires.len
     (slice_get_read c.loop-at.struck.strikes.items _ c.loop-at.at last refl lt c.index-last.ensures) c.loop-at.invariant
     (subst (λ row. Follows c.args.states.now (Has row) c.loop-at.struck.strikes.items c.strike_all.new.struck.strikes.items c.loop-at.struck.marks.items c.strike_all.new.struck.marks.items) row c.in_ok-strike_all.ensures)

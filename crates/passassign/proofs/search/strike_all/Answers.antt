@@ -1,4 +1,4 @@
-use Rattle.std.proofs.Common.{◌≡◌, get_or, ◌∙◌, refl, ◌+◌}
+use Rattle.std.proofs.Common.{◌≡◌, get_or, ◌∙◌, ◌+◌}
 use Rattle.passassign.proofs.Following.{Front, Any, front_follows, follows_same, front_has}
 use Rattle.passassign.proofs.search.strike_all.Goals as goal
 

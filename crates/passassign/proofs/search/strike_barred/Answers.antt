@@ -1,6 +1,5 @@
 use Rattle.std.proofs.Common.{◌≡◌, subst, sym, refl}
 use Rattle.passassign.specs.Searching.{way, IsBarred}
-use Rattle.passassign.specs.declared.dependency.Dependency.{Dependency}
 use Rattle.passassign.proofs.Following.{follows_same}
 use Rattle.passassign.proofs.search.strike_barred.Goals as goal
 

@@ -1,4 +1,4 @@
-use Rattle.std.proofs.Common.{◌∙◌, ◌<◌, length, refl, subst, sym}
+use Rattle.std.proofs.Common.{◌∙◌, ◌<◌, refl, subst, sym}
 use Rattle.std.proofs.lemmas.Option.{slice_get_read}
 use Rattle.passassign.specs.Rows.{numbers_of}
 use Rattle.passassign.proofs.TableRows.{rows_more, rows_end}

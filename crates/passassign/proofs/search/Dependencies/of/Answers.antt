@@ -1,6 +1,5 @@
-use Rattle.std.proofs.Common.{subst, sym, refl}
+use Rattle.std.proofs.Common.{subst}
 use Rattle.passassign.specs.Dependencies.{AreRows}
-use Rattle.passassign.specs.Searching.{ArePlaced}
 use Rattle.passassign.proofs.Linked.{placed}
 use Rattle.passassign.proofs.search.Dependencies.of.Goals as goal
 
