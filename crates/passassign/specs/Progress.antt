@@ -1,5 +1,5 @@
 -- What holds between two passes.
-use Rattle.std.specs.Prelude.{ℕ, ◌≡◌, List, count_by, length}
+use Rattle.std.specs.Prelude.{ℕ, ◌≡◌, ◌<◌, List, count_by, length}
 use Rattle.ag_expr.specs.declared.grammar.Production.{Production}
 use Rattle.ag_expr.specs.declared.grammar.Symbol.{Symbol}
 use Rattle.ag_expr.specs.grammars.Accepted.{IsAccepted}
@@ -46,3 +46,8 @@ pub record IsNext (g : Grammar) (all : List Dependency) (old new : Progress) (st
 -- no attribute loses its pass
 abbrev pub AreOpenIn : List State → List State → Type 0
 AreOpenIn new old = (k : ℕ) → state_at new k ≡ Open → state_at old k ≡ Open
+
+-- Both tell how many attributes have no pass, and the second fewer.
+pub record IsLeft (before after : ℕ) (p : Progress) : Type 0 where
+  pub count : after ≡ open_count p.states.items
+  pub less : after < before

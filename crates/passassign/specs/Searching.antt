@@ -8,6 +8,7 @@ use Rattle.ag_expr.specs.grammars.Passes as passes
 use Rattle.passassign.specs.declared.direction.Direction.{Direction}
 use Rattle.passassign.specs.declared.direction.Direction.TheVariants as direction
 use Rattle.passassign.specs.declared.dependency.Dependency.{Dependency}
+use Rattle.passassign.specs.declared.search.Struck.{Struck}
 use Rattle.passassign.specs.declared.stuck.Strike.{Strike}
 use Rattle.passassign.specs.declared.table.State.{State}
 use Rattle.passassign.specs.declared.table.State.TheVariants.{Open}
@@ -91,3 +92,11 @@ ArePlaced all = (u : Dependency) → Has all u → u.target ≡ struck_place u.s
 -- No other attribute can be struck.
 abbrev pub IsFinished : List Dependency → passes.Direction → List State → List Strike → Type 0
 IsFinished all d states xs = (g : Grammar) → AreOf g all states → AreFinished g d (IsOpen g (table_passes states)) xs
+
+-- the same of the program's strikes and marks
+abbrev pub GoesOn : List State → (Dependency → Type 0) → Struck → Struck → Type 0
+GoesOn states P old new = Follows states P old.strikes.items new.strikes.items old.marks.items new.marks.items
+
+-- the program's strikes and marks are those of a search
+abbrev pub IsSearched : List Dependency → passes.Direction → List State → Struck → Type 0
+IsSearched all d states found = IsSearch all d states found.strikes.items found.marks.items

@@ -1,13 +1,13 @@
 //! The least assignment of passes, one pass after the other.
 
-ghost use Rattle.std.specs.Prelude.{ℕ, ◌≡◌, ◌+◌, ◌*◌, ◌<◌, ◌≤◌, ◌↔◌, length, IfErr, IfOk};
+ghost use Rattle.std.specs.Prelude.{ℕ, ◌≡◌, ◌+◌, ◌<◌, ◌≤◌, ◌↔◌, IfErr, IfOk, OnOk, length};
 ghost use Rattle.ag_expr.specs.Lists.{Each, Has};
 ghost use Rattle.ag_expr.specs.grammars.AttributeGrammar.{Grammar as Plain, attribute_names};
 ghost use Rattle.passassign.specs.Answer.{IsInDeclaredOrder, IsFault};
 ghost use Rattle.passassign.specs.Certificate.{stuck_of};
 ghost use Rattle.passassign.specs.Least.{IsLeast};
-ghost use Rattle.passassign.specs.Progress.{AreReady, IsNext, IsProgress, IsWith, AreOpenIn};
-ghost use Rattle.passassign.specs.Progress.{open_count};
+ghost use Rattle.passassign.specs.Progress.{AreOpenIn, AreReady, IsLeft, IsNext, IsProgress};
+ghost use Rattle.passassign.specs.Progress.{IsWith, open_count};
 ghost use Rattle.passassign.specs.Rows.{passes_of};
 ghost use Rattle.passassign.specs.Searching.{way};
 ghost use Rattle.passassign.specs.Tables.{place_of, state_at};
@@ -60,10 +60,14 @@ fn make_pass(
 ) -> Result<Vec<Strike>, NoMemory>
     requires ready { AreReady dependencies.now (length progress.old.states.items) }
     requires next { progress.old.next < 65535 }
-    ensures len { IfOk result (λ strikes. length progress.new.states.items ≡ length progress.old.states.items) }
-    ensures next { IfOk result (λ strikes. progress.new.next ≡ progress.old.next + 1) }
-    ensures left { IfOk result (λ strikes. AreOpenIn progress.new.states.items progress.old.states.items) }
-    ensures made { IfOk result (λ strikes. (g : Plain) → IsProgress g dependencies.now.all.items progress.old → IsNext g dependencies.now.all.items progress.old progress.new strikes.items) }
+    ensures len { OnOk result
+        (length progress.new.states.items ≡ length progress.old.states.items) }
+    ensures next { OnOk result (progress.new.next ≡ progress.old.next + 1) }
+    ensures left { OnOk result
+        (AreOpenIn progress.new.states.items progress.old.states.items) }
+    ensures made { IfOk result (λ strikes. (g : Plain)
+        → IsProgress g dependencies.now.all.items progress.old
+        → IsNext g dependencies.now.all.items progress.old progress.new strikes.items) }
 {
     let struck = search(
         alloc,
@@ -85,8 +89,10 @@ fn left_of(
     second: Vec<Strike>,
 ) -> Result<Stuck, NoMemory>
     requires { length progress.now.states.items ≤ 4096 }
-    ensures strikes { IfOk result (λ c. c ≡ stuck_of (way progress.now.direction) c.set first.items second.items) }
-    ensures all { IfOk result (λ c. (s a : ℕ) → Has c.set (s, a) ↔ (a < 16) × (state_at progress.now.states.items (place_of s a) ≡ Open)) }
+    ensures strikes { IfOk result (λ c.
+        c ≡ stuck_of (way progress.now.direction) c.set first.items second.items) }
+    ensures all { IfOk result (λ c. (s a : ℕ) → Has c.set (s, a)
+        ↔ (a < 16) × (state_at progress.now.states.items (place_of s a) ≡ Open)) }
     ensures ordered { IfOk result (λ c. IsInDeclaredOrder c.set) }
 {
     let set = Items::from_vec(open_ones(alloc, progress.states.as_slice())?);
@@ -119,12 +125,15 @@ fn advance(
     requires next { progress.old.next + 2 < 65536 }
     requires some { 0 < open_before }
     requires count { open_before ≡ open_count progress.old.states.items }
-    ensures len { IfOk result (λ left. length progress.new.states.items ≡ length progress.old.states.items) }
-    ensures next { IfOk result (λ left. progress.new.next ≤ progress.old.next + 2) }
-    ensures count { IfOk result (λ left. left ≡ open_count progress.new.states.items) }
-    ensures less { IfOk result (λ left. left < open_before) }
-    ensures made { IfOk result (λ left. (g : Plain) → IsProgress g dependencies.now.all.items progress.old → IsProgress g dependencies.now.all.items progress.new) }
-    ensures refused { IfErr result (λ e. (g : Plain) → IsProgress g dependencies.now.all.items progress.old → IsFault g e) }
+    ensures len { OnOk result
+        (length progress.new.states.items ≡ length progress.old.states.items) }
+    ensures next { OnOk result (progress.new.next ≤ progress.old.next + 2) }
+    ensures left { IfOk result (λ left. IsLeft open_before left progress.new) }
+    ensures made { OnOk result ((g : Plain)
+        → IsProgress g dependencies.now.all.items progress.old
+        → IsProgress g dependencies.now.all.items progress.new) }
+    ensures refused { IfErr result (λ e. (g : Plain)
+        → IsProgress g dependencies.now.all.items progress.old → IsFault g e) }
 {
     let first = make_pass(alloc, dependencies, progress)?;
     let left = count_open(progress.states.as_slice());
@@ -147,8 +156,10 @@ pub(crate) fn assign_all(
 ) -> Result<Assignment, AssignFault>
     requires count { length symbols.now ≤ 256 }
     requires attributes { Each (λ s. length (attribute_names s) ≤ 16) symbols.now }
-    ensures least { IfOk result (λ m. (g : Plain) → IsWith symbols.now productions.now g → IsLeast g (passes_of m)) }
-    ensures refused { IfErr result (λ e. (g : Plain) → IsWith symbols.now productions.now g → IsFault g e) }
+    ensures least { IfOk result (λ m. (g : Plain)
+        → IsWith symbols.now productions.now g → IsLeast g (passes_of m)) }
+    ensures refused { IfErr result (λ e. (g : Plain)
+        → IsWith symbols.now productions.now g → IsFault g e) }
 {
     let states = open_all(alloc, symbols)?;
     let dependencies = Dependencies::of(alloc, productions, states.len())?;

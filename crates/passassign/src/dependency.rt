@@ -5,7 +5,8 @@ ghost use Rattle.ag_expr.specs.Lists.{Has};
 ghost use Rattle.ag_expr.specs.grammars.AttributeGrammar.{stored_items};
 ghost use Rattle.passassign.specs.Dependencies.{places_of, symbol_of, table_place, dependency_of};
 ghost use Rattle.passassign.specs.Dependencies.{OfEach, Adds, IsByArgument, IsByRule};
-ghost use Rattle.passassign.specs.Dependencies.{IsByProduction, AreDependencies, AreRows, PutsAt, Puts, row_at};
+ghost use Rattle.passassign.specs.Dependencies.{IsByProduction, AreDependencies};
+ghost use Rattle.passassign.specs.Dependencies.{AreRows, Puts, PutsAt, row_at};
 
 use crate::stuck::Strike;
 use crate::table::slot;
@@ -77,7 +78,8 @@ fn symbol_at(places: &[Item], place: u16) -> Option<u16>
 
 /// Where a table has an attribute at a place, if a symbol stands there.
 fn slot_at(places: &[Item], attribute: Target) -> Option<usize>
-    ensures { result ≡ table_place (symbol_of (slice_get places.now attribute.place)) attribute.attr }
+    ensures { result
+        ≡ table_place (symbol_of (slice_get places.now attribute.place)) attribute.attr }
 {
     match symbol_at(places, attribute.place) {
         Some(symbol) => Some(slot(symbol, attribute.attr)),
@@ -112,7 +114,8 @@ fn put_arguments(
     place: u16,
     args: &[Target],
 ) -> Result<(), NoMemory>
-    ensures { OnOk result (Adds (OfEach (IsByArgument places.now head place) args.now) found.old.items found.new.items) }
+    ensures { OnOk result (Adds (OfEach (IsByArgument places.now head place) args.now)
+        found.old.items found.new.items) }
 {
     for (index, argument) in args.iter().enumerate() {
         let arg = numbered(index)?;
@@ -129,7 +132,8 @@ fn put_rule(
     number: u16,
     rule: &Rule,
 ) -> Result<(), NoMemory>
-    ensures { OnOk result (Adds (IsByRule places.now production number rule.now) found.old.items found.new.items) }
+    ensures { OnOk result (Adds (IsByRule places.now production number rule.now)
+        found.old.items found.new.items) }
 {
     let target = rule.target;
     match symbol_at(places, target.place) {
@@ -155,7 +159,8 @@ fn put_rules(
     production: u16,
     rules: &[Rule],
 ) -> Result<(), NoMemory>
-    ensures { OnOk result (Adds (OfEach (IsByRule places.now production) rules.now) found.old.items found.new.items) }
+    ensures { OnOk result (Adds (OfEach (IsByRule places.now production) rules.now)
+        found.old.items found.new.items) }
 {
     for (index, rule) in rules.iter().enumerate() {
         put_rule(found, places, production, numbered(index)?, rule)?;
@@ -170,7 +175,8 @@ fn put_production(
     number: u16,
     production: &Production,
 ) -> Result<(), NoMemory>
-    ensures { OnOk result (Adds (IsByProduction number production.now) found.old.items found.new.items) }
+    ensures { OnOk result (Adds (IsByProduction number production.now)
+        found.old.items found.new.items) }
 {
     let places = all_places(alloc, production)?;
     put_rules(

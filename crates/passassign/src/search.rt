@@ -1,10 +1,10 @@
 //! What a pass can't give: attributes are struck one after the other, until no other can be.
 
-ghost use Rattle.std.specs.Prelude.{ℕ, ◌≡◌, ◌↔◌, IsTrue, List, [], false, length, IfOk, OnOk};
+ghost use Rattle.std.specs.Prelude.{ℕ, ◌≡◌, ◌↔◌, [], false, IfOk, IsTrue, OnOk, length};
 ghost use Rattle.ag_expr.specs.Lists.{Has};
 ghost use Rattle.passassign.specs.Dependencies.{AreDependencies, AreRows, row_at};
-ghost use Rattle.passassign.specs.Searching.{way, is_due, IsOpenAt, IsBarred, Follows};
-ghost use Rattle.passassign.specs.Searching.{IsSearch, IsFinished, ArePlaced};
+ghost use Rattle.passassign.specs.Searching.{way, is_due, IsOpenAt, IsBarred, GoesOn};
+ghost use Rattle.passassign.specs.Searching.{IsSearched, IsFinished, ArePlaced};
 ghost use Rattle.passassign.specs.Tables.{is_marked};
 
 use crate::dependency::{Dependency, all_dependencies, rows_of};
@@ -68,7 +68,7 @@ fn can_be_struck(states: &[State], marks: &[bool], slot: usize) -> bool
 /// Strikes the target of a dependency, unless it has a pass or is struck.
 fn strike(states: &[State], one: Dependency, struck: &mut Struck) -> Result<(), NoMemory>
     requires { length struck.old.marks.items ≡ length states.now }
-    ensures { OnOk result (Follows states.now (λ u. u ≡ one) struck.old.strikes.items struck.new.strikes.items struck.old.marks.items struck.new.marks.items) }
+    ensures { OnOk result (GoesOn states.now (λ u. u ≡ one) struck.old struck.new) }
 {
     if can_be_struck(states, struck.marks.as_slice(), one.target) {
         struck.strikes.push(one.strike)?;
@@ -109,7 +109,8 @@ fn strike_barred(
     struck: &mut Struck,
 ) -> Result<(), NoMemory>
     requires { length struck.old.marks.items ≡ length states.now }
-    ensures { OnOk result (Follows states.now (λ u. (u ≡ one) × IsBarred (way direction) states.now u) struck.old.strikes.items struck.new.strikes.items struck.old.marks.items struck.new.marks.items) }
+    ensures { OnOk result (GoesOn states.now
+        (λ u. (u ≡ one) × IsBarred (way direction) states.now u) struck.old struck.new) }
 {
     if is_barred(direction, states, one) {
         strike(states, one, struck)?;
@@ -125,7 +126,8 @@ fn strike_all_barred(
     struck: &mut Struck,
 ) -> Result<(), NoMemory>
     requires { length struck.old.marks.items ≡ length states.now }
-    ensures { OnOk result (Follows states.now (λ u. Has all.now u × IsBarred (way direction) states.now u) struck.old.strikes.items struck.new.strikes.items struck.old.marks.items struck.new.marks.items) }
+    ensures { OnOk result (GoesOn states.now
+        (λ u. Has all.now u × IsBarred (way direction) states.now u) struck.old struck.new) }
 {
     for one in all {
         strike_barred(direction, states, *one, struck)?;
@@ -140,7 +142,7 @@ fn strike_all(
     struck: &mut Struck,
 ) -> Result<(), NoMemory>
     requires { length struck.old.marks.items ≡ length states.now }
-    ensures { OnOk result (Follows states.now (Has dependents.now) struck.old.strikes.items struck.new.strikes.items struck.old.marks.items struck.new.marks.items) }
+    ensures { OnOk result (GoesOn states.now (Has dependents.now) struck.old struck.new) }
 {
     for one in dependents {
         strike(states, *one, struck)?;
@@ -172,8 +174,10 @@ pub(crate) fn search(
     requires len { length dependencies.now.rows.items ≡ length states.now }
     requires rows { AreRows dependencies.now.all.items dependencies.now.rows.items }
     requires placed { ArePlaced dependencies.now.all.items }
-    ensures search { IfOk result (λ struck. IsSearch dependencies.now.all.items (way direction) states.now struck.strikes.items struck.marks.items) }
-    ensures finished { IfOk result (λ struck. IsFinished dependencies.now.all.items (way direction) states.now struck.strikes.items) }
+    ensures search { IfOk result
+        (IsSearched dependencies.now.all.items (way direction) states.now) }
+    ensures finished { IfOk result (λ struck.
+        IsFinished dependencies.now.all.items (way direction) states.now struck.strikes.items) }
 {
     let mut struck = no_strikes(alloc, states.len())?;
     strike_all_barred(direction, states, dependencies.all.as_slice(), &mut struck)?;

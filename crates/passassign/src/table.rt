@@ -1,12 +1,14 @@
 //! A table of all attributes, and what the passes made so far say of each.
 
-ghost use Rattle.std.specs.Prelude.{ℕ, ◌≡◌, ◌+◌, ◌*◌, ◌/◌, ◌%◌, ◌^◌, ◌<◌, ◌≤◌, ◌↔◌, ◌++◌, [], ◌∷◌, length, count_by};
+ghost use Rattle.std.specs.Prelude.{ℕ, ◌≡◌, ◌+◌, ◌*◌, ◌/◌, ◌%◌, ◌^◌, ◌<◌, ◌≤◌, ◌↔◌, ◌++◌};
+ghost use Rattle.std.specs.Prelude.{[], ◌∷◌, count_by, length};
 ghost use Rattle.std.specs.Prelude.{true, false, IfOk, OnOk, Some, slice_get, unwrap_or};
 ghost use Rattle.ag_expr.specs.Lists.{Each, Has};
 ghost use Rattle.ag_expr.specs.grammars.AttributeGrammar.{attribute_names};
 ghost use Rattle.passassign.specs.Answer.{IsInDeclaredOrder};
 ghost use Rattle.passassign.specs.Rows.{numbers_of};
-ghost use Rattle.passassign.specs.Tables.{place_of, state_at, first_state, given, is_open, after_pass, is_marked, IsFirstTable, AreRowsOfTable};
+ghost use Rattle.passassign.specs.Tables.{place_of, state_at, first_state, given, is_open};
+ghost use Rattle.passassign.specs.Tables.{after_pass, is_marked, AreRowsOfTable, IsFirstTable};
 ghost use Rattle.passassign.specs.declared.table.State.TheVariants.{Open};
 
 use ag_expr::Symbol;
@@ -70,8 +72,10 @@ fn state_at_first(attr: usize, count: usize) -> State
 /// Puts the places of a symbol with so many attributes at the end of a table.
 fn open_symbol(states: &mut Vec<State>, count: usize) -> Result<(), NoMemory>
     ensures len { OnOk result (length states.new.items ≡ length states.old.items + 16) }
-    ensures kept { OnOk result ((k : ℕ) → k < length states.old.items → state_at states.new.items k ≡ state_at states.old.items k) }
-    ensures put { OnOk result ((a : ℕ) → a < 16 → state_at states.new.items (length states.old.items + a) ≡ first_state count a) }
+    ensures kept { OnOk result ((k : ℕ) → k < length states.old.items
+        → state_at states.new.items k ≡ state_at states.old.items k) }
+    ensures put { OnOk result ((a : ℕ) → a < 16
+        → state_at states.new.items (length states.old.items + a) ≡ first_state count a) }
 {
     for attr in 0..SLOTS {
         states.push(state_at_first(attr, count))?;
@@ -115,7 +119,8 @@ fn row(alloc: Global, states: &[State], from: usize, count: usize) -> Result<Vec
     requires from { from < 2 ^ 32 }
     requires count { count ≤ 16 }
     ensures len { IfOk result (λ row. length row.items ≡ count) }
-    ensures passes { IfOk result (λ row. (a : ℕ) → a < count → slice_get row.items a ≡ Some (unwrap_or (given (state_at states.now (from + a))) 0)) }
+    ensures passes { IfOk result (λ row. (a : ℕ) → a < count
+        → slice_get row.items a ≡ Some (unwrap_or (given (state_at states.now (from + a))) 0)) }
 {
     let mut row = Vec::new(alloc);
     for attr in 0..count {
@@ -144,7 +149,8 @@ pub(crate) fn rows(
 /// Puts an attribute at the end of a list if it has no pass.
 fn put_open(found: &mut Vec<(u16, u16)>, state: State, slot: usize) -> Result<(), NoMemory>
     requires { slot < 2 ^ 16 * 16 }
-    ensures puts { OnOk result (is_open state ≡ true → found.new.items ≡ found.old.items ++ (slot / 16, slot % 16) ∷ []) }
+    ensures puts { OnOk result (is_open state ≡ true
+        → found.new.items ≡ found.old.items ++ (slot / 16, slot % 16) ∷ []) }
     ensures other { OnOk result (is_open state ≡ false → found.new.items ≡ found.old.items) }
 {
     if has_none(state) {
@@ -156,7 +162,8 @@ fn put_open(found: &mut Vec<(u16, u16)>, state: State, slot: usize) -> Result<()
 /// The attributes that have no pass, in the order of the table.
 pub(crate) fn open_ones(alloc: Global, states: &[State]) -> Result<Vec<(u16, u16)>, NoMemory>
     requires { length states.now ≤ 4096 }
-    ensures all { IfOk result (λ found. (s a : ℕ) → Has found.items (s, a) ↔ (a < 16) × (state_at states.now (place_of s a) ≡ Open)) }
+    ensures all { IfOk result (λ found. (s a : ℕ)
+        → Has found.items (s, a) ↔ (a < 16) × (state_at states.now (place_of s a) ≡ Open)) }
     ensures ordered { IfOk result (λ found. IsInDeclaredOrder found.items) }
 {
     let mut found = Vec::new(alloc);
@@ -191,7 +198,8 @@ pub(crate) fn has_mark(marks: &[bool], slot: usize) -> bool
 /// Gives a pass to each attribute that has none and is not marked.
 pub(crate) fn give(states: &mut Vec<State>, marks: &[bool], pass: u16)
     ensures len { length states.new.items ≡ length states.old.items }
-    ensures after { (k : ℕ) → state_at states.new.items k ≡ after_pass pass (state_at states.old.items k) (is_marked marks.now k) }
+    ensures after { (k : ℕ) → state_at states.new.items k
+        ≡ after_pass pass (state_at states.old.items k) (is_marked marks.now k) }
 {
     for slot in 0..states.len() {
         let state = after(states[slot], pass, has_mark(marks, slot));
