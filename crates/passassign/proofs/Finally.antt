@@ -12,7 +12,7 @@ use Rattle.passassign.specs.Making.{IsMade, start}
 use Rattle.passassign.specs.Progress.{IsWith, IsProgress, open_count}
 use Rattle.passassign.specs.Rows.{passes_of}
 use Rattle.passassign.specs.Searching.{AreOf}
-use Rattle.passassign.specs.Tables.{place_of, state_at, state_of, given, first_state, attribute_count, table_passes, IsFirstTable, IsTable, IsDeclared, AreRowsOfTable}
+use Rattle.passassign.specs.Tables.{slot_of, state_at, state_of, given, first_state, attribute_count, table_passes, IsFirstTable, IsTable, IsDeclared, AreRowsOfTable}
 use Rattle.passassign.specs.declared.assigning.Progress.{Progress}
 use Rattle.passassign.specs.declared.dependency.Dependency.{Dependency}
 use Rattle.passassign.specs.declared.table.State.{State}
@@ -54,14 +54,14 @@ module _ (symbols : List Symbol) (states : List State) (first : IsFirstTable sym
   first_of : (s a : ℕ) → (state_of states s a ≡ Absent) ⊎ ((a < 16) × (state_of states s a ≡ first_state (attribute_count (slice_get symbols s)) a))
   first_of s a = go (nat_lt a 16) refl
     where
-      in_range : a < 16 → (state_at states (place_of s a) ≡ Absent) ⊎ (state_at states (place_of s a) ≡ first_state (attribute_count (slice_get symbols s)) a)
+      in_range : a < 16 → (state_at states (slot_of s a) ≡ Absent) ⊎ (state_at states (slot_of s a) ≡ first_state (attribute_count (slice_get symbols s)) a)
       in_range lt = elim (cases_lt s (length symbols)) [
         | inl l ↦ inr (first.at s a lt l)
         | inr le ↦ inl (get_or-eq_default states Absent (let e = first.len in omega arith))
       ]
 
       go : (b : Bool) → nat_lt a 16 ≡ b → (state_of states s a ≡ Absent) ⊎ ((a < 16) × (state_of states s a ≡ first_state (attribute_count (slice_get symbols s)) a))
-      go false e = inl (ap (λ b. cond b (state_at states (place_of s a)) Absent) e)
+      go false e = inl (ap (λ b. cond b (state_at states (slot_of s a)) Absent) e)
       go true e =
           let lt = ltb-true a 16 e in
           elim (in_range lt) [ inl f ↦ inl (state_in states s a lt ∙ f) | inr f ↦ inr (lt, state_in states s a lt ∙ f) ]
@@ -134,6 +134,6 @@ least g all p symbols productions rows w progress none rows_are = whole_least g 
           let d = declared_at g.symbols s a lt in
           let l = (attribute_within g s a w.accepted d).0 in
           let e = state_in p.states.items s a l in
-          are.passes s a lt ∙ given_pass (state_at p.states.items (place_of s a)) (λ f. (progress.of.table.there s a).1 d (e ∙ f)) (none_open p.states.items none (place_of s a)) ∙ ap given (sym e))
+          are.passes s a lt ∙ given_pass (state_at p.states.items (slot_of s a)) (λ f. (progress.of.table.there s a).1 d (e ∙ f)) (none_open p.states.items none (slot_of s a)) ∙ ap given (sym e))
       | inr le ↦ slice_get_past (passes_of rows s) a (let n = are.len s in omega arith) ∙ sym (none_there s a le (state_of p.states.items s a) refl)
     ]

@@ -11,10 +11,10 @@ use Rattle.ag_expr.specs.declared.grammar.Item.{Item}
 use Rattle.ag_expr.specs.grammars.AttributeGrammar.{Grammar, item_at}
 use Rattle.ag_expr.specs.grammars.Passes.{Direction}
 use Rattle.passassign.specs.Certificate.{Strikes, IsOneOf, IsReason, IsGood}
-use Rattle.passassign.specs.Dependencies.{places_of, symbol_of, table_place, dependency_of, head_of, AreRows, row_at}
+use Rattle.passassign.specs.Dependencies.{places_of, symbol_of, table_slot, dependency_of, head_of, AreRows, row_at}
 use Rattle.passassign.specs.Making.{IsOpen}
-use Rattle.passassign.specs.Searching.{struck_place, IsOpenAt, IsBarred, IsStruckAt, IsOnStruck, IsReasoned, IsSettled, AreOf, IsSearch, Follows, ArePlaced, IsFinished}
-use Rattle.passassign.specs.Tables.{place_of, state_at, is_marked, table_passes}
+use Rattle.passassign.specs.Searching.{struck_slot, IsOpenAt, IsBarred, IsStruckAt, IsOnStruck, IsReasoned, IsSettled, AreOf, IsSearch, Follows, ArePlaced, IsFinished}
+use Rattle.passassign.specs.Tables.{slot_of, state_at, is_marked, table_passes}
 use Rattle.passassign.specs.declared.dependency.Dependency.{Dependency}
 use Rattle.passassign.specs.declared.stuck.Strike.{Strike}
 use Rattle.passassign.specs.declared.table.State.{State}
@@ -49,9 +49,9 @@ marked_within marks k h = elim (cases_lt k (length marks)) [
 pub record IsLookedAt (all : List Dependency) (d : Direction) (states : List State) (at : ℕ) (xs : List Strike) (marks : List Bool) : Type 0 where
   pub search : IsSearch all d states xs marks
   pub barred : (u : Dependency) → Has all u → IsBarred d states u → IsSettled states marks u
-  pub done : (k : ℕ) (x : Strike) → k < at → slice_get xs k ≡ Some x → (u : Dependency) → Has all u → u.argument ≡ Some (struck_place x) → IsSettled states marks u
+  pub done : (k : ℕ) (x : Strike) → k < at → slice_get xs k ≡ Some x → (u : Dependency) → Has all u → u.argument ≡ Some (struck_slot x) → IsSettled states marks u
 
--- there are no more strikes than places
+-- there are no more strikes than slots
 pub strikes_within : (all : List Dependency) (d : Direction) (states : List State) (at : ℕ) (xs : List Strike) (marks : List Bool) → IsLookedAt all d states at xs marks → length xs ≤ length states
 strikes_within all d states at xs marks h = let l = h.search.len in let c = h.search.count in omega (arith, count_by-le-length (λ b. b) marks)
 
@@ -62,16 +62,16 @@ looked_start all d states xs ys a b placed s f = record {
   done = λ k x lt. absurd (omega arith);
 }
 
-pub looked_more : (all : List Dependency) (rows : List (Vec Dependency)) (d : Direction) (states : List State) (at : ℕ) (x : Strike) (xs ys : List Strike) (a b : List Bool) → ArePlaced all → AreRows all rows → length rows ≡ length states → slice_get xs at ≡ Some x → IsLookedAt all d states at xs a → Follows states (Has (row_at rows (struck_place x))) xs ys a b
+pub looked_more : (all : List Dependency) (rows : List (Vec Dependency)) (d : Direction) (states : List State) (at : ℕ) (x : Strike) (xs ys : List Strike) (a b : List Bool) → ArePlaced all → AreRows all rows → length rows ≡ length states → slice_get xs at ≡ Some x → IsLookedAt all d states at xs a → Follows states (Has (row_at rows (struck_slot x))) xs ys a b
     → IsLookedAt all d states (at + 1) ys b
 looked_more all rows d states at x xs ys a b placed are len is h f = record { search = search; barred = λ u m i e. f.grows.marks u.target (h.barred u m i e); done = done }
   where
-    within : struck_place x < length rows
-    within = let m = marked_within a (struck_place x) ((h.search.marked (struck_place x)).1 (x, (at, is), refl)) in let l = h.search.len in omega arith
+    within : struck_slot x < length rows
+    within = let m = marked_within a (struck_slot x) ((h.search.marked (struck_slot x)).1 (x, (at, is), refl)) in let l = h.search.len in omega arith
 
-    reasoned : (u : Dependency) → Has (row_at rows (struck_place x)) u → IsReasoned all d states xs u
+    reasoned : (u : Dependency) → Has (row_at rows (struck_slot x)) u → IsReasoned all d states xs u
     reasoned u m =
-        let o = (are (struck_place x) within u).0 m in
+        let o = (are (struck_slot x) within u).0 m in
         record { among = o.0; target = placed u o.0; why = inr (subst (IsOnStruck xs) (sym o.1) (x, (at, is), refl)) }
 
     search : IsSearch all d states ys b
@@ -85,12 +85,12 @@ looked_more all rows d states at x xs ys a b placed are len is h f = record { se
         let both : Some (get_or xs k y) ≡ Some y = sym (f.grows.strikes k (get_or xs k y) old) ∙ e in
         old ∙ both
 
-    done : (k : ℕ) (y : Strike) → k < at + 1 → slice_get ys k ≡ Some y → (u : Dependency) → Has all u → u.argument ≡ Some (struck_place y) → IsSettled states b u
+    done : (k : ℕ) (y : Strike) → k < at + 1 → slice_get ys k ≡ Some y → (u : Dependency) → Has all u → u.argument ≡ Some (struck_slot y) → IsSettled states b u
     done k y lt e u m arg = elim (cases_eq k at) [
       | inl here ↦ (
           let both : Some y ≡ Some x = sym (same k y lt e) ∙ ap (slice_get xs) here ∙ is in
           let f' : y ≡ x = cc in
-          f.settled u ((are (struck_place x) within u).1 (m, arg ∙ ap (λ y. Some (struck_place y)) f')))
+          f.settled u ((are (struck_slot x) within u).1 (m, arg ∙ ap (λ y. Some (struck_slot y)) f')))
       | inr other ↦ (λ o. f.grows.marks u.target (h.done k y (omega arith) (same k y lt e) u m arg o))
     ]
 
@@ -105,19 +105,19 @@ module _ (all : List Dependency) (d : Direction) (states : List State) (at : ℕ
       (of.dependencies (dependency_of (places_of good.production) (head_of x.production x.rule good.rule x.symbol) good.rule.target.place x.arg good.argument)).1
       (x.production, good.production, good.is_production, (x.rule, good.rule, good.is_rule, (x.symbol, ap symbol_of (places_item good.production good.rule.target.place ∙ good.symbol), (x.arg, good.argument, good.is_argument, refl))))
 
-  argument : one.argument ≡ table_place (symbol_of (item_at good.production good.argument.place)) good.argument.attr
+  argument : one.argument ≡ table_slot (symbol_of (item_at good.production good.argument.place)) good.argument.attr
   unfolding one
-  argument = ap (λ y. table_place (symbol_of y) good.argument.attr) (places_item good.production good.argument.place)
+  argument = ap (λ y. table_slot (symbol_of y) good.argument.attr) (places_item good.production good.argument.place)
 
-  from_struck : (y : Option Item) → IsOneOf (Strikes xs) y good.argument.attr → one.argument ≡ table_place (symbol_of y) good.argument.attr → IsSettled states marks one
+  from_struck : (y : Option Item) → IsOneOf (Strikes xs) y good.argument.attr → one.argument ≡ table_slot (symbol_of y) good.argument.attr → IsSettled states marks one
   from_struck None i e = absurd i
   from_struck (Some (item.Terminal t)) i e = absurd i
   from_struck (Some (item.Symbol s)) i e =
       let o = strikes_has xs s good.argument.attr i in
       let w = slice_get_within xs o.1.0 o.0 o.1.1 in
-      h.done o.1.0 o.0 (omega arith) o.1.1 one among (e ∙ ap (λ s. Some (place_of s good.argument.attr)) (sym o.2) ∙ ap (λ a. Some (place_of o.0.symbol a)) (sym o.3))
+      h.done o.1.0 o.0 (omega arith) o.1.1 one among (e ∙ ap (λ s. Some (slot_of s good.argument.attr)) (sym o.2) ∙ ap (λ a. Some (slot_of o.0.symbol a)) (sym o.3))
 
-  open_argument : (y : Option Item) → IsOneOf (IsOpen g (table_passes states)) y good.argument.attr → IsOpenAt states (table_place (symbol_of y) good.argument.attr)
+  open_argument : (y : Option Item) → IsOneOf (IsOpen g (table_passes states)) y good.argument.attr → IsOpenAt states (table_slot (symbol_of y) good.argument.attr)
   open_argument None i = i
   open_argument (Some (item.Terminal t)) i = i
   open_argument (Some (item.Symbol s)) i = (open_state g all states of s good.argument.attr i).1
@@ -132,7 +132,7 @@ module _ (all : List Dependency) (d : Direction) (states : List State) (at : ℕ
   unfolding one
   finished_at =
       let here = open_state g all states of x.symbol x.attr is in
-      let place : one.target ≡ place_of x.symbol x.attr = ap (place_of x.symbol) good.attr in
+      let place : one.target ≡ slot_of x.symbol x.attr = ap (slot_of x.symbol) good.attr in
       let m : is_marked marks one.target ≡ true = settled good.reason (ap (state_at states) place ∙ here.1) in
       at_struck g all d states xs of (h.search.good g of) x.symbol x.attr here.0 (subst (IsStruckAt xs) place ((h.search.marked one.target).0 m))
 

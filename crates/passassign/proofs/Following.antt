@@ -11,16 +11,16 @@ use Rattle.ag_expr.specs.declared.grammar.Item.{Item}
 use Rattle.ag_expr.specs.grammars.AttributeGrammar.{Grammar, item_at}
 use Rattle.ag_expr.specs.grammars.Passes.{Direction, IsBefore}
 use Rattle.passassign.specs.Certificate.{Attributes, Strikes, IsOneOf, IsReason, IsGood, AreGood}
-use Rattle.passassign.specs.Dependencies.{symbol_of, table_place}
+use Rattle.passassign.specs.Dependencies.{symbol_of, table_slot}
 use Rattle.passassign.specs.Making.{IsOpen}
-use Rattle.passassign.specs.Searching.{struck_place, is_due, IsOpenAt, IsBarred, IsStruckAt, IsOnStruck, IsReasoned, IsSettled, AreOf, IsSearch, Grows, Follows}
-use Rattle.passassign.specs.Tables.{place_of, state_at, is_open, is_marked, table_passes}
+use Rattle.passassign.specs.Searching.{struck_slot, is_due, IsOpenAt, IsBarred, IsStruckAt, IsOnStruck, IsReasoned, IsSettled, AreOf, IsSearch, Grows, Follows}
+use Rattle.passassign.specs.Tables.{slot_of, state_at, is_open, is_marked, table_passes}
 use Rattle.passassign.specs.declared.dependency.Dependency.{Dependency}
 use Rattle.passassign.specs.declared.stuck.Strike.{Strike}
 use Rattle.passassign.specs.declared.table.State.{State}
 use Rattle.passassign.specs.declared.table.State.TheVariants.{Open}
 use Rattle.passassign.proofs.Growing.{strikes_grow}
-use Rattle.passassign.proofs.Linked.{Parts, parts, target_within, argument_within, place_same, open_there, open_state}
+use Rattle.passassign.proofs.Linked.{Parts, parts, target_within, argument_within, slot_same, open_there, open_state}
 use Rattle.passassign.proofs.Lists.{get_push_front, has_kept, has_put, has_cases}
 use Rattle.passassign.proofs.OpenOnes.{open_is, open_within}
 
@@ -126,26 +126,26 @@ strikes_open g d candidate struck (x ∷ xs) (is, new, one, more) s a h = go h (
     go (inl e) later = subst (λ s. candidate s a) e.0 (subst (candidate x.symbol) e.1 is)
     go (inr m) later = later m
 
--- what a search has struck, by attributes and by places
+-- what a search has struck, by attributes and by slots
 module _ (g : Grammar) (all : List Dependency) (d : Direction) (states : List State) (xs : List Strike) (of : AreOf g all states) (good : AreGood g d (IsOpen g (table_passes states)) [] xs) where
   pub struck_within : (x : Strike) → Has xs x → x.attr < 16
   struck_within x h = (open_state g all states of x.symbol x.attr (strikes_open g d (IsOpen g (table_passes states)) [] xs good x.symbol x.attr (has_strikes xs x h))).0
 
-  pub struck_at : (s a : ℕ) → Strikes xs s a → IsStruckAt xs (place_of s a)
-  struck_at s a h = let o = strikes_has xs s a h in (o.0, o.1, ap (λ s. place_of s o.0.attr) o.2 ∙ ap (place_of s) o.3)
+  pub struck_at : (s a : ℕ) → Strikes xs s a → IsStruckAt xs (slot_of s a)
+  struck_at s a h = let o = strikes_has xs s a h in (o.0, o.1, ap (λ s. slot_of s o.0.attr) o.2 ∙ ap (slot_of s) o.3)
 
-  pub at_struck : (s a : ℕ) → a < 16 → IsStruckAt xs (place_of s a) → Strikes xs s a
+  pub at_struck : (s a : ℕ) → a < 16 → IsStruckAt xs (slot_of s a) → Strikes xs s a
   at_struck s a lt h =
-      let e = place_same h.0.symbol h.0.attr s a (struck_within h.0 h.1) lt h.2 in
+      let e = slot_same h.0.symbol h.0.attr s a (struck_within h.0 h.1) lt h.2 in
       subst (λ s. Strikes xs s a) e.0 (subst (Strikes xs h.0.symbol) e.1 (has_strikes xs h.0 h.1))
 
   module _ (u : Dependency) (p : Parts g u) (why : IsBarred d states u ⊎ IsOnStruck xs u.argument) where
-    target_state : (x : Option Item) → item_at p.production p.argument.place ≡ x → IsOpenAt states (table_place (symbol_of x) p.argument.attr) → IsOneOf (IsOpen g (table_passes states)) x p.argument.attr
+    target_state : (x : Option Item) → item_at p.production p.argument.place ≡ x → IsOpenAt states (table_slot (symbol_of x) p.argument.attr) → IsOneOf (IsOpen g (table_passes states)) x p.argument.attr
     target_state None e h = h
     target_state (Some (item.Terminal t)) e h = h
     target_state (Some (item.Symbol s)) e h = open_there g all states of s p.argument.attr (argument_within g u.strike.production u.strike.rule u.strike.arg p.production p.rule p.argument s of.accepted p.is_production p.is_rule p.is_argument e) h
 
-    struck_argument : (x : Option Item) → item_at p.production p.argument.place ≡ x → IsOnStruck xs (table_place (symbol_of x) p.argument.attr) → IsOneOf (Strikes xs) x p.argument.attr
+    struck_argument : (x : Option Item) → item_at p.production p.argument.place ≡ x → IsOnStruck xs (table_slot (symbol_of x) p.argument.attr) → IsOneOf (Strikes xs) x p.argument.attr
     struck_argument None e h = h
     struck_argument (Some (item.Terminal t)) e h = h
     struck_argument (Some (item.Symbol s)) e h = at_struck s p.argument.attr (argument_within g u.strike.production u.strike.rule u.strike.arg p.production p.rule p.argument s of.accepted p.is_production p.is_rule p.is_argument e) h
@@ -196,7 +196,7 @@ module _ (states : List State) (xs : List Strike) (marks : List Bool) (one : Dep
       ]),
       (λ h. elim (has_cases xs one.strike h.0 h.1) [
         | inl old ↦ kept k ((s.marked k).1 (h.0, old, h.2))
-        | inr e ↦ subst (λ k. is_marked (set marks one.target true) k ≡ true) (r.target ∙ ap struck_place e ∙ h.2) marked_now
+        | inr e ↦ subst (λ k. is_marked (set marks one.target true) k ≡ true) (r.target ∙ ap struck_slot e ∙ h.2) marked_now
       ]),
     );
     good = good;

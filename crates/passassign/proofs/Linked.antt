@@ -1,4 +1,4 @@
--- How the places of a table and the dependencies in a list stand for a grammar's attributes and arguments.
+-- How the slots of a table and the dependencies in a list stand for a grammar's attributes and arguments.
 use Rattle.std.proofs.Common.{ℕ, zero, suc, ◌≡◌, ◌<◌, cond, List, Option, Some, None, slice_get, length, map, refl, ap, ◌∙◌, sym, subst, arith}
 use Rattle.std.proofs.lemmas.Bool.{lt-ltb}
 use Rattle.std.proofs.lemmas.Option.{slice_get_within}
@@ -12,11 +12,11 @@ use Rattle.ag_expr.specs.declared.grammar.Symbol.{Symbol}
 use Rattle.ag_expr.specs.declared.grammar.Target.{Target}
 use Rattle.ag_expr.specs.grammars.Accepted.{IsAccepted}
 use Rattle.ag_expr.specs.grammars.AttributeGrammar.{Grammar, Synthesized, Inherited, IsProduction, item_at, item_kinds, found_kind, given_kind, symbol_kinds, symbol_names}
-use Rattle.passassign.specs.Dependencies.{places_of, symbol_of, table_place, IsDependency, AreDependencies}
+use Rattle.passassign.specs.Dependencies.{places_of, symbol_of, table_slot, IsDependency, AreDependencies}
 use Rattle.passassign.specs.Least.{IsAttribute}
 use Rattle.passassign.specs.Making.{IsOpen}
-use Rattle.passassign.specs.Searching.{AreOf, ArePlaced, struck_place}
-use Rattle.passassign.specs.Tables.{place_of, state_at, state_of, given, table_passes}
+use Rattle.passassign.specs.Searching.{AreOf, ArePlaced, struck_slot}
+use Rattle.passassign.specs.Tables.{slot_of, state_at, state_of, given, table_passes}
 use Rattle.passassign.specs.declared.dependency.Dependency.{Dependency}
 use Rattle.passassign.specs.declared.table.State.{State}
 use Rattle.passassign.specs.declared.table.State.TheVariants.{Absent, Open, Given}
@@ -41,12 +41,12 @@ attribute_within g s a accepted is = go (slice_get g.symbols s) refl
       slice_get_within g.symbols s x e,
     )
 
--- two attributes have one place only if they are the same
-pub place_same : (s a t b : ℕ) → a < 16 → b < 16 → place_of s a ≡ place_of t b → (s ≡ t) × (a ≡ b)
-place_same s a t b la lb e = (omega arith, omega arith)
+-- two attributes have one slot only if they are the same
+pub slot_same : (s a t b : ℕ) → a < 16 → b < 16 → slot_of s a ≡ slot_of t b → (s ≡ t) × (a ≡ b)
+slot_same s a t b la lb e = (omega arith, omega arith)
 
-pub state_in : (states : List State) (s a : ℕ) → a < 16 → state_of states s a ≡ state_at states (place_of s a)
-state_in states s a lt = ap (λ b. cond b (state_at states (place_of s a)) Absent) (lt-ltb a 16 lt)
+pub state_in : (states : List State) (s a : ℕ) → a < 16 → state_of states s a ≡ state_at states (slot_of s a)
+state_in states s a lt = ap (λ b. cond b (state_at states (slot_of s a)) Absent) (lt-ltb a 16 lt)
 
 open_given : (x : State) → x ≡ Open → given x ≡ None
 open_given x e = ap given e
@@ -60,12 +60,12 @@ not_absent : (x : State) → x ≡ Open → x ≡ Absent → ⊥
 not_absent x e f = let bad : Open ≡ Absent = sym e ∙ f in cc
 
 -- an attribute has no pass where the table says so
-pub open_there : (g : Grammar) (all : List Dependency) (states : List State) → AreOf g all states → (s a : ℕ) → a < 16 → state_at states (place_of s a) ≡ Open → IsOpen g (table_passes states) s a
+pub open_there : (g : Grammar) (all : List Dependency) (states : List State) → AreOf g all states → (s a : ℕ) → a < 16 → state_at states (slot_of s a) ≡ Open → IsOpen g (table_passes states) s a
 open_there g all states of s a lt e =
     let f : state_of states s a ≡ Open = state_in states s a lt ∙ e in
     ((of.table.there s a).0 (not_absent (state_of states s a) f), open_given (state_of states s a) f)
 
-pub open_state : (g : Grammar) (all : List Dependency) (states : List State) → AreOf g all states → (s a : ℕ) → IsOpen g (table_passes states) s a → (a < 16) × (state_at states (place_of s a) ≡ Open)
+pub open_state : (g : Grammar) (all : List Dependency) (states : List State) → AreOf g all states → (s a : ℕ) → IsOpen g (table_passes states) s a → (a < 16) × (state_at states (slot_of s a) ≡ Open)
 open_state g all states of s a i =
     let lt = (attribute_within g s a of.accepted i.0).0 in
     (lt, sym (state_in states s a lt) ∙ is_open_state (state_of states s a) i.1 ((of.table.there s a).1 i.0))
@@ -89,10 +89,10 @@ pub record Parts (g : Grammar) (u : Dependency) : Type 0 where
   pub is_argument : slice_get rule.args u.strike.arg ≡ Some argument
   pub symbol : item_at production rule.target.place ≡ Some (item.Symbol u.strike.symbol)
   pub attr : rule.target.attr ≡ u.strike.attr
-  pub target : u.target ≡ place_of u.strike.symbol u.strike.attr
+  pub target : u.target ≡ slot_of u.strike.symbol u.strike.attr
   pub place : u.place ≡ rule.target.place
   pub from : u.from ≡ argument.place
-  pub at : u.argument ≡ table_place (symbol_of (item_at production argument.place)) argument.attr
+  pub at : u.argument ≡ table_slot (symbol_of (item_at production argument.place)) argument.attr
 
 pub parts : (g : Grammar) (u : Dependency) → IsDependency g.productions u → Parts g u
 parts g u (p, q, is_q, (r, rule, is_rule, (s, is_s, (i, o, is_o, e)))) =
@@ -108,7 +108,7 @@ parts g u (p, q, is_q, (r, rule, is_rule, (s, is_s, (i, o, is_o, e)))) =
       target = refl;
       place = refl;
       from = refl;
-      at = ap (λ x. table_place (symbol_of x) o.attr) (places_item q o.place);
+      at = ap (λ x. table_slot (symbol_of x) o.attr) (places_item q o.place);
     })
 
 -- the attribute that an argument is of a symbol is there
@@ -126,5 +126,5 @@ target_within g u accepted p =
 pub placed : (productions : List Production) (all : List Dependency) → AreDependencies productions all → ArePlaced all
 placed productions all are u h = place_by productions u ((are u).0 h)
   where
-    place_by : (productions : List Production) (u : Dependency) → IsDependency productions u → u.target ≡ struck_place u.strike
-    place_by productions u (p, q, is_q, (r, rule, is_rule, (s, is_s, (i, o, is_o, e)))) = subst (λ (u : Dependency). u.target ≡ struck_place u.strike) (sym e) refl
+    place_by : (productions : List Production) (u : Dependency) → IsDependency productions u → u.target ≡ struck_slot u.strike
+    place_by productions u (p, q, is_q, (r, rule, is_rule, (s, is_s, (i, o, is_o, e)))) = subst (λ (u : Dependency). u.target ≡ struck_slot u.strike) (sym e) refl

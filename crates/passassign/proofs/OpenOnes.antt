@@ -3,7 +3,7 @@ use Rattle.std.proofs.Common.{ℕ, ◌≡◌, ◌<◌, ◌+◌, ◌/◌, ◌%◌
 use Rattle.std.proofs.lemmas.Bool.{cases_eq, cases_lt}
 use Rattle.ag_expr.specs.Lists.{Has}
 use Rattle.passassign.specs.Answer.{IsInDeclaredOrder}
-use Rattle.passassign.specs.Tables.{state_at, place_of, is_open}
+use Rattle.passassign.specs.Tables.{state_at, slot_of, is_open}
 use Rattle.passassign.specs.declared.table.State.{State}
 use Rattle.passassign.specs.declared.table.State.TheVariants.{Absent, Open, Given}
 use Rattle.std.proofs.lemmas.Option.{slice_get_within}
@@ -20,34 +20,34 @@ is_no_open Absent e f = cc
 is_no_open Open e f = cc
 is_no_open (Given p) e f = cc
 
--- a list has the attributes without a pass in front of place i of a table
+-- a list has the attributes without a pass in front of slot i of a table
 pub record AreOpenOnes (states : List State) (i : ℕ) (xs : List (ℕ × ℕ)) : Type 0 where
-  pub all : (s a : ℕ) → Has xs (s, a) ↔ ((a < 16) × (place_of s a < i) × (state_at states (place_of s a) ≡ Open))
+  pub all : (s a : ℕ) → Has xs (s, a) ↔ ((a < 16) × (slot_of s a < i) × (state_at states (slot_of s a) ≡ Open))
   pub ordered : IsInDeclaredOrder xs
 
-before : (x : ℕ × ℕ) (i : ℕ) → x.1 < 16 → place_of x.0 x.1 < i → (x.0 < i / 16) ⊎ ((x.0 ≡ i / 16) × (x.1 < i % 16))
+before : (x : ℕ × ℕ) (i : ℕ) → x.1 < 16 → slot_of x.0 x.1 < i → (x.0 < i / 16) ⊎ ((x.0 ≡ i / 16) × (x.1 < i % 16))
 before x i lt less = elim (cases_lt x.0 (i / 16)) [ inl l ↦ inl l | inr m ↦ inr (omega arith, omega arith) ]
 
-place_split : (s a i : ℕ) → a < 16 → place_of s a ≡ i → (i / 16 ≡ s) × (i % 16 ≡ a)
-place_split s a i lt e = (omega arith, omega arith)
+slot_split : (s a i : ℕ) → a < 16 → slot_of s a ≡ i → (i / 16 ≡ s) × (i % 16 ≡ a)
+slot_split s a i lt e = (omega arith, omega arith)
 
 found : (states : List State) (i : ℕ) (xs : List (ℕ × ℕ)) → state_at states i ≡ Open → AreOpenOnes states i xs → AreOpenOnes states (i + 1) (xs ++ (i / 16, i % 16) ∷ [])
 found states i xs is h = record { all = λ s a. (there s a, in_it s a); ordered = ordered }
   where
-    there : (s a : ℕ) → Has (xs ++ (i / 16, i % 16) ∷ []) (s, a) → (a < 16) × (place_of s a < i + 1) × (state_at states (place_of s a) ≡ Open)
+    there : (s a : ℕ) → Has (xs ++ (i / 16, i % 16) ∷ []) (s, a) → (a < 16) × (slot_of s a < i + 1) × (state_at states (slot_of s a) ≡ Open)
     there s a m = elim (has_cases xs (i / 16, i % 16) (s, a) m) [
       | inl old ↦ (let o = (h.all s a).0 old in (o.0, omega (arith, o.1), o.2))
       | inr new ↦ (
           let q : i / 16 ≡ s = ap (λ (x : ℕ × ℕ). x.0) new in
           let r : i % 16 ≡ a = ap (λ (x : ℕ × ℕ). x.1) new in
-          let e : place_of s a ≡ i = omega arith in
+          let e : slot_of s a ≡ i = omega arith in
           (omega arith, omega arith, ap (state_at states) e ∙ is))
     ]
 
-    in_it : (s a : ℕ) → (a < 16) × (place_of s a < i + 1) × (state_at states (place_of s a) ≡ Open) → Has (xs ++ (i / 16, i % 16) ∷ []) (s, a)
-    in_it s a m = elim (cases_eq (place_of s a) i) [
+    in_it : (s a : ℕ) → (a < 16) × (slot_of s a < i + 1) × (state_at states (slot_of s a) ≡ Open) → Has (xs ++ (i / 16, i % 16) ∷ []) (s, a)
+    in_it s a m = elim (cases_eq (slot_of s a) i) [
       | inl e ↦ (
-          let p = place_split s a i m.0 e in
+          let p = slot_split s a i m.0 e in
           subst (λ x. Has (xs ++ (i / 16, i % 16) ∷ []) (x, a)) p.0 (subst (λ x. Has (xs ++ (i / 16, i % 16) ∷ []) (i / 16, x)) p.1 (has_put xs (i / 16, i % 16))))
       | inr e ↦ has_kept xs (i / 16, i % 16) (s, a) ((h.all s a).1 (m.0, omega (arith, m.1), m.2))
     ]
@@ -70,7 +70,7 @@ passed : (states : List State) (i : ℕ) (xs : List (ℕ × ℕ)) → (state_at 
 passed states i xs no_open h = record {
   all = λ s a. (
     (λ m. let o = (h.all s a).0 m in (o.0, omega (arith, o.1), o.2)),
-    (λ m. elim (cases_eq (place_of s a) i) [
+    (λ m. elim (cases_eq (slot_of s a) i) [
       | inl e ↦ absurd (no_open (subst (λ k. state_at states k ≡ Open) e m.2))
       | inr e ↦ (h.all s a).1 (m.0, omega (arith, m.1), m.2)
     ]),

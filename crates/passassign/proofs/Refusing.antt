@@ -10,7 +10,7 @@ use Rattle.passassign.specs.Certificate.{Members, IsCertificate, stuck_of}
 use Rattle.passassign.specs.Making.{IsOpen, IsPass, AreIdle}
 use Rattle.passassign.specs.Progress.{IsProgress, IsNext, AreOpenIn, open_count}
 use Rattle.passassign.specs.Searching.{way}
-use Rattle.passassign.specs.Tables.{place_of, state_at, state_of, given, is_open, table_passes}
+use Rattle.passassign.specs.Tables.{slot_of, state_at, state_of, given, is_open, table_passes}
 use Rattle.passassign.specs.declared.assigning.Progress.{Progress}
 use Rattle.passassign.specs.declared.dependency.Dependency.{Dependency}
 use Rattle.passassign.specs.declared.stuck.Strike.{Strike}
@@ -88,7 +88,7 @@ module _ (g : Grammar) (all : List Dependency) (old new last : Progress) (first 
       go (Given p) f =
           let is = (two.progress.of.table.there s a).0 (λ h. let bad : Given p ≡ Absent = sym f ∙ h in cc) in
           let o = open_state g all old.states.items before.of s a (is, e) in
-          (open_there g all last.states.items two.progress.of s a o.0 (still (place_of s a) o.1)).1
+          (open_there g all last.states.items two.progress.of s a o.0 (still (slot_of s a) o.1)).1
 
   one_more : new.next ≡ suc old.next
   one_more = next ∙ add-one old.next
@@ -105,11 +105,11 @@ module _ (g : Grammar) (all : List Dependency) (old new last : Progress) (first 
   direction : way last.direction ≡ direction_of old.next
   direction = two.progress.turned ∙ ap direction_of (next_two ∙ add-one new.next ∙ ap suc one_more) ∙ turned_twice (direction_of old.next)
 
-  module _ (c : Stuck) (strikes : c ≡ stuck_of (way last.direction) c.set first second) (members : (s a : ℕ) → Has c.set (s, a) ↔ ((a < 16) × (state_at last.states.items (place_of s a) ≡ Open))) (ordered : IsInDeclaredOrder c.set) (some : 0 < open_count old.states.items) where
+  module _ (c : Stuck) (strikes : c ≡ stuck_of (way last.direction) c.set first second) (members : (s a : ℕ) → Has c.set (s, a) ↔ ((a < 16) × (state_at last.states.items (slot_of s a) ≡ Open))) (ordered : IsInDeclaredOrder c.set) (some : 0 < open_count old.states.items) where
     open_members : (s a : ℕ) → Members c.set s a ↔ IsOpen g (table_passes old.states.items) s a
     open_members s a = (
-      (λ h. let m = (members s a).0 h in open_there g all old.states.items before.of s a m.0 (kept (place_of s a) m.1)),
-      (λ i. let o = open_state g all old.states.items before.of s a i in (members s a).1 (o.0, still (place_of s a) o.1)),
+      (λ h. let m = (members s a).0 h in open_there g all old.states.items before.of s a m.0 (kept (slot_of s a) m.1)),
+      (λ i. let o = open_state g all old.states.items before.of s a i in (members s a).1 (o.0, still (slot_of s a) o.1)),
     )
 
     is_stuck : c ≡ stuck_of (direction_of old.next) c.set first second
@@ -118,7 +118,7 @@ module _ (g : Grammar) (all : List Dependency) (old new last : Progress) (first 
     member : (x : ℕ × ℕ) × Has c.set x
     member =
         let o = some_open old.states.items some in
-        let e : place_of (o.0 / 16) (o.0 % 16) ≡ o.0 = omega arith in
+        let e : slot_of (o.0 / 16) (o.0 % 16) ≡ o.0 = omega arith in
         ((o.0 / 16, o.0 % 16), (members (o.0 / 16) (o.0 % 16)).1 (omega arith, ap (state_at last.states.items) e ∙ still o.0 o.1))
 
     certificate : IsCertificate g c

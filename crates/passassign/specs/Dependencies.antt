@@ -10,7 +10,7 @@ use Rattle.ag_expr.specs.declared.grammar.Target.{Target}
 use Rattle.ag_expr.specs.grammars.AttributeGrammar.{stored_items}
 use Rattle.passassign.specs.declared.stuck.Strike.{Strike}
 use Rattle.passassign.specs.declared.dependency.Dependency.{Dependency}
-use Rattle.passassign.specs.Tables.{place_of}
+use Rattle.passassign.specs.Tables.{slot_of}
 
 -- what stands at the places of a production, from its left side on
 abbrev pub places_of : Production → List Item
@@ -22,18 +22,18 @@ symbol_of None = None
 symbol_of (Some (item.Symbol s)) = Some s
 symbol_of (Some (item.Terminal t)) = None
 
--- where a table has an attribute of a symbol
-abbrev pub table_place : Option ℕ → ℕ → Option ℕ
-table_place None a = None
-table_place (Some s) a = Some (place_of s a)
+-- the slot of an attribute of a symbol
+abbrev pub table_slot : Option ℕ → ℕ → Option ℕ
+table_slot None a = None
+table_slot (Some s) a = Some (slot_of s a)
 
 -- the dependency on argument i of a rule's target, which stands at place j
 abbrev pub dependency_of : List Item → Strike → ℕ → ℕ → Target → Dependency
 dependency_of places head j i o = record {
   strike = record head { arg = i };
-  target = place_of head.symbol head.attr;
+  target = slot_of head.symbol head.attr;
   place = j;
-  argument = table_place (symbol_of (slice_get places o.place)) o.attr;
+  argument = table_slot (symbol_of (slice_get places o.place)) o.attr;
   from = o.place;
 }
 
@@ -74,15 +74,15 @@ IsDependency productions u = OfEach IsByProduction productions u
 abbrev pub AreDependencies : List Production → List Dependency → Type 0
 AreDependencies productions all = (u : Dependency) → Has all u ↔ IsDependency productions u
 
--- the row of a place of a table
+-- the row of a slot
 abbrev pub row_at : List (Vec Dependency) → ℕ → List Dependency
 row_at rows k = slice_index_or (map (λ row. row.items) rows) k []
 
--- the rows have the dependencies on what stands at each of their places
+-- the rows have the dependencies on what each slot has
 abbrev pub AreRows : List Dependency → List (Vec Dependency) → Type 0
 AreRows all rows = (k : ℕ) → k < length rows → (u : Dependency) → Has (row_at rows k) u ↔ (Has all u × (u.argument ≡ Some k))
 
--- a dependency is put into the row of place j, and into no other
+-- a dependency is put into the row of slot j, and into no other
 abbrev pub PutsAt : ℕ → Dependency → List (Vec Dependency) → List (Vec Dependency) → Type 0
 PutsAt j one old new = (k : ℕ) → k < length old → Adds (λ u. (u ≡ one) × (k ≡ j)) (row_at old k) (row_at new k)
 
@@ -90,6 +90,6 @@ PutsAt j one old new = (k : ℕ) → k < length old → Adds (λ u. (u ≡ one) 
 abbrev pub Puts : Dependency → List (Vec Dependency) → List (Vec Dependency) → Type 0
 Puts one old new = (k : ℕ) → k < length old → Adds (λ u. (u ≡ one) × (one.argument ≡ Some k)) (row_at old k) (row_at new k)
 
--- the rows have the dependencies on what stands at each of their places, of those in front of index n
+-- the rows have the dependencies on what each slot has, of those in front of index n
 abbrev pub AreRowsOfFront : List Dependency → ℕ → List (Vec Dependency) → Type 0
 AreRowsOfFront all n rows = (k : ℕ) → k < length rows → (u : Dependency) → Has (row_at rows k) u ↔ ((i : ℕ) × (i < n) × (slice_get all i ≡ Some u) × (u.argument ≡ Some k))

@@ -15,18 +15,18 @@ use Rattle.passassign.specs.declared.table.State.TheVariants.{Open}
 use Rattle.passassign.specs.Certificate.{AreGood}
 use Rattle.passassign.specs.Dependencies.{AreDependencies}
 use Rattle.passassign.specs.Making.{IsOpen, AreFinished}
-use Rattle.passassign.specs.Tables.{place_of, state_at, is_open, is_marked, table_passes, IsTable}
+use Rattle.passassign.specs.Tables.{slot_of, state_at, is_open, is_marked, table_passes, IsTable}
 
 -- the program's directions are those of the definitions
 abbrev pub way : Direction → passes.Direction
 way direction.LeftToRight = LeftToRight
 way direction.RightToLeft = RightToLeft
 
--- where a table has what a strike strikes
-abbrev pub struck_place : Strike → ℕ
-struck_place x = place_of x.symbol x.attr
+-- the slot of what a strike strikes
+abbrev pub struck_slot : Strike → ℕ
+struck_slot x = slot_of x.symbol x.attr
 
--- what stands at a place can be struck
+-- what a slot has can be struck
 abbrev pub is_due : List State → List Bool → ℕ → Bool
 is_due states marks k = is_open (state_at states k) && not (is_marked marks k)
 
@@ -40,9 +40,9 @@ IsOpenAt states (Some k) = state_at states k ≡ Open
 abbrev pub IsBarred : passes.Direction → List State → Dependency → Type 0
 IsBarred d states u = (1 ≤ u.place) × (1 ≤ u.from) × (((u.from ≡ u.place) × IsOpenAt states u.argument) ⊎ IsBefore d u.place u.from)
 
--- what stands at a place is struck
+-- what a slot has is struck
 abbrev pub IsStruckAt : List Strike → ℕ → Type 0
-IsStruckAt xs k = (x : Strike) × Has xs x × (struck_place x ≡ k)
+IsStruckAt xs k = (x : Strike) × Has xs x × (struck_slot x ≡ k)
 
 -- the argument of a dependency is struck
 abbrev pub IsOnStruck : List Strike → Option ℕ → Type 0
@@ -52,7 +52,7 @@ IsOnStruck xs (Some k) = IsStruckAt xs k
 -- Why the target of a dependency is struck.
 pub record IsReasoned (all : List Dependency) (d : passes.Direction) (states : List State) (xs : List Strike) (u : Dependency) : Type 0 where
   pub among : Has all u
-  pub target : u.target ≡ struck_place u.strike
+  pub target : u.target ≡ struck_slot u.strike
   pub why : IsBarred d states u ⊎ IsOnStruck xs u.argument
 
 -- the target of a dependency is struck, if it has no pass
@@ -87,7 +87,7 @@ pub record Follows (states : List State) (P : Dependency → Type 0) (xs ys : Li
 
 -- the dependencies' targets are what their strikes strike
 abbrev pub ArePlaced : List Dependency → Type 0
-ArePlaced all = (u : Dependency) → Has all u → u.target ≡ struck_place u.strike
+ArePlaced all = (u : Dependency) → Has all u → u.target ≡ struck_slot u.strike
 
 -- No other attribute can be struck.
 abbrev pub IsFinished : List Dependency → passes.Direction → List State → List Strike → Type 0

@@ -7,17 +7,17 @@ use Rattle.passassign.specs.declared.table.State.TheVariants.{Absent, Open, Give
 use Rattle.passassign.specs.Least.{Partial}
 use Rattle.passassign.specs.Rows.{passes_of}
 
--- where a table has an attribute: each symbol has 16 places, as many as it may have attributes
-abbrev pub place_of : ℕ → ℕ → ℕ
-place_of s a = s * 16 + a
+-- the slot in which a table has an attribute: each symbol has 16 slots, as many as it may have attributes
+abbrev pub slot_of : ℕ → ℕ → ℕ
+slot_of s a = s * 16 + a
 
--- what a table has at a place
+-- what a table has in a slot
 abbrev pub state_at : List State → ℕ → State
 state_at states k = slice_index_or states k Absent
 
 -- what a table has of an attribute
 abbrev pub state_of : List State → ℕ → ℕ → State
-state_of states s a = cond (nat_lt a 16) (state_at states (place_of s a)) Absent
+state_of states s a = cond (nat_lt a 16) (state_at states (slot_of s a)) Absent
 
 -- the pass that a state gives
 abbrev pub given : State → Option ℕ
@@ -45,7 +45,7 @@ first_state count a = cond (nat_lt a count) Open Absent
 -- the table of some symbols at first
 pub record IsFirstTable (symbols : List Symbol) (states : List State) : Type 0 where
   pub len : length states ≡ length symbols * 16
-  pub at : (s a : ℕ) → a < 16 → s < length symbols → state_at states (place_of s a) ≡ first_state (attribute_count (slice_get symbols s)) a
+  pub at : (s a : ℕ) → a < 16 → s < length symbols → state_at states (slot_of s a) ≡ first_state (attribute_count (slice_get symbols s)) a
 
 -- a symbol of this number has an attribute of this number
 abbrev pub IsDeclared : List Symbol → ℕ → ℕ → Type 0
@@ -56,7 +56,7 @@ pub record IsTable (symbols : List Symbol) (states : List State) : Type 0 where
   pub len : length states ≡ length symbols * 16
   pub there : (s a : ℕ) → (state_of states s a ≡ Absent → ⊥) ↔ IsDeclared symbols s a
 
--- what is marked at a place
+-- whether a slot is marked
 abbrev pub is_marked : List Bool → ℕ → Bool
 is_marked marks k = slice_index_or marks k false
 
@@ -70,4 +70,4 @@ after_pass p (Given q) struck = Given q
 -- The rows of a table: each symbol's row has the passes of its attributes, and 0 where one has none.
 pub record AreRowsOfTable (symbols : List Symbol) (states : List State) (rows : List (List ℕ)) : Type 0 where
   pub len : (s : ℕ) → length (passes_of rows s) ≡ attribute_count (slice_get symbols s)
-  pub passes : (s a : ℕ) → a < attribute_count (slice_get symbols s) → slice_get (passes_of rows s) a ≡ Some (unwrap_or (given (state_at states (place_of s a))) 0)
+  pub passes : (s a : ℕ) → a < attribute_count (slice_get symbols s) → slice_get (passes_of rows s) a ≡ Some (unwrap_or (given (state_at states (slot_of s a))) 0)

@@ -10,7 +10,7 @@ ghost use Rattle.passassign.specs.Progress.{AreOpenIn, AreReady, IsLeft, IsNext,
 ghost use Rattle.passassign.specs.Progress.{IsWith, open_count};
 ghost use Rattle.passassign.specs.Rows.{passes_of};
 ghost use Rattle.passassign.specs.Searching.{way};
-ghost use Rattle.passassign.specs.Tables.{place_of, state_at};
+ghost use Rattle.passassign.specs.Tables.{slot_of, state_at};
 ghost use Rattle.passassign.specs.declared.assigning.AssignFault.TheVariants as fault;
 ghost use Rattle.passassign.specs.declared.table.State.TheVariants.{Open};
 
@@ -92,7 +92,7 @@ fn left_of(
     ensures strikes { IfOk result (λ c.
         c ≡ stuck_of (way progress.now.direction) c.set first.items second.items) }
     ensures all { IfOk result (λ c. (s a : ℕ) → Has c.set (s, a)
-        ↔ (a < 16) × (state_at progress.now.states.items (place_of s a) ≡ Open)) }
+        ↔ (a < 16) × (state_at progress.now.states.items (slot_of s a) ≡ Open)) }
     ensures ordered { IfOk result (λ c. IsInDeclaredOrder c.set) }
 {
     let set = Items::from_vec(open_ones(alloc, progress.states.as_slice())?);

@@ -3,7 +3,7 @@
 ghost use Rattle.std.specs.Prelude.{◌≡◌, ◌<◌, ◌↔◌, ◌++◌, ◌∷◌, [], ℕ, length, IfOk, OnOk, slice_get};
 ghost use Rattle.ag_expr.specs.Lists.{Has};
 ghost use Rattle.ag_expr.specs.grammars.AttributeGrammar.{stored_items};
-ghost use Rattle.passassign.specs.Dependencies.{places_of, symbol_of, table_place, dependency_of};
+ghost use Rattle.passassign.specs.Dependencies.{places_of, symbol_of, table_slot, dependency_of};
 ghost use Rattle.passassign.specs.Dependencies.{OfEach, Adds, IsByArgument, IsByRule};
 ghost use Rattle.passassign.specs.Dependencies.{IsByProduction, AreDependencies};
 ghost use Rattle.passassign.specs.Dependencies.{AreRows, Puts, PutsAt, row_at};
@@ -19,11 +19,11 @@ use std::alloc::Global;
 pub(crate) struct Dependency {
     /// The strike of the target by this argument.
     pub strike: Strike,
-    /// Where a table has the target.
+    /// The slot in which a table has the target.
     pub target: usize,
     /// The target's place.
     pub place: u16,
-    /// Where a table has the argument, if it is an attribute of a declared symbol.
+    /// The slot in which a table has the argument, if that is an attribute of a declared symbol.
     pub argument: Option<usize>,
     /// The argument's place.
     pub from: u16,
@@ -76,10 +76,10 @@ fn symbol_at(places: &[Item], place: u16) -> Option<u16>
     }
 }
 
-/// Where a table has an attribute at a place, if a symbol stands there.
+/// The slot of an attribute at a place, if a symbol stands there.
 fn slot_at(places: &[Item], attribute: Target) -> Option<usize>
     ensures { result
-        ≡ table_place (symbol_of (slice_get places.now attribute.place)) attribute.attr }
+        ≡ table_slot (symbol_of (slice_get places.now attribute.place)) attribute.attr }
 {
     match symbol_at(places, attribute.place) {
         Some(symbol) => Some(slot(symbol, attribute.attr)),
@@ -202,7 +202,7 @@ pub(crate) fn all_dependencies(
     Ok(found)
 }
 
-/// Puts a dependency at the end of the row of a place, if there is such a row.
+/// Puts a dependency at the end of the row of a slot, if there is such a row.
 fn put_at(rows: &mut Vec<Vec<Dependency>>, slot: usize, one: Dependency) -> Result<(), NoMemory>
     ensures len { OnOk result (length rows.new.items ≡ length rows.old.items) }
     ensures put { OnOk result (PutsAt slot one rows.old.items rows.new.items) }
@@ -239,7 +239,7 @@ fn empty_rows(alloc: Global, count: usize) -> Result<Vec<Vec<Dependency>>, NoMem
     Ok(rows)
 }
 
-/// For each of so many places of a table the dependencies on what stands there.
+/// For each of so many slots of a table the dependencies on what it has.
 pub(crate) fn rows_of(
     alloc: Global,
     count: usize,

@@ -15,7 +15,7 @@ use ag_expr::Production;
 use ag_value::NoMemory;
 use std::alloc::Global;
 
-/// All dependencies of a grammar, and for each place of a table those on what stands there.
+/// All dependencies of a grammar, and for each slot of a table those on what it has.
 #[derive(Debug, Drop)]
 pub(crate) struct Dependencies {
     pub all: Vec<Dependency>,
@@ -23,7 +23,7 @@ pub(crate) struct Dependencies {
 }
 
 impl Dependencies {
-    /// The dependencies of some productions, for a table of so many places.
+    /// The dependencies of some productions, for a table of so many slots.
     pub(crate) fn of(
         alloc: Global,
         productions: &[Production],
@@ -47,7 +47,7 @@ pub(crate) struct Struck {
     pub marks: Vec<bool>,
 }
 
-/// The dependencies on what stands at a place of the table.
+/// The dependencies on what a slot of the table has.
 fn row(rows: &[Vec<Dependency>], slot: usize) -> &[Dependency]
     ensures { result.now ≡ row_at rows.now slot }
 {
@@ -58,7 +58,7 @@ fn row(rows: &[Vec<Dependency>], slot: usize) -> &[Dependency]
     }
 }
 
-/// What stands at a place can be struck: it has no pass yet, and is not struck.
+/// What a slot has can be struck: it has no pass yet, and is not struck.
 fn can_be_struck(states: &[State], marks: &[bool], slot: usize) -> bool
     ensures { result ≡ is_due states.now marks.now slot }
 {
@@ -150,7 +150,7 @@ fn strike_all(
     Ok(())
 }
 
-/// No strikes, for a table of so many places.
+/// No strikes, for a table of so many slots.
 fn no_strikes(alloc: Global, count: usize) -> Result<Struck, NoMemory>
     ensures strikes { IfOk result (λ struck. struck.strikes.items ≡ []) }
     ensures len { IfOk result (λ struck. length struck.marks.items ≡ count) }

@@ -7,7 +7,7 @@ ghost use Rattle.ag_expr.specs.Lists.{Each, Has};
 ghost use Rattle.ag_expr.specs.grammars.AttributeGrammar.{attribute_names};
 ghost use Rattle.passassign.specs.Answer.{IsInDeclaredOrder};
 ghost use Rattle.passassign.specs.Rows.{numbers_of};
-ghost use Rattle.passassign.specs.Tables.{place_of, state_at, first_state, given, is_open};
+ghost use Rattle.passassign.specs.Tables.{slot_of, state_at, first_state, given, is_open};
 ghost use Rattle.passassign.specs.Tables.{after_pass, is_marked, AreRowsOfTable, IsFirstTable};
 ghost use Rattle.passassign.specs.declared.table.State.TheVariants.{Open};
 
@@ -15,10 +15,10 @@ use ag_expr::Symbol;
 use ag_value::NoMemory;
 use std::alloc::Global;
 
-/// How many places of a table each symbol has: the most attributes that one may have.
+/// How many slots of a table each symbol has: the most attributes that one may have.
 pub(crate) const SLOTS: usize = 16;
 
-/// What is known at a place of the table.
+/// What is known of a slot of the table.
 #[derive(Clone, Copy, Debug, PartialEq, Eq)]
 pub(crate) enum State {
     /// There is no attribute.
@@ -29,14 +29,14 @@ pub(crate) enum State {
     Given(u16),
 }
 
-/// Where a table has an attribute.
+/// The slot in which a table has an attribute.
 pub(crate) fn slot(symbol: u16, attr: u16) -> usize
-    ensures { result ≡ place_of symbol attr }
+    ensures { result ≡ slot_of symbol attr }
 {
     symbol as usize * SLOTS + attr as usize
 }
 
-/// What a table has at a place.
+/// What a table has in a slot.
 pub(crate) fn look_up(states: &[State], slot: usize) -> State
     ensures { result ≡ state_at states.now slot }
 {
@@ -69,7 +69,7 @@ fn state_at_first(attr: usize, count: usize) -> State
     }
 }
 
-/// Puts the places of a symbol with so many attributes at the end of a table.
+/// Puts the slots of a symbol with so many attributes at the end of a table.
 fn open_symbol(states: &mut Vec<State>, count: usize) -> Result<(), NoMemory>
     ensures len { OnOk result (length states.new.items ≡ length states.old.items + 16) }
     ensures kept { OnOk result ((k : ℕ) → k < length states.old.items
@@ -103,7 +103,7 @@ pub(crate) fn open_all(alloc: Global, symbols: &[Symbol]) -> Result<Vec<State>, 
     Ok(states)
 }
 
-/// The pass at a place, 0 where there is none.
+/// The pass in a slot, 0 where there is none.
 fn pass_at(states: &[State], slot: usize) -> u16
     ensures { result ≡ unwrap_or (given (state_at states.now slot)) 0 }
 {
@@ -114,7 +114,7 @@ fn pass_at(states: &[State], slot: usize) -> u16
     }
 }
 
-/// The passes of so many places of a table from one on.
+/// The passes of so many slots of a table from one on.
 fn row(alloc: Global, states: &[State], from: usize, count: usize) -> Result<Vec<u16>, NoMemory>
     requires from { from < 2 ^ 32 }
     requires count { count ≤ 16 }
@@ -163,7 +163,7 @@ fn put_open(found: &mut Vec<(u16, u16)>, state: State, slot: usize) -> Result<()
 pub(crate) fn open_ones(alloc: Global, states: &[State]) -> Result<Vec<(u16, u16)>, NoMemory>
     requires { length states.now ≤ 4096 }
     ensures all { IfOk result (λ found. (s a : ℕ)
-        → Has found.items (s, a) ↔ (a < 16) × (state_at states.now (place_of s a) ≡ Open)) }
+        → Has found.items (s, a) ↔ (a < 16) × (state_at states.now (slot_of s a) ≡ Open)) }
     ensures ordered { IfOk result (λ found. IsInDeclaredOrder found.items) }
 {
     let mut found = Vec::new(alloc);
@@ -188,7 +188,7 @@ fn after(state: State, pass: u16, is_struck: bool) -> State
     }
 }
 
-/// A place is marked.
+/// A slot is marked.
 pub(crate) fn has_mark(marks: &[bool], slot: usize) -> bool
     ensures { result ≡ is_marked marks.now slot }
 {

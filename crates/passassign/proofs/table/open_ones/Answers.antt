@@ -1,5 +1,5 @@
 use Rattle.std.proofs.Common.{refl, arith}
-use Rattle.passassign.specs.Tables.{place_of}
+use Rattle.passassign.specs.Tables.{slot_of}
 use Rattle.passassign.proofs.OpenOnes.{open_more, open_within}
 use Rattle.passassign.proofs.table.open_ones.Goals as goal
 
@@ -9,5 +9,5 @@ loop-index-preserved c = open_more c.args.states.now c.loop-index.index _ c.loop
 pub returns-clause-all : goal.returns-clause-all
 returns-clause-all c = λ s a. (
   (λ m. let o = (c.loop-index.invariant.all s a).0 m in (o.0, o.2)),
-  (λ m. (c.loop-index.invariant.all s a).1 (m.0, (let w = open_within c.args.states.now (place_of s a) m.1 in omega arith), m.1)),
+  (λ m. (c.loop-index.invariant.all s a).1 (m.0, (let w = open_within c.args.states.now (slot_of s a) m.1 in omega arith), m.1)),
 )
