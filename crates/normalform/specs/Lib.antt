@@ -1,0 +1,7 @@
+pub mod Clauses
+pub mod Faults
+pub mod Found
+pub mod Names
+pub mod Numbers
+pub mod Placed
+pub mod Search
