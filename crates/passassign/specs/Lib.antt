@@ -1,5 +1,11 @@
+pub mod Answer
 pub mod Certificate
+pub mod Dependencies
 pub mod Laws
 pub mod Least
 pub mod Making
+pub mod Progress
+pub mod Rows
 pub mod Sample
+pub mod Searching
+pub mod Tables

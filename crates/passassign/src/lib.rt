@@ -1,8 +1,16 @@
 //! The least assignment of passes to the attributes of a grammar, and why there may be none.
 #![tactic(auto)]
 
+mod assigning;
+mod assignment;
+mod dependency;
+mod direction;
 pub mod laws;
 pub mod samples;
+mod search;
 mod stuck;
+mod table;
 
+pub use assigning::{AssignFault, assign};
+pub use assignment::Assignment;
 pub use stuck::{Strike, Stuck};

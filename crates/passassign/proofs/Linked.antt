@@ -1,0 +1,130 @@
+-- How the slots of a table and the dependencies in a list stand for a grammar's attributes and arguments.
+use Rattle.std.proofs.Common.{ℕ, zero, suc, ◌≡◌, ◌<◌, cond, List, Option, Some, None, slice_get, length, map, refl, ap, ◌∙◌, sym, subst, arith}
+use Rattle.std.proofs.lemmas.Bool.{lt-ltb}
+use Rattle.std.proofs.lemmas.Option.{slice_get_within}
+use Rattle.std.proofs.lemmas.List.{length-map}
+use Rattle.std.proofs.Math.ListN.{length-append}
+use Rattle.ag_expr.specs.declared.grammar.Item.TheVariants as item
+use Rattle.ag_expr.specs.declared.grammar.Item.{Item}
+use Rattle.ag_expr.specs.declared.grammar.Production.{Production}
+use Rattle.ag_expr.specs.declared.grammar.Rule.{Rule}
+use Rattle.ag_expr.specs.declared.grammar.Symbol.{Symbol}
+use Rattle.ag_expr.specs.declared.grammar.Target.{Target}
+use Rattle.ag_expr.specs.grammars.Accepted.{IsAccepted}
+use Rattle.ag_expr.specs.grammars.AttributeGrammar.{Grammar, Synthesized, Inherited, IsProduction, item_at, item_kinds, found_kind, given_kind, symbol_kinds, symbol_names}
+use Rattle.passassign.specs.Dependencies.{places_of, symbol_of, table_slot, IsDependency, AreDependencies}
+use Rattle.passassign.specs.Least.{IsAttribute}
+use Rattle.passassign.specs.Making.{IsOpen}
+use Rattle.passassign.specs.Searching.{AreOf, ArePlaced, struck_slot}
+use Rattle.passassign.specs.Tables.{slot_of, state_at, state_of, given, table_passes}
+use Rattle.passassign.specs.declared.dependency.Dependency.{Dependency}
+use Rattle.passassign.specs.declared.table.State.{State}
+use Rattle.passassign.specs.declared.table.State.TheVariants.{Absent, Open, Given}
+
+-- a symbol has as many kinds as names
+pub kinds_names : (s : Option Symbol) → length (symbol_kinds s) ≡ length (symbol_names s)
+kinds_names None = refl
+kinds_names (Some s) =
+    length-append (map (λ n. Synthesized) s.syn) (map (λ n. Inherited) s.inh) ∙ (let a = length-map s.syn (λ n. Synthesized) in let b = length-map s.inh (λ n. Inherited) in let c = length-append s.syn s.inh in omega arith)
+
+-- an attribute's numbers are within the limits
+pub attribute_within : (g : Grammar) (s a : ℕ) → IsAccepted g → IsAttribute g s a → (a < 16) × (s < length g.symbols)
+attribute_within g s a accepted is = go (slice_get g.symbols s) refl
+  where
+    go : (o : Option Symbol) → slice_get g.symbols s ≡ o → (a < 16) × (s < length g.symbols)
+    go None e = absurd (let bad : slice_get (symbol_kinds None) a ≡ Some is.0 = ap (λ o. slice_get (symbol_kinds o) a) (sym e) ∙ is.1 in let worse : ⊥ = cc in worse)
+    go (Some x) e = (
+      (let w = slice_get_within (symbol_kinds (Some x)) a is.0 (ap (λ o. slice_get (symbol_kinds o) a) (sym e) ∙ is.1) in
+          let n = kinds_names (Some x) in
+          let m = accepted.limits.attribute_count s x e in
+          omega arith),
+      slice_get_within g.symbols s x e,
+    )
+
+-- two attributes have one slot only if they are the same
+pub slot_same : (s a t b : ℕ) → a < 16 → b < 16 → slot_of s a ≡ slot_of t b → (s ≡ t) × (a ≡ b)
+slot_same s a t b la lb e = (omega arith, omega arith)
+
+pub state_in : (states : List State) (s a : ℕ) → a < 16 → state_of states s a ≡ state_at states (slot_of s a)
+state_in states s a lt = ap (λ b. cond b (state_at states (slot_of s a)) Absent) (lt-ltb a 16 lt)
+
+open_given : (x : State) → x ≡ Open → given x ≡ None
+open_given x e = ap given e
+
+is_open_state : (x : State) → given x ≡ None → (x ≡ Absent → ⊥) → x ≡ Open
+is_open_state Absent e there = absurd (there refl)
+is_open_state Open e there = refl
+is_open_state (Given p) e there = absurd (let bad : ⊥ = cc in bad)
+
+not_absent : (x : State) → x ≡ Open → x ≡ Absent → ⊥
+not_absent x e f = let bad : Open ≡ Absent = sym e ∙ f in cc
+
+-- an attribute has no pass where the table says so
+pub open_there : (g : Grammar) (all : List Dependency) (states : List State) → AreOf g all states → (s a : ℕ) → a < 16 → state_at states (slot_of s a) ≡ Open → IsOpen g (table_passes states) s a
+open_there g all states of s a lt e =
+    let f : state_of states s a ≡ Open = state_in states s a lt ∙ e in
+    ((of.table.there s a).0 (not_absent (state_of states s a) f), open_given (state_of states s a) f)
+
+pub open_state : (g : Grammar) (all : List Dependency) (states : List State) → AreOf g all states → (s a : ℕ) → IsOpen g (table_passes states) s a → (a < 16) × (state_at states (slot_of s a) ≡ Open)
+open_state g all states of s a i =
+    let lt = (attribute_within g s a of.accepted i.0).0 in
+    (lt, sym (state_in states s a lt) ∙ is_open_state (state_of states s a) i.1 ((of.table.there s a).1 i.0))
+
+pub places_item : (q : Production) (j : ℕ) → slice_get (places_of q) j ≡ item_at q j
+places_item q zero = refl
+places_item q (suc j) = refl
+
+pub symbol_is : (x : Option Item) (s : ℕ) → symbol_of x ≡ Some s → x ≡ Some (item.Symbol s)
+symbol_is None s e = absurd (let bad : ⊥ = cc in bad)
+symbol_is (Some (item.Symbol t)) s e = let f : t ≡ s = cc in ap (λ t. Some (item.Symbol t)) f
+symbol_is (Some (item.Terminal t)) s e = absurd (let bad : ⊥ = cc in bad)
+
+-- What a dependency says of its grammar.
+pub record Parts (g : Grammar) (u : Dependency) : Type 0 where
+  pub production : Production
+  pub rule : Rule
+  pub argument : Target
+  pub is_production : IsProduction g u.strike.production production
+  pub is_rule : slice_get production.rules u.strike.rule ≡ Some rule
+  pub is_argument : slice_get rule.args u.strike.arg ≡ Some argument
+  pub symbol : item_at production rule.target.place ≡ Some (item.Symbol u.strike.symbol)
+  pub attr : rule.target.attr ≡ u.strike.attr
+  pub target : u.target ≡ slot_of u.strike.symbol u.strike.attr
+  pub place : u.place ≡ rule.target.place
+  pub from : u.from ≡ argument.place
+  pub at : u.argument ≡ table_slot (symbol_of (item_at production argument.place)) argument.attr
+
+pub parts : (g : Grammar) (u : Dependency) → IsDependency g.productions u → Parts g u
+parts g u (p, q, is_q, (r, rule, is_rule, (s, is_s, (i, o, is_o, e)))) =
+    subst (Parts g) (sym e) (record {
+      production = q;
+      rule = rule;
+      argument = o;
+      is_production = is_q;
+      is_rule = is_rule;
+      is_argument = is_o;
+      symbol = sym (places_item q rule.target.place) ∙ symbol_is (slice_get (places_of q) rule.target.place) s is_s;
+      attr = refl;
+      target = refl;
+      place = refl;
+      from = refl;
+      at = ap (λ x. table_slot (symbol_of x) o.attr) (places_item q o.place);
+    })
+
+-- the attribute that an argument is of a symbol is there
+pub argument_within : (g : Grammar) (p r i : ℕ) (q : Production) (rule : Rule) (o : Target) (s : ℕ) → IsAccepted g → IsProduction g p q → slice_get q.rules r ≡ Some rule → slice_get rule.args i ≡ Some o → item_at q o.place ≡ Some (item.Symbol s) → o.attr < 16
+argument_within g p r i q rule o s accepted is_q is_rule is_o e =
+    (attribute_within g s o.attr accepted (found_kind o.place, subst (λ x. slice_get (item_kinds g x) o.attr ≡ Some (found_kind o.place)) e (accepted.normal p q is_q r rule is_rule i o is_o))).0
+
+-- the target of a dependency is an attribute
+pub target_within : (g : Grammar) (u : Dependency) → IsAccepted g → Parts g u → u.strike.attr < 16
+target_within g u accepted p =
+    let k = (accepted.complete u.strike.production p.production p.is_production).no_other u.strike.rule p.rule p.is_rule in
+    (attribute_within g u.strike.symbol u.strike.attr accepted
+    (given_kind p.rule.target.place, subst (λ a. slice_get (symbol_kinds (slice_get g.symbols u.strike.symbol)) a ≡ Some (given_kind p.rule.target.place)) p.attr (subst (λ x. slice_get (item_kinds g x) p.rule.target.attr ≡ Some (given_kind p.rule.target.place)) p.symbol k))).0
+
+pub placed : (productions : List Production) (all : List Dependency) → AreDependencies productions all → ArePlaced all
+placed productions all are u h = place_by productions u ((are u).0 h)
+  where
+    place_by : (productions : List Production) (u : Dependency) → IsDependency productions u → u.target ≡ struck_slot u.strike
+    place_by productions u (p, q, is_q, (r, rule, is_rule, (s, is_s, (i, o, is_o, e)))) = subst (λ (u : Dependency). u.target ≡ struck_slot u.strike) (sym e) refl

@@ -1,0 +1,33 @@
+use Rattle.std.proofs.Common.{◌≡◌, ◌≤◌, length, ap, ◌∙◌, sym, subst, refl, arith}
+use Rattle.std.proofs.lemmas.List.Sums.{count_by-le-length}
+use Rattle.passassign.specs.Progress.{open_count}
+use Rattle.passassign.specs.Rows.{numbers_of, passes_of}
+use Rattle.passassign.specs.Least.{IsLeast}
+use Rattle.passassign.specs.Tables.{is_open, AreRowsOfTable}
+use Rattle.passassign.proofs.Finally.{with_of, first_made, least}
+use Rattle.passassign.proofs.assigning.assign_all.Goals as goal
+
+pub loop-open_now-init : goal.loop-open_now-init
+loop-open_now-init c =
+    let count : c.count_open-open_now.result ≡ open_count c.in_ok-states.states.items = c.count_open-open_now.ensures ∙ ap open_count c.as_slice.ensures.value in
+    let first = c.in_ok-states.ensures in
+    let len : length c.in_ok-states.states.items ≤ 4096 = let l = first.len in let r = c.requires.count in omega (arith, l, r) in
+    let most = count_by-le-length is_open c.in_ok-states.states.items in
+    record {
+      ready = record { len = omega (arith, c.in_ok-dependencies.ensures.len, c.len.ensures); rows = c.in_ok-dependencies.ensures.rows; placed = c.in_ok-dependencies.ensures.placed };
+      len = len;
+      count = count;
+      next = omega (arith, count, most, len);
+      made = λ g w. record {
+        of = with_of c.args.symbols.now c.args.productions.now g c.in_ok-dependencies.dependencies.all.items c.in_ok-states.states.items w c.in_ok-dependencies.ensures.all first;
+        made = first_made g c.args.symbols.now c.in_ok-states.states.items first;
+        turned = refl;
+      };
+    }
+
+pub returns-clause-least : goal.returns-clause-least
+returns-clause-least c = λ g w.
+    let none : open_count c.loop-open_now.progress.states.items ≡ 0 = let n = c.loop-open_now.invariant.count in let z = c.loop-open_now-test.false in omega (arith, n, z) in
+    subst (λ rows. IsLeast g (passes_of rows)) (sym c.of_rows.ensures)
+    (least g c.in_ok-dependencies.dependencies.all.items c.loop-open_now.progress c.args.symbols.now c.args.productions.now (numbers_of c.in_ok-rows.rows.items) w (c.loop-open_now.invariant.made g w) none
+    (subst (λ states. AreRowsOfTable c.args.symbols.now states (numbers_of c.in_ok-rows.rows.items)) c.as_slice-2.ensures.value c.in_ok-rows.ensures))

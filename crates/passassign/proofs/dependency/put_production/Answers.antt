@@ -1,0 +1,8 @@
+use Rattle.std.proofs.Common.{◌∙◌, subst}
+use Rattle.passassign.specs.Dependencies.{OfEach, IsByRule, Adds}
+use Rattle.passassign.proofs.dependency.put_production.Goals as goal
+
+pub returns : goal.returns
+returns c =
+    subst (λ places. Adds (OfEach (IsByRule places c.args.number) c.args.production.now.rules) c.args.found.now.items c.put_rules.new.found.items) (c.as_slice.ensures.value ∙ c.in_ok-places.ensures)
+    (subst (λ rules. Adds (OfEach (IsByRule c.as_slice.result.now c.args.number) rules) c.args.found.now.items c.put_rules.new.found.items) c.as_slice-2.ensures c.in_ok-put_rules.ensures)

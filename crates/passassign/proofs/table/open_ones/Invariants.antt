@@ -1,0 +1,5 @@
+use Rattle.passassign.proofs.OpenOnes.{AreOpenOnes}
+use Rattle.passassign.proofs.table.open_ones.Given as goal
+
+abbrev pub invariant-loop-index : goal.invariant-loop-index
+invariant-loop-index l = AreOpenOnes l.states l.index l.found.items

@@ -1,0 +1,6 @@
+use Rattle.passassign.specs.Rows.{numbers_of}
+use Rattle.passassign.proofs.TableRows.{AreRowsBelow}
+use Rattle.passassign.proofs.table.rows.Given as goal
+
+abbrev pub invariant-loop-index : goal.invariant-loop-index
+invariant-loop-index l = AreRowsBelow l.symbols l.states l.index (numbers_of l.rows.items)

@@ -1,0 +1,95 @@
+-- What depends on what in a production: its rules' targets on their arguments (Knuth 1968).
+use Rattle.std.specs.Prelude.{ℕ, ◌≡◌, ◌<◌, ◌⊎◌, ◌↔◌, List, [], ◌∷◌, Option, Some, None, map, slice_get, slice_index_or, length}
+use Rattle.std.specs.Global.{Vec}
+use Rattle.ag_expr.specs.Lists.{Has}
+use Rattle.ag_expr.specs.declared.grammar.Item.TheVariants as item
+use Rattle.ag_expr.specs.declared.grammar.Item.{Item}
+use Rattle.ag_expr.specs.declared.grammar.Production.{Production}
+use Rattle.ag_expr.specs.declared.grammar.Rule.{Rule}
+use Rattle.ag_expr.specs.declared.grammar.Target.{Target}
+use Rattle.ag_expr.specs.grammars.AttributeGrammar.{stored_items}
+use Rattle.passassign.specs.declared.stuck.Strike.{Strike}
+use Rattle.passassign.specs.declared.dependency.Dependency.{Dependency}
+use Rattle.passassign.specs.Tables.{slot_of}
+
+-- what stands at the places of a production, from its left side on
+abbrev pub places_of : Production → List Item
+places_of q = item.Symbol q.left ∷ stored_items q.items
+
+-- the number of the symbol that an item is
+abbrev pub symbol_of : Option Item → Option ℕ
+symbol_of None = None
+symbol_of (Some (item.Symbol s)) = Some s
+symbol_of (Some (item.Terminal t)) = None
+
+-- the slot of an attribute of a symbol
+abbrev pub table_slot : Option ℕ → ℕ → Option ℕ
+table_slot None a = None
+table_slot (Some s) a = Some (slot_of s a)
+
+-- the dependency on argument i of a rule's target, which stands at place j
+abbrev pub dependency_of : List Item → Strike → ℕ → ℕ → Target → Dependency
+dependency_of places head j i o = record {
+  strike = record head { arg = i };
+  target = slot_of head.symbol head.attr;
+  place = j;
+  argument = table_slot (symbol_of (slice_get places o.place)) o.attr;
+  from = o.place;
+}
+
+-- y stands in a relation with some element and its index
+abbrev pub OfEach : {X Y : Type 0} → (ℕ → X → Y → Type 0) → List X → Y → Type 0
+OfEach {X} R xs y = (i : ℕ) × (x : X) × (slice_get xs i ≡ Some x) × R i x y
+
+-- the same for the elements in front of index n
+abbrev pub OfFront : {X Y : Type 0} → (ℕ → X → Y → Type 0) → List X → ℕ → Y → Type 0
+OfFront {X} R xs n y = (i : ℕ) × (x : X) × (i < n) × (slice_get xs i ≡ Some x) × R i x y
+
+-- the members of a second list are those of a first one, and the others that are so
+pub record Adds {X : Type 0} (P : X → Type 0) (old new : List X) : Type 0 where
+  pub kept : (x : X) → Has old x → Has new x
+  pub all : (x : X) → P x → Has new x
+  pub only : (x : X) → Has new x → Has old x ⊎ P x
+
+abbrev pub IsByArgument : List Item → Strike → ℕ → ℕ → Target → Dependency → Type 0
+IsByArgument places head j i o u = u ≡ dependency_of places head j i o
+
+-- a strike of a rule's target, where this symbol stands at its place, by argument 0
+abbrev pub head_of : ℕ → ℕ → Rule → ℕ → Strike
+head_of p r rule s = record { symbol = s; attr = rule.target.attr; production = p; rule = r; arg = 0 }
+
+-- a dependency of rule r of production p
+abbrev pub IsByRule : List Item → ℕ → ℕ → Rule → Dependency → Type 0
+IsByRule places p r rule u = (s : ℕ) × (symbol_of (slice_get places rule.target.place) ≡ Some s) × OfEach (IsByArgument places (head_of p r rule s) rule.target.place) rule.args u
+
+-- a dependency of production p
+abbrev pub IsByProduction : ℕ → Production → Dependency → Type 0
+IsByProduction p q u = OfEach (IsByRule (places_of q) p) q.rules u
+
+-- a dependency of some productions
+abbrev pub IsDependency : List Production → Dependency → Type 0
+IsDependency productions u = OfEach IsByProduction productions u
+
+-- a list has the dependencies of some productions, and nothing else
+abbrev pub AreDependencies : List Production → List Dependency → Type 0
+AreDependencies productions all = (u : Dependency) → Has all u ↔ IsDependency productions u
+
+-- the row of a slot
+abbrev pub row_at : List (Vec Dependency) → ℕ → List Dependency
+row_at rows k = slice_index_or (map (λ row. row.items) rows) k []
+
+-- the rows have the dependencies on what each slot has
+abbrev pub AreRows : List Dependency → List (Vec Dependency) → Type 0
+AreRows all rows = (k : ℕ) → k < length rows → (u : Dependency) → Has (row_at rows k) u ↔ (Has all u × (u.argument ≡ Some k))
+
+-- a dependency is put into the row of slot j, and into no other
+abbrev pub PutsAt : ℕ → Dependency → List (Vec Dependency) → List (Vec Dependency) → Type 0
+PutsAt j one old new = (k : ℕ) → k < length old → Adds (λ u. (u ≡ one) × (k ≡ j)) (row_at old k) (row_at new k)
+
+-- a dependency is put into the row of its argument, and into no other
+abbrev pub Puts : Dependency → List (Vec Dependency) → List (Vec Dependency) → Type 0
+Puts one old new = (k : ℕ) → k < length old → Adds (λ u. (u ≡ one) × (one.argument ≡ Some k)) (row_at old k) (row_at new k)
+
+-- the rows have the dependencies on what each slot has, of those in front of index n
+abbrev pub AreRowsOfFront : List Dependency → ℕ → List (Vec Dependency) → Type 0
+AreRowsOfFront all n rows = (k : ℕ) → k < length rows → (u : Dependency) → Has (row_at rows k) u ↔ ((i : ℕ) × (i < n) × (slice_get all i ≡ Some u) × (u.argument ≡ Some k))

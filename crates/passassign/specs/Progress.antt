@@ -1,0 +1,53 @@
+-- What holds between two passes.
+use Rattle.std.specs.Prelude.{ℕ, ◌≡◌, ◌<◌, List, count_by, length}
+use Rattle.ag_expr.specs.declared.grammar.Production.{Production}
+use Rattle.ag_expr.specs.declared.grammar.Symbol.{Symbol}
+use Rattle.ag_expr.specs.grammars.Accepted.{IsAccepted}
+use Rattle.ag_expr.specs.grammars.AttributeGrammar.{Grammar}
+use Rattle.ag_expr.specs.grammars.Passes.{direction_of}
+use Rattle.passassign.specs.declared.assigning.Progress.{Progress}
+use Rattle.passassign.specs.declared.dependency.Dependency.{Dependency}
+use Rattle.passassign.specs.declared.search.Dependencies.{Dependencies}
+use Rattle.passassign.specs.declared.stuck.Strike.{Strike}
+use Rattle.passassign.specs.declared.table.State.{State}
+use Rattle.passassign.specs.declared.table.State.TheVariants.{Open}
+use Rattle.passassign.specs.Dependencies.{AreRows}
+use Rattle.passassign.specs.Making.{IsMade, IsPass}
+use Rattle.passassign.specs.Searching.{way, AreOf, ArePlaced}
+use Rattle.passassign.specs.Tables.{state_at, is_open, table_passes}
+
+-- an accepted grammar with these symbols and productions
+pub record IsWith (symbols : List Symbol) (productions : List Production) (g : Grammar) : Type 0 where
+  pub accepted : IsAccepted g
+  pub symbols_are : g.symbols ≡ symbols
+  pub productions_are : g.productions ≡ productions
+
+-- The rows of dependencies are those for a table of this many places.
+pub record AreReady (found : Dependencies) (count : ℕ) : Type 0 where
+  pub len : length found.rows.items ≡ count
+  pub rows : AreRows found.all.items found.rows.items
+  pub placed : ArePlaced found.all.items
+
+-- What passes have made of a grammar: a table of its attributes, for which the next pass has the direction that is told.
+pub record IsProgress (g : Grammar) (all : List Dependency) (p : Progress) : Type 0 where
+  pub of : AreOf g all p.states.items
+  pub made : IsMade g p.next (table_passes p.states.items)
+  pub turned : way p.direction ≡ direction_of p.next
+
+-- how many attributes have no pass
+abbrev pub open_count : List State → ℕ
+open_count states = count_by is_open states
+
+-- The next pass was made, with these strikes.
+pub record IsNext (g : Grammar) (all : List Dependency) (old new : Progress) (strikes : List Strike) : Type 0 where
+  pub progress : IsProgress g all new
+  pub pass : IsPass g old.next (table_passes old.states.items) (table_passes new.states.items) strikes
+
+-- no attribute loses its pass
+abbrev pub AreOpenIn : List State → List State → Type 0
+AreOpenIn new old = (k : ℕ) → state_at new k ≡ Open → state_at old k ≡ Open
+
+-- Both tell how many attributes have no pass, and the second fewer.
+pub record IsLeft (before after : ℕ) (p : Progress) : Type 0 where
+  pub count : after ≡ open_count p.states.items
+  pub less : after < before

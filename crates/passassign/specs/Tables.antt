@@ -1,0 +1,73 @@
+-- The table in which the program notes what the passes made so far say of each attribute.
+use Rattle.std.specs.Prelude.{ℕ, ◌≡◌, ◌+◌, ◌*◌, ◌<◌, ◌↔◌, List, Option, Some, None, Bool, true, false, cond, nat_lt, slice_get, slice_index_or, length, unwrap_or}
+use Rattle.ag_expr.specs.declared.grammar.Symbol.{Symbol}
+use Rattle.ag_expr.specs.grammars.AttributeGrammar.{Kind, symbol_names, symbol_kinds}
+use Rattle.passassign.specs.declared.table.State.{State}
+use Rattle.passassign.specs.declared.table.State.TheVariants.{Absent, Open, Given}
+use Rattle.passassign.specs.Least.{Partial}
+use Rattle.passassign.specs.Rows.{passes_of}
+
+-- the slot in which a table has an attribute: each symbol has 16 slots, as many as it may have attributes
+abbrev pub slot_of : ℕ → ℕ → ℕ
+slot_of s a = s * 16 + a
+
+-- what a table has in a slot
+abbrev pub state_at : List State → ℕ → State
+state_at states k = slice_index_or states k Absent
+
+-- what a table has of an attribute
+abbrev pub state_of : List State → ℕ → ℕ → State
+state_of states s a = cond (nat_lt a 16) (state_at states (slot_of s a)) Absent
+
+-- the pass that a state gives
+abbrev pub given : State → Option ℕ
+given Absent = None
+given Open = None
+given (Given p) = Some p
+
+-- the partial assignment that a table tells
+abbrev pub table_passes : List State → Partial
+table_passes states s a = given (state_of states s a)
+
+abbrev pub is_open : State → Bool
+is_open Absent = false
+is_open Open = true
+is_open (Given p) = false
+
+-- how many attributes a symbol has
+abbrev pub attribute_count : Option Symbol → ℕ
+attribute_count s = length (symbol_names s)
+
+-- the state at first of an attribute, where its symbol has so many
+abbrev pub first_state : ℕ → ℕ → State
+first_state count a = cond (nat_lt a count) Open Absent
+
+-- the table of some symbols at first
+pub record IsFirstTable (symbols : List Symbol) (states : List State) : Type 0 where
+  pub len : length states ≡ length symbols * 16
+  pub at : (s a : ℕ) → a < 16 → s < length symbols → state_at states (slot_of s a) ≡ first_state (attribute_count (slice_get symbols s)) a
+
+-- a symbol of this number has an attribute of this number
+abbrev pub IsDeclared : List Symbol → ℕ → ℕ → Type 0
+IsDeclared symbols s a = (k : Kind) × (slice_get (symbol_kinds (slice_get symbols s)) a ≡ Some k)
+
+-- A table of some symbols: it has a state for each of their attributes, and for nothing else.
+pub record IsTable (symbols : List Symbol) (states : List State) : Type 0 where
+  pub len : length states ≡ length symbols * 16
+  pub there : (s a : ℕ) → (state_of states s a ≡ Absent → ⊥) ↔ IsDeclared symbols s a
+
+-- whether a slot is marked
+abbrev pub is_marked : List Bool → ℕ → Bool
+is_marked marks k = slice_index_or marks k false
+
+-- the state after pass p of an attribute that is struck in it or not
+abbrev pub after_pass : ℕ → State → Bool → State
+after_pass p Absent struck = Absent
+after_pass p Open true = Open
+after_pass p Open false = Given p
+after_pass p (Given q) struck = Given q
+
+-- The rows of a table: each symbol's row has the passes of its attributes, and 0 where one has none.
+pub record AreRowsOfTable (symbols : List Symbol) (states : List State) (rows : List (List ℕ)) : Type 0 where
+  pub len : (s : ℕ) → length (passes_of rows s) ≡ attribute_count (slice_get symbols s)
+  pub passes : (s a : ℕ) → a < attribute_count (slice_get symbols s) → slice_get (passes_of rows s) a ≡ Some (unwrap_or (given (state_at states (slot_of s a))) 0)

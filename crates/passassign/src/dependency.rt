@@ -1,0 +1,256 @@
+//! What the targets of a production's rules depend on, and which of them depend on an attribute.
+
+ghost use Rattle.std.specs.Prelude.{◌≡◌, ◌<◌, ◌↔◌, ◌++◌, ◌∷◌, [], ℕ, length, IfOk, OnOk, slice_get};
+ghost use Rattle.ag_expr.specs.Lists.{Has};
+ghost use Rattle.ag_expr.specs.grammars.AttributeGrammar.{stored_items};
+ghost use Rattle.passassign.specs.Dependencies.{places_of, symbol_of, table_slot, dependency_of};
+ghost use Rattle.passassign.specs.Dependencies.{OfEach, Adds, IsByArgument, IsByRule};
+ghost use Rattle.passassign.specs.Dependencies.{IsByProduction, AreDependencies};
+ghost use Rattle.passassign.specs.Dependencies.{AreRows, Puts, PutsAt, row_at};
+
+use crate::stuck::Strike;
+use crate::table::slot;
+use ag_expr::{Item, Production, Rule, Target, Terminal};
+use ag_value::NoMemory;
+use std::alloc::Global;
+
+/// A dependency of a rule's target on one of its arguments (Knuth 1968).
+#[derive(Clone, Copy, Debug, PartialEq, Eq)]
+pub(crate) struct Dependency {
+    /// The strike of the target by this argument.
+    pub strike: Strike,
+    /// The slot in which a table has the target.
+    pub target: usize,
+    /// The target's place.
+    pub place: u16,
+    /// The slot in which a table has the argument, if that is an attribute of a declared symbol.
+    pub argument: Option<usize>,
+    /// The argument's place.
+    pub from: u16,
+}
+
+/// An index as the number that a strike has.
+fn numbered(index: usize) -> Result<u16, NoMemory>
+    ensures { IfOk result (λ n. n ≡ index) }
+{
+    if index > 65535 {
+        return Err(NoMemory::NoMemory);
+    }
+    Ok(index as u16)
+}
+
+/// Puts an item at the end of a list if it has a place.
+fn put_place(places: &mut Vec<Item>, item: Item) -> Result<(), NoMemory>
+    ensures { OnOk result (places.new.items ≡ places.old.items ++ stored_items (item ∷ [])) }
+{
+    match item {
+        Item::Symbol(_) => places.push(item)?,
+        Item::Terminal(Terminal::Class(_)) => places.push(item)?,
+        Item::Terminal(Terminal::Literal(_)) => {}
+    }
+    Ok(())
+}
+
+/// What stands at the places of a production, from its left side on.
+fn all_places(alloc: Global, production: &Production) -> Result<Vec<Item>, NoMemory>
+    ensures { IfOk result (λ places. places.items ≡ places_of production.now) }
+{
+    let mut places = Vec::new(alloc);
+    places.push(Item::Symbol(production.left))?;
+    for item in production.items.as_slice() {
+        put_place(&mut places, *item)?;
+    }
+    Ok(places)
+}
+
+/// The symbol at a place, if one stands there.
+fn symbol_at(places: &[Item], place: u16) -> Option<u16>
+    ensures { result ≡ symbol_of (slice_get places.now place) }
+{
+    if place as usize >= places.len() {
+        return None;
+    }
+    match places[place as usize] {
+        Item::Symbol(symbol) => Some(symbol),
+        Item::Terminal(_) => None,
+    }
+}
+
+/// The slot of an attribute at a place, if a symbol stands there.
+fn slot_at(places: &[Item], attribute: Target) -> Option<usize>
+    ensures { result
+        ≡ table_slot (symbol_of (slice_get places.now attribute.place)) attribute.attr }
+{
+    match symbol_at(places, attribute.place) {
+        Some(symbol) => Some(slot(symbol, attribute.attr)),
+        None => None,
+    }
+}
+
+/// The dependency of a rule's target at a place on an argument.
+fn by_argument(places: &[Item], head: Strike, place: u16, arg: u16, argument: Target) -> Dependency
+    ensures { result ≡ dependency_of places.now head place arg argument }
+{
+    Dependency {
+        strike: Strike {
+            symbol: head.symbol,
+            attr: head.attr,
+            production: head.production,
+            rule: head.rule,
+            arg,
+        },
+        target: slot(head.symbol, head.attr),
+        place,
+        argument: slot_at(places, argument),
+        from: argument.place,
+    }
+}
+
+/// Puts the dependencies of a rule's target on the rule's arguments at the end of a list.
+fn put_arguments(
+    found: &mut Vec<Dependency>,
+    places: &[Item],
+    head: Strike,
+    place: u16,
+    args: &[Target],
+) -> Result<(), NoMemory>
+    ensures { OnOk result (Adds (OfEach (IsByArgument places.now head place) args.now)
+        found.old.items found.new.items) }
+{
+    for (index, argument) in args.iter().enumerate() {
+        let arg = numbered(index)?;
+        found.push(by_argument(places, head, place, arg, *argument))?;
+    }
+    Ok(())
+}
+
+/// Puts the dependencies of a rule at the end of a list.
+fn put_rule(
+    found: &mut Vec<Dependency>,
+    places: &[Item],
+    production: u16,
+    number: u16,
+    rule: &Rule,
+) -> Result<(), NoMemory>
+    ensures { OnOk result (Adds (IsByRule places.now production number rule.now)
+        found.old.items found.new.items) }
+{
+    let target = rule.target;
+    match symbol_at(places, target.place) {
+        Some(symbol) => {
+            let head = Strike {
+                symbol,
+                attr: target.attr,
+                production,
+                rule: number,
+                arg: 0,
+            };
+            put_arguments(found, places, head, target.place, rule.args.as_slice())?;
+            Ok(())
+        }
+        None => Ok(()),
+    }
+}
+
+/// Puts the dependencies of rules of one production at the end of a list.
+fn put_rules(
+    found: &mut Vec<Dependency>,
+    places: &[Item],
+    production: u16,
+    rules: &[Rule],
+) -> Result<(), NoMemory>
+    ensures { OnOk result (Adds (OfEach (IsByRule places.now production) rules.now)
+        found.old.items found.new.items) }
+{
+    for (index, rule) in rules.iter().enumerate() {
+        put_rule(found, places, production, numbered(index)?, rule)?;
+    }
+    Ok(())
+}
+
+/// Puts the dependencies of a production at the end of a list.
+fn put_production(
+    alloc: Global,
+    found: &mut Vec<Dependency>,
+    number: u16,
+    production: &Production,
+) -> Result<(), NoMemory>
+    ensures { OnOk result (Adds (IsByProduction number production.now)
+        found.old.items found.new.items) }
+{
+    let places = all_places(alloc, production)?;
+    put_rules(
+        found,
+        places.as_slice(),
+        number,
+        production.rules.as_slice(),
+    )?;
+    Ok(())
+}
+
+/// All dependencies of some productions.
+pub(crate) fn all_dependencies(
+    alloc: Global,
+    productions: &[Production],
+) -> Result<Vec<Dependency>, NoMemory>
+    ensures { IfOk result (λ all. AreDependencies productions.now all.items) }
+{
+    let mut found = Vec::new(alloc);
+    for (index, production) in productions.iter().enumerate() {
+        put_production(alloc, &mut found, numbered(index)?, production)?;
+    }
+    Ok(found)
+}
+
+/// Puts a dependency at the end of the row of a slot, if there is such a row.
+fn put_at(rows: &mut Vec<Vec<Dependency>>, slot: usize, one: Dependency) -> Result<(), NoMemory>
+    ensures len { OnOk result (length rows.new.items ≡ length rows.old.items) }
+    ensures put { OnOk result (PutsAt slot one rows.old.items rows.new.items) }
+{
+    if slot < rows.len() {
+        rows[slot].push(one)?;
+    }
+    Ok(())
+}
+
+/// Puts a dependency at the end of the row of its argument, if there is such a row.
+fn put_dependent(rows: &mut Vec<Vec<Dependency>>, one: Dependency) -> Result<(), NoMemory>
+    ensures len { OnOk result (length rows.new.items ≡ length rows.old.items) }
+    ensures put { OnOk result (Puts one rows.old.items rows.new.items) }
+{
+    match one.argument {
+        Some(slot) => {
+            put_at(rows, slot, one)?;
+            Ok(())
+        }
+        None => Ok(()),
+    }
+}
+
+/// So many empty rows.
+fn empty_rows(alloc: Global, count: usize) -> Result<Vec<Vec<Dependency>>, NoMemory>
+    ensures len { IfOk result (λ rows. length rows.items ≡ count) }
+    ensures empty { IfOk result (λ rows. (k : ℕ) → row_at rows.items k ≡ []) }
+{
+    let mut rows = Vec::new(alloc);
+    for _ in 0..count {
+        rows.push(Vec::new(alloc))?;
+    }
+    Ok(rows)
+}
+
+/// For each of so many slots of a table the dependencies on what it has.
+pub(crate) fn rows_of(
+    alloc: Global,
+    count: usize,
+    all: &[Dependency],
+) -> Result<Vec<Vec<Dependency>>, NoMemory>
+    ensures len { IfOk result (λ rows. length rows.items ≡ count) }
+    ensures rows { IfOk result (λ rows. AreRows all.now rows.items) }
+{
+    let mut rows = empty_rows(alloc, count)?;
+    for one in all {
+        put_dependent(&mut rows, *one)?;
+    }
+    Ok(rows)
+}

@@ -1,0 +1,215 @@
+//! A table of all attributes, and what the passes made so far say of each.
+
+ghost use Rattle.std.specs.Prelude.{ℕ, ◌≡◌, ◌+◌, ◌*◌, ◌/◌, ◌%◌, ◌^◌, ◌<◌, ◌≤◌, ◌↔◌, ◌++◌};
+ghost use Rattle.std.specs.Prelude.{[], ◌∷◌, count_by, length};
+ghost use Rattle.std.specs.Prelude.{true, false, IfOk, OnOk, Some, slice_get, unwrap_or};
+ghost use Rattle.ag_expr.specs.Lists.{Each, Has};
+ghost use Rattle.ag_expr.specs.grammars.AttributeGrammar.{attribute_names};
+ghost use Rattle.passassign.specs.Answer.{IsInDeclaredOrder};
+ghost use Rattle.passassign.specs.Rows.{numbers_of};
+ghost use Rattle.passassign.specs.Tables.{slot_of, state_at, first_state, given, is_open};
+ghost use Rattle.passassign.specs.Tables.{after_pass, is_marked, AreRowsOfTable, IsFirstTable};
+ghost use Rattle.passassign.specs.declared.table.State.TheVariants.{Open};
+
+use ag_expr::Symbol;
+use ag_value::NoMemory;
+use std::alloc::Global;
+
+/// How many slots of a table each symbol has: the most attributes that one may have.
+pub(crate) const SLOTS: usize = 16;
+
+/// What is known of a slot of the table.
+#[derive(Clone, Copy, Debug, PartialEq, Eq)]
+pub(crate) enum State {
+    /// There is no attribute.
+    Absent,
+    /// The attribute has no pass yet.
+    Open,
+    /// The attribute has this pass.
+    Given(u16),
+}
+
+/// The slot in which a table has an attribute.
+pub(crate) fn slot(symbol: u16, attr: u16) -> usize
+    ensures { result ≡ slot_of symbol attr }
+{
+    symbol as usize * SLOTS + attr as usize
+}
+
+/// What a table has in a slot.
+pub(crate) fn look_up(states: &[State], slot: usize) -> State
+    ensures { result ≡ state_at states.now slot }
+{
+    if slot < states.len() {
+        states[slot]
+    } else {
+        State::Absent
+    }
+}
+
+/// An attribute has no pass yet.
+pub(crate) fn has_none(state: State) -> bool
+    ensures { result ≡ is_open state }
+{
+    match state {
+        State::Absent => false,
+        State::Open => true,
+        State::Given(_) => false,
+    }
+}
+
+/// What a table has first where a symbol has so many attributes.
+fn state_at_first(attr: usize, count: usize) -> State
+    ensures { result ≡ first_state count attr }
+{
+    if attr < count {
+        State::Open
+    } else {
+        State::Absent
+    }
+}
+
+/// Puts the slots of a symbol with so many attributes at the end of a table.
+fn open_symbol(states: &mut Vec<State>, count: usize) -> Result<(), NoMemory>
+    ensures len { OnOk result (length states.new.items ≡ length states.old.items + 16) }
+    ensures kept { OnOk result ((k : ℕ) → k < length states.old.items
+        → state_at states.new.items k ≡ state_at states.old.items k) }
+    ensures put { OnOk result ((a : ℕ) → a < 16
+        → state_at states.new.items (length states.old.items + a) ≡ first_state count a) }
+{
+    for attr in 0..SLOTS {
+        states.push(state_at_first(attr, count))?;
+    }
+    Ok(())
+}
+
+/// How many attributes a symbol has.
+fn count_of(symbol: &Symbol) -> usize
+    requires { length (attribute_names symbol.now) ≤ 16 }
+    ensures { result ≡ length (attribute_names symbol.now) }
+{
+    symbol.syn.as_slice().len() + symbol.inh.as_slice().len()
+}
+
+/// The table of all attributes, none of which has a pass.
+pub(crate) fn open_all(alloc: Global, symbols: &[Symbol]) -> Result<Vec<State>, NoMemory>
+    requires { Each (λ s. length (attribute_names s) ≤ 16) symbols.now }
+    ensures { IfOk result (λ states. IsFirstTable symbols.now states.items) }
+{
+    let mut states = Vec::new(alloc);
+    for symbol in symbols {
+        open_symbol(&mut states, count_of(symbol))?;
+    }
+    Ok(states)
+}
+
+/// The pass in a slot, 0 where there is none.
+fn pass_at(states: &[State], slot: usize) -> u16
+    ensures { result ≡ unwrap_or (given (state_at states.now slot)) 0 }
+{
+    match look_up(states, slot) {
+        State::Given(pass) => pass,
+        State::Open => 0,
+        State::Absent => 0,
+    }
+}
+
+/// The passes of so many slots of a table from one on.
+fn row(alloc: Global, states: &[State], from: usize, count: usize) -> Result<Vec<u16>, NoMemory>
+    requires from { from < 2 ^ 32 }
+    requires count { count ≤ 16 }
+    ensures len { IfOk result (λ row. length row.items ≡ count) }
+    ensures passes { IfOk result (λ row. (a : ℕ) → a < count
+        → slice_get row.items a ≡ Some (unwrap_or (given (state_at states.now (from + a))) 0)) }
+{
+    let mut row = Vec::new(alloc);
+    for attr in 0..count {
+        row.push(pass_at(states, from + attr))?;
+    }
+    Ok(row)
+}
+
+/// The passes of all attributes, by symbols.
+pub(crate) fn rows(
+    alloc: Global,
+    symbols: &[Symbol],
+    states: &[State],
+) -> Result<Vec<Vec<u16>>, NoMemory>
+    requires count { length symbols.now ≤ 256 }
+    requires attributes { Each (λ s. length (attribute_names s) ≤ 16) symbols.now }
+    ensures { IfOk result (λ rows. AreRowsOfTable symbols.now states.now (numbers_of rows.items)) }
+{
+    let mut rows = Vec::new(alloc);
+    for (index, symbol) in symbols.iter().enumerate() {
+        rows.push(row(alloc, states, index * SLOTS, count_of(symbol))?)?;
+    }
+    Ok(rows)
+}
+
+/// Puts an attribute at the end of a list if it has no pass.
+fn put_open(found: &mut Vec<(u16, u16)>, state: State, slot: usize) -> Result<(), NoMemory>
+    requires { slot < 2 ^ 16 * 16 }
+    ensures puts { OnOk result (is_open state ≡ true
+        → found.new.items ≡ found.old.items ++ (slot / 16, slot % 16) ∷ []) }
+    ensures other { OnOk result (is_open state ≡ false → found.new.items ≡ found.old.items) }
+{
+    if has_none(state) {
+        found.push(((slot / SLOTS) as u16, (slot % SLOTS) as u16))?;
+    }
+    Ok(())
+}
+
+/// The attributes that have no pass, in the order of the table.
+pub(crate) fn open_ones(alloc: Global, states: &[State]) -> Result<Vec<(u16, u16)>, NoMemory>
+    requires { length states.now ≤ 4096 }
+    ensures all { IfOk result (λ found. (s a : ℕ)
+        → Has found.items (s, a) ↔ (a < 16) × (state_at states.now (slot_of s a) ≡ Open)) }
+    ensures ordered { IfOk result (λ found. IsInDeclaredOrder found.items) }
+{
+    let mut found = Vec::new(alloc);
+    for (index, state) in states.iter().enumerate() {
+        put_open(&mut found, *state, index)?;
+    }
+    Ok(found)
+}
+
+/// What pass `pass` makes of an attribute's state.
+fn after(state: State, pass: u16, is_struck: bool) -> State
+    ensures { result ≡ after_pass pass state is_struck }
+{
+    match state {
+        State::Absent => State::Absent,
+        State::Open => if is_struck {
+            State::Open
+        } else {
+            State::Given(pass)
+        },
+        State::Given(earlier) => State::Given(earlier),
+    }
+}
+
+/// A slot is marked.
+pub(crate) fn has_mark(marks: &[bool], slot: usize) -> bool
+    ensures { result ≡ is_marked marks.now slot }
+{
+    slot < marks.len() && marks[slot]
+}
+
+/// Gives a pass to each attribute that has none and is not marked.
+pub(crate) fn give(states: &mut Vec<State>, marks: &[bool], pass: u16)
+    ensures len { length states.new.items ≡ length states.old.items }
+    ensures after { (k : ℕ) → state_at states.new.items k
+        ≡ after_pass pass (state_at states.old.items k) (is_marked marks.now k) }
+{
+    for slot in 0..states.len() {
+        let state = after(states[slot], pass, has_mark(marks, slot));
+        states[slot] = state;
+    }
+}
+
+/// How many attributes have no pass.
+pub(crate) fn count_open(states: &[State]) -> usize
+    ensures { result ≡ count_by is_open states.now }
+{
+    states.iter().filter(|state| has_none(**state)).count()
+}
