@@ -1,3 +1,5 @@
 pub mod Ahead
 pub mod Laws
+pub mod Nodes
+pub mod Reach
 pub mod Worked

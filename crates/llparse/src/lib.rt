@@ -5,6 +5,8 @@
 
 mod ahead;
 mod laws;
+mod nodes;
+mod reach;
 
 pub use ahead::Ahead;
 pub use laws::{left_recursion_conflicts, one_tree, sample_is_free};

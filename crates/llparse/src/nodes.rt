@@ -1,0 +1,69 @@
+//! How the symbols and the look-aheads of a grammar are numbered.
+ghost use Rattle.std.specs.Prelude.{◌≡◌, ◌+◌, length};
+ghost use Rattle.llparse.specs.Nodes.{node_of, place_of};
+
+use crate::ahead::Ahead;
+use ag_expr::{Item, Terminal};
+use normalform::Grammar;
+
+/// How many classes there are: NAME, NUMBER and TEXT.
+pub(crate) const CLASS_COUNT: u16 = 3;
+
+/// How many symbols and literals a grammar has.
+#[derive(Clone, Copy, Debug, PartialEq, Eq)]
+pub(crate) struct Sizes {
+    pub(crate) symbols: u16,
+    pub(crate) literals: u16,
+}
+
+impl Sizes {
+    /// Those of a grammar.
+    pub(crate) fn of(grammar: &Grammar) -> Sizes
+        ensures symbols { result.symbols ≡ length grammar.now.symbols }
+        ensures literals { result.literals ≡ length grammar.now.literals }
+    {
+        Sizes {
+            symbols: grammar.symbols().len() as u16,
+            literals: grammar.literals().len() as u16,
+        }
+    }
+
+    /// A look-ahead's place among all: literals, then classes, then the end.
+    pub(crate) fn place(self, ahead: Ahead) -> usize
+        ensures { result ≡ place_of self.literals ahead }
+    {
+        match ahead {
+            Ahead::Terminal(Terminal::Literal(literal)) => usize::from(literal),
+            Ahead::Terminal(Terminal::Class(class)) => {
+                usize::from(self.literals) + usize::from(class)
+            }
+            Ahead::End => usize::from(self.literals) + usize::from(CLASS_COUNT),
+        }
+    }
+
+    /// The node of an item: symbols come first, then look-aheads.
+    pub(crate) fn node(self, item: Item) -> usize
+        ensures { result ≡ node_of self.symbols self.literals item }
+    {
+        match item {
+            Item::Symbol(symbol) => usize::from(symbol),
+            Item::Terminal(terminal) => {
+                usize::from(self.symbols) + self.place(Ahead::Terminal(terminal))
+            }
+        }
+    }
+
+    /// How many look-aheads there are.
+    pub(crate) fn aheads(self) -> usize
+        ensures { result ≡ self.literals + 4 }
+    {
+        usize::from(self.literals) + usize::from(CLASS_COUNT) + 1
+    }
+
+    /// How many nodes there are.
+    pub(crate) fn nodes(self) -> usize
+        ensures { result ≡ self.symbols + (self.literals + 4) }
+    {
+        usize::from(self.symbols) + self.aheads()
+    }
+}
