@@ -1,3 +1,4 @@
 pub mod Examples
+pub mod Nullables
 pub mod Reaching
 pub mod Unique

@@ -1,8 +1,8 @@
 -- What a work list marks is what is reached.
-use Rattle.std.proofs.Common.{ℕ, zero, suc, Contains, ◌+◌, ◌≡◌, ◌<◌, ◌≤◌, Bool, true, false, List, [], ◌∷◌, ◌++◌, length, get_or, take, Some, refl, ap, sym, ◌∙◌, inl, inr, set, arith, length-set, replicate}
+use Rattle.std.proofs.Common.{ℕ, All, zero, suc, Contains, ◌+◌, ◌≡◌, ◌<◌, ◌≤◌, Bool, true, false, List, [], ◌∷◌, ◌++◌, length, get_or, take, Some, refl, ap, sym, ◌∙◌, inl, inr, set, arith, length-set, replicate}
 use Rattle.std.proofs.lemmas.Bool.{cases_eq, false≢true}
-use Rattle.std.proofs.lemmas.List.{get_or-set_other, get_or-set_same, get_or-map, take_more, length-map}
-use Rattle.std.proofs.lemmas.List.Elements.{All-nil, All-push, Contains-push_cases, Contains-append_left, Contains-push, All-pop}
+use Rattle.std.proofs.lemmas.List.{get_or-set_other, get_or-set_same, get_or-map, map-set, take_more, length-map}
+use Rattle.std.proofs.lemmas.List.Elements.{All-head, All-nil, All-push, All-tail, Contains-push_cases, Contains-append_left, Contains-push, All-pop}
 use Rattle.std.specs.Global.{Vec}
 use Rattle.llparse.specs.Reach.{is_marked, rows, row, InReach, seed, edge, Marked, Queues, turns_left, IsSearch}
 
@@ -158,3 +158,14 @@ pub unmarked : (n t : ℕ) → is_marked (replicate n false) t ≡ false
 unmarked zero t = refl
 unmarked (suc n) zero = refl
 unmarked (suc n) (suc t) = unmarked n t
+
+-- a row of a table that was added to
+pub rows_set : (table : List (Vec ℕ)) (u x : ℕ) (v w : Vec ℕ) → u < length table → v ≡ get_or table u v → w.items ≡ v.items ++ x ∷ [] → rows (set table u w) ≡ set (rows table) u (row (rows table) u ++ x ∷ [])
+rows_set table u x v w lt is pushed =
+    map-set (λ (y : Vec ℕ). y.items) table u w ∙ ap (set (rows table) u) (pushed ∙ sym (ap (λ xs. xs ++ x ∷ []) (row_of table u v lt is)))
+
+-- the rows of empty lists are empty
+pub rows_empty : (table : List (Vec ℕ)) → All (λ (v : Vec ℕ). v.items ≡ []) table → (t : ℕ) → row (rows table) t ≡ []
+rows_empty [] empty t = refl
+rows_empty (v ∷ table) empty zero = All-head (λ (w : Vec ℕ). w.items ≡ []) v table empty
+rows_empty (v ∷ table) empty (suc t) = rows_empty table (All-tail (λ (w : Vec ℕ). w.items ≡ []) v table empty) t

@@ -1,5 +1,6 @@
 pub mod Ahead
 pub mod Laws
 pub mod Nodes
+pub mod Nullable
 pub mod Reach
 pub mod Worked

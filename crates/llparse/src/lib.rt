@@ -6,6 +6,7 @@
 mod ahead;
 mod laws;
 mod nodes;
+mod nullable;
 mod reach;
 
 pub use ahead::Ahead;

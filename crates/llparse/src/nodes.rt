@@ -33,11 +33,11 @@ impl Sizes {
         ensures { result ≡ place_of self.literals ahead }
     {
         match ahead {
-            Ahead::Terminal(Terminal::Literal(literal)) => usize::from(literal),
+            Ahead::Terminal(Terminal::Literal(literal)) => literal as usize,
             Ahead::Terminal(Terminal::Class(class)) => {
-                usize::from(self.literals) + usize::from(class)
+                self.literals as usize + class as usize
             }
-            Ahead::End => usize::from(self.literals) + usize::from(CLASS_COUNT),
+            Ahead::End => self.literals as usize + CLASS_COUNT as usize,
         }
     }
 
@@ -46,9 +46,9 @@ impl Sizes {
         ensures { result ≡ node_of self.symbols self.literals item }
     {
         match item {
-            Item::Symbol(symbol) => usize::from(symbol),
+            Item::Symbol(symbol) => symbol as usize,
             Item::Terminal(terminal) => {
-                usize::from(self.symbols) + self.place(Ahead::Terminal(terminal))
+                self.symbols as usize + self.place(Ahead::Terminal(terminal))
             }
         }
     }
@@ -57,13 +57,13 @@ impl Sizes {
     pub(crate) fn aheads(self) -> usize
         ensures { result ≡ self.literals + 4 }
     {
-        usize::from(self.literals) + usize::from(CLASS_COUNT) + 1
+        self.literals as usize + CLASS_COUNT as usize + 1
     }
 
     /// How many nodes there are.
     pub(crate) fn nodes(self) -> usize
         ensures { result ≡ self.symbols + (self.literals + 4) }
     {
-        usize::from(self.symbols) + self.aheads()
+        self.symbols as usize + self.aheads()
     }
 }
