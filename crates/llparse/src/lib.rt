@@ -4,6 +4,7 @@
 #![tactic(auto)]
 
 mod ahead;
+mod first;
 mod laws;
 mod nodes;
 mod nullable;

@@ -1,5 +1,6 @@
 //! How the symbols and the look-aheads of a grammar are numbered.
 ghost use Rattle.std.specs.Prelude.{◌≡◌, ◌+◌, length};
+ghost use Rattle.ag_expr.specs.grammars.Accepted.{IsAccepted};
 ghost use Rattle.llparse.specs.Nodes.{node_of, place_of};
 
 use crate::ahead::Ahead;
@@ -21,6 +22,7 @@ impl Sizes {
     pub(crate) fn of(grammar: &Grammar) -> Sizes
         ensures symbols { result.symbols ≡ length grammar.now.symbols }
         ensures literals { result.literals ≡ length grammar.now.literals }
+        ensures accepted { IsAccepted grammar.now }
     {
         Sizes {
             symbols: grammar.symbols().len() as u16,
