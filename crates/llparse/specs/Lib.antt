@@ -1,4 +1,5 @@
 pub mod Ahead
+pub mod Comes
 pub mod Edges
 pub mod Laws
 pub mod Nodes

@@ -5,6 +5,7 @@
 
 mod ahead;
 mod first;
+mod follow;
 mod laws;
 mod nodes;
 mod nullable;

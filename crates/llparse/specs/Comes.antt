@@ -1,0 +1,37 @@
+-- What comes next along items, and what follows them.
+use Rattle.std.specs.Prelude.{ℕ, ◌≡◌, ◌<◌, ◌⊎◌, ◌↔◌, Bool, true, false, ◌&&◌, ◌||◌, List, [], ◌∷◌, length}
+use Rattle.ag_expr.specs.declared.grammar.Item.{Item}
+use Rattle.ag_expr.specs.declared.grammar.Production.{Production}
+use Rattle.ag_expr.specs.grammars.AttributeGrammar.{Grammar}
+use Rattle.llparse.specs.Ahead.{InFollow}
+use Rattle.llparse.specs.Edges.{node_in, IsEdge}
+use Rattle.llparse.specs.Nullable.{is_empty}
+use Rattle.llparse.specs.Reach.{is_marked}
+use Rattle.llparse.specs.declared.ahead.Ahead.{Ahead}
+
+-- The look-ahead comes next along items: an item of the first set begins with it and those before it are of the second set, or
+-- all are of the second and it comes behind them.
+abbrev pub next_in : (Item → Bool) → (Item → Bool) → Bool → List Item → Bool
+next_in begins empty behind [] = behind
+next_in begins empty behind (x ∷ xs) = begins x || (empty x && next_in begins empty behind xs)
+
+-- all items are of the set
+abbrev pub all_empty : (Item → Bool) → List Item → Bool
+all_empty empty xs = next_in (λ x. false) empty true xs
+
+-- it stands in the relation with an item behind which the rest is so
+abbrev pub OfRest : {Y : Type 0} → (List Item → Bool) → (Item → Y → Type 0) → List Item → Y → Type 0
+OfRest c R [] y = ⊥
+OfRest c R (x ∷ xs) y = ((c xs ≡ true) × R x y) ⊎ OfRest c R xs y
+
+-- an edge goes from a left side to an item of the right side behind which all items are of the set
+abbrev pub IsFollowEdge : Grammar → (ℕ → Bool) → Production → ℕ × ℕ → Type 0
+IsFollowEdge g n q e = OfRest (all_empty (is_empty n)) (λ x e. IsEdge q.left (node_in g x) e) q.items e
+
+-- an item of a right side behind which the look-ahead comes next
+abbrev pub IsFollowed : Grammar → (ℕ → Bool) → (ℕ → Bool) → Production → ℕ → Type 0
+IsFollowed g n b q t = OfRest (next_in (λ x. b (node_in g x)) (is_empty n) false) (λ x t. t ≡ node_in g x) q.items t
+
+-- the marks are those of the symbols that may be followed by a look-ahead
+abbrev pub AreFollow : Grammar → Ahead → List Bool → Type 0
+AreFollow g x marks = (s : ℕ) → s < length g.symbols → is_marked marks s ≡ true ↔ InFollow g s x
