@@ -1,8 +1,10 @@
+pub mod Choices
 pub mod Comes
 pub mod Edges
 pub mod Examples
 pub mod Firsts
 pub mod Follows
 pub mod Nullables
+pub mod Predictions
 pub mod Reaching
 pub mod Unique

@@ -4,5 +4,6 @@ pub mod Edges
 pub mod Laws
 pub mod Nodes
 pub mod Nullable
+pub mod Predicted
 pub mod Reach
 pub mod Worked

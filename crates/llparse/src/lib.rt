@@ -4,11 +4,13 @@
 #![tactic(auto)]
 
 mod ahead;
+mod choosing;
 mod first;
 mod follow;
 mod laws;
 mod nodes;
 mod nullable;
+mod predict;
 mod reach;
 
 pub use ahead::Ahead;
