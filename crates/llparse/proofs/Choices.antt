@@ -35,11 +35,14 @@ module _ (qs : List Production) (marks : List Bool) where
             (omega arith, subst (IsMarkedOf qs marks s) equal (subst (λ z. IsMarkedOf qs marks z i) (sym same) this), λ j le h. omega arith)
         | inr other ↦
             let before : choice_at choices s ≡ Some k = sym (get_or-set_other choices q.left s (Some i) None other) ∙ e in
-            let r = old.chosen s k before in
-            (omega (arith, r.0), r.1, λ j le h. elim (from_cases i j le) [
-              | inl same ↦ absurd (other (same_symbol i s q.left (subst (IsMarkedOf qs marks s) same h) this))
-              | inr more ↦ r.2 j more h
-            ])
+            let r = old.chosen s k before in (
+              omega (arith, r.0),
+              r.1,
+              λ j le h. elim (from_cases i j le) [
+                | inl same ↦ absurd (other (same_symbol i s q.left (subst (IsMarkedOf qs marks s) same h) this))
+                | inr more ↦ r.2 j more h
+              ],
+            )
       ];
       none = λ s k e le h. elim (cases_eq s q.left) [
         | inl same ↦
@@ -112,10 +115,14 @@ module _ (qs : List Production) (marks : List Bool) where
 
     pub skip_chosen : (choices : List (Option ℕ)) → AreFirstFrom qs marks (i + 1) choices → AreFirstFrom qs marks i choices
     skip_chosen choices old = record {
-      chosen = λ s k e. let r = old.chosen s k e in (omega (arith, r.0), r.1, λ j le h. elim (from_cases i j le) [
-        | inl same ↦ absurd (not_this s j same h)
-        | inr more ↦ r.2 j more h
-      ]);
+      chosen = λ s k e. let r = old.chosen s k e in (
+        omega (arith, r.0),
+        r.1,
+        λ j le h. elim (from_cases i j le) [
+          | inl same ↦ absurd (not_this s j same h)
+          | inr more ↦ r.2 j more h
+        ],
+      );
       none = λ s k e le h. elim (from_cases i k le) [
         | inl same ↦ not_this s k same h
         | inr more ↦ old.none s k e more h

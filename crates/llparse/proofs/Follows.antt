@@ -27,7 +27,7 @@ module _ (g : Grammar) (ok : IsAccepted g) (n : ℕ → Bool) where
   split_named : (q : Production) (xs ys : List Item) (z : Item) → Contains g.productions q → q.items ≡ xs ++ z ∷ ys → IsNamedItem g z
   split_named q xs ys z hq e = named_in g ok q z hq (subst (λ zs. Contains zs z) (sym e) (Contains-append_right xs (z ∷ ys) z (contains_here z ys)))
 
-  rest_named : (q : Production) (xs ys : List Item) (z : Item) → Contains g.productions q → q.items ≡ xs ++ z ∷ ys → (y : Item) → Contains ys y → IsNamedItem g y
+  pub rest_named : (q : Production) (xs ys : List Item) (z : Item) → Contains g.productions q → q.items ≡ xs ++ z ∷ ys → (y : Item) → Contains ys y → IsNamedItem g y
   rest_named q xs ys z hq e y h = named_in g ok q y hq (subst (λ zs. Contains zs y) (sym e) (Contains-append_right xs (z ∷ ys) y (contains_there z ys y h)))
 
   pub follow_edges_below : (edges : List (List ℕ)) → ((e : ℕ × ℕ) → HasEdge edges e → OfSome (IsFollowEdge g n) g.productions e) → AreEdgesBelow (length g.symbols + (length g.literals + 4)) edges

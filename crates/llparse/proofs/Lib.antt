@@ -1,4 +1,5 @@
 pub mod Choices
+pub mod Columns
 pub mod Comes
 pub mod Edges
 pub mod Examples

@@ -1,4 +1,5 @@
 pub mod Ahead
+pub mod Columns
 pub mod Comes
 pub mod Edges
 pub mod Laws
@@ -6,4 +7,5 @@ pub mod Nodes
 pub mod Nullable
 pub mod Predicted
 pub mod Reach
+pub mod Tables
 pub mod Worked

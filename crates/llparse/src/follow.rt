@@ -144,7 +144,13 @@ fn followed(
     let productions = grammar.productions();
     for at in 0..productions.len() {
         let production = &productions[at];
-        note_next(&mut seeds, sizes, nullable, begins, production.items.as_slice())?;
+        note_next(
+            &mut seeds,
+            sizes,
+            nullable,
+            begins,
+            production.items.as_slice(),
+        )?;
     }
     Ok(seeds)
 }

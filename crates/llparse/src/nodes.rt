@@ -1,7 +1,8 @@
 //! How the symbols and the look-aheads of a grammar are numbered.
-ghost use Rattle.std.specs.Prelude.{◌≡◌, ◌+◌, length};
+ghost use Rattle.std.specs.Prelude.{◌≡◌, ◌+◌, ◌<◌, true, length};
 ghost use Rattle.ag_expr.specs.grammars.Accepted.{IsAccepted};
 ghost use Rattle.llparse.specs.Nodes.{node_of, place_of};
+ghost use Rattle.llparse.specs.Tables.{is_known};
 
 use crate::ahead::Ahead;
 use ag_expr::{Item, Terminal};
@@ -36,9 +37,7 @@ impl Sizes {
     {
         match ahead {
             Ahead::Terminal(Terminal::Literal(literal)) => literal as usize,
-            Ahead::Terminal(Terminal::Class(class)) => {
-                self.literals as usize + class as usize
-            }
+            Ahead::Terminal(Terminal::Class(class)) => { self.literals as usize + class as usize }
             Ahead::End => self.literals as usize + CLASS_COUNT as usize,
         }
     }
@@ -67,5 +66,32 @@ impl Sizes {
         ensures { result ≡ self.symbols + (self.literals + 4) }
     {
         self.symbols as usize + self.aheads()
+    }
+
+    /// The look-ahead at a place.
+    pub(crate) fn ahead(self, place: usize) -> Ahead
+        requires { place < self.literals + 4 }
+        ensures place { place_of self.literals result ≡ place }
+        ensures known { is_known self.literals result ≡ true }
+    {
+        let literals = self.literals as usize;
+        if place < literals {
+            return Ahead::Terminal(Terminal::Literal(place as u16));
+        }
+        if place < literals + CLASS_COUNT as usize {
+            return Ahead::Terminal(Terminal::Class((place - literals) as u16));
+        }
+        Ahead::End
+    }
+
+    /// A look-ahead is one of the grammar's.
+    pub(crate) fn knows(self, ahead: Ahead) -> bool
+        ensures { result ≡ is_known self.literals ahead }
+    {
+        match ahead {
+            Ahead::Terminal(Terminal::Literal(literal)) => literal < self.literals,
+            Ahead::Terminal(Terminal::Class(class)) => class < CLASS_COUNT,
+            Ahead::End => true,
+        }
     }
 }

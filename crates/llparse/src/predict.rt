@@ -74,7 +74,14 @@ impl Sets {
         let nullable = self.nullable.as_slice();
         let begins = first(alloc, grammar, nullable, self.first.as_slice(), ahead)?;
         let begins = begins.as_slice();
-        let follows = follow(alloc, grammar, nullable, begins, self.follow.as_slice(), ahead)?;
+        let follows = follow(
+            alloc,
+            grammar,
+            nullable,
+            begins,
+            self.follow.as_slice(),
+            ahead,
+        )?;
         let follows = follows.as_slice();
         let productions = grammar.productions();
         let mut marks = Vec::new(alloc);

@@ -23,7 +23,7 @@ loop-at-preserved c =
     record {
       len = c.in_ok-note_last.ensures.len ∙ c.loop-at.invariant.len;
       edges = last_more c.args.grammar.now c.productions-productions.ensures.accepted (is_marked c.args.nullable.now) c.loop-at.at r _ _ _ c.as_slice-items.result.now _ _ _ inside c.of-sizes.ensures.symbols c.of-sizes.ensures.literals
-        (ap (λ (q : Production). q.left) is) (c.as_slice-items.ensures ∙ ap (λ (q : Production). q.items) is) c.loop-at.invariant.edges c.in_ok-note_last.ensures.edges;
+          (ap (λ (q : Production). q.left) is) (c.as_slice-items.ensures ∙ ap (λ (q : Production). q.items) is) c.loop-at.invariant.edges c.in_ok-note_last.ensures.edges;
     }
 
 pub returns-clause-edges : goal.returns-clause-edges

@@ -17,8 +17,8 @@ loop-at-preserved c =
     let r = c.index-productions-at.result in
     let is : r ≡ get_or g.productions c.loop-at.at r = c.index-productions-at.is ∙ ap (λ (qs : List Production). get_or qs c.loop-at.at r) c.productions-productions.ensures.lent in
     let this = predicts_at g c.of-sizes.ensures.accepted (is_marked c.args.self.now.nullable.items) c.requires.sets.nullable_exact c.args.ahead c.in_ok-begins.begins.items c.in_ok-follows.follows.items c.in_ok-begins.ensures.first c.in_ok-follows.ensures
-      c.loop-at.at r _ _ c.as_slice-items.result.now c.has-behind.result c.is_next.result is c.of-sizes.ensures.symbols c.of-sizes.ensures.literals c.as_slice-items.ensures (rw c.as_slice-follows.ensures.value at c.has-behind.ensures)
-      (rw (c.as_slice-begins.ensures.value, c.as_slice-nullable.ensures.value) at c.is_next.ensures) in
+    c.loop-at.at r _ _ c.as_slice-items.result.now c.has-behind.result c.is_next.result is c.of-sizes.ensures.symbols c.of-sizes.ensures.literals c.as_slice-items.ensures (rw c.as_slice-follows.ensures.value at c.has-behind.ensures)
+    (rw (c.as_slice-begins.ensures.value, c.as_slice-nullable.ensures.value) at c.is_next.ensures) in
     record {
       count = omega (arith, c.in_ok-push.ensures.len, c.loop-at.invariant.count);
       told = rw (c.in_ok-push.ensures.items, ← c.loop-at.invariant.count) (predicted_more g c.args.ahead c.loop-at.marks.items c.is_next.result (rw c.loop-at.invariant.count this) (rw c.loop-at.invariant.count c.loop-at.invariant.told));
