@@ -1,12 +1,13 @@
 -- What comes next along items, and what follows them.
-use Rattle.std.specs.Prelude.{ℕ, ◌≡◌, ◌<◌, ◌⊎◌, ◌↔◌, Bool, true, false, ◌&&◌, ◌||◌, List, [], ◌∷◌, length}
+use Rattle.std.specs.Prelude.{ℕ, ◌≡◌, ◌<◌, ◌⊎◌, ◌↔◌, Bool, true, false, ◌&&◌, ◌||◌, List, [], ◌∷◌, length, Contains}
+use Rattle.std.specs.Global.{Vec}
 use Rattle.ag_expr.specs.declared.grammar.Item.{Item}
 use Rattle.ag_expr.specs.declared.grammar.Production.{Production}
 use Rattle.ag_expr.specs.grammars.AttributeGrammar.{Grammar}
 use Rattle.llparse.specs.Ahead.{InFollow}
-use Rattle.llparse.specs.Edges.{node_in, IsEdge}
+use Rattle.llparse.specs.Edges.{node_in, HasEdge, IsEdge, OfSome}
 use Rattle.llparse.specs.Nullable.{is_empty}
-use Rattle.llparse.specs.Reach.{is_marked}
+use Rattle.llparse.specs.Reach.{is_marked, rows}
 use Rattle.llparse.specs.declared.ahead.Ahead.{Ahead}
 
 -- The look-ahead comes next along items: an item of the first set begins with it and those before it are of the second set, or
@@ -35,3 +36,11 @@ IsFollowed g n b q t = OfRest (next_in (λ x. b (node_in g x)) (is_empty n) fals
 -- the marks are those of the symbols that may be followed by a look-ahead
 abbrev pub AreFollow : Grammar → Ahead → List Bool → Type 0
 AreFollow g x marks = (s : ℕ) → s < length g.symbols → is_marked marks s ≡ true ↔ InFollow g s x
+
+-- a table has exactly the edges by which FOLLOW is reached
+abbrev pub AreFollowEdges : Grammar → List Bool → List (Vec ℕ) → Type 0
+AreFollowEdges g nullable edges = (e : ℕ × ℕ) → HasEdge (rows edges) e ↔ OfSome (IsFollowEdge g (is_marked nullable)) g.productions e
+
+-- a number is an item's behind which the look-ahead comes next, in some production
+abbrev pub AreFollowed : Grammar → List Bool → List Bool → List ℕ → Type 0
+AreFollowed g nullable begins seeds = (t : ℕ) → Contains seeds t ↔ OfSome (IsFollowed g (is_marked nullable) (is_marked begins)) g.productions t

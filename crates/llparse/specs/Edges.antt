@@ -1,5 +1,5 @@
 -- What is noted as edges between nodes, and where that leads.
-use Rattle.std.specs.Prelude.{ℕ, ◌≡◌, ◌<◌, ◌⊎◌, ◌↔◌, Bool, true, List, [], ◌∷◌, length, Contains, if◌then◌else◌}
+use Rattle.std.specs.Prelude.{ℕ, ◌+◌, ◌≡◌, ◌<◌, ◌⊎◌, ◌↔◌, Bool, true, List, [], ◌∷◌, length, Contains, if◌then◌else◌}
 use Rattle.ag_expr.specs.declared.grammar.Item.TheVariants as item
 use Rattle.ag_expr.specs.declared.grammar.Item.{Item}
 use Rattle.ag_expr.specs.declared.grammar.Production.{Production}
@@ -9,7 +9,8 @@ use Rattle.ag_expr.specs.grammars.Accepted.{IsNamedItem, class_count}
 use Rattle.llparse.specs.Ahead.{InFirst}
 use Rattle.llparse.specs.Nodes.{node_of}
 use Rattle.llparse.specs.Nullable.{is_empty}
-use Rattle.llparse.specs.Reach.{is_marked, row}
+use Rattle.llparse.specs.Reach.{is_marked, row, rows}
+use Rattle.std.specs.Global.{Vec}
 use Rattle.llparse.specs.declared.ahead.Ahead.{Ahead}
 use Rattle.llparse.specs.declared.ahead.Ahead.TheVariants as ahead
 
@@ -44,6 +45,18 @@ front n (x ∷ xs) = x ∷ (if is_empty n x then front n xs else [])
 -- an edge goes from an item in front of a right side to the left side
 abbrev pub IsFirstEdge : Grammar → (ℕ → Bool) → Production → ℕ × ℕ → Type 0
 IsFirstEdge g n q e = OfSome (λ x e. IsEdge (node_in g x) q.left e) (front n q.items) e
+
+-- how many nodes a grammar has: its symbols, its literals, the classes and the end
+abbrev pub node_count : Grammar → ℕ
+node_count g = length g.symbols + (length g.literals + 4)
+
+-- what is noted in a table of edges
+abbrev pub AddsEdges : (ℕ × ℕ → Type 0) → List (Vec ℕ) → List (Vec ℕ) → Type 0
+AddsEdges P before after = Adds P (HasEdge (rows before)) (HasEdge (rows after))
+
+-- a table has exactly the edges by which FIRST is reached
+abbrev pub AreFirstEdges : Grammar → List Bool → List (Vec ℕ) → Type 0
+AreFirstEdges g nullable edges = (e : ℕ × ℕ) → HasEdge (rows edges) e ↔ OfSome (IsFirstEdge g (is_marked nullable)) g.productions e
 
 -- a look-ahead is one of a grammar's
 abbrev pub IsKnownAhead : Grammar → Ahead → Type 0

@@ -1,5 +1,5 @@
 -- What the search for nullable symbols keeps on the way (this project's).
-use Rattle.std.specs.Prelude.{ℕ, ◌≡◌, ◌<◌, ◌≤◌, ◌⊎◌, Bool, true, false, List, length, take, slice_index, slice_index_or, All, Contains}
+use Rattle.std.specs.Prelude.{ℕ, ◌≡◌, ◌<◌, ◌≤◌, ◌⊎◌, ◌↔◌, Bool, true, false, List, length, take, slice_index, slice_index_or, All, Contains}
 use Rattle.std.specs.List.{list_all}
 use Rattle.ag_expr.specs.declared.grammar.Item.TheVariants as item
 use Rattle.ag_expr.specs.declared.grammar.Item.{Item}
@@ -48,3 +48,7 @@ pub record Notes (production : ℕ) (uses uses' : List (List ℕ)) : Type 0 wher
   pub same : length uses' ≡ length uses
   pub kept : (t p : ℕ) → Contains (row uses t) p → Contains (row uses' t) p
   pub fits : (n : ℕ) → production < n → ((t : ℕ) → All (λ p. p < n) (row uses t)) → (t : ℕ) → All (λ p. p < n) (row uses' t)
+
+-- the marks are those of the nullable symbols
+abbrev pub AreNullableMarks : Grammar → List Bool → Type 0
+AreNullableMarks g marks = (s : ℕ) → is_marked marks s ≡ true ↔ IsNullable g s

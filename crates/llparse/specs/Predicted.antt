@@ -1,22 +1,23 @@
 -- What the sets of a grammar are, and which productions one look-ahead chooses.
 use Rattle.std.specs.Prelude.{ℕ, ◌≡◌, ◌+◌, ◌<◌, ◌≤◌, ◌⊎◌, ◌↔◌, Bool, true, List, Option, Some, None, length, slice_get, slice_index_or}
-use Rattle.std.specs.Global.{Vec}
 use Rattle.ag_expr.specs.declared.grammar.Production.{Production}
 use Rattle.ag_expr.specs.grammars.AttributeGrammar.{Grammar, IsProduction}
-use Rattle.llparse.specs.Ahead.{IsNullable, Predicts}
-use Rattle.llparse.specs.Comes.{IsFollowEdge}
-use Rattle.llparse.specs.Edges.{HasEdge, IsFirstEdge, OfSome}
-use Rattle.llparse.specs.Reach.{is_marked, rows}
+use Rattle.llparse.specs.Ahead.{Predicts}
+use Rattle.llparse.specs.Comes.{AreFollowEdges}
+use Rattle.llparse.specs.Edges.{node_count, AreFirstEdges}
+use Rattle.llparse.specs.Nullable.{AreNullableMarks}
+use Rattle.llparse.specs.Reach.{is_marked}
 use Rattle.llparse.specs.declared.ahead.Ahead.{Ahead}
 use Rattle.llparse.specs.declared.choosing.Pair.{Pair}
+use Rattle.llparse.specs.declared.predict.Sets.{Sets}
 
 -- the marks are those of the nullable symbols, and the tables have the edges by which FIRST and FOLLOW are reached
-pub record AreSets (g : Grammar) (nullable : List Bool) (first follow : List (Vec ℕ)) : Type 0 where
-  pub nullable_exact : (s : ℕ) → is_marked nullable s ≡ true ↔ IsNullable g s
-  pub first_len : length first ≡ length g.symbols + (length g.literals + 4)
-  pub first_exact : (e : ℕ × ℕ) → HasEdge (rows first) e ↔ OfSome (IsFirstEdge g (is_marked nullable)) g.productions e
-  pub follow_len : length follow ≡ length g.symbols + (length g.literals + 4)
-  pub follow_exact : (e : ℕ × ℕ) → HasEdge (rows follow) e ↔ OfSome (IsFollowEdge g (is_marked nullable)) g.productions e
+pub record AreSets (g : Grammar) (sets : Sets) : Type 0 where
+  pub nullable_exact : AreNullableMarks g sets.nullable.items
+  pub first_len : length sets.first.items ≡ node_count g
+  pub first_exact : AreFirstEdges g sets.nullable.items sets.first.items
+  pub follow_len : length sets.follow.items ≡ node_count g
+  pub follow_exact : AreFollowEdges g sets.nullable.items sets.follow.items
 
 -- the marks are those of the productions that predict a look-ahead
 abbrev pub ArePredicted : Grammar → Ahead → List Bool → Type 0
@@ -47,3 +48,16 @@ IsNoLater p a b = (p.first < a) ⊎ ((p.first ≡ a) × (p.second ≤ b))
 abbrev pub IsLeastFrom : List Production → List Bool → ℕ → Option Pair → Type 0
 IsLeastFrom qs marks from None = (a b : ℕ) → from ≤ a → IsClash qs marks a b → ⊥
 IsLeastFrom qs marks from (Some p) = (from ≤ p.first) × IsClash qs marks p.first p.second × ((a b : ℕ) → from ≤ a → IsClash qs marks a b → IsNoLater p a b)
+
+-- A production is put before those behind it: where it has this mark and this symbol, what was chosen from the next one on is
+-- from it on.
+abbrev pub PutsFirst : ℕ → ℕ → Bool → List (Option ℕ) → List (Option ℕ) → Type 0
+PutsFirst symbol production mark before after =
+    (qs : List Production) (marks : List Bool) (q : Production) → slice_get qs production ≡ Some q → q.left ≡ symbol → is_marked marks production ≡ mark
+    → AreFirstFrom qs marks (production + 1) before → AreFirstFrom qs marks production after
+
+-- the same of the least pair
+abbrev pub PutsLeast : ℕ → ℕ → Bool → List (Option ℕ) → Option Pair → Option Pair → Type 0
+PutsLeast symbol production mark before pair after =
+    (qs : List Production) (marks : List Bool) (q : Production) → slice_get qs production ≡ Some q → q.left ≡ symbol → is_marked marks production ≡ mark
+    → AreFirstFrom qs marks (production + 1) before → IsLeastFrom qs marks (production + 1) pair → IsLeastFrom qs marks production after

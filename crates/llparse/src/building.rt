@@ -19,7 +19,9 @@ use std::alloc::Global;
 pub fn tables(alloc: Global, grammar: &Grammar) -> Result<Tables, TableFault>
     ensures fits { IfOk result (λ tables. FitsGrammar grammar.now tables) }
     ensures free { IfOk result (λ tables. HasNoConflict grammar.now) }
-    ensures conflict { (symbol first second : ℕ) (x : AnAhead) → result ≡ Err (TableFault.Conflict symbol first second x) → IsLeastConflict grammar.now symbol first second x }
+    ensures conflict { (symbol first second : ℕ) (x : AnAhead) → result
+        ≡ Err (TableFault.Conflict symbol first second x)
+        → IsLeastConflict grammar.now symbol first second x }
 {
     let columns = fill(alloc, grammar)?;
     if let Some(least) = columns.conflict {

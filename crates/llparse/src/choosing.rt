@@ -1,7 +1,8 @@
 //! Which production one look-ahead chooses for each symbol, and the least two that conflict there.
-ghost use Rattle.std.specs.Prelude.{◌≡◌, ◌≤◌, ◌<◌, ◌+◌, ℕ, Bool, List, true, length, slice_get, Some, IfOk};
+ghost use Rattle.std.specs.Prelude.{◌≡◌, ◌≤◌, ◌<◌, ◌+◌, ℕ, Bool, List, true, length, slice_get};
+ghost use Rattle.std.specs.Prelude.{Some, IfOk};
 ghost use Rattle.ag_expr.specs.declared.grammar.Production.{Production as AProduction};
-ghost use Rattle.llparse.specs.Predicted.{AreFirstFrom, IsLeastFrom};
+ghost use Rattle.llparse.specs.Predicted.{AreFirstFrom, IsLeastFrom, PutsFirst, PutsLeast};
 ghost use Rattle.llparse.specs.Reach.{is_marked};
 
 use ag_value::NoMemory;
@@ -25,7 +26,8 @@ pub(crate) struct Column {
 
 /// The least two, where a production comes before all, and this was chosen for its symbol.
 fn clash(production: u16, chosen: Option<u16>, conflict: Option<Pair>) -> Option<Pair>
-    ensures some { (r : ℕ) → chosen ≡ Some r → result ≡ Some (record { first = production; second = r }) }
+    ensures some { (r : ℕ) → chosen ≡ Some r → result ≡ Some
+        (record { first = production; second = r }) }
     ensures none { chosen ≡ None → result ≡ conflict }
 {
     match chosen {
@@ -42,8 +44,10 @@ impl Column {
     fn put(&mut self, symbol: usize, production: u16)
         requires symbol { symbol < length self.old.choices.items }
         ensures len { length self.new.choices.items ≡ length self.old.choices.items }
-        ensures first { (qs : List AProduction) (marks : List Bool) (q : AProduction) → slice_get qs production ≡ Some q → q.left ≡ symbol → is_marked marks production ≡ true → AreFirstFrom qs marks (production + 1) self.old.choices.items → AreFirstFrom qs marks production self.new.choices.items }
-        ensures least { (qs : List AProduction) (marks : List Bool) (q : AProduction) → slice_get qs production ≡ Some q → q.left ≡ symbol → is_marked marks production ≡ true → AreFirstFrom qs marks (production + 1) self.old.choices.items → IsLeastFrom qs marks (production + 1) self.old.conflict → IsLeastFrom qs marks production self.new.conflict }
+        ensures first { PutsFirst symbol production true self.old.choices.items
+            self.new.choices.items }
+        ensures least { PutsLeast symbol production true self.old.choices.items
+            self.old.conflict self.new.conflict }
     {
         self.conflict = clash(production, self.choices[symbol], self.conflict);
         self.choices[symbol] = Some(production);
@@ -53,8 +57,10 @@ impl Column {
     fn put_if(&mut self, symbol: usize, production: u16, wanted: bool)
         requires symbol { symbol < length self.old.choices.items }
         ensures len { length self.new.choices.items ≡ length self.old.choices.items }
-        ensures first { (qs : List AProduction) (marks : List Bool) (q : AProduction) → slice_get qs production ≡ Some q → q.left ≡ symbol → is_marked marks production ≡ wanted → AreFirstFrom qs marks (production + 1) self.old.choices.items → AreFirstFrom qs marks production self.new.choices.items }
-        ensures least { (qs : List AProduction) (marks : List Bool) (q : AProduction) → slice_get qs production ≡ Some q → q.left ≡ symbol → is_marked marks production ≡ wanted → AreFirstFrom qs marks (production + 1) self.old.choices.items → IsLeastFrom qs marks (production + 1) self.old.conflict → IsLeastFrom qs marks production self.new.conflict }
+        ensures first { PutsFirst symbol production wanted self.old.choices.items
+            self.new.choices.items }
+        ensures least { PutsLeast symbol production wanted self.old.choices.items
+            self.old.conflict self.new.conflict }
     {
         if wanted {
             self.put(symbol, production);
@@ -71,10 +77,13 @@ pub(crate) fn choose(
 ) -> Result<Column, NoMemory>
     requires few { length productions.now ≤ 512 }
     requires len { length marks.now ≡ length productions.now }
-    requires below { (p : ℕ) (q : AProduction) → slice_get productions.now p ≡ Some q → q.left < symbols }
+    requires below { (p : ℕ) (q : AProduction) → slice_get productions.now p ≡ Some q
+        → q.left < symbols }
     ensures len { IfOk result (λ column. length column.choices.items ≡ symbols) }
-    ensures first { IfOk result (λ column. AreFirstFrom productions.now marks.now 0 column.choices.items) }
-    ensures least { IfOk result (λ column. IsLeastFrom productions.now marks.now 0 column.conflict) }
+    ensures first { IfOk result
+        (λ column. AreFirstFrom productions.now marks.now 0 column.choices.items) }
+    ensures least { IfOk result
+        (λ column. IsLeastFrom productions.now marks.now 0 column.conflict) }
 {
     let mut column = Column {
         choices: vec![in alloc; None; symbols]?,

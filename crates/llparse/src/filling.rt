@@ -35,7 +35,7 @@ fn column_of(
     sets: &Sets,
     ahead: Ahead,
 ) -> Result<Column, NoMemory>
-    requires sets { AreSets grammar.now sets.now.nullable.items sets.now.first.items sets.now.follow.items }
+    requires sets { AreSets grammar.now sets.now }
     requires known { IsKnownAhead grammar.now ahead }
     ensures column { IfOk result (λ column. IsColumn grammar.now ahead column.choices.items) }
     ensures least { IfOk result (λ column. IsLeastAt grammar.now ahead column.conflict) }
@@ -72,8 +72,10 @@ fn sooner(least: Option<Conflict>, pair: Option<Pair>, ahead: Ahead) -> Option<C
 
 /// The columns of a grammar.
 pub(crate) fn fill(alloc: Global, grammar: &Grammar) -> Result<Columns, NoMemory>
-    ensures columns { IfOk result (λ columns. AreColumns grammar.now (length grammar.now.literals + 4) (rows columns.choices.items)) }
-    ensures least { IfOk result (λ columns. IsLeastBelow grammar.now (length grammar.now.literals + 4) columns.conflict) }
+    ensures columns { IfOk result (λ columns. AreColumns grammar.now
+        (length grammar.now.literals + 4) (rows columns.choices.items)) }
+    ensures least { IfOk result (λ columns. IsLeastBelow grammar.now
+        (length grammar.now.literals + 4) columns.conflict) }
 {
     let sets = Sets::of(alloc, grammar)?;
     let sizes = Sizes::of(grammar);

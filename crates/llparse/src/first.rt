@@ -1,9 +1,11 @@
 //! What may come first: edges from the items in front of right sides to the left sides, and what is
 //! reached by them from a look-ahead.
-ghost use Rattle.std.specs.Prelude.{◌≡◌, ◌≤◌, ◌<◌, ◌↔◌, ◌+◌, ℕ, true, length, take, All, IfOk, OnOk};
+ghost use Rattle.std.specs.Prelude.{◌≡◌, ◌≤◌, ◌<◌, ◌↔◌, ◌+◌, ℕ, true, length, take, All, IfOk};
+ghost use Rattle.std.specs.Prelude.{OnOk};
 ghost use Rattle.ag_expr.specs.declared.grammar.Item.{Item as AnItem};
-ghost use Rattle.llparse.specs.Ahead.{IsNullable};
-ghost use Rattle.llparse.specs.Edges.{front, node_in, Adds, AreFirst, HasEdge, IsEdge, IsFirstEdge, IsKnownAhead, OfSome};
+ghost use Rattle.llparse.specs.Edges.{front, node_count, AddsEdges, AreFirst, AreFirstEdges};
+ghost use Rattle.llparse.specs.Edges.{HasEdge, IsEdge, IsKnownAhead, OfSome};
+ghost use Rattle.llparse.specs.Nullable.{AreNullableMarks};
 ghost use Rattle.llparse.specs.Nodes.{node_of};
 ghost use Rattle.llparse.specs.Reach.{is_marked, rows};
 
@@ -32,7 +34,7 @@ pub(crate) fn no_edges(alloc: Global, count: usize) -> Result<Vec<Vec<usize>>, N
 pub(crate) fn note(edges: &mut Vec<Vec<usize>>, from: usize, to: usize) -> Result<(), NoMemory>
     requires { from < length edges.old.items }
     ensures len { OnOk result (length edges.new.items ≡ length edges.old.items) }
-    ensures edges { OnOk result (Adds (IsEdge from to) (HasEdge (rows edges.old.items)) (HasEdge (rows edges.new.items))) }
+    ensures edges { OnOk result (AddsEdges (IsEdge from to) edges.old.items edges.new.items) }
 {
     edges[from].push(to)?;
     Ok(())
@@ -58,9 +60,12 @@ fn note_front(
     left: usize,
     items: &[Item],
 ) -> Result<(), NoMemory>
-    requires { All (λ x. node_of sizes.symbols sizes.literals x < length edges.old.items) items.now }
+    requires { All (λ x. node_of sizes.symbols sizes.literals x <
+        length edges.old.items) items.now }
     ensures len { OnOk result (length edges.new.items ≡ length edges.old.items) }
-    ensures edges { OnOk result (Adds (OfSome (λ (x : AnItem) e. IsEdge (node_of sizes.symbols sizes.literals x) left e) items.now) (HasEdge (rows edges.old.items)) (HasEdge (rows edges.new.items))) }
+    ensures edges { OnOk result (AddsEdges (OfSome (λ (x : AnItem) e. IsEdge
+        (node_of sizes.symbols sizes.literals x)
+        left e) items.now) edges.old.items edges.new.items) }
 {
     for item in items {
         note(edges, sizes.node(*item), left)?;
@@ -74,8 +79,8 @@ pub(crate) fn first_edges(
     grammar: &Grammar,
     nullable: &[bool],
 ) -> Result<Vec<Vec<usize>>, NoMemory>
-    ensures len { IfOk result (λ edges. length edges.items ≡ length grammar.now.symbols + (length grammar.now.literals + 4)) }
-    ensures edges { IfOk result (λ edges. (e : ℕ × ℕ) → HasEdge (rows edges.items) e ↔ OfSome (IsFirstEdge grammar.now (is_marked nullable.now)) grammar.now.productions e) }
+    ensures len { IfOk result (λ edges. length edges.items ≡ node_count grammar.now) }
+    ensures edges { IfOk result (λ edges. AreFirstEdges grammar.now nullable.now edges.items) }
 {
     let sizes = Sizes::of(grammar);
     let mut edges = no_edges(alloc, sizes.nodes())?;
@@ -97,9 +102,9 @@ pub(crate) fn first(
     edges: &[Vec<usize>],
     ahead: Ahead,
 ) -> Result<Vec<bool>, NoMemory>
-    requires nullable { (s : ℕ) → is_marked nullable.now s ≡ true ↔ IsNullable grammar.now s }
-    requires len { length edges.now ≡ length grammar.now.symbols + (length grammar.now.literals + 4) }
-    requires edges { (e : ℕ × ℕ) → HasEdge (rows edges.now) e ↔ OfSome (IsFirstEdge grammar.now (is_marked nullable.now)) grammar.now.productions e }
+    requires nullable { AreNullableMarks grammar.now nullable.now }
+    requires len { length edges.now ≡ node_count grammar.now }
+    requires edges { AreFirstEdges grammar.now nullable.now edges.now }
     requires known { IsKnownAhead grammar.now ahead }
     ensures len { IfOk result (λ marks. length marks.items ≡ length edges.now) }
     ensures first { IfOk result (λ marks. AreFirst grammar.now ahead marks.items) }

@@ -1,13 +1,14 @@
 //! What may follow: edges from left sides to the items that may stand last, seeds from what comes
 //! first behind an item, and what is reached.
-ghost use Rattle.std.specs.Prelude.{◌≡◌, ◌<◌, ◌⊎◌, ◌↔◌, ◌+◌, ◌&&◌, ◌||◌, ℕ, true, false, length, Contains, IfOk, OnOk};
+ghost use Rattle.std.specs.Prelude.{◌≡◌, ◌<◌, ◌⊎◌, ◌↔◌, ◌+◌, ◌&&◌, ◌||◌, ℕ, true, false, length};
+ghost use Rattle.std.specs.Prelude.{Contains, IfOk, OnOk};
 ghost use Rattle.ag_expr.specs.declared.grammar.Item.{Item as AnItem};
-ghost use Rattle.llparse.specs.Ahead.{IsNullable};
-ghost use Rattle.llparse.specs.Comes.{all_empty, next_in, AreFollow, IsFollowEdge, IsFollowed, OfRest};
-ghost use Rattle.llparse.specs.Edges.{Adds, AreFirst, HasEdge, IsEdge, OfSome};
+ghost use Rattle.llparse.specs.Comes.{all_empty, next_in, AreFollow, AreFollowed, AreFollowEdges};
+ghost use Rattle.llparse.specs.Comes.{OfRest};
+ghost use Rattle.llparse.specs.Edges.{node_count, Adds, AddsEdges, AreFirst, IsEdge};
 ghost use Rattle.llparse.specs.Nodes.{node_of};
-ghost use Rattle.llparse.specs.Nullable.{is_empty};
-ghost use Rattle.llparse.specs.Reach.{is_marked, rows};
+ghost use Rattle.llparse.specs.Nullable.{is_empty, AreNullableMarks};
+ghost use Rattle.llparse.specs.Reach.{is_marked};
 ghost use Rattle.llparse.specs.declared.ahead.Ahead.TheVariants as look;
 
 use crate::ahead::Ahead;
@@ -43,7 +44,8 @@ fn note_if(
 ) -> Result<(), NoMemory>
     requires { from < length edges.old.items }
     ensures len { OnOk result (length edges.new.items ≡ length edges.old.items) }
-    ensures edges { OnOk result (Adds (λ e. (wanted ≡ true) × IsEdge from to e) (HasEdge (rows edges.old.items)) (HasEdge (rows edges.new.items))) }
+    ensures edges { OnOk result (AddsEdges (λ e. (wanted
+        ≡ true) × IsEdge from to e) edges.old.items edges.new.items) }
 {
     if wanted {
         note(edges, from, to)?;
@@ -61,7 +63,9 @@ fn note_last(
 ) -> Result<(), NoMemory>
     requires { left < length edges.old.items }
     ensures len { OnOk result (length edges.new.items ≡ length edges.old.items) }
-    ensures edges { OnOk result (Adds (OfRest (all_empty (is_empty (is_marked nullable.now))) (λ (x : AnItem) e. IsEdge left (node_of sizes.symbols sizes.literals x) e) items.now) (HasEdge (rows edges.old.items)) (HasEdge (rows edges.new.items))) }
+    ensures edges { OnOk result (AddsEdges (OfRest (all_empty (is_empty
+        (is_marked nullable.now))) (λ (x : AnItem) e. IsEdge left
+        (node_of sizes.symbols sizes.literals x) e) items.now) edges.old.items edges.new.items) }
 {
     let mut empty = true;
     for at in (0..items.len()).rev() {
@@ -77,8 +81,8 @@ pub(crate) fn follow_edges(
     grammar: &Grammar,
     nullable: &[bool],
 ) -> Result<Vec<Vec<usize>>, NoMemory>
-    ensures len { IfOk result (λ edges. length edges.items ≡ length grammar.now.symbols + (length grammar.now.literals + 4)) }
-    ensures edges { IfOk result (λ edges. (e : ℕ × ℕ) → HasEdge (rows edges.items) e ↔ OfSome (IsFollowEdge grammar.now (is_marked nullable.now)) grammar.now.productions e) }
+    ensures len { IfOk result (λ edges. length edges.items ≡ node_count grammar.now) }
+    ensures edges { IfOk result (λ edges. AreFollowEdges grammar.now nullable.now edges.items) }
 {
     let sizes = Sizes::of(grammar);
     let mut edges = no_edges(alloc, sizes.nodes())?;
@@ -93,7 +97,8 @@ pub(crate) fn follow_edges(
 
 /// Notes a seed, where that is wanted.
 fn note_seed(seeds: &mut Vec<usize>, seed: usize, wanted: bool) -> Result<(), NoMemory>
-    ensures { OnOk result (Adds (λ t. (wanted ≡ true) × (t ≡ seed)) (Contains seeds.old.items) (Contains seeds.new.items)) }
+    ensures { OnOk result (Adds (λ t. (wanted ≡ true) × (t ≡ seed)) (Contains seeds.old.items)
+        (Contains seeds.new.items)) }
 {
     if wanted {
         seeds.push(seed)?;
@@ -109,7 +114,10 @@ fn note_next(
     begins: &[bool],
     items: &[Item],
 ) -> Result<(), NoMemory>
-    ensures { OnOk result (Adds (OfRest (next_in (λ (x : AnItem). is_marked begins.now (node_of sizes.symbols sizes.literals x)) (is_empty (is_marked nullable.now)) false) (λ (x : AnItem) (t : ℕ). t ≡ node_of sizes.symbols sizes.literals x) items.now) (Contains seeds.old.items) (Contains seeds.new.items)) }
+    ensures { OnOk result (Adds (OfRest (next_in (λ (x : AnItem). is_marked begins.now
+        (node_of sizes.symbols sizes.literals x)) (is_empty (is_marked nullable.now)) false) (λ
+        (x : AnItem) (t : ℕ). t ≡ node_of sizes.symbols sizes.literals x) items.now)
+        (Contains seeds.old.items) (Contains seeds.new.items)) }
 {
     let mut next = false;
     for at in (0..items.len()).rev() {
@@ -137,7 +145,7 @@ fn followed(
     nullable: &[bool],
     begins: &[bool],
 ) -> Result<Vec<usize>, NoMemory>
-    ensures { IfOk result (λ seeds. (t : ℕ) → Contains seeds.items t ↔ OfSome (IsFollowed grammar.now (is_marked nullable.now) (is_marked begins.now)) grammar.now.productions t) }
+    ensures { IfOk result (λ seeds. AreFollowed grammar.now nullable.now begins.now seeds.items) }
 {
     let sizes = Sizes::of(grammar);
     let mut seeds = Vec::new(alloc);
@@ -164,10 +172,10 @@ pub(crate) fn follow(
     edges: &[Vec<usize>],
     ahead: Ahead,
 ) -> Result<Vec<bool>, NoMemory>
-    requires nullable { (s : ℕ) → is_marked nullable.now s ≡ true ↔ IsNullable grammar.now s }
+    requires nullable { AreNullableMarks grammar.now nullable.now }
     requires first { AreFirst grammar.now ahead begins.now }
-    requires len { length edges.now ≡ length grammar.now.symbols + (length grammar.now.literals + 4) }
-    requires edges { (e : ℕ × ℕ) → HasEdge (rows edges.now) e ↔ OfSome (IsFollowEdge grammar.now (is_marked nullable.now)) grammar.now.productions e }
+    requires len { length edges.now ≡ node_count grammar.now }
+    requires edges { AreFollowEdges grammar.now nullable.now edges.now }
     ensures { IfOk result (λ marks. AreFollow grammar.now ahead marks.items) }
 {
     let mut seeds = followed(alloc, grammar, nullable, begins)?;

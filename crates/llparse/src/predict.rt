@@ -21,7 +21,9 @@ use std::alloc::Global;
 
 /// A look-ahead comes next along items, or behind them where all are nullable.
 fn is_next(sizes: Sizes, nullable: &[bool], begins: &[bool], items: &[Item], behind: bool) -> bool
-    ensures { result ≡ next_in (λ (x : AnItem). is_marked begins.now (node_of sizes.symbols sizes.literals x)) (is_empty (is_marked nullable.now)) behind items.now }
+    ensures { result ≡ next_in (λ (x : AnItem). is_marked begins.now
+        (node_of sizes.symbols sizes.literals x)) (is_empty
+        (is_marked nullable.now)) behind items.now }
 {
     for item in items {
         if has(begins, sizes.node(*item)) {
@@ -46,7 +48,7 @@ pub(crate) struct Sets {
 impl Sets {
     /// Those of a grammar.
     pub(crate) fn of(alloc: Global, grammar: &Grammar) -> Result<Sets, NoMemory>
-        ensures { IfOk result (λ sets. AreSets grammar.now sets.nullable.items sets.first.items sets.follow.items) }
+        ensures { IfOk result (λ sets. AreSets grammar.now sets) }
     {
         let nullable = nullable(alloc, grammar)?;
         let first = first_edges(alloc, grammar, nullable.as_slice())?;
@@ -65,7 +67,7 @@ impl Sets {
         grammar: &Grammar,
         ahead: Ahead,
     ) -> Result<Vec<bool>, NoMemory>
-        requires sets { AreSets grammar.now self.now.nullable.items self.now.first.items self.now.follow.items }
+        requires sets { AreSets grammar.now self.now }
         requires known { IsKnownAhead grammar.now ahead }
         ensures len { IfOk result (λ marks. length marks.items ≡ length grammar.now.productions) }
         ensures marks { IfOk result (λ marks. ArePredicted grammar.now ahead marks.items) }

@@ -9,7 +9,8 @@ use std::alloc::Global;
 fn mark(marks: &mut Vec<bool>, work: &mut Vec<usize>, node: usize) -> Result<(), NoMemory>
     requires { node < length marks.old.items }
     ensures marked { OnOk result (Marked (λ t. t ≡ node) marks.old.items marks.new.items) }
-    ensures queues { OnOk result (Queues marks.old.items work.old.items marks.new.items work.new.items) }
+    ensures queues { OnOk result
+        (Queues marks.old.items work.old.items marks.new.items work.new.items) }
 {
     if !marks[node] {
         work.push(node)?;
@@ -22,7 +23,8 @@ fn mark(marks: &mut Vec<bool>, work: &mut Vec<usize>, node: usize) -> Result<(),
 fn mark_all(marks: &mut Vec<bool>, work: &mut Vec<usize>, nodes: &[usize]) -> Result<(), NoMemory>
     requires { All (λ t. t < length marks.old.items) nodes.now }
     ensures marked { OnOk result (Marked (Contains nodes.now) marks.old.items marks.new.items) }
-    ensures queues { OnOk result (Queues marks.old.items work.old.items marks.new.items work.new.items) }
+    ensures queues { OnOk result
+        (Queues marks.old.items work.old.items marks.new.items work.new.items) }
 {
     for node in nodes {
         mark(marks, work, *node)?;
@@ -39,7 +41,8 @@ pub(crate) fn reachable(
     requires edges { AreEdgesBelow (length edges.now) (rows edges.now) }
     requires seeds { All (λ t. t < length edges.now) seeds.now }
     ensures len { IfOk result (λ marks. length marks.items ≡ length edges.now) }
-    ensures marks { IfOk result (λ marks. (t : ℕ) → is_marked marks.items t ≡ true ↔ InReach (rows edges.now) seeds.now t) }
+    ensures marks { IfOk result (λ marks. (t : ℕ) → is_marked marks.items t ≡ true
+        ↔ InReach (rows edges.now) seeds.now t) }
 {
     let mut marks = vec![in alloc; false; edges.len()]?;
     let mut work = Vec::new(alloc);
