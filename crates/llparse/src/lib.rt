@@ -20,5 +20,8 @@ mod reach;
 pub use ahead::Ahead;
 pub use building::tables;
 pub use fault::TableFault;
-pub use laws::{left_recursion_conflicts, one_tree, sample_is_free};
+pub use laws::{
+    edges_lead_on, left_recursion_conflicts, left_recursion_is_a_choice, left_recursion_is_least,
+    one_tree, places_are_in_order, sample_is_free, small_tables_are_read,
+};
 pub use lookup::Tables;
