@@ -6,9 +6,11 @@ use Rattle.ag_expr.specs.declared.grammar.Production.{Production}
 use Rattle.ag_expr.specs.grammars.AttributeGrammar.{Grammar}
 use Rattle.llparse.specs.Ahead.{InFollow}
 use Rattle.llparse.specs.Edges.{node_in, HasEdge, IsEdge, OfSome}
+use Rattle.llparse.specs.Nodes.{node_by}
 use Rattle.llparse.specs.Nullable.{is_empty}
 use Rattle.llparse.specs.Reach.{is_marked, rows}
 use Rattle.llparse.specs.declared.ahead.Ahead.{Ahead}
+use Rattle.llparse.specs.declared.nodes.Sizes.{Sizes}
 
 -- The look-ahead comes next along items: an item of the first set begins with it and those before it are of the second set, or
 -- all are of the second and it comes behind them.
@@ -44,3 +46,15 @@ AreFollowEdges g nullable edges = (e : ℕ × ℕ) → HasEdge (rows edges) e �
 -- a number is an item's behind which the look-ahead comes next, in some production
 abbrev pub AreFollowed : Grammar → List Bool → List Bool → List ℕ → Type 0
 AreFollowed g nullable begins seeds = (t : ℕ) → Contains seeds t ↔ OfSome (IsFollowed g (is_marked nullable) (is_marked begins)) g.productions t
+
+-- the look-ahead comes next along items, by the marks of the items that begin with it and of the nullable symbols
+abbrev pub next_by : Sizes → List Bool → List Bool → Bool → List Item → Bool
+next_by sizes begins nullable behind xs = next_in (λ x. is_marked begins (node_by sizes x)) (is_empty (is_marked nullable)) behind xs
+
+-- an edge goes from a left side to an item behind which all are marked
+abbrev pub IsLastEdge : Sizes → List Bool → ℕ → List Item → ℕ × ℕ → Type 0
+IsLastEdge sizes nullable left items e = OfRest (all_empty (is_empty (is_marked nullable))) (λ x e. IsEdge left (node_by sizes x) e) items e
+
+-- a number is the node of an item behind which the look-ahead comes next
+abbrev pub IsNextNode : Sizes → List Bool → List Bool → List Item → ℕ → Type 0
+IsNextNode sizes begins nullable items t = OfRest (next_by sizes begins nullable false) (λ x t. t ≡ node_by sizes x) items t

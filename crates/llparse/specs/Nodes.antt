@@ -6,6 +6,7 @@ use Rattle.ag_expr.specs.declared.grammar.Terminal.TheVariants.{Literal, Class}
 use Rattle.ag_expr.specs.grammars.Accepted.{class_count}
 use Rattle.llparse.specs.declared.ahead.Ahead.{Ahead}
 use Rattle.llparse.specs.declared.ahead.Ahead.TheVariants as ahead
+use Rattle.llparse.specs.declared.nodes.Sizes.{Sizes}
 
 -- A look-ahead's place in their order, where a grammar has so many literals: the literals by their numbers, then the classes
 -- by theirs, then the end.
@@ -18,3 +19,7 @@ place_of literals ahead.End = literals + class_count
 abbrev pub node_of : ℕ → ℕ → Item → ℕ
 node_of symbols literals (item.Symbol s) = s
 node_of symbols literals (item.Terminal a) = symbols + place_of literals (ahead.Terminal a)
+
+-- an item's node by the sizes of a grammar
+abbrev pub node_by : Sizes → Item → ℕ
+node_by sizes x = node_of sizes.symbols sizes.literals x

@@ -1,9 +1,8 @@
 //! Which production one look-ahead chooses for each symbol, and the least two that conflict there.
-ghost use Rattle.std.specs.Prelude.{◌≡◌, ◌≤◌, ◌<◌, ◌+◌, ℕ, Bool, List, true, length, slice_get};
+ghost use Rattle.std.specs.Prelude.{◌≡◌, ◌≤◌, ◌<◌, ℕ, true, length, slice_get};
 ghost use Rattle.std.specs.Prelude.{Some, IfOk};
 ghost use Rattle.ag_expr.specs.declared.grammar.Production.{Production as AProduction};
 ghost use Rattle.llparse.specs.Predicted.{AreFirstFrom, IsLeastFrom, PutsFirst, PutsLeast};
-ghost use Rattle.llparse.specs.Reach.{is_marked};
 
 use ag_value::NoMemory;
 use normalform::Production;

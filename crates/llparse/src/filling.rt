@@ -1,5 +1,5 @@
 //! The columns of tables, one for each look-ahead, and the least conflict in them.
-ghost use Rattle.std.specs.Prelude.{◌≡◌, ◌+◌, ◌<◌, length, IfOk};
+ghost use Rattle.std.specs.Prelude.{◌+◌, ◌<◌, length, IfOk};
 ghost use Rattle.llparse.specs.Columns.{AreColumns, IsColumn, IsLeastAt, IsLeastBelow, IsSooner};
 ghost use Rattle.llparse.specs.Edges.{IsKnownAhead};
 ghost use Rattle.llparse.specs.Predicted.{AreSets};

@@ -1,12 +1,12 @@
 //! What may come first: edges from the items in front of right sides to the left sides, and what is
 //! reached by them from a look-ahead.
-ghost use Rattle.std.specs.Prelude.{◌≡◌, ◌≤◌, ◌<◌, ◌↔◌, ◌+◌, ℕ, true, length, take, All, IfOk};
+ghost use Rattle.std.specs.Prelude.{◌≡◌, ◌≤◌, ◌<◌, ◌+◌, ℕ, length, take, All, IfOk};
 ghost use Rattle.std.specs.Prelude.{OnOk};
 ghost use Rattle.ag_expr.specs.declared.grammar.Item.{Item as AnItem};
 ghost use Rattle.llparse.specs.Edges.{front, node_count, AddsEdges, AreFirst, AreFirstEdges};
 ghost use Rattle.llparse.specs.Edges.{HasEdge, IsEdge, IsKnownAhead, OfSome};
 ghost use Rattle.llparse.specs.Nullable.{AreNullableMarks};
-ghost use Rattle.llparse.specs.Nodes.{node_of};
+ghost use Rattle.llparse.specs.Nodes.{node_by};
 ghost use Rattle.llparse.specs.Reach.{is_marked, rows};
 
 use crate::ahead::Ahead;
@@ -60,12 +60,10 @@ fn note_front(
     left: usize,
     items: &[Item],
 ) -> Result<(), NoMemory>
-    requires { All (λ x. node_of sizes.symbols sizes.literals x <
-        length edges.old.items) items.now }
+    requires { All (λ x. node_by sizes x < length edges.old.items) items.now }
     ensures len { OnOk result (length edges.new.items ≡ length edges.old.items) }
-    ensures edges { OnOk result (AddsEdges (OfSome (λ (x : AnItem) e. IsEdge
-        (node_of sizes.symbols sizes.literals x)
-        left e) items.now) edges.old.items edges.new.items) }
+    ensures edges { OnOk result (AddsEdges (OfSome (λ (x : AnItem) e. IsEdge (node_by sizes x) left e)
+        items.now) edges.old.items edges.new.items) }
 {
     for item in items {
         note(edges, sizes.node(*item), left)?;

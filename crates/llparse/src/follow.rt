@@ -1,12 +1,10 @@
 //! What may follow: edges from left sides to the items that may stand last, seeds from what comes
 //! first behind an item, and what is reached.
-ghost use Rattle.std.specs.Prelude.{◌≡◌, ◌<◌, ◌⊎◌, ◌↔◌, ◌+◌, ◌&&◌, ◌||◌, ℕ, true, false, length};
+ghost use Rattle.std.specs.Prelude.{◌≡◌, ◌<◌, ◌↔◌, ◌&&◌, ◌||◌, true, false, length};
 ghost use Rattle.std.specs.Prelude.{Contains, IfOk, OnOk};
-ghost use Rattle.ag_expr.specs.declared.grammar.Item.{Item as AnItem};
-ghost use Rattle.llparse.specs.Comes.{all_empty, next_in, AreFollow, AreFollowed, AreFollowEdges};
-ghost use Rattle.llparse.specs.Comes.{OfRest};
+ghost use Rattle.llparse.specs.Comes.{AreFollow, AreFollowed, AreFollowEdges, IsLastEdge};
+ghost use Rattle.llparse.specs.Comes.{IsNextNode};
 ghost use Rattle.llparse.specs.Edges.{node_count, Adds, AddsEdges, AreFirst, IsEdge};
-ghost use Rattle.llparse.specs.Nodes.{node_of};
 ghost use Rattle.llparse.specs.Nullable.{is_empty, AreNullableMarks};
 ghost use Rattle.llparse.specs.Reach.{is_marked};
 ghost use Rattle.llparse.specs.declared.ahead.Ahead.TheVariants as look;
@@ -63,9 +61,8 @@ fn note_last(
 ) -> Result<(), NoMemory>
     requires { left < length edges.old.items }
     ensures len { OnOk result (length edges.new.items ≡ length edges.old.items) }
-    ensures edges { OnOk result (AddsEdges (OfRest (all_empty (is_empty
-        (is_marked nullable.now))) (λ (x : AnItem) e. IsEdge left
-        (node_of sizes.symbols sizes.literals x) e) items.now) edges.old.items edges.new.items) }
+    ensures edges { OnOk result (AddsEdges (IsLastEdge sizes nullable.now left items.now)
+        edges.old.items edges.new.items) }
 {
     let mut empty = true;
     for at in (0..items.len()).rev() {
@@ -114,9 +111,7 @@ fn note_next(
     begins: &[bool],
     items: &[Item],
 ) -> Result<(), NoMemory>
-    ensures { OnOk result (Adds (OfRest (next_in (λ (x : AnItem). is_marked begins.now
-        (node_of sizes.symbols sizes.literals x)) (is_empty (is_marked nullable.now)) false) (λ
-        (x : AnItem) (t : ℕ). t ≡ node_of sizes.symbols sizes.literals x) items.now)
+    ensures { OnOk result (Adds (IsNextNode sizes begins.now nullable.now items.now)
         (Contains seeds.old.items) (Contains seeds.new.items)) }
 {
     let mut next = false;

@@ -1,13 +1,8 @@
 //! Which productions predict a look-ahead.
-ghost use Rattle.std.specs.Prelude.{◌≡◌, ◌↔◌, ℕ, true, length, IfOk};
-ghost use Rattle.ag_expr.specs.declared.grammar.Item.{Item as AnItem};
-ghost use Rattle.llparse.specs.Ahead.{IsNullable};
-ghost use Rattle.llparse.specs.Comes.{next_in, AreFollow};
-ghost use Rattle.llparse.specs.Edges.{AreFirst, IsKnownAhead};
-ghost use Rattle.llparse.specs.Nodes.{node_of};
-ghost use Rattle.llparse.specs.Nullable.{is_empty};
+ghost use Rattle.std.specs.Prelude.{◌≡◌, length, IfOk};
+ghost use Rattle.llparse.specs.Comes.{next_by};
+ghost use Rattle.llparse.specs.Edges.{IsKnownAhead};
 ghost use Rattle.llparse.specs.Predicted.{ArePredicted, AreSets};
-ghost use Rattle.llparse.specs.Reach.{is_marked};
 
 use crate::ahead::Ahead;
 use crate::first::{first, first_edges};
@@ -21,9 +16,7 @@ use std::alloc::Global;
 
 /// A look-ahead comes next along items, or behind them where all are nullable.
 fn is_next(sizes: Sizes, nullable: &[bool], begins: &[bool], items: &[Item], behind: bool) -> bool
-    ensures { result ≡ next_in (λ (x : AnItem). is_marked begins.now
-        (node_of sizes.symbols sizes.literals x)) (is_empty
-        (is_marked nullable.now)) behind items.now }
+    ensures { result ≡ next_by sizes begins.now nullable.now behind items.now }
 {
     for item in items {
         if has(begins, sizes.node(*item)) {
