@@ -42,7 +42,8 @@ impl Model for Expr {
 /// Lends the different occurrences of an expression, in the order of their first appearance in its
 /// text. Takes no memory.
 pub fn occurrences(expr: &Expr) -> &[Occ]
-    ensures { result.now ≡ expr.now.1 }
+    ensures lent { result.now ≡ expr.now.1 }
+    ensures listed { is_below (length result.now) expr.now.0 ≡ true }
 {
     expr.occurrences.as_slice()
 }

@@ -2,7 +2,24 @@
 //! the limits.
 #![tactic(auto)]
 
+mod checking;
+mod clause;
+mod declared;
+mod fault;
 mod grammar;
+mod limits;
+mod moving;
+mod names;
+mod naming;
+mod numbering;
+mod placed;
+mod readable;
+mod rules;
+mod search;
+mod targets;
 
 pub use ag_expr::{Item, Production, Rule, Symbol, Target, Terminal};
+pub use checking::check;
+pub use fault::{LimitKind, NormalFault};
 pub use grammar::Grammar;
+pub use readable::is_readable;

@@ -1,0 +1,16 @@
+pub mod Accepting
+pub mod Apart
+pub mod Founds
+pub mod KindAt
+pub mod Listed
+pub mod Marks
+pub mod Known
+pub mod Pairs
+pub mod Placing
+pub mod Tested
+pub mod Reduced
+pub mod Right
+pub mod Ruled
+pub mod Small
+pub mod Texts
+pub mod Wrong

@@ -1,0 +1,6 @@
+use Rattle.std.proofs.Common.{sym, ◌∙◌}
+use Rattle.normalform.specs.Faults.{in_names}
+use Rattle.normalform.proofs.checking.first_fault.Goals as goal
+
+pub returns-in-Some : goal.returns-in-Some
+returns-in-Some c = in_names (sym c.in_ok-fault.ensures ∙ c.in-Some.is)

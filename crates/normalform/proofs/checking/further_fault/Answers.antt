@@ -1,0 +1,20 @@
+use Rattle.std.proofs.Common.{◌≡◌, Some, None, map, sym, ◌∙◌}
+use Rattle.normalform.specs.Faults.{first_wrong, rule_kinds, limit_places, further_places}
+use Rattle.normalform.specs.Numbers.{symbol_of}
+use Rattle.normalform.proofs.Wrong.{first_of, rest_of}
+use Rattle.normalform.proofs.checking.further_fault.Goals as goal
+
+pub returns-in-Some : goal.returns-in-Some
+returns-in-Some c =
+    let raw = c.args.raw.now in
+    let ss = map symbol_of raw.symbols in
+    let here : Some c.in-Some.fault ≡ first_wrong (rule_kinds ss raw.productions) = rw (← c.requires, ← c.as_slice-productions.ensures) (sym c.in-Some.is ∙ c.in_ok-fault.ensures) in
+    first_of (rule_kinds ss raw.productions) (limit_places ss raw.productions) _ here
+
+pub returns : goal.returns
+returns c =
+    let raw = c.args.raw.now in
+    let ss = map symbol_of raw.symbols in
+    let past : None ≡ first_wrong (rule_kinds ss raw.productions) = rw (← c.requires, ← c.as_slice-productions.ensures) (sym c.in_default.is ∙ c.in_ok-fault.ensures) in
+    let all : first_wrong (limit_places ss raw.productions) ≡ first_wrong (further_places raw) = rest_of (rule_kinds ss raw.productions) (limit_places ss raw.productions) past in
+    rw (← all, ← c.requires, ← c.as_slice-productions.ensures) c.exceeded.ensures

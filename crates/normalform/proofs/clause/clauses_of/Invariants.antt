@@ -1,0 +1,6 @@
+use Rattle.std.proofs.Common.{◌≡◌, take}
+use Rattle.normalform.specs.Clauses.{clauses_of}
+use Rattle.normalform.proofs.clause.clauses_of.Given as goal
+
+abbrev pub invariant-loop-production : goal.invariant-loop-production
+invariant-loop-production l = l.clauses.items ≡ clauses_of l.declared (take l.production-index l.productions)

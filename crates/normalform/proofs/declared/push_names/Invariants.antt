@@ -1,0 +1,6 @@
+use Rattle.std.proofs.Common.{◌≡◌, ◌++◌, take}
+use Rattle.normalform.specs.Numbers.{texts_of}
+use Rattle.normalform.proofs.declared.push_names.Given as goal
+
+abbrev pub invariant-loop-name : goal.invariant-loop-name
+invariant-loop-name l = l.names ≡ l.initial.names ++ texts_of (take l.name-index l.added)

@@ -1,0 +1,6 @@
+use Rattle.std.proofs.Common.{◌≡◌}
+use Rattle.normalform.specs.Numbers.{texts_of}
+use Rattle.normalform.proofs.moving.move_names.Given as goal
+
+abbrev pub invariant-loop-named : goal.invariant-loop-named
+invariant-loop-named l = l.texts.items ≡ texts_of l.yielded

@@ -1,0 +1,11 @@
+use Rattle.std.proofs.Common.{map}
+use Rattle.normalform.specs.Faults.{rule_places}
+use Rattle.normalform.specs.Placed.{item_placed}
+use Rattle.normalform.proofs.Wrong.{wrong_here, wrong_past}
+use Rattle.normalform.proofs.naming.unknown_in_rules.Goals as goal
+
+pub returns-in-Some : goal.returns-in-Some
+returns-in-Some c = wrong_here (rule_places c.args.declared.now (map item_placed c.args.items.now)) _ _ _ _ _ c.loop-rule-test.true c.rule-item.is c.in-Some.ensures c.loop-rule.invariant
+
+pub loop-rule-preserved : goal.loop-rule-preserved
+loop-rule-preserved c = wrong_past (rule_places c.args.declared.now (map item_placed c.args.items.now)) _ _ _ _ c.loop-rule-test.true c.rule-item.is c.in_default.ensures c.loop-rule.invariant

@@ -1,0 +1,11 @@
+use Rattle.std.proofs.Common.{◌≡◌, map, All}
+use Rattle.normalform.specs.Numbers.{rule_of}
+use Rattle.normalform.specs.Placed.{item_placed}
+use Rattle.normalform.specs.Faults.{IsListed}
+use Rattle.normalform.proofs.numbering.rules_of.Given as goal
+
+abbrev pub invariant-loop-rule : goal.invariant-loop-rule
+invariant-loop-rule l = record {
+  numbered : l.numbered.items ≡ map (rule_of l.declared (map item_placed l.items)) l.yielded;
+  listed : All IsListed l.numbered.items;
+}

@@ -1,0 +1,7 @@
+use Rattle.std.proofs.Common.{◌≡◌, drop, not}
+use Rattle.std.specs.List.{list_all}
+use Rattle.normalform.specs.Readable.{is_separator, readable_item, readable_in}
+use Rattle.normalform.proofs.readable.are_readable.Given as goal
+
+abbrev pub invariant-loop-production : goal.invariant-loop-production
+invariant-loop-production l = list_all readable_in (drop l.production-index l.productions) ≡ list_all readable_in l.productions

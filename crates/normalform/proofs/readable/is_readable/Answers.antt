@@ -1,0 +1,8 @@
+use Rattle.std.proofs.Common.{◌≡◌, ◌∙◌, sym, ap}
+use Rattle.std.specs.List.{list_all}
+use Rattle.normalform.specs.Readable.{readable_in}
+use Rattle.normalform.proofs.Tested.{readable_tells}
+use Rattle.normalform.proofs.readable.is_readable.Goals as goal
+
+pub returns : goal.returns
+returns c = rw (c.are_readable.ensures, c.as_slice.ensures) (readable_tells c.args.raw.now.productions)

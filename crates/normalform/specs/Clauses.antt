@@ -1,0 +1,42 @@
+-- What follows from clauses (Dowling and Gallier 1984): a number follows where it is the head of a clause of whose body each
+-- number does. Which symbols are productive, and which are reached, are found in this way.
+use Rattle.std.specs.Prelude.{ℕ, map, flat_map, ◌≡◌, List, [], ◌∷◌, Some, slice_get}
+use Rattle.ag_expr.specs.declared.grammar.Symbol.{Symbol}
+use Rattle.ag_text.specs.declared.raw.RawItem.{RawItem}
+use Rattle.ag_text.specs.declared.raw.RawItem.TheVariants as raw_item
+use Rattle.ag_text.specs.declared.raw.RawProduction.{RawProduction}
+use Rattle.normalform.specs.Numbers.{number_in, symbol_names}
+use Rattle.normalform.specs.declared.clause.Clause.{Clause}
+
+mutual
+  pub data Follows (clauses : List Clause) : ℕ → Type 0 where
+    by_clause : (p : ℕ) (q : Clause) {s : ℕ} → slice_get clauses p ≡ Some q → q.head ≡ s → FollowAll clauses q.body → Follows clauses s
+
+  pub data FollowAll (clauses : List Clause) : List ℕ → Type 0 where
+    nothing : FollowAll clauses []
+    one_more : {s : ℕ} {xs : List ℕ} → Follows clauses s → FollowAll clauses xs → FollowAll clauses (s ∷ xs)
+
+-- the symbols on a right side
+abbrev pub body_of : List (List ℕ) → List RawItem → List ℕ
+body_of names [] = []
+body_of names (raw_item.Name name ∷ xs) = number_in names name.name ∷ body_of names xs
+body_of names (raw_item.Literal text ∷ xs) = body_of names xs
+body_of names (raw_item.Class c ∷ xs) = body_of names xs
+
+-- a left side is productive where each symbol of the right side is
+abbrev pub clause_of : List Symbol → RawProduction → Clause
+clause_of ss q = record { head = number_in (symbol_names ss) q.left.name; body = body_of (symbol_names ss) q.items }
+
+abbrev pub clauses_of : List Symbol → List RawProduction → List Clause
+clauses_of ss qs = map (clause_of ss) qs
+
+-- a symbol of a right side is reached where the left side is
+abbrev pub edge : ℕ → ℕ → Clause
+edge left t = record { head = t; body = left ∷ [] }
+
+abbrev pub edges_of : Clause → List Clause
+edges_of q = map (edge q.head) q.body
+
+-- and the start symbol is reached
+abbrev pub reaching : ℕ → List Clause → List Clause
+reaching start clauses = record { head = start; body = [] } ∷ flat_map edges_of clauses

@@ -1,0 +1,21 @@
+-- Whether the literals and classes of a raw grammar are as a text gives them, as a test.
+use Rattle.std.specs.Prelude.{ℕ, Bool, true, ◌&&◌, not, nat_eq, nat_le, nat_lt, List, length, ◌||◌}
+use Rattle.std.specs.List.{list_all}
+use Rattle.ag_expr.specs.grammars.Accepted.{class_count}
+use Rattle.ag_text.specs.declared.raw.RawItem.{RawItem}
+use Rattle.ag_text.specs.declared.raw.RawItem.TheVariants as raw_item
+use Rattle.ag_text.specs.declared.raw.RawProduction.{RawProduction}
+
+abbrev pub is_separator : ℕ → Bool
+is_separator b = nat_eq b 32 || nat_eq b 9 || nat_eq b 13 || nat_eq b 10
+
+abbrev pub readable_text : List ℕ → Bool
+readable_text text = nat_le 1 (length text) && list_all (λ b. not (is_separator b)) text
+
+abbrev pub readable_item : RawItem → Bool
+readable_item (raw_item.Name name) = true
+readable_item (raw_item.Literal text) = readable_text text
+readable_item (raw_item.Class c) = nat_lt c class_count
+
+abbrev pub readable_in : RawProduction → Bool
+readable_in q = list_all readable_item q.items

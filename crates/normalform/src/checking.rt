@@ -1,0 +1,255 @@
+//! The check of a raw grammar: the grammar that it is, or the first of its faults.
+ghost use Rattle.std.specs.Prelude.{◌≡◌, map, All, Some, None, IfOk, IfErr, IfSome};
+ghost use Rattle.ag_expr.specs.grammars.Accepted.{IsAccepted};
+ghost use Rattle.normalform.specs.Faults.{first_wrong, start_places, naming_places, rule_kinds};
+ghost use Rattle.normalform.specs.Faults.{further_places, IsReadable, HasNoFault, IsTrueOf};
+ghost use Rattle.normalform.specs.Faults.{IsFirstFault};
+ghost use Rattle.ag_expr.specs.grammars.Accepted.{IsProductive, IsReached};
+ghost use Rattle.normalform.specs.Clauses as spec;
+ghost use Rattle.normalform.specs.Faults.{AreAll};
+ghost use Rattle.normalform.specs.Found.{IsFound, IsFoundAt};
+ghost use Rattle.normalform.specs.Faults.{IsSmall, AreListedIn};
+ghost use Rattle.normalform.specs.Numbers.{symbol_of, symbol_names, number_in, production_of};
+ghost use Rattle.normalform.specs.Numbers.{numbered};
+
+use crate::clause::{Clause, clauses_of, reaching};
+use crate::declared::Declared;
+use crate::fault::NormalFault;
+use crate::grammar::Grammar;
+use crate::limits::exceeded;
+use crate::moving::{move_symbols, name_at};
+use crate::naming::{doubled, unknown};
+use crate::numbering::{classes_of, literal_texts, names_of, productions_of, start_of};
+use crate::rules::{doubled_rules, missing, not_found, not_given};
+use crate::search::first_left;
+use ag_expr::Production;
+use ag_text::{Named, RawGrammar, RawProduction, RawSymbol};
+use ag_value::{Items, NoMemory, Text};
+use std::alloc::Global;
+
+/// What is wrong first: a fault, or a symbol by its number.
+#[derive(Debug, Drop)]
+enum Found {
+    /// This fault.
+    Fault(NormalFault),
+    /// The symbol of this number is not productive.
+    Unproductive(usize),
+    /// The symbol of this number is not reached.
+    Unreachable(usize),
+}
+
+/// N3: the start symbol is not declared, or may not be one.
+fn bad_start(declared: &Declared<'_>, name: &Named) -> Option<NormalFault>
+    ensures { result ≡ first_wrong (start_places declared.now name.now) }
+{
+    if declared.is_start(declared.number(name.name.as_str())) {
+        None
+    } else {
+        Some(NormalFault::BadStart)
+    }
+}
+
+/// The first fault of the kinds before N4.
+fn naming_fault(
+    alloc: Global,
+    raw: &RawGrammar,
+    declared: &Declared<'_>,
+) -> Result<Option<NormalFault>, NoMemory>
+    requires { declared.now ≡ map symbol_of raw.now.symbols }
+    ensures { IfOk result (λ f. f ≡ first_wrong (naming_places raw.now)) }
+{
+    if let Some(fault) = unknown(alloc, declared, raw.productions.as_slice())? {
+        return Ok(Some(fault));
+    }
+    if let Some(fault) = doubled(alloc, raw.symbols.as_slice())? {
+        return Ok(Some(fault));
+    }
+    Ok(bad_start(declared, &raw.start))
+}
+
+/// The first fault of rules.
+fn rule_fault(
+    alloc: Global,
+    declared: &Declared<'_>,
+    productions: &[RawProduction],
+) -> Result<Option<NormalFault>, NoMemory>
+    ensures { IfOk result (λ f. f ≡ first_wrong (rule_kinds declared.now productions.now)) }
+{
+    if let Some(fault) = missing(alloc, declared, productions)? {
+        return Ok(Some(fault));
+    }
+    if let Some(fault) = doubled_rules(alloc, declared, productions)? {
+        return Ok(Some(fault));
+    }
+    if let Some(fault) = not_given(alloc, declared, productions)? {
+        return Ok(Some(fault));
+    }
+    not_found(alloc, declared, productions)
+}
+
+/// The first fault of the kinds behind N5.
+fn further_fault(
+    alloc: Global,
+    raw: &RawGrammar,
+    declared: &Declared<'_>,
+) -> Result<Option<NormalFault>, NoMemory>
+    requires { declared.now ≡ map symbol_of raw.now.symbols }
+    ensures { IfOk result (λ f. f ≡ first_wrong (further_places raw.now)) }
+{
+    let symbols = raw.symbols.as_slice();
+    let productions = raw.productions.as_slice();
+    if let Some(fault) = rule_fault(alloc, declared, productions)? {
+        return Ok(Some(fault));
+    }
+    exceeded(alloc, declared, symbols, productions)
+}
+
+/// N4: the number of the first symbol that is not productive.
+fn unproductive(
+    alloc: Global,
+    raw: &RawGrammar,
+    clauses: &[Clause],
+) -> Result<Option<usize>, NoMemory>
+    requires clauses { clauses.now
+        ≡ spec.clauses_of (map symbol_of raw.now.symbols) raw.now.productions }
+    requires names { first_wrong (naming_places raw.now) ≡ None }
+    ensures found { IfOk result (λ o. IfSome o (λ n. IsFoundAt raw.now
+        (λ name. NormalFault.Unproductive name) n)) }
+    ensures none { IfOk result (λ o. o ≡ None → AreAll (IsProductive (numbered raw.now)) raw.now) }
+{
+    first_left(alloc, clauses, raw.symbols.as_slice().len())
+}
+
+/// N5: the number of the first symbol that is not reached.
+fn unreachable(
+    alloc: Global,
+    raw: &RawGrammar,
+    start: usize,
+    clauses: &[Clause],
+) -> Result<Option<usize>, NoMemory>
+    requires clauses { clauses.now
+        ≡ spec.clauses_of (map symbol_of raw.now.symbols) raw.now.productions }
+    requires start { start
+        ≡ number_in (symbol_names (map symbol_of raw.now.symbols)) raw.now.start.name }
+    requires names { first_wrong (naming_places raw.now) ≡ None }
+    requires productive { AreAll (IsProductive (numbered raw.now)) raw.now }
+    ensures found { IfOk result (λ o. IfSome o (λ n. IsFoundAt raw.now
+        (λ name. NormalFault.Unreachable name) n)) }
+    ensures none { IfOk result (λ o. o ≡ None → AreAll (IsReached (numbered raw.now)) raw.now) }
+{
+    let edges = reaching(alloc, start, clauses)?;
+    first_left(alloc, edges.as_slice(), raw.symbols.as_slice().len())
+}
+
+/// The first fault of the kinds from N4 on.
+fn structure_fault(
+    alloc: Global,
+    raw: &RawGrammar,
+    declared: &Declared<'_>,
+) -> Result<Option<Found>, NoMemory>
+    requires declared { declared.now ≡ map symbol_of raw.now.symbols }
+    requires names { first_wrong (naming_places raw.now) ≡ None }
+    ensures { IfOk result (λ found. IsFound raw.now found) }
+{
+    let clauses = clauses_of(alloc, declared, raw.productions.as_slice())?;
+    if let Some(number) = unproductive(alloc, raw, clauses.as_slice())? {
+        return Ok(Some(Found::Unproductive(number)));
+    }
+    let start = declared.number(raw.start.name.as_str());
+    if let Some(number) = unreachable(alloc, raw, start, clauses.as_slice())? {
+        return Ok(Some(Found::Unreachable(number)));
+    }
+    if let Some(fault) = further_fault(alloc, raw, declared)? {
+        return Ok(Some(Found::Fault(fault)));
+    }
+    Ok(None)
+}
+
+/// The first fault, if there is one.
+fn first_fault(alloc: Global, raw: &RawGrammar) -> Result<Option<Found>, NoMemory>
+    ensures { IfOk result (λ found. IsFound raw.now found) }
+{
+    let declared = Declared::new(alloc, raw.symbols.as_slice())?;
+    if let Some(fault) = naming_fault(alloc, raw, &declared)? {
+        return Ok(Some(Found::Fault(fault)));
+    }
+    structure_fault(alloc, raw, &declared)
+}
+
+/// The number of the start symbol, and productions by numbers; the expressions are moved.
+fn number_productions(
+    alloc: Global,
+    symbols: &[RawSymbol],
+    literals: &[Text],
+    start: &Named,
+    productions: Items<RawProduction>,
+) -> Result<(u16, Items<Production>), NoMemory>
+    requires { IsSmall (map symbol_of symbols.now) literals.now }
+    ensures start { IfOk result (λ r. r.0
+        ≡ number_in (symbol_names (map symbol_of symbols.now)) start.now.name) }
+    ensures numbered { IfOk result (λ r. r.1
+        ≡ map (production_of (map symbol_of symbols.now) literals.now) productions) }
+    ensures listed { IfOk result (λ r. All AreListedIn r.1) }
+{
+    let declared = Declared::new(alloc, symbols)?;
+    let names = names_of(alloc, literals)?;
+    let start = start_of(&declared, start.name.as_str());
+    let productions = productions_of(alloc, &declared, &names, productions)?;
+    Ok((start, productions))
+}
+
+/// The grammar that a raw one without fault is; names and expressions are moved.
+fn number(alloc: Global, raw: RawGrammar) -> Result<Grammar, NoMemory>
+    requires right { HasNoFault raw }
+    requires readable { IsReadable raw }
+    ensures { IfOk result (λ g. g ≡ numbered raw) }
+{
+    let RawGrammar {
+        start,
+        symbols,
+        productions,
+    } = raw;
+    let classes = classes_of(alloc, productions.as_slice())?;
+    let literals = literal_texts(alloc, productions.as_slice())?;
+    let (start, productions) = number_productions(
+        alloc,
+        symbols.as_slice(),
+        literals.as_slice(),
+        &start,
+        productions,
+    )?;
+    let symbols = move_symbols(alloc, symbols)?;
+    Ok(Grammar::new(symbols, productions, literals, classes, start))
+}
+
+/// What is found as a fault; a symbol's name is moved into it.
+fn refusal(found: Found, raw: RawGrammar) -> NormalFault
+    requires { IsFound raw (Some found) }
+    ensures { IsFirstFault raw result }
+{
+    match found {
+        Found::Fault(fault) => fault,
+        Found::Unproductive(number) => NormalFault::Unproductive(name_at(raw.symbols, number)),
+        Found::Unreachable(number) => NormalFault::Unreachable(name_at(raw.symbols, number)),
+    }
+}
+
+/// Checks a raw grammar. Ok is the grammar that it is by numbers, which is accepted; names and
+/// expressions are moved into it.
+///
+/// A refusal is the first fault: of the kinds in the order of `NormalFault` the first that has one,
+/// and within a kind the first place in the order of the lists. Then the grammar by numbers is not
+/// accepted, and the raw grammar is given up. `NoMemory` comes only where a growth was refused.
+/// Takes memory.
+#[tactic(auto, using(crate::proofs::Accepting::refused))]
+pub fn check(alloc: Global, raw: RawGrammar) -> Result<Grammar, NormalFault>
+    requires { IsReadable raw }
+    ensures numbered { IfOk result (λ g. g ≡ numbered raw) }
+    ensures accepted { IfOk result (λ g. IsAccepted g) }
+    ensures refused { IfErr result (λ fault. IsTrueOf raw fault) }
+{
+    match first_fault(alloc, &raw)? {
+        None => Ok(number(alloc, raw)?),
+        Some(found) => Err(refusal(found, raw)),
+    }
+}

@@ -1,0 +1,94 @@
+//! Clauses: which symbols are productive, or reached, where others are.
+ghost use Rattle.std.specs.Prelude.{◌≡◌, ◌++◌, IfOk, OnOk};
+ghost use Rattle.normalform.specs.Clauses as spec;
+ghost use Rattle.normalform.specs.Clauses.{body_of, edges_of};
+ghost use Rattle.normalform.specs.Numbers.{symbol_names};
+
+use crate::declared::Declared;
+use ag_text::{RawItem, RawProduction};
+use ag_value::{Items, NoMemory};
+use std::alloc::Global;
+
+/// A clause: the head follows where each number of the body does.
+#[derive(Debug, Drop)]
+pub struct Clause {
+    /// What follows.
+    pub head: usize,
+    /// From what it follows.
+    pub body: Items<usize>,
+}
+
+/// The symbols on a right side.
+fn body_of(
+    alloc: Global,
+    declared: &Declared<'_>,
+    items: &[RawItem],
+) -> Result<Items<usize>, NoMemory>
+    ensures { IfOk result (λ body. body ≡ body_of (symbol_names declared.now) items.now) }
+{
+    let mut body = Vec::new(alloc);
+    for item in items {
+        if let RawItem::Name(name) = item {
+            body.push(declared.number(name.name.as_str()))?;
+        }
+    }
+    Ok(Items::from_vec(body))
+}
+
+/// A left side follows where each symbol of the right side does.
+fn clause_of(
+    alloc: Global,
+    declared: &Declared<'_>,
+    production: &RawProduction,
+) -> Result<Clause, NoMemory>
+    ensures { IfOk result (λ clause. clause ≡ spec.clause_of declared.now production.now) }
+{
+    let head = declared.number(production.left.name.as_str());
+    let body = body_of(alloc, declared, production.items.as_slice())?;
+    Ok(Clause { head, body })
+}
+
+/// The clauses of productions.
+pub fn clauses_of(
+    alloc: Global,
+    declared: &Declared<'_>,
+    productions: &[RawProduction],
+) -> Result<Vec<Clause>, NoMemory>
+    ensures { IfOk result (λ clauses. clauses.items
+        ≡ spec.clauses_of declared.now productions.now) }
+{
+    let mut clauses = Vec::new(alloc);
+    for production in productions {
+        clauses.push(clause_of(alloc, declared, production)?)?;
+    }
+    Ok(clauses)
+}
+
+/// Appends that each number of a body follows from the head.
+fn push_edges(alloc: Global, edges: &mut Vec<Clause>, clause: &Clause) -> Result<(), NoMemory>
+    ensures { OnOk result (edges.new.items ≡ edges.old.items ++ edges_of clause.now) }
+{
+    for symbol in clause.body.as_slice() {
+        let body = Items::from_vec(vec![in alloc; clause.head]?);
+        edges.push(Clause {
+            head: *symbol,
+            body,
+        })?;
+    }
+    Ok(())
+}
+
+/// The clauses of what is reached from a start: the start, and each number of a body from the head.
+pub fn reaching(alloc: Global, start: usize, clauses: &[Clause]) -> Result<Vec<Clause>, NoMemory>
+    ensures { IfOk result (λ edges. edges.items ≡ spec.reaching start clauses.now) }
+{
+    let mut edges = Vec::new(alloc);
+    edges.push(Clause {
+        head: start,
+        body: Items::from_vec(Vec::new(alloc)),
+    })?;
+    for clause in clauses {
+        push_edges(alloc, &mut edges, clause)?;
+    }
+    Ok(edges)
+}
