@@ -1,2 +1,11 @@
+pub mod Choices
+pub mod Columns
+pub mod Comes
+pub mod Edges
 pub mod Examples
+pub mod Firsts
+pub mod Follows
+pub mod Nullables
+pub mod Predictions
+pub mod Reaching
 pub mod Unique

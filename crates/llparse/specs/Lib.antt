@@ -1,3 +1,11 @@
 pub mod Ahead
+pub mod Columns
+pub mod Comes
+pub mod Edges
 pub mod Laws
+pub mod Nodes
+pub mod Nullable
+pub mod Predicted
+pub mod Reach
+pub mod Tables
 pub mod Worked

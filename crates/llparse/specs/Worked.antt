@@ -1,10 +1,12 @@
--- A grammar with a conflict: start L; symbol L syn out; L = L "x" .. L = "x" .. (its rules don't matter here).
-use Rattle.std.specs.Prelude.{List, [], ◌∷◌}
+-- Examples: a grammar with a conflict, start L; symbol L syn out; L = L "x" .. L = "x" .. (its rules don't matter here), tables,
+-- and edges.
+use Rattle.std.specs.Prelude.{ℕ, List, [], ◌∷◌, Some, None}
 use Rattle.ag_expr.specs.declared.grammar.Item.TheVariants as item
 use Rattle.ag_expr.specs.declared.grammar.Item.{Item}
 use Rattle.ag_expr.specs.declared.grammar.Production.{Production}
 use Rattle.ag_expr.specs.declared.grammar.Terminal.TheVariants.{Literal}
 use Rattle.ag_expr.specs.grammars.AttributeGrammar.{Grammar}
+use Rattle.llparse.specs.Tables.{Choices}
 
 -- a production of symbol 0 with this right side
 abbrev pub production_of : List Item → Production
@@ -21,3 +23,11 @@ production_one = production_of (item.Terminal (Literal 0) ∷ [])
 -- the grammar of the two
 abbrev pub left_recursive : Grammar
 left_recursive = record { symbols = []; productions = production_more ∷ production_one ∷ []; literals = (120 ∷ []) ∷ []; classes = []; start = 0 }
+
+-- tables of a grammar with one literal and one symbol: production 0 at the literal, production 1 at the end
+abbrev pub small_tables : Choices
+small_tables = record { literals = 1; columns = (Some 0 ∷ []) ∷ (None ∷ []) ∷ (None ∷ []) ∷ (None ∷ []) ∷ (Some 1 ∷ []) ∷ [] }
+
+-- an edge from 0 to 1 and one from 1 to 2
+abbrev pub two_edges : List (List ℕ)
+two_edges = (1 ∷ []) ∷ (2 ∷ []) ∷ [] ∷ [] ∷ []

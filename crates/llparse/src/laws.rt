@@ -1,11 +1,15 @@
 //! What is true of look-ahead by the definitions alone, each the contract of a function that does
 //! nothing.
 
-ghost use Rattle.ag_expr.specs.declared.grammar.Terminal.TheVariants.{Literal};
+ghost use Rattle.std.specs.Prelude.{◌≡◌, ◌∷◌, [], Some, None};
+ghost use Rattle.ag_expr.specs.declared.grammar.Terminal.TheVariants.{Class, Literal};
 ghost use Rattle.ag_expr.specs.grammars.Sample.{sample};
 ghost use Rattle.llparse.specs.Ahead.{HasNoConflict, IsConflict};
 ghost use Rattle.llparse.specs.Laws.{OneTree};
-ghost use Rattle.llparse.specs.Worked.{left_recursive};
+ghost use Rattle.llparse.specs.Nodes.{place_of};
+ghost use Rattle.llparse.specs.Reach.{InReach};
+ghost use Rattle.llparse.specs.Tables.{choice_of, IsChoice, IsLeastConflict};
+ghost use Rattle.llparse.specs.Worked.{left_recursive, small_tables, two_edges};
 ghost use Rattle.llparse.specs.declared.ahead.Ahead.TheVariants as ahead;
 
 /// A grammar without a conflict has at most one tree of a yield.
@@ -22,4 +26,39 @@ pub fn left_recursion_conflicts()
 /// The example grammar whose one sentence is `x x` has no conflict.
 pub fn sample_is_free()
     ensures { HasNoConflict sample }
+{}
+
+/// That conflict is the least, and its symbol is 0.
+#[tactic(auto, using(crate::proofs::Examples::left_recursion_least))]
+pub fn left_recursion_is_least()
+    ensures { IsLeastConflict left_recursive 0 0 1 (ahead.Terminal (Literal 0)) }
+{}
+
+/// The first of those two productions is a choice of its symbol at `x`.
+#[tactic(auto, using(crate::proofs::Examples::first_choice))]
+pub fn left_recursion_is_a_choice()
+    ensures { IsChoice left_recursive 0 (ahead.Terminal (Literal 0)) 0 }
+{}
+
+/// How tables are read: a literal and the end that are there, a class without an entry, and a
+/// literal that is none of the grammar's.
+pub fn small_tables_are_read()
+    ensures literal { choice_of small_tables 0 (ahead.Terminal (Literal 0)) ≡ Some 0 }
+    ensures end { choice_of small_tables 0 ahead.End ≡ Some 1 }
+    ensures class { choice_of small_tables 0 (ahead.Terminal (Class 2)) ≡ None }
+    ensures unknown { choice_of small_tables 0 (ahead.Terminal (Literal 1)) ≡ None }
+{}
+
+/// The order of look-aheads where there are two literals.
+pub fn places_are_in_order()
+    ensures literals { place_of 2 (ahead.Terminal (Literal 1)) ≡ 1 }
+    ensures classes { place_of 2 (ahead.Terminal (Class 0)) ≡ 2 }
+    ensures end { place_of 2 ahead.End ≡ 5 }
+{}
+
+/// Two edges lead from node 0 to node 2, and none to node 3.
+#[tactic(auto, using(crate::proofs::Examples::two_is_reached, crate::proofs::Examples::three_is_not))]
+pub fn edges_lead_on()
+    ensures reached { InReach two_edges (0 ∷ []) 2 }
+    ensures unreached { InReach two_edges (0 ∷ []) 3 → ⊥ }
 {}

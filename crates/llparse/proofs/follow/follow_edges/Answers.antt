@@ -1,0 +1,32 @@
+use Rattle.std.proofs.Common.{◌≡◌, ◌<◌, ◌≤◌, length, arith, ap, ◌∙◌, get_or, List}
+use Rattle.ag_expr.specs.declared.grammar.Production.{Production}
+use Rattle.llparse.specs.Comes.{IsFollowEdge}
+use Rattle.llparse.specs.Reach.{is_marked}
+use Rattle.llparse.proofs.Edges.{noted_iff}
+use Rattle.llparse.proofs.Follows.{last_more}
+use Rattle.llparse.proofs.Nullables.{left_below}
+use Rattle.llparse.proofs.follow.follow_edges.Goals as goal
+
+pub note_last-requires : goal.note_last-requires
+note_last-requires c =
+    let r = c.index-productions-at.result in
+    let inside : c.loop-at.at < length c.args.grammar.now.productions = omega (arith, ap length c.productions-productions.ensures.lent, c.loop-at-test.true) in
+    let is : r ≡ get_or c.args.grammar.now.productions c.loop-at.at r = c.index-productions-at.is ∙ ap (λ (qs : List Production). get_or qs c.loop-at.at r) c.productions-productions.ensures.lent in
+    let below = left_below c.args.grammar.now c.productions-productions.ensures.accepted c.loop-at.at r inside in
+    omega (arith, ap (λ (q : Production). q.left) is, below, c.loop-at.invariant.len)
+
+pub loop-at-preserved : goal.loop-at-preserved
+loop-at-preserved c =
+    let r = c.index-productions-at.result in
+    let inside : c.loop-at.at < length c.args.grammar.now.productions = omega (arith, ap length c.productions-productions.ensures.lent, c.loop-at-test.true) in
+    let is : r ≡ get_or c.args.grammar.now.productions c.loop-at.at r = c.index-productions-at.is ∙ ap (λ (qs : List Production). get_or qs c.loop-at.at r) c.productions-productions.ensures.lent in
+    record {
+      len = c.in_ok-note_last.ensures.len ∙ c.loop-at.invariant.len;
+      edges = last_more c.args.grammar.now c.productions-productions.ensures.accepted (is_marked c.args.nullable.now) c.loop-at.at r _ _ _ c.as_slice-items.result.now _ _ _ inside c.of-sizes.ensures.symbols c.of-sizes.ensures.literals
+          (ap (λ (q : Production). q.left) is) (c.as_slice-items.ensures ∙ ap (λ (q : Production). q.items) is) c.loop-at.invariant.edges c.in_ok-note_last.ensures.edges;
+    }
+
+pub returns-clause-edges : goal.returns-clause-edges
+returns-clause-edges c =
+    let most : length c.args.grammar.now.productions ≤ c.loop-at.at = omega (arith, ap length c.productions-productions.ensures.lent, c.loop-at-test.false) in
+    noted_iff (IsFollowEdge c.args.grammar.now (is_marked c.args.nullable.now)) c.args.grammar.now.productions c.loop-at.at _ _ most c.in_ok-edges.ensures.none c.loop-at.invariant.edges

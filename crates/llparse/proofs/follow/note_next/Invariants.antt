@@ -1,0 +1,14 @@
+use Rattle.std.proofs.Common.{ℕ, ◌≡◌, drop, false, Contains}
+use Rattle.ag_expr.specs.declared.grammar.Item.{Item}
+use Rattle.llparse.specs.Comes.{next_in, OfRest}
+use Rattle.llparse.specs.Edges.{Adds}
+use Rattle.llparse.specs.Nodes.{node_of}
+use Rattle.llparse.specs.Nullable.{is_empty}
+use Rattle.llparse.specs.Reach.{is_marked}
+use Rattle.llparse.proofs.follow.note_next.Given as goal
+
+abbrev pub invariant-loop-at : goal.invariant-loop-at
+invariant-loop-at l = record {
+  next : l.next ≡ next_in (λ (x : Item). is_marked l.begins (node_of l.sizes.symbols l.sizes.literals x)) (is_empty (is_marked l.nullable)) false (drop l.at l.items);
+  seeds : Adds (OfRest (next_in (λ (x : Item). is_marked l.begins (node_of l.sizes.symbols l.sizes.literals x)) (is_empty (is_marked l.nullable)) false) (λ (x : Item) (t : ℕ). t ≡ node_of l.sizes.symbols l.sizes.literals x) (drop l.at l.items)) (Contains l.initial.seeds.items) (Contains l.seeds.items);
+}

@@ -1,0 +1,12 @@
+use Rattle.std.proofs.Common.{◌≡◌, drop}
+use Rattle.ag_expr.specs.declared.grammar.Item.{Item}
+use Rattle.llparse.specs.Comes.{next_in}
+use Rattle.llparse.specs.Nodes.{node_of}
+use Rattle.llparse.specs.Nullable.{is_empty}
+use Rattle.llparse.specs.Reach.{is_marked}
+use Rattle.llparse.proofs.predict.is_next.Given as goal
+
+abbrev pub invariant-loop-item : goal.invariant-loop-item
+invariant-loop-item l =
+    next_in (λ (x : Item). is_marked l.begins (node_of l.sizes.symbols l.sizes.literals x)) (is_empty (is_marked l.nullable)) l.behind (drop l.item-index l.items)
+    ≡ next_in (λ (x : Item). is_marked l.begins (node_of l.sizes.symbols l.sizes.literals x)) (is_empty (is_marked l.nullable)) l.behind l.items
