@@ -303,3 +303,6 @@ first_excludes raw f (in_rules n all reached e) none = absurd (cc (e, none.rules
 
 pub refused : (raw : RawGrammar) (f : NormalFault) → IsFirstFault raw f → IsTrueOf raw f
 refused raw f first = inr (first, λ accepted. first_excludes raw f first (no_fault raw accepted))
+
+pub accepted_without_fault : (raw : RawGrammar) → IsReadable raw → All AreListedIn (numbered raw).productions → HasNoFault raw → IsAccepted (numbered raw)
+accepted_without_fault raw readable listed none = accepted raw readable (listed_each (numbered raw).productions listed) none

@@ -1,5 +1,6 @@
 pub mod Accepting
 pub mod Apart
+pub mod First
 pub mod Founds
 pub mod KindAt
 pub mod Listed

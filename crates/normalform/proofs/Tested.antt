@@ -1,6 +1,6 @@
 -- The test tells what it is to tell.
-use Rattle.std.proofs.Common.{ℕ, zero, suc, ◌≡◌, ◌≤◌, ◌<◌, ◌⊎◌, ◌↔◌, inl, inr, Bool, true, false, ◌&&◌, ◌||◌, not, nat_eq, nat_le, nat_lt, List, [], ◌∷◌, length, Some, slice_get, refl, ap, sym, ◌∙◌, arith}
-use Rattle.std.proofs.lemmas.Bool.{eqb-true, eq-eqb, leb-true, le-leb, ltb-true, lt-ltb}
+use Rattle.std.proofs.Common.{ℕ, ◌≡◌, ◌⊎◌, ◌↔◌, inl, inr, Bool, true, false, ◌&&◌, ◌||◌, not, nat_eq, nat_le, List, length, refl}
+use Rattle.std.proofs.lemmas.Bool.{eqb-true, leb-true, le-leb, ltb-true, lt-ltb}
 use Rattle.std.specs.List.{list_all}
 use Rattle.ag_expr.specs.Lists.{Each}
 use Rattle.ag_expr.specs.grammars.Accepted.{IsSeparator}
@@ -8,7 +8,7 @@ use Rattle.ag_text.specs.declared.raw.RawItem.{RawItem}
 use Rattle.ag_text.specs.declared.raw.RawItem.TheVariants as raw_item
 use Rattle.ag_text.specs.declared.raw.RawProduction.{RawProduction}
 use Rattle.normalform.specs.Faults.{IsReadableItem}
-use Rattle.normalform.specs.Readable.{is_separator, readable_text, readable_item, readable_in}
+use Rattle.normalform.specs.Readable.{is_separator, readable_item, readable_in}
 use Rattle.normalform.proofs.Accepting.{all_pass}
 use Rattle.normalform.proofs.Small.{passes_at}
 

@@ -1,6 +1,7 @@
 pub mod Clauses
 pub mod Faults
 pub mod Found
+pub mod Laws
 pub mod Names
 pub mod Numbers
 pub mod Placed

@@ -7,6 +7,7 @@ mod clause;
 mod declared;
 mod fault;
 mod grammar;
+pub mod laws;
 mod limits;
 mod moving;
 mod names;

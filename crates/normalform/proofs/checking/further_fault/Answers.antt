@@ -1,3 +1,4 @@
+-- The goals of `further_fault` that are left.
 use Rattle.std.proofs.Common.{◌≡◌, Some, None, map, sym, ◌∙◌}
 use Rattle.normalform.specs.Faults.{first_wrong, rule_kinds, limit_places, further_places}
 use Rattle.normalform.specs.Numbers.{symbol_of}

@@ -1,3 +1,4 @@
+-- The goals of `naming_fault` that are left.
 use Rattle.std.proofs.Common.{◌≡◌, ◌++◌, Some, None, map, sym, ◌∙◌}
 use Rattle.normalform.specs.Faults.{first_wrong, unknown, doubled, start_places}
 use Rattle.normalform.specs.Numbers.{symbol_of}

@@ -1,3 +1,4 @@
+-- The goals of `number` that are left.
 use Rattle.std.proofs.Common.{◌≡◌, map, ap, ◌∙◌}
 use Rattle.normalform.specs.Numbers.{symbol_of, symbol_names, number_in, production_of, literals_of, classes_of}
 use Rattle.normalform.proofs.Accepting.{small, made}

@@ -1,3 +1,4 @@
+-- The goals of `rule_fault` that are left.
 use Rattle.std.proofs.Common.{◌≡◌, ◌++◌, Some, None, sym, ◌∙◌}
 use Rattle.normalform.specs.Faults.{first_wrong, missing, doubled_rules, not_given, not_found, rule_kinds}
 use Rattle.normalform.proofs.Wrong.{first_of, rest_of}

@@ -1,3 +1,4 @@
+-- The goals of `unreachable` that are left.
 use Rattle.std.proofs.Common.{◌≡◌, length, ap, sym, ◌∙◌}
 use Rattle.std.proofs.lemmas.List.{length-map}
 use Rattle.normalform.specs.Clauses.{reaching}

@@ -1,3 +1,4 @@
+-- What the loop of `body_of` keeps.
 use Rattle.std.proofs.Common.{◌≡◌, ◌++◌, drop}
 use Rattle.normalform.specs.Clauses.{body_of}
 use Rattle.normalform.specs.Numbers.{symbol_names}

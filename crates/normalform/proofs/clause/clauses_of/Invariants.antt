@@ -1,3 +1,4 @@
+-- What the loop of `clauses_of` keeps.
 use Rattle.std.proofs.Common.{◌≡◌, take}
 use Rattle.normalform.specs.Clauses.{clauses_of}
 use Rattle.normalform.proofs.clause.clauses_of.Given as goal

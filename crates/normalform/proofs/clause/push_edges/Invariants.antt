@@ -1,3 +1,4 @@
+-- What the loop of `push_edges` keeps.
 use Rattle.std.proofs.Common.{◌≡◌, ◌++◌, map, take}
 use Rattle.normalform.specs.Clauses.{edge}
 use Rattle.normalform.proofs.clause.push_edges.Given as goal

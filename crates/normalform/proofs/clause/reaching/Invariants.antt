@@ -1,3 +1,4 @@
+-- What the loop of `reaching` keeps.
 use Rattle.std.proofs.Common.{◌≡◌, ◌++◌, drop, flat_map}
 use Rattle.normalform.specs.Clauses.{reaching, edges_of}
 use Rattle.normalform.proofs.clause.reaching.Given as goal

@@ -1,3 +1,4 @@
+-- What the loop of `attributes` keeps.
 use Rattle.std.proofs.Common.{◌≡◌, map, take}
 use Rattle.ag_expr.specs.grammars.AttributeGrammar.{attribute_names}
 use Rattle.normalform.specs.Numbers.{symbol_of}

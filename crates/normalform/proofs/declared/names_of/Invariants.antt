@@ -1,3 +1,4 @@
+-- What the loop of `names_of` keeps.
 use Rattle.std.proofs.Common.{◌≡◌, map, take}
 use Rattle.normalform.specs.Numbers.{symbol_of, symbol_names}
 use Rattle.normalform.proofs.declared.names_of.Given as goal

@@ -1,3 +1,4 @@
+-- What the loop of `push_names` keeps.
 use Rattle.std.proofs.Common.{◌≡◌, ◌++◌, take}
 use Rattle.normalform.specs.Numbers.{texts_of}
 use Rattle.normalform.proofs.declared.push_names.Given as goal

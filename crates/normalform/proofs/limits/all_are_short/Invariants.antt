@@ -1,3 +1,4 @@
+-- What the loop of `all_are_short` keeps.
 use Rattle.std.proofs.Common.{◌≡◌, drop, map, List, ℕ}
 use Rattle.std.specs.Borrow.{Bor}
 use Rattle.std.specs.List.{list_all}

@@ -1,3 +1,4 @@
+-- What the loop of `all_have_few_stored` keeps.
 use Rattle.std.proofs.Common.{◌≡◌, drop}
 use Rattle.std.specs.List.{list_all}
 use Rattle.normalform.specs.Faults.{few_stored}

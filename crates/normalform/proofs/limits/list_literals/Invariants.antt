@@ -1,3 +1,4 @@
+-- What the loop of `list_literals` keeps.
 use Rattle.std.proofs.Common.{◌≡◌, fold, take}
 use Rattle.normalform.specs.Numbers.{with_item}
 use Rattle.normalform.proofs.limits.list_literals.Given as goal

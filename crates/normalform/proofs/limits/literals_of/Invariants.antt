@@ -1,3 +1,4 @@
+-- What the loop of `literals_of` keeps.
 use Rattle.std.proofs.Common.{◌≡◌, fold, take, []}
 use Rattle.normalform.specs.Numbers.{with_production}
 use Rattle.normalform.proofs.limits.literals_of.Given as goal

@@ -1,3 +1,4 @@
+-- What the loop of `move_names` keeps.
 use Rattle.std.proofs.Common.{◌≡◌}
 use Rattle.normalform.specs.Numbers.{texts_of}
 use Rattle.normalform.proofs.moving.move_names.Given as goal

@@ -1,3 +1,4 @@
+-- What the loop of `move_symbols` keeps.
 use Rattle.std.proofs.Common.{◌≡◌, map}
 use Rattle.normalform.specs.Numbers.{symbol_of}
 use Rattle.normalform.proofs.moving.move_symbols.Given as goal

@@ -1,3 +1,4 @@
+-- The goals of `doubled` that are left.
 use Rattle.std.proofs.Common.{◌∙◌, sym}
 use Rattle.normalform.specs.Faults.{symbol_places, with_symbol}
 use Rattle.normalform.proofs.Wrong.{along_here, along_past}

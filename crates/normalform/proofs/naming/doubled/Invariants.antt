@@ -1,3 +1,4 @@
+-- What the loop of `doubled` keeps.
 use Rattle.std.proofs.Common.{◌≡◌, drop}
 use Rattle.normalform.specs.Faults.{first_wrong, doubled, places_along, symbol_places, with_symbol}
 use Rattle.normalform.proofs.naming.doubled.Given as goal

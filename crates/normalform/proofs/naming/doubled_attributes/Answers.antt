@@ -1,3 +1,4 @@
+-- The goals of `doubled_attributes` that are left.
 use Rattle.normalform.proofs.Wrong.{doubled_here, doubled_past}
 use Rattle.normalform.proofs.naming.doubled_attributes.Goals as goal
 

@@ -1,3 +1,4 @@
+-- What the loop of `doubled_names` keeps.
 use Rattle.std.proofs.Common.{◌≡◌, drop, take, fold}
 use Rattle.normalform.specs.Faults.{first_wrong, doubled_names, with_name}
 use Rattle.normalform.proofs.naming.doubled_names.Given as goal

@@ -1,3 +1,4 @@
+-- The goals of `unknown` that are left.
 use Rattle.std.proofs.Common.{sym, ◌∙◌}
 use Rattle.normalform.specs.Faults.{unknown_in}
 use Rattle.normalform.proofs.Wrong.{wrong_here, wrong_past}

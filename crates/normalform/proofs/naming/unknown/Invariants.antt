@@ -1,3 +1,4 @@
+-- What the loop of `unknown` keeps.
 use Rattle.std.proofs.Common.{◌≡◌, drop}
 use Rattle.normalform.specs.Faults.{first_wrong, unknown}
 use Rattle.normalform.proofs.naming.unknown.Given as goal

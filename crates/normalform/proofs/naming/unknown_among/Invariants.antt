@@ -1,3 +1,4 @@
+-- What the loop of `unknown_among` keeps.
 use Rattle.std.proofs.Common.{◌≡◌, drop, map}
 use Rattle.normalform.specs.Faults.{first_wrong, occurrence_place}
 use Rattle.normalform.specs.Placed.{item_placed}

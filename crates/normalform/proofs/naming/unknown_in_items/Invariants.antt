@@ -1,3 +1,4 @@
+-- What the loop of `unknown_in_items` keeps.
 use Rattle.std.proofs.Common.{◌≡◌, drop, flat_map}
 use Rattle.normalform.specs.Faults.{first_wrong, item_places}
 use Rattle.normalform.specs.Numbers.{symbol_names}

@@ -1,3 +1,4 @@
+-- The goals of `unknown_in_production` that are left.
 use Rattle.std.proofs.Common.{◌∷◌, [], ◌++◌, List, flat_map, map, ap, ◌∙◌}
 use Rattle.normalform.specs.Faults.{Place, name_place, item_places, rule_places, first_wrong}
 use Rattle.normalform.specs.Numbers.{placed, symbol_names}

@@ -1,3 +1,4 @@
+-- The goals of `unknown_in_rules` that are left.
 use Rattle.std.proofs.Common.{map}
 use Rattle.normalform.specs.Faults.{rule_places}
 use Rattle.normalform.specs.Placed.{item_placed}

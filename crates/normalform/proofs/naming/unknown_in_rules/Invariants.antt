@@ -1,3 +1,4 @@
+-- What the loop of `unknown_in_rules` keeps.
 use Rattle.std.proofs.Common.{◌≡◌, drop, map, flat_map}
 use Rattle.normalform.specs.Faults.{first_wrong, rule_places}
 use Rattle.normalform.specs.Placed.{item_placed}

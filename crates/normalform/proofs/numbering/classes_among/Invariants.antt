@@ -1,3 +1,4 @@
+-- What the loop of `classes_among` keeps.
 use Rattle.std.proofs.Common.{◌≡◌, take, filter, ℕ}
 use Rattle.normalform.specs.Numbers.{is_class}
 use Rattle.std.specs.List.{list_any}

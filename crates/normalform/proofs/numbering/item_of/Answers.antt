@@ -1,3 +1,4 @@
+-- The goals of `item_of` that are left.
 use Rattle.normalform.proofs.Small.{symbol_small, text_small}
 use Rattle.normalform.proofs.numbering.item_of.Goals as goal
 

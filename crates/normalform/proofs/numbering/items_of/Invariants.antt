@@ -1,3 +1,4 @@
+-- What the loop of `items_of` keeps.
 use Rattle.std.proofs.Common.{◌≡◌, take, map}
 use Rattle.normalform.specs.Numbers.{item_of, symbol_names}
 use Rattle.normalform.proofs.numbering.items_of.Given as goal

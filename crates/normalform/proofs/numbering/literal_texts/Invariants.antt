@@ -1,3 +1,4 @@
+-- What the loop of `literal_texts` keeps.
 use Rattle.std.proofs.Common.{◌≡◌, take, map, List, ℕ}
 use Rattle.std.specs.Borrow.{Bor}
 use Rattle.normalform.proofs.numbering.literal_texts.Given as goal

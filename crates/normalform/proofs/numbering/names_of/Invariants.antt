@@ -1,3 +1,4 @@
+-- What the loop of `names_of` keeps.
 use Rattle.std.proofs.Common.{◌≡◌, take}
 use Rattle.normalform.proofs.numbering.names_of.Given as goal
 

@@ -1,3 +1,4 @@
+-- The goals of `production_of` that are left.
 use Rattle.normalform.proofs.Small.{symbol_small}
 use Rattle.normalform.proofs.numbering.production_of.Goals as goal
 

@@ -1,3 +1,4 @@
+-- What the loop of `productions_of` keeps.
 use Rattle.std.proofs.Common.{◌≡◌, map, All}
 use Rattle.normalform.specs.Numbers.{production_of}
 use Rattle.normalform.specs.Faults.{AreListedIn}

@@ -1,3 +1,4 @@
+-- What the loop of `rules_of` keeps.
 use Rattle.std.proofs.Common.{◌≡◌, map, All}
 use Rattle.normalform.specs.Numbers.{rule_of}
 use Rattle.normalform.specs.Placed.{item_placed}

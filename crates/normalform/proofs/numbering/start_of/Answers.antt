@@ -1,3 +1,4 @@
+-- The goals of `start_of` that are left.
 use Rattle.normalform.proofs.Small.{symbol_small}
 use Rattle.normalform.proofs.numbering.start_of.Goals as goal
 

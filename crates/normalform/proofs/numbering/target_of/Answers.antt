@@ -1,3 +1,4 @@
+-- The goals of `target_of` that are left.
 use Rattle.std.proofs.Common.{map}
 use Rattle.normalform.specs.Placed.{item_placed}
 use Rattle.normalform.proofs.Small.{attribute_small}

@@ -1,3 +1,4 @@
+-- What the loop of `targets_of` keeps.
 use Rattle.std.proofs.Common.{◌≡◌, take, map}
 use Rattle.normalform.specs.Numbers.{target_of}
 use Rattle.normalform.specs.Placed.{item_placed}

@@ -1,3 +1,4 @@
+-- What the loop of `places_of` keeps.
 use Rattle.std.proofs.Common.{◌≡◌, ◌++◌, drop, map}
 use Rattle.normalform.specs.Numbers.{placed, stored_of, symbol_names}
 use Rattle.normalform.specs.Placed.{item_placed}

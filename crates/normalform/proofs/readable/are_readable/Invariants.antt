@@ -1,6 +1,7 @@
-use Rattle.std.proofs.Common.{◌≡◌, drop, not}
+-- What the loop of `are_readable` keeps.
+use Rattle.std.proofs.Common.{◌≡◌, drop}
 use Rattle.std.specs.List.{list_all}
-use Rattle.normalform.specs.Readable.{is_separator, readable_item, readable_in}
+use Rattle.normalform.specs.Readable.{readable_in}
 use Rattle.normalform.proofs.readable.are_readable.Given as goal
 
 abbrev pub invariant-loop-production : goal.invariant-loop-production

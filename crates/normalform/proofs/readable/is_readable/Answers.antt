@@ -1,6 +1,4 @@
-use Rattle.std.proofs.Common.{◌≡◌, ◌∙◌, sym, ap}
-use Rattle.std.specs.List.{list_all}
-use Rattle.normalform.specs.Readable.{readable_in}
+-- The goals of `is_readable` that are left.
 use Rattle.normalform.proofs.Tested.{readable_tells}
 use Rattle.normalform.proofs.readable.is_readable.Goals as goal
 

@@ -1,6 +1,7 @@
+-- What the loop of `is_readable_text` keeps.
 use Rattle.std.proofs.Common.{◌≡◌, drop, not}
 use Rattle.std.specs.List.{list_all}
-use Rattle.normalform.specs.Readable.{is_separator, readable_item, readable_in}
+use Rattle.normalform.specs.Readable.{is_separator}
 use Rattle.normalform.proofs.readable.is_readable_text.Given as goal
 
 abbrev pub invariant-loop-byte : goal.invariant-loop-byte

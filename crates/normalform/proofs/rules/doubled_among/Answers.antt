@@ -1,3 +1,4 @@
+-- The goals of `doubled_among` that are left.
 use Rattle.std.proofs.Common.{sym, ◌∙◌, map}
 use Rattle.normalform.specs.Faults.{new_target, with_rule}
 use Rattle.normalform.specs.Placed.{item_placed}

@@ -1,3 +1,4 @@
+-- What the loop of `doubled_among` keeps.
 use Rattle.std.proofs.Common.{◌≡◌, drop, map, []}
 use Rattle.normalform.specs.Placed.{item_placed}
 use Rattle.normalform.specs.Faults.{first_wrong, places_along, with_rule, new_target}

@@ -1,3 +1,4 @@
+-- The goals of `doubled_rules` that are left.
 use Rattle.std.proofs.Common.{sym, ◌∙◌}
 use Rattle.normalform.specs.Faults.{doubled_in}
 use Rattle.normalform.proofs.Wrong.{wrong_here, wrong_past}

@@ -1,3 +1,4 @@
+-- What the loop of `doubled_rules` keeps.
 use Rattle.std.proofs.Common.{◌≡◌, drop}
 use Rattle.normalform.specs.Faults.{first_wrong, doubled_rules}
 use Rattle.normalform.proofs.rules.doubled_rules.Given as goal

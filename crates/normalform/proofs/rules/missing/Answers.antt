@@ -1,3 +1,4 @@
+-- The goals of `missing` that are left.
 use Rattle.std.proofs.Common.{◌+◌, sym, refl, ◌∙◌}
 use Rattle.normalform.specs.Faults.{missing_in, after}
 use Rattle.normalform.proofs.Wrong.{along_here, along_past}

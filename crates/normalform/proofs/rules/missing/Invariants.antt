@@ -1,3 +1,4 @@
+-- What the loop of `missing` keeps.
 use Rattle.std.proofs.Common.{◌≡◌, drop}
 use Rattle.normalform.specs.Faults.{first_wrong, places_along, after, missing_in, missing}
 use Rattle.normalform.proofs.rules.missing.Given as goal

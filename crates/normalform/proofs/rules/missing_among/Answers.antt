@@ -1,3 +1,4 @@
+-- The goals of `missing_among` that are left.
 use Rattle.std.proofs.Common.{◌+◌, refl, map}
 use Rattle.normalform.specs.Faults.{missing_at, after}
 use Rattle.normalform.specs.declared.placed.Placed.TheVariants as placed

@@ -1,3 +1,4 @@
+-- The goals of `missing_at` that are left.
 use Rattle.std.proofs.Common.{arith, sym, ◌∙◌}
 use Rattle.normalform.specs.Faults.{missing_place}
 use Rattle.normalform.proofs.Wrong.{range_past}

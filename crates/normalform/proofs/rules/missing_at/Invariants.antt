@@ -1,3 +1,4 @@
+-- What the loop of `missing_at` keeps.
 use Rattle.std.proofs.Common.{◌≡◌, ◌-◌, ◌≤◌, map}
 use Rattle.std.specs.List.{range_with_len}
 use Rattle.normalform.specs.Faults.{first_wrong, missing_place}

@@ -1,3 +1,4 @@
+-- What the loop of `not_found` keeps.
 use Rattle.std.proofs.Common.{◌≡◌, drop}
 use Rattle.normalform.specs.Faults.{first_wrong, not_found}
 use Rattle.normalform.proofs.rules.not_found.Given as goal

@@ -1,3 +1,4 @@
+-- The goals of `not_found_among` that are left.
 use Rattle.std.proofs.Common.{map}
 use Rattle.normalform.specs.Faults.{found_place}
 use Rattle.normalform.specs.Placed.{item_placed}

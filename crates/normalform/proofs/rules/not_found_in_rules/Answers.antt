@@ -1,3 +1,4 @@
+-- The goals of `not_found_in_rules` that are left.
 use Rattle.std.proofs.Common.{map}
 use Rattle.ag_text.specs.declared.raw.RawRule.{RawRule}
 use Rattle.normalform.specs.Faults.{found_place}

@@ -1,3 +1,4 @@
+-- What the loop of `not_found_in_rules` keeps.
 use Rattle.std.proofs.Common.{◌≡◌, drop, map, flat_map}
 use Rattle.ag_text.specs.declared.raw.RawRule.{RawRule}
 use Rattle.normalform.specs.Placed.{item_placed}

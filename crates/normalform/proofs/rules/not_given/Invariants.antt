@@ -1,3 +1,4 @@
+-- What the loop of `not_given` keeps.
 use Rattle.std.proofs.Common.{◌≡◌, drop}
 use Rattle.normalform.specs.Faults.{first_wrong, not_given}
 use Rattle.normalform.proofs.rules.not_given.Given as goal

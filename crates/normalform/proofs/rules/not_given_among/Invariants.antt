@@ -1,3 +1,4 @@
+-- What the loop of `not_given_among` keeps.
 use Rattle.std.proofs.Common.{◌≡◌, drop, map}
 use Rattle.normalform.specs.Placed.{item_placed}
 use Rattle.normalform.specs.Faults.{first_wrong, given_place}

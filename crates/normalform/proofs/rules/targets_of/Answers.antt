@@ -1,3 +1,4 @@
+-- The goals of `targets_of` that are left.
 use Rattle.std.proofs.Common.{map, []}
 use Rattle.std.proofs.lemmas.List.Sums.{fold_more}
 use Rattle.normalform.specs.Faults.{with_rule}

@@ -1,3 +1,4 @@
+-- What the loop of `targets_of` keeps.
 use Rattle.std.proofs.Common.{◌≡◌, take, map, fold, []}
 use Rattle.normalform.specs.Placed.{item_placed}
 use Rattle.normalform.specs.Faults.{with_rule}

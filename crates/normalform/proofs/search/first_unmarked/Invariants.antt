@@ -1,3 +1,4 @@
+-- What the loop of `first_unmarked` keeps.
 use Rattle.std.proofs.Common.{ℕ, ◌≡◌, ◌<◌, true}
 use Rattle.normalform.specs.Search.{is_marked}
 use Rattle.normalform.proofs.search.first_unmarked.Given as goal

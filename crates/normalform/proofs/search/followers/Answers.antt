@@ -1,3 +1,4 @@
+-- The goals of `followers` that are left.
 use Rattle.std.proofs.Common.{◌≡◌, ◌<◌, length, Some, arith, ◌∙◌, inl, inr}
 use Rattle.std.proofs.lemmas.Bool.{cases_eq}
 use Rattle.std.proofs.lemmas.List.Elements.{All-pop}

@@ -1,3 +1,4 @@
+-- What the loop of `followers` keeps.
 use Rattle.std.proofs.Common.{ℕ, ◌≡◌, ◌<◌, length, get_or}
 use Rattle.normalform.specs.declared.clause.Clause.{Clause}
 use Rattle.normalform.specs.Search.{IsSearch, IsSettled, turns_left}

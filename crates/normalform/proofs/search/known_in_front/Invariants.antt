@@ -1,3 +1,4 @@
+-- What the loop of `known_in_front` keeps.
 use Rattle.std.proofs.Common.{◌≡◌, true, take}
 use Rattle.normalform.specs.Search.{is_marked}
 use Rattle.std.specs.List.{list_all}

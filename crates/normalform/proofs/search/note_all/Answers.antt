@@ -1,3 +1,4 @@
+-- The goals of `note_all` that are left.
 use Rattle.std.proofs.Common.{take_all}
 use Rattle.normalform.proofs.Marks.{noted_more, notes_on}
 use Rattle.normalform.proofs.search.note_all.Goals as goal

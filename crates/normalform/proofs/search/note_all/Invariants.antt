@@ -1,3 +1,4 @@
+-- What the loop of `note_all` keeps.
 use Rattle.std.proofs.Common.{ℕ, Contains, take}
 use Rattle.normalform.specs.Search.{Notes, row, rows}
 use Rattle.normalform.proofs.search.note_all.Given as goal

@@ -1,3 +1,4 @@
+-- The goals of `uses` that are left.
 use Rattle.std.proofs.Common.{◌<◌, length, arith, ap, sym, ◌∙◌}
 use Rattle.std.proofs.lemmas.List.{length-map}
 use Rattle.normalform.specs.declared.clause.Clause.{Clause}

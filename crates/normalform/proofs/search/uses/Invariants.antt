@@ -1,3 +1,4 @@
+-- What the loop of `uses` keeps.
 use Rattle.std.proofs.Common.{ℕ, ◌≡◌, ◌<◌, All, Contains, length, get_or, []}
 use Rattle.std.specs.Global.{Vec}
 use Rattle.normalform.specs.declared.clause.Clause.{Clause}

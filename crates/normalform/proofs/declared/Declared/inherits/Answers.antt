@@ -1,3 +1,4 @@
+-- The goals of `inherits` that are left.
 use Rattle.normalform.proofs.KindAt.{inherits_behind, inherits_none}
 use Rattle.normalform.proofs.declared.Declared.inherits.Goals as goal
 

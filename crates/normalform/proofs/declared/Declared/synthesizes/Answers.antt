@@ -1,3 +1,4 @@
+-- The goals of `synthesizes` that are left.
 use Rattle.normalform.proofs.KindAt.{synthesizes_is}
 use Rattle.normalform.proofs.declared.Declared.synthesizes.Goals as goal
 

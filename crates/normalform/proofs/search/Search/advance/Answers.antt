@@ -1,3 +1,4 @@
+-- The goals of `advance` that are left.
 use Rattle.normalform.proofs.Marks.{waits_at}
 use Rattle.normalform.proofs.search.Search.advance.Goals as goal
 

@@ -1,3 +1,4 @@
+-- The goals of `mark` that are left.
 use Rattle.normalform.proofs.Marks.{marked_more}
 use Rattle.normalform.proofs.search.Search.mark.Goals as goal
 

@@ -1,3 +1,4 @@
+-- The goals of `visit` that are left.
 use Rattle.normalform.proofs.Marks.{head_follows}
 use Rattle.normalform.proofs.search.Search.visit.Goals as goal
 

@@ -1,3 +1,4 @@
+-- The goals of `visit_all` that are left.
 use Rattle.std.proofs.Common.{arith, take_all, ◌∙◌}
 use Rattle.normalform.proofs.Marks.{settled_more}
 use Rattle.normalform.proofs.search.Search.visit_all.Goals as goal

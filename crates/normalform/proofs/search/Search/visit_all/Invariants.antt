@@ -1,3 +1,4 @@
+-- What the loop of `visit_all` keeps.
 use Rattle.std.proofs.Common.{ℕ, ◌≡◌, ◌≤◌, ◌⊎◌, get_or, Contains, take, length}
 use Rattle.normalform.specs.declared.clause.Clause.{Clause}
 use Rattle.normalform.specs.Search.{IsSearch, IsSettled, turns_left}

@@ -1,0 +1,6 @@
+-- The goals of `no_fault_where_accepted` that are left.
+use Rattle.normalform.proofs.Accepting.{no_fault}
+use Rattle.normalform.proofs.laws.no_fault_where_accepted.Goals as goal
+
+pub returns : goal.returns
+returns c = no_fault

@@ -1,0 +1,55 @@
+-- What is true of raw grammars and their faults, and a worked example.
+use Rattle.std.specs.Prelude.{ℕ, ◌≡◌, [], ◌∷◌, All}
+use Rattle.ag_expr.specs.declared.grammar.Item.TheVariants as item
+use Rattle.ag_expr.specs.declared.grammar.Terminal.TheVariants.{Literal, Class}
+use Rattle.ag_expr.specs.grammars.Accepted.{IsAccepted}
+use Rattle.ag_text.specs.declared.raw.Named.{Named}
+use Rattle.ag_text.specs.declared.raw.RawGrammar.{RawGrammar}
+use Rattle.ag_text.specs.declared.raw.RawItem.TheVariants as raw_item
+use Rattle.ag_text.specs.declared.raw.RawProduction.{RawProduction}
+use Rattle.ag_text.specs.declared.raw.RawSymbol.{RawSymbol}
+use Rattle.normalform.specs.declared.fault.NormalFault.{NormalFault}
+use Rattle.normalform.specs.Faults.{IsFirstFault, HasNoFault, IsReadable, AreListedIn}
+use Rattle.normalform.specs.Numbers.{numbered}
+
+abbrev pub AcceptedWithoutFault : Type 0
+AcceptedWithoutFault = (raw : RawGrammar) → IsReadable raw → All AreListedIn (numbered raw).productions → HasNoFault raw → IsAccepted (numbered raw)
+
+abbrev pub NoFaultWhereAccepted : Type 0
+NoFaultWhereAccepted = (raw : RawGrammar) → IsAccepted (numbered raw) → HasNoFault raw
+
+abbrev pub OneFirstFault : Type 0
+OneFirstFault = (raw : RawGrammar) (f h : NormalFault) → IsFirstFault raw f → IsFirstFault raw h → f ≡ h
+
+abbrev pub NoFirstFaultWithoutFault : Type 0
+NoFirstFaultWithoutFault = (raw : RawGrammar) (f : NormalFault) → IsFirstFault raw f → HasNoFault raw → ⊥
+
+-- The production S = "x" NAME "y" "x" S of one symbol S: the second "x" has the number of the first, and S the number 0.
+abbrev named : ℕ → Named
+named c = record { name = c ∷ []; at = 0 }
+
+abbrev worked : RawProduction
+worked = record {
+  left = named 83;
+  items = raw_item.Literal (120 ∷ []) ∷ raw_item.Class 0 ∷ raw_item.Literal (121 ∷ []) ∷ raw_item.Literal (120 ∷ []) ∷ raw_item.Name (named 83) ∷ [];
+  rules = [];
+}
+
+abbrev worked_symbol : RawSymbol
+worked_symbol = record { name = named 83; syn = []; inh = [] }
+
+abbrev worked_grammar : RawGrammar
+worked_grammar = record { start = named 83; symbols = worked_symbol ∷ []; productions = worked ∷ [] }
+
+abbrev pub WorkedNumbers : Type 0
+WorkedNumbers = numbered worked_grammar ≡ record {
+  symbols = record { name = 83 ∷ []; syn = []; inh = [] } ∷ [];
+  productions = record {
+    left = 0;
+    items = item.Terminal (Literal 0) ∷ item.Terminal (Class 0) ∷ item.Terminal (Literal 1) ∷ item.Terminal (Literal 0) ∷ item.Symbol 0 ∷ [];
+    rules = [];
+  } ∷ [];
+  literals = (120 ∷ []) ∷ (121 ∷ []) ∷ [];
+  classes = 0 ∷ [];
+  start = 0;
+}

@@ -1,0 +1,33 @@
+//! What is true of raw grammars and their faults by the definitions alone, each the contract of a
+//! function that does nothing.
+
+ghost use Rattle.normalform.specs.Laws.{AcceptedWithoutFault, NoFaultWhereAccepted};
+ghost use Rattle.normalform.specs.Laws.{OneFirstFault, NoFirstFaultWithoutFault, WorkedNumbers};
+
+/// Where a raw grammar has no fault, the grammar by numbers is accepted.
+#[tactic(auto, using(crate::proofs::Accepting::accepted_without_fault))]
+pub fn accepted_without_fault()
+    ensures { AcceptedWithoutFault }
+{}
+
+/// Where the grammar by numbers is accepted, the raw one has no fault.
+pub fn no_fault_where_accepted()
+    ensures { NoFaultWhereAccepted }
+{}
+
+/// A raw grammar has one first fault at most.
+#[tactic(auto, using(crate::proofs::First::one_first_fault))]
+pub fn one_first_fault()
+    ensures { OneFirstFault }
+{}
+
+/// A raw grammar with a first fault is not without fault.
+#[tactic(auto, using(crate::proofs::Accepting::first_excludes))]
+pub fn no_first_fault_without_fault()
+    ensures { NoFirstFaultWithoutFault }
+{}
+
+/// The numbers of a small grammar.
+pub fn worked_numbers()
+    ensures { WorkedNumbers }
+{}
