@@ -7,6 +7,8 @@ mod expressions;
 #[cfg(test)]
 mod reading_back;
 #[cfg(test)]
+mod tables;
+#[cfg(test)]
 mod tree_files;
 #[cfg(test)]
 mod values;
