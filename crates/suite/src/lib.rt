@@ -9,6 +9,8 @@ mod normal_forms;
 #[cfg(test)]
 mod reading_back;
 #[cfg(test)]
+mod tables;
+#[cfg(test)]
 mod tree_files;
 #[cfg(test)]
 mod turning;
