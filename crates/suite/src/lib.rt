@@ -5,11 +5,7 @@
 #[cfg(test)]
 mod expressions;
 #[cfg(test)]
-mod normal_forms;
-#[cfg(test)]
 mod reading_back;
-#[cfg(test)]
-mod tables;
 #[cfg(test)]
 mod tree_files;
 #[cfg(test)]

@@ -1,0 +1,14 @@
+//! The tests of the crates that read grammars, check them and prepare them for sentences, over
+//! their public calls. It has no other code.
+#![tactic(auto)]
+
+#[cfg(test)]
+mod grammar_texts;
+#[cfg(test)]
+mod normal_forms;
+#[cfg(test)]
+mod passes;
+#[cfg(test)]
+mod sentences;
+#[cfg(test)]
+mod tables;
