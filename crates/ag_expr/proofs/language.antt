@@ -18,4 +18,3 @@ pub mod TextTurns
 pub mod Texts
 pub mod TokenLaws
 pub mod Turns
-pub mod Values

@@ -14,4 +14,5 @@ pub mod Reading
 pub mod Syntax
 pub mod Token
 pub mod Tokens
+pub mod Trees
 pub mod Worked

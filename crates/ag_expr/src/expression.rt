@@ -1,7 +1,7 @@
 //! Expressions as values of the program, and reading a text as one.
 
 ghost use Rattle.std.specs.Prelude.{◌≡◌, length, true, IfOk, IfErr};
-ghost use Rattle.ag_expr.specs.language.Evaluation.{is_below};
+ghost use Rattle.ag_expr.specs.language.Trees.{is_below};
 ghost use Rattle.ag_expr.specs.language.Expression.{ReadsAsExpr, IsRefused, IsAt};
 ghost use Rattle.ag_expr.specs.language.Places.{IsFirstOf, IsRead};
 
@@ -24,7 +24,7 @@ pub struct Expr {
 
 impl Model for Expr {
     ghost use Rattle.std.specs.Prelude.{◌≡◌, List, length, true};
-    ghost use Rattle.ag_expr.specs.language.Evaluation.{is_below};
+    ghost use Rattle.ag_expr.specs.language.Trees.{is_below};
     ghost use Rattle.std.specs.Coded.{codes};
     ghost use Rattle.ag_expr.specs.declared.node.Node.{Node};
     ghost use Rattle.ag_expr.specs.declared.occurrence.Occ.{Occ};

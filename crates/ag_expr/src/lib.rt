@@ -1,17 +1,16 @@
 //! Expressions over the values of attributes: how a text is read as one, and what its value is.
 #![tactic(auto)]
 
-mod arithmetic;
 mod cursor;
 mod display;
 mod environment;
-mod evaluation;
 mod expression;
 mod fault;
 mod grammar;
 pub mod grammar_laws;
 pub mod laws;
 mod lexer;
+mod literal;
 mod meter;
 mod node;
 mod occurrence;
@@ -21,10 +20,10 @@ pub mod samples;
 mod token;
 
 pub use environment::Env;
-pub use evaluation::eval;
 pub use expression::{Expr, occurrences, read_expr};
 pub use fault::ExprFault;
 pub use grammar::{Item, Production, Rule, Symbol, Target, Terminal};
 pub use meter::Meter;
-pub use node::{Node, Operator};
+pub use literal::Literal;
+pub use node::{BinaryCall, Node, Operator, UnaryCall};
 pub use occurrence::Occ;

@@ -11,6 +11,7 @@ ghost use Rattle.ag_expr.specs.language.Reading.{parenthesized_from, ranked_from
 
 use crate::cursor::Cursor;
 use crate::fault::ExprFault;
+use crate::literal::Literal;
 use crate::node::{Node, Operator};
 use crate::token::{Punctuation, Token};
 use ag_value::{Boxed, Items, NoMemory};
@@ -227,7 +228,7 @@ fn operand_alone(alloc: Global, cursor: &mut Cursor<'_>) -> Result<Node, ExprFau
     match cursor.peek() {
         Some(Token::Number(number)) => {
             cursor.bump();
-            Ok(Node::Number(number))
+            Ok(Node::Literal(Literal::number(number)))
         }
         Some(Token::Occurrence(place, attr)) => {
             Ok(Node::Occurrence(cursor.take_occurrence(alloc, place, attr)?))

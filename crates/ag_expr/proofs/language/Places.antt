@@ -6,6 +6,7 @@ use Rattle.ag_expr.specs.declared.node.Operator.{Operator}
 use Rattle.ag_expr.specs.declared.node.Operator.TheVariants as operator
 use Rattle.ag_expr.specs.declared.node.Node.{Node}
 use Rattle.ag_expr.specs.declared.node.Node.TheVariants as node
+use Rattle.ag_value.specs.declared.value.Value.TheVariants as value
 use Rattle.ag_expr.specs.declared.occurrence.Occ.{Occ}
 use Rattle.ag_expr.specs.declared.parser.Precedence.{Precedence}
 use Rattle.ag_expr.specs.declared.parser.Precedence.TheVariants as precedence
@@ -54,7 +55,7 @@ unfolding parenthesized_from
 parenthesized_steady x = then_steady (mark_steady punctuation.Open) (λ u. then_steady x (λ e. ends_steady (λ u. e) (mark_steady punctuation.Close)))
 
 alone_steady : (listed : List Occ) → Steady (by_itself listed) (alone_from listed) (alone_from listed)
-alone_steady listed = taken_steady (operand_from listed) (by_itself listed) refl (λ t e h. (t, refl, h)) (token.Number (pos 0) ∷ []) (node.Number (pos 0)) (token.Number (pos 0), refl, refl)
+alone_steady listed = taken_steady (operand_from listed) (by_itself listed) refl (λ t e h. (t, refl, h)) (token.Number (pos 0) ∷ []) (node.Literal (value.Num (pos 0))) (token.Number (pos 0), refl, refl)
 
 atom_steady : (listed : List Occ) {L : List Token → Node → Type 0} {r q : Parser Node} → Steady L r q → Steady (IsAtom listed L) (atom_from listed r) (atom_from listed q)
 unfolding atom_from
@@ -66,7 +67,7 @@ abbrev zero_token : Token
 zero_token = token.Number (pos 0)
 
 abbrev zero_node : Node
-zero_node = node.Number (pos 0)
+zero_node = node.Literal (value.Num (pos 0))
 
 ranked_word : (L : List Token → Node → Type 0) (ts : List Token) (e : Node) → L ts e → (ks : List Precedence) → IsRanked L ks ts e
 ranked_word L ts e is [] = is

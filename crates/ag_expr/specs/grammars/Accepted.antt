@@ -1,7 +1,7 @@
 -- Which grammars are accepted.
 use Rattle.std.specs.Prelude.{ℕ, ◌≡◌, ◌≤◌, ◌<◌, ◌⊎◌, List, [], ◌∷◌, Some, slice_get, length, true}
 use Rattle.ag_expr.specs.Lists.{AreRelated, Has, Each, Differ, DifferIn}
-use Rattle.ag_expr.specs.language.Evaluation.{is_below}
+use Rattle.ag_expr.specs.language.Trees.{is_below}
 use Rattle.ag_expr.specs.declared.grammar.Item.TheVariants as item
 use Rattle.ag_expr.specs.declared.grammar.Item.{Item}
 use Rattle.ag_expr.specs.declared.grammar.Production.{Production}

@@ -51,7 +51,7 @@ copy_rule target j name a = record { target = target; expr = (node_of.Occurrence
 
 -- a rule whose target has the value 0
 abbrev pub zero_rule : Target → Rule
-zero_rule target = record { target = target; expr = (node_of.Number (pos 0), []); args = [] }
+zero_rule target = record { target = target; expr = (node_of.Literal (Num (pos 0)), []); args = [] }
 
 -- $0.out = $1.s
 abbrev pub rule_out : Rule
@@ -69,7 +69,7 @@ rule_second = zero_rule (attribute 2 1)
 abbrev pub rule_s : Rule
 rule_s = record {
   target = attribute 0 0;
-  expr = (node_of.Chain (node_of.Occurrence 0) ((Add, node_of.Number (pos 1)) ∷ []), named 0 i_name ∷ []);
+  expr = (node_of.Chain (node_of.Occurrence 0) ((Add, node_of.Literal (Num (pos 1))) ∷ []), named 0 i_name ∷ []);
   args = attribute 0 1 ∷ [];
 }
 

@@ -1,5 +1,5 @@
 -- The value of an expression. All of this is this project's.
-use Rattle.std.specs.Prelude.{ℕ, zero, suc, ℤ, pos, negsuc, ◌+ℤ◌, ◌-ℤ◌, ◌*ℤ◌, int_div, int_rem, Bool, true, false, ◌&&◌, nat_lt, if◌then◌else◌, ◌<◌, List, [], ◌∷◌, map}
+use Rattle.std.specs.Prelude.{ℕ, zero, suc, ℤ, pos, negsuc, ◌+ℤ◌, ◌-ℤ◌, ◌*ℤ◌, int_div, int_rem, Bool, true, false, if◌then◌else◌, ◌<◌, List, [], ◌∷◌, ◌++◌, Option, Some, None, slice_get}
 use Rattle.ag_value.specs.declared.value.ErrorCode.TheVariants.{Overflow, Divide, Kind}
 use Rattle.ag_value.specs.declared.value.Value.{Value, out-Value}
 use Rattle.ag_value.specs.declared.value.Value.TheOpen.{Value-F}
@@ -28,6 +28,7 @@ calculated Subtract m n = number_value (m -ℤ n)
 calculated Multiply m n = number_value (m *ℤ n)
 calculated Quotient m n = divided n (number_value (int_div m n))
 calculated Remainder m n = divided n (value.Num (int_rem m n))
+calculated _ m n = value.Fault Kind
 
 -- Two values, each seen one level deep: the leftmost error of the two, then the error for a kind that is no number, then the number or
 -- the operation's own error.
@@ -40,53 +41,35 @@ applied_at operator left right = value.Fault Kind
 abbrev pub applied : Operator → Value → Value → Value
 applied operator left right = applied_at operator (out-Value left) (out-Value right)
 
--- what a tree gives for the values of its occurrences
+-- what a tree gives for the values of its occurrences and those of the names bound around it, the outermost first
 abbrev pub Meaning : Type 0
-Meaning = (ℕ → Value) → Value
+Meaning = (ℕ → Value) → List Value → Value
 
 -- a chain from the left: each step's left argument is the value so far
-abbrev pub chain_value : (ℕ → Value) → Value → List (Operator × Meaning) → Value
-chain_value env so_far [] = so_far
-chain_value env so_far (x ∷ xs) = chain_value env (applied x.0 so_far (x.1 env)) xs
+abbrev pub chain_value : (ℕ → Value) → List Value → Value → List (Operator × Meaning) → Value
+chain_value env bound so_far [] = so_far
+chain_value env bound so_far (x ∷ xs) = chain_value env bound (applied x.0 so_far (x.1 env bound)) xs
+
+abbrev pub bound_value : Option Value → Value
+bound_value (Some v) = v
+bound_value None = value.Fault Kind
 
 -- one level of a tree, with the meaning of each operand in its place
 abbrev pub value_step : Node-F Meaning → Meaning
-value_step (Node-F.Number n) env = value.Num n
-value_step (Node-F.Occurrence k) env = env k
-value_step (Node-F.Chain first others) env = chain_value env (first env) others
+value_step (Node-F.Literal v) env bound = v
+value_step (Node-F.Occurrence k) env bound = env k
+value_step (Node-F.Bound k) env bound = bound_value (slice_get bound k)
+value_step (Node-F.Chain first others) env bound = chain_value env bound (first env bound) others
+value_step (Node-F.Let e f) env bound = f env (bound ++ e env bound ∷ [])
+value_step _ env bound = value.Fault Kind
 
 -- the value of a tree where `env` gives the value of each occurrence
-abbrev pub value_of : Node → Meaning
-value_of = fold-Node Meaning value_step
+abbrev pub value_in : Node → Meaning
+value_in = fold-Node Meaning value_step
 
--- every operand of a chain passes
-abbrev pub all_pass : List (Operator × Bool) → Bool
-all_pass [] = true
-all_pass (x ∷ xs) = x.1 && all_pass xs
-
--- whether the number of every occurrence is below n, from whether it is so in each operand
-abbrev pub below_step : ℕ → Node-F Bool → Bool
-below_step n (Node-F.Number z) = true
-below_step n (Node-F.Occurrence k) = nat_lt k n
-below_step n (Node-F.Chain first others) = first && all_pass others
-
--- in the tree the number of every occurrence is below n
-abbrev pub is_below : ℕ → Node → Bool
-is_below n = fold-Node Bool (below_step n)
-
--- and so in every operand of a chain
-abbrev pub all_below : ℕ → List (Operator × Node) → Bool
-all_below n others = all_pass (map (λ p. (p.0, is_below n p.1)) others)
+abbrev pub value_of : Node → (ℕ → Value) → Value
+value_of e env = value_in e env []
 
 -- the first n values are well
 pub record AreWell (n : ℕ) (env : ℕ → Value) : Type 0 where
   pub well : (k : ℕ) → k < n → IsWell (env k)
-
-abbrev pub is_plain_at : Value-F Value → Bool
-is_plain_at (Value-F.Num n) = true
-is_plain_at (Value-F.Fault code) = true
-is_plain_at _ = false
-
--- a number or an error
-abbrev pub is_plain : Value → Bool
-is_plain v = is_plain_at (out-Value v)

@@ -1,9 +1,7 @@
 -- What the laws of the expression language state.
 use Rattle.std.specs.Prelude.{◌≡◌, ◌↔◌, ◌++◌, List, [], ℕ, Some, None, true, Ok, Err}
-use Rattle.ag_value.specs.declared.value.Value.{Value}
 use Rattle.ag_expr.specs.declared.node.Node.{Node}
 use Rattle.ag_expr.specs.declared.occurrence.Occ.{Occ}
-use Rattle.ag_expr.specs.language.Evaluation.{is_plain, value_of}
 use Rattle.ag_expr.specs.language.Expression.{ReadsAsExpr}
 use Rattle.ag_expr.specs.language.Lexing.{token_from}
 use Rattle.ag_expr.specs.declared.fault.ExprFault.{ExprFault}
@@ -39,11 +37,3 @@ NothingIsCut = (characters : List ℕ) → token_from characters ≡ None → Be
 -- A text reads as one expression at most.
 abbrev pub OneExpression : Type 0
 OneExpression = (text : List ℕ) (one other : Node × List Occ) → ReadsAsExpr text one → ReadsAsExpr text other → one ≡ other
-
--- Where every value of the environment is a number or an error, so is the value of every tree.
-abbrev pub StaysPlain : Type 0
-StaysPlain = (tree : Node) (env : ℕ → Value) → ((k : ℕ) → is_plain (env k) ≡ true) → is_plain (value_of tree env) ≡ true
-
--- A tree has one value, whatever the environment.
-abbrev pub IsAlways : Node → Value → Type 0
-IsAlways tree is = (env : ℕ → Value) → value_of tree env ≡ is

@@ -12,6 +12,7 @@ use Rattle.ag_expr.specs.declared.node.Operator.{Operator}
 use Rattle.ag_expr.specs.declared.node.Operator.TheVariants as operator
 use Rattle.ag_expr.specs.declared.node.Node.{Node}
 use Rattle.ag_expr.specs.declared.node.Node.TheVariants as node
+use Rattle.ag_value.specs.declared.value.Value.TheVariants as value
 use Rattle.ag_expr.specs.declared.occurrence.Occ.{Occ}
 use Rattle.ag_expr.specs.language.Occurrences.{position_of}
 
@@ -112,7 +113,7 @@ IsRanked atom (k ∷ ks) = IsChain k (IsRanked atom ks)
 
 -- the operand that one token is: a number, and an occurrence by its number among the different ones of the whole text
 abbrev pub operand_of : List Occ → Token → Option Node
-operand_of listed (token.Number n) = Some (node.Number n)
+operand_of listed (token.Number n) = Some (node.Literal (value.Num n))
 operand_of listed (token.Occurrence place attr) = option_map node.Occurrence (position_of listed place attr)
 operand_of listed _ = None
 

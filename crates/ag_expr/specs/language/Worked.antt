@@ -7,6 +7,7 @@ use Rattle.ag_expr.specs.language.Token as token
 use Rattle.ag_expr.specs.declared.node.Operator.TheVariants as operator
 use Rattle.ag_expr.specs.declared.node.Node.{Node}
 use Rattle.ag_expr.specs.declared.node.Node.TheVariants as node
+use Rattle.ag_value.specs.declared.value.Value.TheVariants as value
 
 -- the least number
 abbrev pub least : ℤ
@@ -21,16 +22,16 @@ occurrence_and_number = placed 0 (token.Occurrence 1 (codes "a")) ∷ placed 5 (
 
 -- `2 + 3 * 4`
 abbrev pub sum_and_product : Node
-sum_and_product = node.Chain (node.Number (pos 2)) ((operator.Add, node.Chain (node.Number (pos 3)) ((operator.Multiply, node.Number (pos 4)) ∷ [])) ∷ [])
+sum_and_product = node.Chain (node.Literal (value.Num (pos 2))) ((operator.Add, node.Chain (node.Literal (value.Num (pos 3))) ((operator.Multiply, node.Literal (value.Num (pos 4))) ∷ [])) ∷ [])
 
 -- `10 - 3 - 2`
 abbrev pub two_differences : Node
-two_differences = node.Chain (node.Number (pos 10)) ((operator.Subtract, node.Number (pos 3)) ∷ (operator.Subtract, node.Number (pos 2)) ∷ [])
+two_differences = node.Chain (node.Literal (value.Num (pos 10))) ((operator.Subtract, node.Literal (value.Num (pos 3))) ∷ (operator.Subtract, node.Literal (value.Num (pos 2))) ∷ [])
 
 -- `9223372036854775807 + 1`
 abbrev pub past_the_greatest : Node
-past_the_greatest = node.Chain (node.Number (pos 9223372036854775807)) ((operator.Add, node.Number (pos 1)) ∷ [])
+past_the_greatest = node.Chain (node.Literal (value.Num (pos 9223372036854775807))) ((operator.Add, node.Literal (value.Num (pos 1))) ∷ [])
 
 -- `1 div 0`
 abbrev pub by_zero : Node
-by_zero = node.Chain (node.Number (pos 1)) ((operator.Divide, node.Number (pos 0)) ∷ [])
+by_zero = node.Chain (node.Literal (value.Num (pos 1))) ((operator.Divide, node.Literal (value.Num (pos 0))) ∷ [])
