@@ -1,6 +1,7 @@
-//! A grammar as it stands in a text: the types alone. What reads a text as one is to come.
+//! Grammars as they stand in a text: what a text is to be read as, and reading it.
 #![tactic(auto)]
 
+pub mod laws;
 mod raw;
 
 pub use raw::{Named, RawGrammar, RawItem, RawProduction, RawRule, RawSymbol};

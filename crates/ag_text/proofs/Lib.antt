@@ -1,0 +1,6 @@
+pub mod Agree
+pub mod Complete
+pub mod Examples
+pub mod Expressions
+pub mod Grammars
+pub mod Steady
