@@ -15,4 +15,5 @@ pub mod Syntax
 pub mod Token
 pub mod Tokens
 pub mod Trees
+pub mod Until
 pub mod Worked

@@ -19,6 +19,7 @@ mod parser;
 pub mod samples;
 mod token;
 
+pub use cursor::Cursor;
 pub use environment::Env;
 pub use expression::{Expr, occurrences, read_expr};
 pub use fault::ExprFault;
@@ -27,3 +28,4 @@ pub use meter::Meter;
 pub use literal::Literal;
 pub use node::{BinaryCall, Node, Operator, UnaryCall};
 pub use occurrence::Occ;
+pub use token::{Punctuation, Token};

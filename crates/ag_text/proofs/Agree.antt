@@ -9,8 +9,9 @@ use Rattle.ag_text.specs.declared.raw.RawGrammar.{RawGrammar}
 use Rattle.ag_text.specs.Laws.{ReadingAgrees, RefusesAtTheFirst, OneGrammar}
 use Rattle.ag_text.specs.Places.{NoneGoesOn, IsFirstWrong}
 use Rattle.ag_text.specs.Reading as reading
-use Rattle.ag_text.specs.Reading.{Outcome, place, grammar_from, grammar_of}
-use Rattle.ag_text.specs.Stop.{WrongAt}
+use Rattle.ag_expr.specs.language.Until.{place}
+use Rattle.ag_text.specs.Reading.{Outcome, grammar_from, grammar_of}
+use Rattle.ag_text.specs.declared.stop.Stop.TheVariants.{WrongAt}
 use Rattle.ag_text.specs.Syntax.{IsGrammar}
 use Rattle.ag_text.proofs.Grammars.{grammar_complete, grammar_steady}
 use Rattle.ag_text.proofs.Steady.{Found, Refused, before, first, first_of, opened, answered}

@@ -3,10 +3,10 @@ use Rattle.std.proofs.Common.{◌≡◌, ℕ, zero, suc, ◌≤◌, Bool, true, 
 use Rattle.ag_expr.specs.language.Placed.{Placed, Input}
 use Rattle.ag_expr.specs.language.Token.{Token}
 use Rattle.ag_text.specs.Reading as reading
-use Rattle.ag_text.specs.Reading.{Outcome, Parser, and_then, pure, one_from, front_is, sees, choose, many_from, many}
+use Rattle.ag_text.specs.Reading.{Outcome, Parser, and_then, pure, one_from, choose, many_from, many}
 use Rattle.ag_text.specs.Spelling as spelling
-use Rattle.ag_text.specs.Spelling.{gives, one, Many, none, more}
-use Rattle.ag_text.proofs.Steady.{before, Starts}
+use Rattle.ag_text.specs.Spelling.{gives, one, Many, none, more, further}
+use Rattle.ag_text.proofs.Steady.{before, front_is, Starts}
 
 -- what is spelled at the front is read, where none of the tokens `stops` comes behind it
 pub record Complete {A : Type 0} (stops : Token → Bool) (L : List Placed → A → Type 0) (r : Parser A) : Type 0 where
@@ -57,7 +57,7 @@ leading test (p ∷ ps) h = omega arith
 pub pure_complete : {A : Type 0} {stops : Token → Bool} (a : A) → Complete stops (gives a) (pure a)
 pure_complete a = record { read = λ us j b (empty, same) h. rw (empty, same) refl }
 
-pub one_complete : {A : Type 0} {stops : Token → Bool} (sign : Placed → Option A) → Complete stops (one sign) (one_from sign)
+pub one_complete : {A : Type 0} {stops : Token → Bool} (sign : ℕ → Token → Option A) → Complete stops (one sign) (one_from sign)
 one_complete sign = record { read = λ us j a (p, single, is) h. rw (single, is) refl }
 
 pub weaker : {A : Type 0} {stops : Token → Bool} {L : List Placed → A → Type 0} {r : Parser A} → Complete nowhere L r → Complete stops L r
@@ -113,20 +113,24 @@ many_read {A} begins stops L r x starts apart (suc n) found us xs (more vs ws y 
     let f : A → Parser (List A) = λ a. many_from begins r n (found ++ a ∷ []) in
     rw seen (ap (λ i. and_then (r i) f) text ∙ ap (λ o. and_then o f) start ∙ further ∙ ap (λ zs. Ok (zs, j)) (append_assoc found (y ∷ []) ys))
 
-pub many_complete : {A : Type 0} {begins stops : Token → Bool} {L : List Placed → A → Type 0} {r : Parser A} → Complete stops L r → Starts begins L → Apart begins stops → Complete (λ t. begins t || stops t) (Many L) (many begins r [])
-many_complete {begins = begins} {stops} {L} {r} x starts apart = record {
-  read = λ us j xs is h.
+pub further_complete : {A : Type 0} {begins stops : Token → Bool} {L : List Placed → A → Type 0} {r : Parser A} (found : List A) → Complete stops L r → Starts begins L → Apart begins stops → Complete (λ t. begins t || stops t) (further found L) (many begins r found)
+further_complete {begins = begins} {stops} {L} {r} found x starts apart = record {
+  read = λ us j all (xs, is, same) h.
       let both = neither begins stops j.left h in
-      many_read begins stops L r x starts apart (length (us ++ j.left)) [] us xs is j both.1 both.0 (let short = many_short begins L starts us xs is in omega (arith, length-append us j.left));
+      let short = many_short begins L starts us xs is in
+      many_read begins stops L r x starts apart (length (us ++ j.left)) found us xs is j both.1 both.0 (omega (arith, length-append us j.left)) ∙ ap (λ ys. Ok (ys, j)) (sym same);
 }
+
+pub many_complete : {A : Type 0} {begins stops : Token → Bool} {L : List Placed → A → Type 0} {r : Parser A} → Complete stops L r → Starts begins L → Apart begins stops → Complete (λ t. begins t || stops t) (Many L) (many begins r [])
+many_complete x starts apart = record { read = λ us j xs is h. (further_complete [] x starts apart).read us j xs (xs, is, refl) h }
 
 -- ---- first tokens
 
 pub then_starts : {A B : Type 0} {test : Token → Bool} {R : List Placed → A → Type 0} {S : A → List Placed → B → Type 0} → Starts test R → Starts test (spelling.◌>>=◌ R S)
 then_starts {A} {B} {test} {R} {S} x = record { leads = λ ps b (us, vs, a, e, is, later). subst (λ ts. front_is test ts ≡ true) (sym e) (leads-append test us vs (x.leads us a is)) }
 
-pub one_starts : {A : Type 0} {test : Token → Bool} {sign : Placed → Option A} → ((p : Placed) (a : A) → sign p ≡ Some a → test p.token ≡ true) → Starts test (one sign)
-one_starts {A} {test} {sign} h = record { leads = λ ps a (p, single, is). subst (λ ts. front_is test ts ≡ true) (sym single) (h p a is) }
+pub one_starts : {A : Type 0} {test : Token → Bool} {sign : ℕ → Token → Option A} → ((at : ℕ) (t : Token) (a : A) → sign at t ≡ Some a → test t ≡ true) → Starts test (one sign)
+one_starts {A} {test} {sign} h = record { leads = λ ps a (p, single, is). subst (λ ts. front_is test ts ≡ true) (sym single) (h p.at p.token a is) }
 
 -- ---- what stands behind a part
 

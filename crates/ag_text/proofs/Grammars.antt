@@ -14,14 +14,14 @@ use Rattle.ag_text.specs.declared.raw.RawGrammar.{RawGrammar}
 use Rattle.ag_text.specs.declared.raw.RawItem.{RawItem}
 use Rattle.ag_text.specs.declared.raw.RawItem.TheVariants as item
 use Rattle.ag_text.specs.declared.raw.RawSymbol.{RawSymbol}
-use Rattle.ag_text.specs.Reading.{front_is, expect, expect_word, one_from, is_other_than, is_any, further_from, names_from, section_from, attributes_from, symbol_from, rule_from, production_from, grammar_from}
+use Rattle.ag_text.specs.Reading.{many, expect, expect_word, one_from, is_other_than, is_any, further_from, names_from, section_from, attributes_from, symbol_from, rule_from, production_from, grammar_from}
 use Rattle.ag_text.specs.Spelling as spelling
-use Rattle.ag_text.specs.Spelling.{one, gives, Many}
+use Rattle.ag_text.specs.Spelling.{one, gives, Many, further}
 use Rattle.ag_text.specs.Syntax.{mark, word, IsFurther, IsNames, IsSection, IsAttributes, IsSymbol, IsRule, IsProduction, IsGrammar}
-use Rattle.ag_text.specs.Words.{some_where, is_mark, is_word, is_reserved, mark_of, word_of, name_in, name_of, item_in, item_of, target_in, target_of}
-use Rattle.ag_text.proofs.Complete.{Complete, nowhere, Apart, Before, leads-append, one_complete, then_complete, or_complete, many_complete, many_leads, then_starts, one_starts, ends_complete, any_then, start_then}
+use Rattle.ag_text.specs.Words.{some_where, is_mark, is_word, is_reserved, mark_in, word_in, name_in, item_in, target_in}
+use Rattle.ag_text.proofs.Complete.{Complete, nowhere, Apart, Before, leads-append, one_complete, then_complete, or_complete, further_complete, many_complete, many_leads, then_starts, one_starts, ends_complete, any_then, start_then}
 use Rattle.ag_text.proofs.Expressions.{ended_complete, ended_steady}
-use Rattle.ag_text.proofs.Steady.{Steady, Starts, shortens, then_steady, or_steady, pure_steady, ends_steady, one_steady, many_steady}
+use Rattle.ag_text.proofs.Steady.{Steady, Starts, Shortens, front_is, shortens, further_steady, then_steady, or_steady, pure_steady, ends_steady, one_steady, many_steady}
 
 -- ---- what one token is
 
@@ -127,27 +127,30 @@ mark_ends : (m : Punctuation) → Apart (is_mark m) (λ t. is_other_than m t || 
 mark_ends m t h = rw h refl
 
 mark_starts : (m : Punctuation) → Starts (is_mark m) (mark m)
-mark_starts m = one_starts (λ p a h. held (is_mark m p.token) tt a h)
+mark_starts m = one_starts (λ at t a h. held (is_mark m t) tt a h)
 
 word_starts : (w : List ℕ) → Starts (is_word w) (word w)
-word_starts w = one_starts (λ p a h. held (is_word w p.token) tt a h)
+word_starts w = one_starts (λ at t a h. held (is_word w t) tt a h)
 
 -- ---- each word is read
 
-further_complete : Complete nowhere IsFurther further_from
+further_name_complete : Complete nowhere IsFurther further_from
 unfolding further_from
-further_complete = any_then (one_complete (mark_of punctuation.Comma)) (λ u. one_complete name_of)
+further_name_complete = any_then (one_complete (mark_in punctuation.Comma)) (λ u. one_complete name_in)
+
+names_after : (found : List Named) → Complete names_go_on (further found IsFurther) (many is_comma further_from found)
+names_after found = further_complete found further_name_complete (then_starts (mark_starts punctuation.Comma)) (λ t h. refl)
 
 names_complete : Complete names_go_on IsNames names_from
 unfolding names_from
-names_complete = any_then (one_complete name_of) (λ name. ends_complete (λ others. name ∷ others) (many_complete further_complete (then_starts (mark_starts punctuation.Comma)) (λ t h. refl)))
+names_complete = any_then (one_complete name_in) (λ name. names_after (name ∷ []))
 
 section_starts : (w : List ℕ) → Starts (is_word w) (IsSection w)
 section_starts w = then_starts (word_starts w)
 
 attributes_complete : (w : List ℕ) → Complete (section_goes_on w) (IsAttributes w) (attributes_from w)
 unfolding attributes_from section_from
-attributes_complete w = or_complete [] (any_then (one_complete (word_of w)) (λ u. names_complete)) (section_starts w)
+attributes_complete w = or_complete [] (any_then (one_complete (word_in w)) (λ u. names_complete)) (section_starts w)
 
 -- what begins with the second section, or with `;`
 inh_starts : {B : Type 0} (S : List Named → List Placed → B → Type 0) → ((inh : List Named) → Starts is_semi (S inh)) → Starts behind_syn (spelling.◌>>=◌ (IsAttributes (codes "inh")) S)
@@ -172,29 +175,29 @@ inh_starts {B} S ends = record { leads = λ ps b (us, vs, inh, e, is, later). go
 symbol_complete : Complete nowhere IsSymbol symbol_from
 unfolding symbol_from
 symbol_complete =
-    any_then (one_complete (word_of (codes "symbol"))) (λ u. any_then (one_complete name_of) (λ name.
+    any_then (one_complete (word_in (codes "symbol"))) (λ u. any_then (one_complete name_in) (λ name.
     start_then (attributes_complete (codes "syn")) (λ syn.
-    start_then (attributes_complete (codes "inh")) (λ inh. ends_complete (λ u. record { name = name; syn = syn; inh = inh }) (one_complete (mark_of punctuation.Semicolon)))
+    start_then (attributes_complete (codes "inh")) (λ inh. ends_complete (λ u. record { name = name; syn = syn; inh = inh }) (one_complete (mark_in punctuation.Semicolon)))
     (λ inh. then_starts (mark_starts punctuation.Semicolon)) semi_apart)
     (λ syn. inh_starts _ (λ inh. then_starts (mark_starts punctuation.Semicolon))) behind_syn_apart))
 
 rule_complete : Complete nowhere IsRule rule_from
 unfolding rule_from
-rule_complete = any_then (one_complete target_of) (λ target. any_then (one_complete (mark_of punctuation.Equal)) (λ u. ends_complete (λ expr. record { target = target; expr = expr }) ended_complete))
+rule_complete = any_then (one_complete target_in) (λ target. any_then (one_complete (mark_in punctuation.Equal)) (λ u. ends_complete (λ expr. record { target = target; expr = expr }) ended_complete))
 
-items_start : Starts (is_other_than punctuation.OpenTable) (one item_of)
-items_start = one_starts (λ p a h. item_goes_on p.at p.token a h)
+items_start : Starts (is_other_than punctuation.OpenTable) (one item_in)
+items_start = one_starts item_goes_on
 
 rules_start : Starts (is_other_than punctuation.CloseTable) IsRule
-rules_start = then_starts (one_starts (λ p a h. target_goes_on p.at p.token a h))
+rules_start = then_starts (one_starts target_goes_on)
 
 production_complete : Complete nowhere IsProduction production_from
 unfolding production_from
 production_complete =
-    any_then (one_complete name_of) (λ left. any_then (one_complete (mark_of punctuation.Equal)) (λ u.
-    start_then (many_complete (one_complete item_of) items_start (λ t h. refl)) (λ items.
-    any_then (one_complete (mark_of punctuation.OpenTable)) (λ u.
-    start_then (many_complete rule_complete rules_start (λ t h. refl)) (λ rules. ends_complete (λ u. record { left = left; items = items; rules = rules }) (one_complete (mark_of punctuation.CloseTable)))
+    any_then (one_complete name_in) (λ left. any_then (one_complete (mark_in punctuation.Equal)) (λ u.
+    start_then (many_complete (one_complete item_in) items_start (λ t h. refl)) (λ items.
+    any_then (one_complete (mark_in punctuation.OpenTable)) (λ u.
+    start_then (many_complete rule_complete rules_start (λ t h. refl)) (λ rules. ends_complete (λ u. record { left = left; items = items; rules = rules }) (one_complete (mark_in punctuation.CloseTable)))
     (λ rules. then_starts (mark_starts punctuation.CloseTable)) (mark_ends punctuation.CloseTable)))
     (λ items. then_starts (mark_starts punctuation.OpenTable)) (mark_ends punctuation.OpenTable)))
 
@@ -207,15 +210,15 @@ nothing_goes_on test [] h = refl
 nothing_goes_on test (p ∷ ps) h = let bad : ⊥ = cc in absurd bad
 
 productions_start : Starts is_plain IsProduction
-productions_start = then_starts (one_starts (λ p a h. plain p.at p.token a h))
+productions_start = then_starts (one_starts plain)
 
 any_starts : Starts is_any IsProduction
-any_starts = then_starts (one_starts (λ p a h. refl))
+any_starts = then_starts (one_starts (λ at t a h. refl))
 
 pub grammar_complete : Complete any_goes_on IsGrammar grammar_from
 unfolding grammar_from IsGrammar
 grammar_complete =
-    any_then (one_complete (word_of (codes "start"))) (λ u. any_then (one_complete name_of) (λ start. any_then (one_complete (mark_of punctuation.Semicolon)) (λ u.
+    any_then (one_complete (word_in (codes "start"))) (λ u. any_then (one_complete name_in) (λ start. any_then (one_complete (mark_in punctuation.Semicolon)) (λ u.
     then_complete (many_complete symbol_complete (then_starts (word_starts (codes "symbol"))) (λ t h. refl)) (λ symbols.
     ends_complete (λ productions. record { start = start; symbols = symbols; productions = productions }) (many_complete production_complete any_starts (λ t h. refl))) (behind start))))
   where
@@ -226,28 +229,28 @@ grammar_complete =
 
 -- ---- where each part stops
 
-abbrev at_front : Token → Placed
-at_front t = record { at = 0; token = t }
-
 abbrev a_name : Named
 a_name = record { name = codes "A"; at = 0 }
 
 mark_steady : (m : Punctuation) → Steady (mark m) (expect m)
-mark_steady m = one_steady (mark_of m) (at_front (token.Punctuation m)) tt (simp (true_same the_type m m refl))
+mark_steady m = one_steady (mark_in m) (token.Punctuation m) tt (simp (true_same the_type m m refl))
 
 word_steady : (w : List ℕ) → Steady (word w) (expect_word w)
-word_steady w = one_steady (word_of w) (at_front (token.Name w)) tt (simp ((bytes_eq-Decides w w).1 refl))
+word_steady w = one_steady (word_in w) (token.Name w) tt (simp ((bytes_eq-Decides w w).1 refl))
 
-name_steady : Steady (one name_of) (one_from name_of)
-name_steady = one_steady name_of (at_front (token.Name (codes "A"))) a_name refl
+name_steady : Steady (one name_in) (one_from name_in)
+name_steady = one_steady name_in (token.Name (codes "A")) a_name refl
 
-further_steady : Steady IsFurther further_from
+further_name_steady : Steady IsFurther further_from
 unfolding further_from
-further_steady = then_steady (mark_steady punctuation.Comma) (λ u. name_steady)
+further_name_steady = then_steady (mark_steady punctuation.Comma) (λ u. name_steady)
+
+further_shortens : Shortens further_from
+further_shortens = shortens further_name_steady (then_starts (mark_starts punctuation.Comma))
 
 names_steady : Steady IsNames names_from
 unfolding names_from
-names_steady = then_steady name_steady (λ name. ends_steady (λ others. name ∷ others) (many_steady is_comma further_steady (shortens further_steady (then_starts (mark_starts punctuation.Comma)))))
+names_steady = then_steady name_steady (λ name. further_steady is_comma (name ∷ []) further_name_steady further_shortens)
 
 attributes_steady : (w : List ℕ) → Steady (IsAttributes w) (attributes_from w)
 unfolding attributes_from section_from
@@ -262,13 +265,13 @@ symbol_steady =
 rule_steady : Steady IsRule rule_from
 unfolding rule_from
 rule_steady =
-    then_steady (one_steady target_of (at_front (token.Occurrence 0 (codes "a"))) (record { place = 0; attr = codes "a"; at = 0 }) refl) (λ target. then_steady (mark_steady punctuation.Equal) (λ u.
+    then_steady (one_steady target_in (token.Occurrence 0 (codes "a")) (record { place = 0; attr = codes "a"; at = 0 }) refl) (λ target. then_steady (mark_steady punctuation.Equal) (λ u.
     ends_steady (λ expr. record { target = target; expr = expr }) ended_steady))
 
 production_steady : Steady IsProduction production_from
 unfolding production_from
 production_steady =
-    let item_steady = one_steady item_of (at_front (token.Name (codes "A"))) (item.Name a_name) refl in
+    let item_steady = one_steady item_in (token.Name (codes "A")) (item.Name a_name) refl in
     then_steady name_steady (λ left. then_steady (mark_steady punctuation.Equal) (λ u. then_steady (many_steady (is_other_than punctuation.OpenTable) item_steady (shortens item_steady items_start)) (λ items.
     then_steady (mark_steady punctuation.OpenTable) (λ u. then_steady (many_steady (is_other_than punctuation.CloseTable) rule_steady (shortens rule_steady rules_start)) (λ rules.
     ends_steady (λ u. record { left = left; items = items; rules = rules }) (mark_steady punctuation.CloseTable))))))

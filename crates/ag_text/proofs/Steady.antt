@@ -2,12 +2,19 @@
 use Rattle.std.proofs.Common.{◌≡◌, ℕ, zero, suc, ◌<◌, ◌≤◌, Bool, true, false, if◌then◌else◌, List, [], ◌∷◌, ◌++◌, length, Option, Some, None, Ok, Err, inl, inr, refl, ap, sym, ◌∙◌, subst, append_assoc, append-nil, arith, length-append}
 use Rattle.ag_expr.specs.language.Ending.{Ending}
 use Rattle.ag_expr.specs.language.Placed.{Placed, Input}
+use Rattle.ag_expr.specs.language.Reading as expr_reading
+use Rattle.ag_expr.specs.language.Reading.{front, front_of, sees}
 use Rattle.ag_expr.specs.language.Token.{Token}
+use Rattle.ag_expr.specs.language.Until.{place}
 use Rattle.ag_text.specs.Reading as reading
-use Rattle.ag_text.specs.Reading.{Outcome, Parser, and_then, pure, place, taken, of_front, one_from, front_is, sees, choose, many_from, many}
+use Rattle.ag_text.specs.Reading.{Outcome, Parser, and_then, pure, taken, sign_of, one_from, choose, many_from, many}
 use Rattle.ag_text.specs.Spelling as spelling
-use Rattle.ag_text.specs.Spelling.{gives, one, Many, none, more}
-use Rattle.ag_text.specs.Stop.{WrongAt}
+use Rattle.ag_text.specs.Spelling.{gives, one, Many, none, more, further}
+use Rattle.ag_text.specs.declared.stop.Stop.TheVariants.{WrongAt}
+
+-- whether the first token is so
+abbrev pub front_is : (Token → Bool) → List Placed → Bool
+front_is test ps = expr_reading.front_is test (front_of ps)
 
 -- the same input with these tokens before it
 abbrev pub before : List Placed → Input → Input
@@ -60,11 +67,14 @@ same_front test [] (q ∷ qs) e = let bad : ⊥ = cc in absurd bad
 same_front test (p ∷ ps) [] e = let bad : ⊥ = cc in absurd bad
 same_front test (p ∷ ps) (q ∷ qs) e = let same : p ≡ q = cc in ap (λ (x : Placed). test x.token) same
 
-same_sign : {A : Type 0} (sign : Placed → Option A) (ps qs : List Placed) → first_of ps ≡ first_of qs → of_front sign ps ≡ of_front sign qs
-same_sign sign [] [] e = refl
-same_sign sign [] (q ∷ qs) e = let bad : ⊥ = cc in absurd bad
-same_sign sign (p ∷ ps) [] e = let bad : ⊥ = cc in absurd bad
-same_sign sign (p ∷ ps) (q ∷ qs) e = let same : p ≡ q = cc in ap sign same
+same_sign : {A : Type 0} (sign : ℕ → Token → Option A) (k i : Input) → first k ≡ first i → sign_of sign (place k) (front k) ≡ sign_of sign (place i) (front i)
+same_sign sign k i e = go k.left k.ending i.left i.ending e
+  where
+    go : (ps : List Placed) (d : Ending) (qs : List Placed) (e : Ending) → first_of ps ≡ first_of qs → sign_of sign (place (record { left = ps; ending = d })) (front_of ps) ≡ sign_of sign (place (record { left = qs; ending = e })) (front_of qs)
+    go [] d [] e h = refl
+    go [] d (q ∷ qs) e h = let bad : ⊥ = cc in absurd bad
+    go (p ∷ ps) d [] e h = let bad : ⊥ = cc in absurd bad
+    go (p ∷ ps) d (q ∷ qs) e h = let same : p ≡ q = cc in ap (λ (x : Placed). sign x.at x.token) same
 
 pub opened : {A B : Type 0} (o : Outcome A) (f : A → Parser B) (y : B × Input) → and_then o f ≡ Ok y → (p : A × Input) × (o ≡ Ok p) × (f p.0 p.1 ≡ Ok y)
 opened (Err x) f y e = let bad : ⊥ = cc in absurd bad
@@ -158,19 +168,22 @@ pure_steady a = record { at = pure_at a; word = ([], a, (refl, refl)) }
 pub ends_steady : {A B : Type 0} {R : List Placed → A → Type 0} {r : Parser A} (f : A → B) → Steady R r → Steady (spelling.◌>>=◌ R (λ a. gives (f a))) (reading.◌>>=◌ r (λ a. pure (f a)))
 ends_steady f x = then_steady x (λ a. pure_steady (f a))
 
-pub one_steady : {A : Type 0} (sign : Placed → Option A) → (p : Placed) (a : A) → sign p ≡ Some a → Steady (one sign) (one_from sign)
-one_steady {A} sign p a word = record { at = λ i. record { ok = λ j a. found i.left i.ending j a; err = λ at. refused i at (of_front sign i.left) refl }; word = (p ∷ [], a, (p, refl, word)) }
+pub one_steady : {A : Type 0} (sign : ℕ → Token → Option A) (t : Token) (a : A) → sign 0 t ≡ Some a → Steady (one sign) (one_from sign)
+one_steady {A} sign t a word = record { at = λ i. record { ok = λ j a. found i.left i.ending j a; err = λ at. refused i at (sign_of sign (place i) (front i)) refl }; word = (p ∷ [], a, (p, refl, word)) }
   where
+    p : Placed
+    p = record { at = 0; token = t }
+
     found : (ps : List Placed) (e : Ending) (j : Input) (b : A) → one_from sign (record { left = ps; ending = e }) ≡ Ok (b, j) → Found (one sign) (one_from sign) (record { left = ps; ending = e }) j b
     found [] e j b h = let bad : ⊥ = cc in absurd bad
-    found (q ∷ qs) e j b h = go (sign q) refl h
+    found (q ∷ qs) e j b h = go (sign q.at q.token) refl h
       where
-        go : (o : Option A) → sign q ≡ o → taken o (record { left = q ∷ qs; ending = e }) ≡ Ok (b, j) → Found (one sign) (one_from sign) (record { left = q ∷ qs; ending = e }) j b
+        go : (o : Option A) → sign q.at q.token ≡ o → taken o (record { left = q ∷ qs; ending = e }) ≡ Ok (b, j) → Found (one sign) (one_from sign) (record { left = q ∷ qs; ending = e }) j b
         go None s h = let bad : ⊥ = cc in absurd bad
         go (Some c) s h = let same = answered c b (record { left = qs; ending = e }) j h in let whole = s ∙ ap Some (sym same.0) in record { us = q ∷ []; cut = ap (before (q ∷ [])) same.1; is = (q, refl, whole); again = λ k e. rw whole refl }
 
-    refused : (i : Input) (at : ℕ) (o : Option A) → of_front sign i.left ≡ o → taken o i ≡ Err (WrongAt at) → Refused (one sign) (one_from sign) i at
-    refused i at None s h = let same : at ≡ place i = cc in record { us = []; j = i; cut = refl; there = same; rest = p ∷ []; a = a; begins = (p, refl, word); stuck = λ k e. (place k, rw (same_sign sign k.left i.left e ∙ s) refl) }
+    refused : (i : Input) (at : ℕ) (o : Option A) → sign_of sign (place i) (front i) ≡ o → taken o i ≡ Err (WrongAt at) → Refused (one sign) (one_from sign) i at
+    refused i at None s h = let same : at ≡ place i = cc in record { us = []; j = i; cut = refl; there = same; rest = p ∷ []; a = a; begins = (p, refl, word); stuck = λ k e. (place k, rw (same_sign sign k i e ∙ s) refl) }
     refused i at (Some b) s h = let bad : ⊥ = cc in absurd bad
 
 -- ---- as often as there is a further one
@@ -220,30 +233,25 @@ many_turn {A} begins r short found i = many_enough begins r short (length i.left
     go true (Err f) is = refl
     go true (Ok (a, j)) is = let less = short i j a is in many_enough begins r short (length i.left) (length j.left) (found ++ a ∷ []) j (omega arith) (omega arith)
 
--- those that were found and further ones
-abbrev Added : {A : Type 0} → (List Placed → A → Type 0) → List A → List Placed → List A → Type 0
-Added L found = spelling.◌>>=◌ (Many L) (λ xs. gives (found ++ xs))
-
 abbrev Turn : {A : Type 0} → (List Placed → A → Type 0) → List A → List Placed → List A → Type 0
-Turn L found = spelling.◌or◌ (spelling.◌>>=◌ L (λ a. Added L (found ++ a ∷ []))) (gives found)
+Turn L found = spelling.◌or◌ (spelling.◌>>=◌ L (λ a. further (found ++ a ∷ []) L)) (gives found)
 
-turned : {A : Type 0} (L : List Placed → A → Type 0) (found : List A) (ts : List Placed) (all : List A) → Turn L found ts all → Added L found ts all
-turned L found ts all (inl (us, vs, a, e, is, (ws, zs, xs, d, others, (no_more, same)))) =
-    (us ++ ws, [], a ∷ xs, e ∙ ap (λ ys. us ++ ys) (d ∙ ap (λ ys. ws ++ ys) no_more ∙ append-nil ws) ∙ sym (append-nil (us ++ ws)), more us ws a xs is others, (refl, same ∙ append_assoc found (a ∷ []) xs))
-turned L found ts all (inr (empty, same)) = ([], [], [], empty, none, (refl, same ∙ sym (append-nil found)))
+turned : {A : Type 0} (L : List Placed → A → Type 0) (found : List A) (ts : List Placed) (all : List A) → Turn L found ts all → further found L ts all
+turned L found ts all (inl (us, vs, a, e, is, (xs, others, same))) = (a ∷ xs, subst (λ qs. Many L qs (a ∷ xs)) (sym e) (more us vs a xs is others), same ∙ append_assoc found (a ∷ []) xs)
+turned L found ts all (inr (empty, same)) = ([], subst (λ qs. Many L qs []) (sym empty) none, same ∙ sym (append-nil found))
 
-more_at : {A : Type 0} (begins : Token → Bool) (L : List Placed → A → Type 0) (r : Parser A) → Steady L r → Shortens r → (n : ℕ) (found : List A) (i : Input) → length i.left ≤ n → SteadyAt (Added L found) (many begins r found) i
+more_at : {A : Type 0} (begins : Token → Bool) (L : List Placed → A → Type 0) (r : Parser A) → Steady L r → Shortens r → (n : ℕ) (found : List A) (i : Input) → length i.left ≤ n → SteadyAt (further found L) (many begins r found) i
 more_at begins L r x short zero found i le =
-    as_well (turned L found) (many_turn begins r short found) (choose_at begins {L = spelling.◌>>=◌ L (λ a. Added L (found ++ a ∷ []))} {l = reading.◌>>=◌ r (λ a. many begins r (found ++ a ∷ []))} none_comes (λ b. pure_at found i))
+    as_well (turned L found) (many_turn begins r short found) (choose_at begins {L = spelling.◌>>=◌ L (λ a. further (found ++ a ∷ []) L)} {l = reading.◌>>=◌ r (λ a. many begins r (found ++ a ∷ []))} none_comes (λ b. pure_at found i))
   where
-    none_comes : sees begins i ≡ true → SteadyAt (spelling.◌>>=◌ L (λ a. Added L (found ++ a ∷ []))) (reading.◌>>=◌ r (λ a. many begins r (found ++ a ∷ []))) i
+    none_comes : sees begins i ≡ true → SteadyAt (spelling.◌>>=◌ L (λ a. further (found ++ a ∷ []) L)) (reading.◌>>=◌ r (λ a. many begins r (found ++ a ∷ []))) i
     none_comes b = let unseen : sees begins i ≡ false = nothing_left begins i.left le in let bad : ⊥ = cc in absurd bad
 more_at begins L r x short (suc n) found i le =
     as_well (turned L found) (many_turn begins r short found)
-    (choose_at begins (λ b. then_at (x.at i) (λ a j e. let less = short i j a e in more_at begins L r x short n (found ++ a ∷ []) j (omega arith)) (λ a. ([], (found ++ a ∷ []) ++ [], ([], [], [], refl, none, (refl, refl))))) (λ b. pure_at found i))
+    (choose_at begins (λ b. then_at (x.at i) (λ a j e. let less = short i j a e in more_at begins L r x short n (found ++ a ∷ []) j (omega arith)) (λ a. ([], (found ++ a ∷ []) ++ [], ([], none, refl)))) (λ b. pure_at found i))
+
+pub further_steady : {A : Type 0} (begins : Token → Bool) {L : List Placed → A → Type 0} {r : Parser A} (found : List A) → Steady L r → Shortens r → Steady (further found L) (many begins r found)
+further_steady {A} begins {L} {r} found x short = record { at = λ i. more_at begins L r x short (length i.left) found i (omega arith); word = ([], found ++ [], ([], none, refl)) }
 
 pub many_steady : {A : Type 0} (begins : Token → Bool) {L : List Placed → A → Type 0} {r : Parser A} → Steady L r → Shortens r → Steady (Many L) (many begins r [])
-many_steady {A} begins {L} {r} x short = record { at = λ i. as_well all (λ k. refl) (more_at begins L r x short (length i.left) [] i (omega arith)); word = ([], [], none) }
-  where
-    all : (ts : List Placed) (xs : List A) → Added L [] ts xs → Many L ts xs
-    all ts xs (us, vs, ys, e, is, (no_more, same)) = let whole : ts ≡ us = e ∙ ap (λ ys. us ++ ys) no_more ∙ append-nil us in rw (whole, same) is
+many_steady {A} begins {L} {r} x short = let y = further_steady begins [] x short in record { at = λ i. as_well (λ ts xs (ys, are, same). subst (Many L ts) (sym same) are) (λ k. refl) (y.at i); word = ([], [], none) }

@@ -6,7 +6,7 @@ use Rattle.ag_text.specs.declared.raw.RawGrammar.{RawGrammar}
 use Rattle.ag_text.specs.Grammar.{ReadsAsGrammar}
 use Rattle.ag_text.specs.Places.{IsFirstWrong}
 use Rattle.ag_text.specs.Reading.{grammar_of}
-use Rattle.ag_text.specs.Stop.{WrongAt}
+use Rattle.ag_text.specs.declared.stop.Stop.TheVariants.{WrongAt}
 use Rattle.ag_text.specs.Syntax.{IsGrammar}
 
 -- What is read from tokens, to their end, is what the syntax relates to them, and the other way round.

@@ -3,7 +3,6 @@ pub mod Laws
 pub mod Places
 pub mod Reading
 pub mod Spelling
-pub mod Stop
 pub mod Syntax
 pub mod Words
 pub mod Worked

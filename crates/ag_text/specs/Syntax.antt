@@ -8,32 +8,32 @@ use Rattle.ag_expr.specs.language.Expression.{max_levels}
 use Rattle.ag_expr.specs.language.Occurrences.{all_occurrences, different}
 use Rattle.ag_expr.specs.language.Placed.{Placed, tokens}
 use Rattle.ag_expr.specs.language.Syntax.{IsExpr}
+use Rattle.ag_expr.specs.language.Until.{is_semicolon}
 use Rattle.ag_text.specs.declared.raw.Named.{Named}
 use Rattle.ag_text.specs.declared.raw.RawGrammar.{RawGrammar}
 use Rattle.ag_text.specs.declared.raw.RawProduction.{RawProduction}
 use Rattle.ag_text.specs.declared.raw.RawRule.{RawRule}
 use Rattle.ag_text.specs.declared.raw.RawSymbol.{RawSymbol}
-use Rattle.ag_text.specs.Spelling.{◌>>=◌, ◌>>◌, gives, one, ◌or◌, Many}
-use Rattle.ag_text.specs.Words.{is_mark, mark_of, word_of, name_of, item_of, target_of}
+use Rattle.ag_text.specs.Spelling.{◌>>=◌, ◌>>◌, gives, one, ◌or◌, Many, further}
+use Rattle.ag_text.specs.Words.{mark_in, word_in, name_in, item_in, target_in}
 
 abbrev pub mark : Punctuation → List Placed → Unit {0} → Type 0
-mark m = one (mark_of m)
+mark m = one (mark_in m)
 
 abbrev pub word : List ℕ → List Placed → Unit {0} → Type 0
-word w = one (word_of w)
+word w = one (word_in w)
 
 -- `, name`
 abbrev pub IsFurther : List Placed → Named → Type 0
 IsFurther = do
   mark punctuation.Comma
-  one name_of
+  one name_in
 
 -- `name { "," name }`
 abbrev pub IsNames : List Placed → List Named → Type 0
 IsNames = do
-  first ← one name_of
-  others ← Many IsFurther
-  gives (first ∷ others)
+  first ← one name_in
+  further (first ∷ []) IsFurther
 
 -- names behind `syn` or `inh`
 abbrev pub IsSection : List ℕ → List Placed → List Named → Type 0
@@ -49,18 +49,15 @@ IsAttributes w = IsSection w or gives []
 abbrev pub IsSymbol : List Placed → RawSymbol → Type 0
 IsSymbol = do
   word (codes "symbol")
-  name ← one name_of
+  name ← one name_in
   syn ← IsAttributes (codes "syn")
   inh ← IsAttributes (codes "inh")
   mark punctuation.Semicolon
   gives (record { name = name; syn = syn; inh = inh })
 
-abbrev pub is_semicolon : Placed → Bool
-is_semicolon p = is_mark punctuation.Semicolon p.token
-
 abbrev pub free_of_semicolons : List Placed → Bool
 free_of_semicolons [] = true
-free_of_semicolons (p ∷ ps) = not (is_semicolon p) && free_of_semicolons ps
+free_of_semicolons (p ∷ ps) = not (is_semicolon p.token) && free_of_semicolons ps
 
 -- The tokens are an expression, with its tree and the different occurrences among its own tokens. No `;` is among them.
 pub record IsOwnExpr (ps : List Placed) (expr : Node × List Occ) : Type 0 where
@@ -78,7 +75,7 @@ IsEndedExpr = do
 -- `occurrence "=" expr ";"`
 abbrev pub IsRule : List Placed → RawRule → Type 0
 IsRule = do
-  target ← one target_of
+  target ← one target_in
   mark punctuation.Equal
   expr ← IsEndedExpr
   gives (record { target = target; expr = expr })
@@ -86,9 +83,9 @@ IsRule = do
 -- `name "=" { item } "{" { rule } "}"`
 abbrev pub IsProduction : List Placed → RawProduction → Type 0
 IsProduction = do
-  left ← one name_of
+  left ← one name_in
   mark punctuation.Equal
-  items ← Many (one item_of)
+  items ← Many (one item_in)
   mark punctuation.OpenTable
   rules ← Many IsRule
   mark punctuation.CloseTable
@@ -98,7 +95,7 @@ IsProduction = do
 unfoldable pub IsGrammar : List Placed → RawGrammar → Type 0
 IsGrammar = do
   word (codes "start")
-  start ← one name_of
+  start ← one name_in
   mark punctuation.Semicolon
   symbols ← Many IsSymbol
   productions ← Many IsProduction

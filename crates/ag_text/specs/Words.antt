@@ -5,7 +5,6 @@ use denote.Enum.Bare.{sameb}
 use Rattle.ag_expr.specs.contracts.token.Punctuation.{the_type}
 use Rattle.ag_expr.specs.declared.token.Punctuation.{Punctuation}
 use Rattle.ag_expr.specs.declared.occurrence.Occ.{Occ}
-use Rattle.ag_expr.specs.language.Placed.{Placed}
 use Rattle.ag_expr.specs.language.Token.{Token}
 use Rattle.ag_expr.specs.language.Token as token
 use Rattle.ag_expr.specs.language.Tokens.{is_separator}
@@ -31,6 +30,12 @@ is_mark mark _ = false
 abbrev pub is_word : List ℕ → Token → Bool
 is_word word (token.Name name) = bytes_eq name word
 is_word word _ = false
+
+abbrev pub mark_in : Punctuation → ℕ → Token → Option (Unit {0})
+mark_in mark at t = some_where (is_mark mark t) tt
+
+abbrev pub word_in : List ℕ → ℕ → Token → Option (Unit {0})
+word_in word at t = some_where (is_word word t) tt
 
 -- a name that is not reserved, where it stands
 abbrev pub named : ℕ → List ℕ → Option Named
@@ -64,19 +69,3 @@ item_in at _ = None
 abbrev pub target_in : ℕ → Token → Option Occ
 target_in at (token.Occurrence place attr) = Some (record { place = place; attr = attr; at = at })
 target_in at _ = None
-
--- the same of a placed token
-abbrev pub mark_of : Punctuation → Placed → Option (Unit {0})
-mark_of mark p = some_where (is_mark mark p.token) tt
-
-abbrev pub word_of : List ℕ → Placed → Option (Unit {0})
-word_of word p = some_where (is_word word p.token) tt
-
-abbrev pub name_of : Placed → Option Named
-name_of p = name_in p.at p.token
-
-abbrev pub item_of : Placed → Option RawItem
-item_of p = item_in p.at p.token
-
-abbrev pub target_of : Placed → Option Occ
-target_of p = target_in p.at p.token

@@ -3,5 +3,6 @@
 
 pub mod laws;
 mod raw;
+mod stop;
 
 pub use raw::{Named, RawGrammar, RawItem, RawProduction, RawRule, RawSymbol};
