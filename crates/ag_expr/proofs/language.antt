@@ -18,3 +18,4 @@ pub mod TextTurns
 pub mod Texts
 pub mod TokenLaws
 pub mod Turns
+pub mod Until

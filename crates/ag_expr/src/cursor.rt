@@ -9,6 +9,7 @@ ghost use Rattle.ag_expr.specs.language.Expression as spec;
 ghost use Rattle.ag_expr.specs.language.Lexing.{token_of};
 ghost use Rattle.ag_expr.specs.language.Reading as reading;
 ghost use Rattle.ag_expr.specs.language.Token as token;
+ghost use Rattle.ag_expr.specs.language.Until as until;
 
 use crate::fault::{ExprFault, TokenFault};
 use crate::lexer::{skip_separators, token_in_front};
@@ -102,6 +103,13 @@ impl<'t> Cursor<'t> {
     /// The offset of what is left.
     pub fn offset(&self) -> usize
         ensures { result ≡ left.offset self.now }
+    {
+        self.text.len() - self.rest.len()
+    }
+
+    /// The offset of the token in front, or of the place where the tokens end. Takes no memory.
+    pub fn place(&self) -> usize
+        ensures { result ≡ until.place (input self.now) }
     {
         self.text.len() - self.rest.len()
     }

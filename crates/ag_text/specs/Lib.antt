@@ -1,5 +1,6 @@
 pub mod Grammar
 pub mod Laws
+pub mod Passing
 pub mod Places
 pub mod Reading
 pub mod Spelling

@@ -4,5 +4,6 @@
 pub mod laws;
 mod raw;
 mod stop;
+mod tokens;
 
 pub use raw::{Named, RawGrammar, RawItem, RawProduction, RawRule, RawSymbol};
