@@ -245,7 +245,7 @@ further_name_steady : Steady IsFurther further_from
 unfolding further_from
 further_name_steady = then_steady (mark_steady punctuation.Comma) (λ u. name_steady)
 
-further_shortens : Shortens further_from
+pub further_shortens : Shortens further_from
 further_shortens = shortens further_name_steady (then_starts (mark_starts punctuation.Comma))
 
 names_steady : Steady IsNames names_from
@@ -268,10 +268,12 @@ rule_steady =
     then_steady (one_steady target_in (token.Occurrence 0 (codes "a")) (record { place = 0; attr = codes "a"; at = 0 }) refl) (λ target. then_steady (mark_steady punctuation.Equal) (λ u.
     ends_steady (λ expr. record { target = target; expr = expr }) ended_steady))
 
+item_steady : Steady (one item_in) (one_from item_in)
+item_steady = one_steady item_in (token.Name (codes "A")) (item.Name a_name) refl
+
 production_steady : Steady IsProduction production_from
 unfolding production_from
 production_steady =
-    let item_steady = one_steady item_in (token.Name (codes "A")) (item.Name a_name) refl in
     then_steady name_steady (λ left. then_steady (mark_steady punctuation.Equal) (λ u. then_steady (many_steady (is_other_than punctuation.OpenTable) item_steady (shortens item_steady items_start)) (λ items.
     then_steady (mark_steady punctuation.OpenTable) (λ u. then_steady (many_steady (is_other_than punctuation.CloseTable) rule_steady (shortens rule_steady rules_start)) (λ rules.
     ends_steady (λ u. record { left = left; items = items; rules = rules }) (mark_steady punctuation.CloseTable))))))
@@ -282,3 +284,17 @@ grammar_steady =
     then_steady (word_steady (codes "start")) (λ u. then_steady name_steady (λ start. then_steady (mark_steady punctuation.Semicolon) (λ u.
     then_steady (many_steady (is_word (codes "symbol")) symbol_steady (shortens symbol_steady (then_starts (word_starts (codes "symbol"))))) (λ symbols.
     ends_steady (λ productions. record { start = start; symbols = symbols; productions = productions }) (many_steady is_any production_steady (shortens production_steady any_starts))))))
+
+-- ---- each further part takes a token
+
+pub symbol_shortens : Shortens symbol_from
+symbol_shortens = shortens symbol_steady (then_starts (word_starts (codes "symbol")))
+
+pub item_shortens : Shortens (one_from item_in)
+item_shortens = shortens item_steady items_start
+
+pub rule_shortens : Shortens rule_from
+rule_shortens = shortens rule_steady rules_start
+
+pub production_shortens : Shortens production_from
+production_shortens = shortens production_steady any_starts

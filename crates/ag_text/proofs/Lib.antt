@@ -4,3 +4,4 @@ pub mod Examples
 pub mod Expressions
 pub mod Grammars
 pub mod Steady
+pub mod Turns

@@ -11,6 +11,7 @@ use Rattle.ag_expr.specs.language.Until.{place, read_until}
 use Rattle.ag_expr.specs.language.Token.{Token}
 use Rattle.ag_text.specs.declared.raw.Named.{Named}
 use Rattle.ag_text.specs.declared.raw.RawGrammar.{RawGrammar}
+use Rattle.ag_text.specs.declared.raw.RawItem.{RawItem}
 use Rattle.ag_text.specs.declared.raw.RawProduction.{RawProduction}
 use Rattle.ag_text.specs.declared.raw.RawRule.{RawRule}
 use Rattle.ag_text.specs.declared.raw.RawSymbol.{RawSymbol}
@@ -111,6 +112,9 @@ symbol_from = do
   expect punctuation.Semicolon
   pure (record { name = name; syn = syn; inh = inh })
 
+abbrev pub symbols_from : Parser (List RawSymbol)
+symbols_from = many (is_word (codes "symbol")) symbol_from []
+
 unfoldable pub rule_from : Parser RawRule
 rule_from = do
   target ← one_from target_in
@@ -124,23 +128,32 @@ is_other_than m t = not (is_mark m t)
 abbrev pub is_any : Token → Bool
 is_any t = true
 
+abbrev pub items_from : Parser (List RawItem)
+items_from = many (is_other_than punctuation.OpenTable) (one_from item_in) []
+
+abbrev pub rules_from : Parser (List RawRule)
+rules_from = many (is_other_than punctuation.CloseTable) rule_from []
+
 unfoldable pub production_from : Parser RawProduction
 production_from = do
   left ← one_from name_in
   expect punctuation.Equal
-  items ← many (is_other_than punctuation.OpenTable) (one_from item_in) []
+  items ← items_from
   expect punctuation.OpenTable
-  rules ← many (is_other_than punctuation.CloseTable) rule_from []
+  rules ← rules_from
   expect punctuation.CloseTable
   pure (record { left = left; items = items; rules = rules })
+
+abbrev pub productions_from : Parser (List RawProduction)
+productions_from = many is_any production_from []
 
 unfoldable pub grammar_from : Parser RawGrammar
 grammar_from = do
   expect_word (codes "start")
   start ← one_from name_in
   expect punctuation.Semicolon
-  symbols ← many (is_word (codes "symbol")) symbol_from []
-  productions ← many is_any production_from []
+  symbols ← symbols_from
+  productions ← productions_from
   pure (record { start = start; symbols = symbols; productions = productions })
 
 -- ---- a whole text

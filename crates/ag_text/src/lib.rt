@@ -2,6 +2,7 @@
 #![tactic(auto)]
 
 pub mod laws;
+mod parser;
 mod raw;
 mod stop;
 mod tokens;
