@@ -11,6 +11,7 @@ pub mod Listing
 pub mod Numbered
 pub mod Numerals
 pub mod Places
+pub mod Scopes
 pub mod Spans
 pub mod States
 pub mod Steady

@@ -6,6 +6,7 @@ pub mod Faults
 pub mod Laws
 pub mod Left
 pub mod Lexing
+pub mod Names
 pub mod Numbers
 pub mod Occurrences
 pub mod Placed

@@ -3,16 +3,18 @@
 
 ghost use Rattle.std.specs.Prelude.{◌≡◌, chars, Some, IfOk, OnOk, option_map};
 ghost use Rattle.ag_expr.specs.language.Left as left;
-ghost use Rattle.ag_expr.specs.language.Left.{HasNumber, Keeps, PassesOther, Reads, everything};
+ghost use Rattle.ag_expr.specs.language.Left.{HasNumber, Keeps, PassesOther, Reads, ReadsAs};
+ghost use Rattle.ag_expr.specs.language.Left.{everything};
 ghost use Rattle.ag_expr.specs.language.Left.{input};
-ghost use Rattle.ag_expr.specs.language.Expression as spec;
 ghost use Rattle.ag_expr.specs.language.Lexing.{token_of};
 ghost use Rattle.ag_expr.specs.language.Reading as reading;
-ghost use Rattle.ag_expr.specs.language.Token as token;
+ghost use Rattle.ag_expr.specs.language.Syntax as syntax;
+ghost use Rattle.ag_expr.specs.language.Token as tokens;
 ghost use Rattle.ag_expr.specs.language.Until as until;
 
 use crate::fault::{ExprFault, TokenFault};
 use crate::lexer::{skip_separators, token_in_front};
+use crate::names::{Scope, call_of, is_reserved};
 use crate::occurrence::Occ;
 use crate::occurrence_table::OccurrenceTable;
 use crate::token::{Punctuation, Token};
@@ -45,22 +47,46 @@ impl<'t> Model for Cursor<'t> {
     ghost invariant = { λ r. IsReady r.text.now r.rest.now r.front };
 }
 
-/// Whether an expression begins with the token.
-fn begins_expression(token: Token<'_>) -> bool
-    ensures { result ≡ spec.begins_expression (token_of token.entry) }
+/// Whether an expression begins with the name: a form, a call, or a bound name.
+fn begins_with(scope: &Scope<'_>, name: &str) -> bool
+    ensures { result ≡ left.begins_here scope.now (tokens.Name name.now) }
 {
-    matches!(
-        token,
-        Token::Number(_) | Token::Occurrence(_, _) | Token::Punctuation(Punctuation::Open)
-    )
+    name == "let"
+        || name == "if"
+        || call_of(name).is_some()
+        || !is_reserved(name) && scope.place_of(name).is_some()
+}
+
+/// Whether an expression begins with the token, where these names are bound around it.
+fn begins_expression(scope: &Scope<'_>, token: Token<'_>) -> bool
+    ensures { result ≡ left.begins_here scope.now (token_of token.entry) }
+{
+    match token {
+        Token::Number(_) | Token::Text(_) | Token::Occurrence(_, _) => true,
+        Token::Name(name) => begins_with(scope, name),
+        Token::Punctuation(mark) => matches!(
+            mark,
+            Punctuation::Open | Punctuation::OpenList | Punctuation::OpenTable
+        ),
+    }
 }
 
 /// Whether a token is this punctuation.
 fn is_mark(mark: Punctuation, token: Token<'_>) -> bool
-    ensures { result ≡ reading.is_mark mark (token_of token.entry) }
+    ensures { result ≡ reading.is_sign (tokens.mark mark) (token_of token.entry) }
 {
     match token {
         Token::Punctuation(other) => other == mark,
+        _ => false,
+    }
+}
+
+/// Whether a token is this name.
+fn is_word(name: &str, token: Token<'_>) -> bool
+    ensures { result ≡ reading.is_sign (tokens.word name.now) (token_of token.entry) }
+{
+    match token {
+        Token::Name(other) => other == name,
         _ => false,
     }
 }
@@ -124,12 +150,13 @@ impl<'t> Cursor<'t> {
         }
     }
 
-    /// Why an expression that has no level left cannot begin here.
-    pub fn no_level(&self) -> ExprFault
-        ensures { result ≡ left.no_level self.now }
+    /// Why an expression that has no level left cannot begin here, where these names are bound
+    /// around it.
+    pub fn no_level(&self, scope: &Scope<'_>) -> ExprFault
+        ensures { result ≡ left.no_level scope.now self.now }
     {
         match self.front {
-            Ok((token, _)) if begins_expression(token) => ExprFault::TooDeep(self.offset()),
+            Ok((token, _)) if begins_expression(scope, token) => ExprFault::TooDeep(self.offset()),
             _ => self.refusal(),
         }
     }
@@ -154,7 +181,7 @@ impl<'t> Cursor<'t> {
         place: u16,
         attr: &'t str,
     ) -> Result<usize, NoMemory>
-        requires { reading.front (input self.old) ≡ Some (token.Occurrence place attr.now) }
+        requires { reading.front (input self.old) ≡ Some (tokens.Occurrence place attr.now) }
         ensures number { IfOk result (λ k. HasNumber self.old place attr.now k) }
         ensures tokens { OnOk result (input self.new ≡ reading.next (input self.old)) }
         ensures keeps { OnOk result (Keeps self.old self.new) }
@@ -167,7 +194,7 @@ impl<'t> Cursor<'t> {
 
     /// Whether this punctuation stands in front.
     pub fn sees(&self, mark: Punctuation) -> bool
-        ensures { result ≡ reading.sees (reading.is_mark mark) (input self.now) }
+        ensures { result ≡ reading.sees (reading.is_sign (tokens.mark mark)) (input self.now) }
     {
         match self.peek() {
             Some(token) => is_mark(mark, token),
@@ -177,12 +204,50 @@ impl<'t> Cursor<'t> {
 
     /// Passes this punctuation.
     pub fn expect(&mut self, mark: Punctuation) -> Result<(), ExprFault>
-        ensures { Reads (λ _. reading.expect mark) self.old result self.new }
+        ensures { Reads (λ _. reading.expect (tokens.mark mark)) self.old result self.new }
     {
         match self.peek() {
             Some(token) if is_mark(mark, token) => {
                 self.bump();
                 Ok(())
+            }
+            _ => Err(self.refusal()),
+        }
+    }
+
+    /// Whether this name stands in front.
+    pub fn sees_word(&self, name: &str) -> bool
+        ensures { result
+            ≡ reading.sees (reading.is_sign (tokens.word name.now)) (input self.now) }
+    {
+        match self.peek() {
+            Some(token) => is_word(name, token),
+            None => false,
+        }
+    }
+
+    /// Passes this name.
+    pub fn expect_word(&mut self, name: &str) -> Result<(), ExprFault>
+        ensures { Reads (λ _. reading.expect (tokens.word name.now)) self.old result self.new }
+    {
+        match self.peek() {
+            Some(token) if is_word(name, token) => {
+                self.bump();
+                Ok(())
+            }
+            _ => Err(self.refusal()),
+        }
+    }
+
+    /// Passes a name that is not reserved.
+    pub fn new_name(&mut self) -> Result<&'t str, ExprFault>
+        ensures { ReadsAs (λ name. name.now) (λ _. reading.token_as syntax.new_name)
+            self.old result self.new }
+    {
+        match self.peek() {
+            Some(Token::Name(name)) if !is_reserved(name) => {
+                self.bump();
+                Ok(name)
             }
             _ => Err(self.refusal()),
         }

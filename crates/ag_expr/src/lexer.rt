@@ -1,7 +1,7 @@
 //! Cutting the token at the front of a text.
 
 ghost use Rattle.std.specs.Prelude.{◌≡◌, ◌++◌, ◌∷◌, [], pos, length, chars, is_some, option_map};
-ghost use Rattle.std.specs.Prelude.{IfSome, MatchOption, encode_utf8, encode_utf8_all};
+ghost use Rattle.std.specs.Prelude.{IfOk, IfSome, MatchOption, encode_utf8, encode_utf8_all};
 ghost use Rattle.std.specs.Str.Parse.{digits_value};
 ghost use Rattle.ag_expr.specs.language.Left.{unspaced};
 ghost use Rattle.ag_expr.specs.language.Lexing as lexing;
@@ -12,6 +12,8 @@ ghost use Rattle.ag_expr.specs.language.Tokens.{IsDigits};
 
 use crate::fault::TokenFault;
 use crate::token::{Punctuation, Token};
+use ag_value::{NoMemory, Text};
+use std::alloc::Global;
 
 /// A class of characters.
 #[derive(Clone, Copy, Debug, PartialEq, Eq)]
@@ -196,6 +198,55 @@ fn undotted(text: &str) -> Option<&str>
         Some(('.', rest)) => Some(rest),
         _ => None,
     }
+}
+
+/// The character that a backslash and this one stand for.
+fn escape(c: char) -> Option<char>
+    ensures { result ≡ tokens_spec.escaped c }
+{
+    match c {
+        '"' => Some('"'),
+        '\\' => Some('\\'),
+        'n' => Some('\n'),
+        't' => Some('\t'),
+        'r' => Some('\r'),
+        _ => None,
+    }
+}
+
+/// The character that stands in front between the quotes of a text literal, an escape for what it
+/// stands for, and what stands behind it.
+fn character(text: &str) -> Option<(char, &str)>
+    ensures { option_map (λ x. (x.0, chars x.1.now)) result
+        ≡ lexing.piece_from (chars text.now) }
+{
+    match first(text)? {
+        ('\\', rest) => {
+            let (c, rest) = first(rest)?;
+            Some((escape(c)?, rest))
+        }
+        (c, rest) => Some((c, rest)),
+    }
+}
+
+/// The text that stands between the quotes of a text literal. Takes memory.
+#[tactic(
+    auto,
+    using(
+        crate::proofs::language::TextTurns::piece_some,
+        crate::proofs::language::TextTurns::piece_none,
+    )
+)]
+pub fn unescaped(alloc: Global, body: &str) -> Result<Text, NoMemory>
+    ensures { IfOk result (λ text. text ≡ lexing.unescaped (chars body.now)) }
+{
+    let mut text = String::new(alloc);
+    let mut rest = body;
+    while let Some((c, behind)) = character(rest) {
+        text.push(c)?;
+        rest = behind;
+    }
+    Ok(Text::from_string(text))
 }
 
 /// The text literal whose first quote stood before the text.

@@ -17,7 +17,7 @@ use Rattle.ag_expr.specs.grammars.Solution.{children, at, Holds, Solves, AnyRule
 use Rattle.ag_expr.specs.grammars.Sample.{sample, without_out, doubled, bare, rule_bare, named as named_at, copy_rule, s_name, i_name, production_r, production_a, attribute, symbol_r, symbol_a, rule_out, rule_first, rule_second, rule_s, sample_tree, sample_values}
 use Rattle.ag_expr.proofs.grammars.Members.{alone, both, differ_more, differ_none, each_more, each_none, only, pair, related_none, related_one}
 use Rattle.ag_expr.proofs.grammars.Rules.{environment, lends}
-use Rattle.ag_expr.proofs.language.Below.{in_chain, literal_below, occurrence_below}
+use Rattle.ag_expr.proofs.language.Below.{in_chain, literal_within, occurrence_within}
 use Rattle.ag_expr.proofs.language.Expressions.{and_one, occurrence_gives}
 use Rattle.ag_expr.proofs.language.Expressions.{number_gives}
 
@@ -139,14 +139,14 @@ no_separator b above s = elim s [ inl e ↦ omega arith | inr t ↦ elim t [ inl
 copy_named : (target : Target) (j : ℕ) (name : List ℕ) (a : ℕ) (k : Kind) → HasKind sample first target k → slice_get (item_names sample (item_at first j)) a ≡ Some name → IsNamedRule sample first (copy_rule target j name a)
 copy_named target j name a k there is = record {
   target = (k, there);
-  listed = occurrence_below (named_at j name ∷ []) 0 refl;
+  listed = occurrence_within 1 0 0 refl;
   arguments = related_one (StandsFor sample first) (named_at j name) (attribute j a) (record { place = refl; name = is });
 }
 
 rule_s_named : IsNamedRule sample production_a rule_s
 rule_s_named = record {
   target = (Synthesized, refl);
-  listed = in_chain 1 (node_of.Occurrence 0) ((Add, node_of.Literal (Num (pos 1))) ∷ []) (occurrence_below (named_at 0 i_name ∷ []) 0 refl) (rw (literal_below 1 (Num (pos 1))) refl);
+  listed = in_chain 1 0 (node_of.Occurrence 0) ((Add, node_of.Literal (Num (pos 1))) ∷ []) (occurrence_within 1 0 0 refl) (literal_within 1 0 (Num (pos 1)), tt);
   arguments = related_one (StandsFor sample production_a) (named_at 0 i_name) (attribute 0 1) (record { place = refl; name = refl });
 }
 
@@ -168,7 +168,7 @@ named = record {
   items_named = both (λ q. Each (IsNamedItem sample) q.items) first production_a (both (IsNamedItem sample) (item.Symbol 1) (item.Symbol 1) (omega arith) (omega arith)) (only (IsNamedItem sample) (item.Terminal (Literal 0)) (omega arith));
   rules_named = both (λ q. Each (IsNamedRule sample q) q.rules) first production_a
       (three (IsNamedRule sample first) (copy_named (attribute 0 0) 1 s_name 0 Synthesized refl refl) (copy_named (attribute 1 1) 2 s_name 0 Inherited refl refl)
-      (record { target = (Inherited, refl); listed = literal_below 0 (Num (pos 0)); arguments = related_none (StandsFor sample first) }))
+      (record { target = (Inherited, refl); listed = literal_within 0 0 (Num (pos 0)); arguments = related_none (StandsFor sample first) }))
       (only (IsNamedRule sample production_a) rule_s rule_s_named);
 }
 

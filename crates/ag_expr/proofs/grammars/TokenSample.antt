@@ -15,7 +15,7 @@ use Rattle.ag_expr.specs.grammars.Accepted.{out_name, most_attributes, most_item
 use Rattle.ag_expr.proofs.grammars.Members.{alone, both, only, related_one}
 use Rattle.ag_expr.proofs.grammars.NumberSample.{no_separator}
 use Rattle.ag_expr.proofs.grammars.Rules.{environment, lends}
-use Rattle.ag_expr.proofs.language.Below.{occurrence_below}
+use Rattle.ag_expr.proofs.language.Below.{occurrence_within}
 use Rattle.ag_expr.proofs.language.Expressions.{occurrence_gives}
 
 ascii : IsAscii iffy
@@ -74,7 +74,7 @@ named = record {
   items_named = only (λ q. Each (IsNamedItem token_sample) q.items) production_s (both (IsNamedItem token_sample) (item.Terminal (Class 0)) (item.Terminal (Literal 0)) (0, refl) (omega arith));
   rules_named = only (λ q. Each (IsNamedRule token_sample q) q.rules) production_s (only (IsNamedRule token_sample production_s) rule_lex (record {
     target = (Synthesized, refl);
-    listed = occurrence_below (named_at 1 lex_name ∷ []) 0 refl;
+    listed = occurrence_within 1 0 0 refl;
     arguments = related_one (StandsFor token_sample production_s) (named_at 1 lex_name) (attribute 1 0) (record { place = refl; name = refl });
   }));
 }

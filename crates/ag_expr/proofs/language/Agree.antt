@@ -1,26 +1,28 @@
 -- Reading agrees with the syntax.
-use Rattle.std.proofs.Common.{rules, ◌≡◌, ℕ, zero, suc, Bool, true, false, not, cond, ◌||◌, if◌then◌else◌, ◌&&◌, List, [], ◌∷◌, ◌++◌, length, ◌<◌, Option, Some, None, Ok, Err, is_some, refl, ap, sym, ◌∙◌, subst, append-nil, ◌↔◌, arith, length-append}
+use Rattle.std.proofs.Common.{rules, ◌≡◌, ℕ, zero, suc, Bool, true, false, not, cond, ◌||◌, if◌then◌else◌, ◌&&◌, List, [], ◌∷◌, ◌++◌, length, ◌<◌, Option, Some, None, Ok, Err, is_some, refl, ap, sym, ◌∙◌, subst, append-nil, ◌↔◌, arith, length-append, codes}
 use denote.Enum.Bare.{same_true}
 use Rattle.std.proofs.lemmas.Bool.{and_parts}
 use Rattle.ag_expr.specs.contracts.parser.Precedence.{the_type}
-use Rattle.ag_expr.specs.contracts.token.Punctuation as the_mark
 use Rattle.ag_expr.specs.declared.parser.Precedence.{Precedence}
 use Rattle.ag_expr.specs.declared.parser.Precedence.TheVariants as precedence
-use Rattle.ag_expr.specs.declared.token.Punctuation.{Punctuation}
+use Rattle.ag_expr.specs.declared.names.Call.{Call}
+use Rattle.ag_expr.specs.declared.names.Call.TheVariants as call
 use Rattle.ag_expr.specs.declared.token.Punctuation.TheVariants as punctuation
 use Rattle.ag_expr.specs.declared.node.Operator.{Operator}
 use Rattle.ag_expr.specs.declared.node.Node.{Node}
+use Rattle.ag_expr.specs.declared.node.Node.TheVariants as node
 use Rattle.ag_expr.specs.declared.occurrence.Occ.{Occ}
 use Rattle.ag_expr.specs.language.Ending.{Ending}
 use Rattle.ag_expr.specs.language.Ending as ending
+use Rattle.ag_expr.specs.language.Names.{Names, is_keyword}
 use Rattle.ag_expr.specs.language.Placed.{Placed, Input, tokens}
 use Rattle.ag_expr.specs.language.Syntax as syntax
-use Rattle.ag_expr.specs.language.Syntax.{gives, spelled, Many, binary_operator, precedences, closer, same_precedence, of_precedence, chained, IsOther, IsChain, IsRanked, IsParenthesized, IsAtom, by_itself, operand_of, IsExpr}
+use Rattle.ag_expr.specs.language.Syntax.{gives, spelled, token_as, ◌or◌, further, operator_of, binary_operator, precedences, closer, takes_one, same_precedence, of_precedence, chained, new_name, call_in, operand_of, bound_in, IsOther, IsChain, IsRanked, AreNone, IsTable, IsParenthesized, IsNext, AreSome, IsList, IsUnary, IsBinary, IsPut, AreArguments, IsCall, IsLet, IsIf, IsAtom, IsWhole, IsExpr, IsExprIn}
 use Rattle.ag_expr.specs.language.Reading as reading
-use Rattle.ag_expr.specs.language.Reading.{expr_of, at_end, pure, is_end, refusal, Parser, operand_from, is_mark, is_operator_of, other_from, chain_from, ranked_from, alone_from, parenthesized_from, atom_from, expr_from}
-use Rattle.ag_expr.specs.language.Token.{Token}
+use Rattle.ag_expr.specs.language.Reading.{expr_of, at_end, pure, is_end, refusal, Parser, is_sign, is_call, is_operand, is_operator_of, begins, begins_atom, other_from, chain_from, ranked_from, none_from, table_from, parenthesized_from, next_from, items_from, some_from, list_from, unary_from, binary_from, put_from, arguments_from, call_from, let_from, if_from, atom_from, whole_from, expr_from, expr_in}
+use Rattle.ag_expr.specs.language.Token.{Token, Sign, mark, word, sign_token}
 use Rattle.ag_expr.specs.language.Token as token
-use Rattle.ag_expr.proofs.language.Exact.{Leads, Starts, Exact, nowhere, Apart, without, Before, before, then_exact, or_exact, many_leads, many_exact, mark_exact, operator_exact, then_starts, starts_with, ends_exact, token_then, start_then, neither, opened, answered, taken_exact}
+use Rattle.ag_expr.proofs.language.Exact.{Leads, Starts, Exact, nowhere, Apart, before, then_exact, or_exact, further_exact, further_behind, further_then, token_exact, sign_exact, sign_is, token_starts, then_starts, starts_with, ends_exact, token_then, start_then, or_starts, opened, answered}
 
 -- ---- precedences
 
@@ -62,57 +64,156 @@ all_apart (r ∷ rs) h = let parts = and_parts (absent r rs) (distinct rs) h in 
 
 -- ---- chains
 
-pub other_exact : (r : Precedence) {stops : Token → Bool} {L : List Token → Node → Type 0} {l : Parser Node} → Exact stops L l → Exact stops (IsOther r L) (other_from r l)
+pub other_exact : (k : Precedence) {stops : Token → Bool} {L : List Token → Node → Type 0} {l : Parser Node} → Exact stops L l → Exact stops (IsOther k L) (other_from k l)
 unfolding other_from
-other_exact r x = token_then (operator_exact r) (λ o. ends_exact (λ e. (o, e)) x)
+other_exact k x = token_then (token_exact (operator_of k)) (λ o. ends_exact (λ e. (o, e)) x)
 
-pub operated_starts : (r : Precedence) (L : List Token → Node → Type 0) → Starts (is_operator_of r) (IsOther r L)
-operated_starts r L = then_starts (record { leads = λ ts o (t, e, h). subst (Leads (is_operator_of r)) (sym e) (rw h refl) })
+pub other_starts : (k : Precedence) (L : List Token → Node → Type 0) → Starts (is_operator_of k) (IsOther k L)
+other_starts k L = then_starts (token_starts (operator_of k))
 
-chain_exact : (r : Precedence) {stops : Token → Bool} {L : List Token → Node → Type 0} {l : Parser Node} → Exact stops L l → Apart (is_operator_of r) stops → Exact (λ t. is_operator_of r t || stops t) (IsChain r L) (chain_from r l)
+chain_exact : (k : Precedence) {stops : Token → Bool} {L : List Token → Node → Type 0} {l : Parser Node} → Exact stops L l → Apart (is_operator_of k) stops → Exact (λ t. is_operator_of k t || stops t) (IsChain k L) (chain_from k l)
 unfolding chain_from
-chain_exact r {stops} {L} {l} x away = then_exact x (λ first. ends_exact (chained first) (many_exact (other_exact r x) (operated_starts r L) away)) behind
-  where
-    behind : (first : Node) → Before (λ t. is_operator_of r t || stops t) stops (syntax.◌>>=◌ (Many (IsOther r L)) (λ others. gives (chained first others)))
-    behind first vs rest b (us, ws, xs, e, are, (no_more, same)) h =
-        let all : vs ≡ us = e ∙ ap (λ ys. us ++ ys) no_more ∙ append-nil us in
-        rw all (many_leads (is_operator_of r) stops (IsOther r L) (operated_starts r L) away us xs are rest (without _ stops (λ t e. (neither (is_operator_of r t) (stops t) e).1) rest h))
+chain_exact k {stops} {L} x away =
+    then_exact x (λ first. ends_exact (chained first) (further_exact (takes_one k) [] (other_exact k x) (other_starts k L) away)) (λ first. further_behind (takes_one k) [] (is_operator_of k) stops (chained first) (other_starts k L) away)
 
-pub ranked_exact : {L : List Token → Node → Type 0} {l : Parser Node} → Exact nowhere L l → (rs : List Precedence) → AllApart rs → Exact (in_precedences rs) (IsRanked L rs) (ranked_from l rs)
+pub ranked_exact : {L : List Token → Node → Type 0} {l : Parser Node} → Exact nowhere L l → (ks : List Precedence) → AllApart ks → Exact (in_precedences ks) (IsRanked L ks) (ranked_from l ks)
 unfolding ranked_from
 ranked_exact x [] a = x
-ranked_exact x (r ∷ rs) a = chain_exact r (ranked_exact x rs a.1) a.0
+ranked_exact x (k ∷ ks) a = chain_exact k (ranked_exact x ks a.1) a.0
 
-pub ranked_starts : {test : Token → Bool} {L : List Token → Node → Type 0} → Starts test L → (rs : List Precedence) → Starts test (IsRanked L rs)
+pub ranked_starts : {test : Token → Bool} {L : List Token → Node → Type 0} → Starts test L → (ks : List Precedence) → Starts test (IsRanked L ks)
 ranked_starts x [] = x
-ranked_starts x (r ∷ rs) = then_starts (ranked_starts x rs)
+ranked_starts x (k ∷ ks) = then_starts (ranked_starts x ks)
 
--- ---- expressions
+-- ---- which tokens are apart
 
 abbrev pub operators : Token → Bool
 operators = in_precedences precedences
 
-mark_apart : (s : Punctuation) (stops : Token → Bool) → stops (token.Punctuation s) ≡ false → Apart (is_mark s) stops
-mark_apart s stops no_stop (token.Punctuation r) h = rw (same_true the_mark.the_type (search rules) r s h) no_stop
-mark_apart s stops no_stop _ h = let bad : ⊥ = cc in absurd bad
+sign_apart : (s : Sign) (stops : Token → Bool) → stops (sign_token s) ≡ false → Apart (is_sign s) stops
+sign_apart s stops no_stop t h = ap stops (sign_is s t h) ∙ no_stop
 
-module _ (listed : List Occ) (inner : List Token → Node → Type 0) where
-  alone_starts : Starts (λ t. is_some (operand_of listed t)) (by_itself listed)
-  alone_starts = record { leads = λ ts e (t, is, h). subst (Leads (λ t. is_some (operand_of listed t))) (sym is) (rw h refl) }
+-- a call is no operand, since its name is reserved
+call_apart : (listed : List Occ) (scope : Names) → Apart is_call (is_operand listed scope)
+call_apart listed scope (token.Name name) h = rw h (go (is_keyword name))
+  where
+    go : (b : Bool) → is_some (cond (b || true) None (bound_in scope name)) ≡ false
+    go true = refl
+    go false = refl
+call_apart listed scope (token.Number n) h = let bad : ⊥ = cc in absurd bad
+call_apart listed scope (token.Text bytes) h = let bad : ⊥ = cc in absurd bad
+call_apart listed scope (token.Occurrence place attr) h = let bad : ⊥ = cc in absurd bad
+call_apart listed scope (token.Punctuation m) h = let bad : ⊥ = cc in absurd bad
 
-  module _ (read : Parser Node) (x : Exact operators inner read) where
-    parenthesized_exact : Exact nowhere (IsParenthesized inner) (parenthesized_from read)
-    unfolding parenthesized_from
-    parenthesized_exact = token_then (mark_exact punctuation.Open) (λ u. start_then x (λ e. ends_exact (λ u. e) (mark_exact punctuation.Close)) (λ e. starts_with punctuation.Close) (mark_apart punctuation.Close operators refl))
+-- ---- first tokens
 
-    pub atom_exact : Exact nowhere (IsAtom listed inner) (atom_from listed read)
-    unfolding atom_from
-    atom_exact = or_exact parenthesized_exact (taken_exact (operand_from listed) (by_itself listed) refl (λ t e h. (t, refl, h)) (λ ts e h. h)) (starts_with punctuation.Open) alone_starts (mark_apart punctuation.Open _ refl)
+module _ (listed : List Occ) (inner : Names → List Token → Node → Type 0) (scope : Names) where
+  call_starts : Starts is_call (IsCall inner scope)
+  call_starts = then_starts (token_starts call_in)
 
-pub expr_exact : (listed : List Occ) (levels : ℕ) → Exact operators (IsExpr listed levels) (expr_from listed levels)
-unfolding expr_from IsExpr
-expr_exact listed zero = record { sound = λ i j e h. (let bad : ⊥ = cc in absurd bad); complete = λ us j e h. absurd h }
-expr_exact listed (suc levels) = ranked_exact (atom_exact listed (IsExpr listed levels) (expr_from listed levels) (expr_exact listed levels)) precedences (all_apart precedences refl)
+  table_starts : Starts (λ t. is_sign (mark punctuation.OpenTable) t || (is_call t || is_operand listed scope t)) (IsTable or IsCall inner scope or token_as (operand_of listed scope))
+  table_starts = or_starts (starts_with (mark punctuation.OpenTable)) (or_starts call_starts (token_starts (operand_of listed scope)))
+
+  list_starts : Starts (λ t. is_sign (mark punctuation.OpenList) t || (is_sign (mark punctuation.OpenTable) t || (is_call t || is_operand listed scope t))) (IsList inner scope or IsTable or IsCall inner scope or token_as (operand_of listed scope))
+  list_starts = or_starts (starts_with (mark punctuation.OpenList)) table_starts
+
+  atom_starts : Starts (begins_atom listed scope) (IsAtom inner scope listed)
+  atom_starts = or_starts (starts_with (mark punctuation.Open)) list_starts
+
+  if_starts : Starts (λ t. is_sign (word (codes "if")) t || begins_atom listed scope t) (IsIf inner scope or IsRanked (IsAtom inner scope listed) precedences)
+  if_starts = or_starts (starts_with (word (codes "if"))) (ranked_starts atom_starts precedences)
+
+  whole_starts : Starts (begins listed scope) (IsWhole inner scope listed)
+  whole_starts = or_starts (starts_with (word (codes "let"))) if_starts
+
+  pub next_starts : Starts (is_sign (mark punctuation.Comma)) (IsNext inner scope)
+  next_starts = starts_with (mark punctuation.Comma)
+
+-- ---- expressions
+
+none_exact : Exact nowhere AreNone none_from
+unfolding none_from
+none_exact = ends_exact (λ u. node.List []) (sign_exact (mark punctuation.CloseList))
+
+table_exact : Exact nowhere IsTable table_from
+unfolding table_from
+table_exact = token_then (sign_exact (mark punctuation.OpenTable)) (λ u. ends_exact (λ u. node.EmptyTable) (sign_exact (mark punctuation.CloseTable)))
+
+module _ (listed : List Occ) (inner : Names → List Token → Node → Type 0) (read : Names → Parser Node) (x : (scope : Names) → Exact operators (inner scope) (read scope)) (starts : (scope : Names) → Starts (begins listed scope) (inner scope)) (scope : Names) where
+  comma : Apart (is_sign (mark punctuation.Comma)) operators
+  comma = sign_apart (mark punctuation.Comma) operators refl
+
+  -- an expression and the parenthesis that closes the form
+  closed : {R : List Token → Node → Type 0} {r : Parser Node} (f : Node → Node) → Exact operators R r
+      → Exact nowhere (syntax.◌>>=◌ R (λ e. syntax.◌>>◌ (spelled (mark punctuation.Close)) (gives (f e)))) (reading.◌>>=◌ r (λ e. reading.◌>>◌ (reading.expect (mark punctuation.Close)) (pure (f e))))
+  closed f y = start_then y (λ e. ends_exact (λ u. f e) (sign_exact (mark punctuation.Close))) (λ e. starts_with (mark punctuation.Close)) (sign_apart (mark punctuation.Close) operators refl)
+
+  parenthesized_exact : Exact nowhere (IsParenthesized inner scope) (parenthesized_from read scope)
+  unfolding parenthesized_from
+  parenthesized_exact = token_then (sign_exact (mark punctuation.Open)) (λ u. closed (λ e. e) (x scope))
+
+  pub next_exact : Exact operators (IsNext inner scope) (next_from read scope)
+  unfolding next_from
+  next_exact = token_then (sign_exact (mark punctuation.Comma)) (λ u. x scope)
+
+  some_exact : Exact nowhere (AreSome inner scope) (some_from read scope)
+  unfolding some_from items_from
+  some_exact =
+      then_exact (x scope) (λ first. start_then (further_exact false (first ∷ []) next_exact (next_starts listed inner scope) comma) (λ items. ends_exact (λ u. node.List items) (sign_exact (mark punctuation.CloseList))) (λ items. starts_with (mark punctuation.CloseList)) (sign_apart (mark punctuation.CloseList) _ refl))
+      (λ first. further_then false (first ∷ []) (is_sign (mark punctuation.Comma)) operators nowhere (next_starts listed inner scope) comma (λ items. starts_with (mark punctuation.CloseList)) (sign_apart (mark punctuation.CloseList) operators refl))
+
+  list_exact : Exact nowhere (IsList inner scope) (list_from read scope)
+  unfolding list_from
+  list_exact = token_then (sign_exact (mark punctuation.OpenList)) (λ u. or_exact none_exact some_exact (starts_with (mark punctuation.CloseList)) (then_starts (starts scope)) (sign_apart (mark punctuation.CloseList) (begins listed scope) refl))
+
+  arguments_exact : (c : Call) → Exact nowhere (AreArguments inner scope c) (arguments_from read scope c)
+  unfolding unary_from binary_from put_from
+  arguments_exact (call.Unary c) = closed (λ a. node.Unary c a) (x scope)
+  arguments_exact (call.Binary c) = start_then (x scope) (λ a. closed (λ b. node.Binary c a b) next_exact) (λ a. then_starts (next_starts listed inner scope)) comma
+  arguments_exact call.Put =
+      start_then (x scope) (λ t. start_then next_exact (λ k. closed (λ v. node.Put t k v) next_exact) (λ k. then_starts (next_starts listed inner scope)) comma) (λ t. then_starts (next_starts listed inner scope)) comma
+
+  call_exact : Exact nowhere (IsCall inner scope) (call_from read scope)
+  unfolding call_from
+  call_exact = token_then (token_exact call_in) (λ c. token_then (sign_exact (mark punctuation.Open)) (λ u. arguments_exact c))
+
+  let_exact : Exact operators (IsLet inner scope) (let_from read scope)
+  unfolding let_from
+  let_exact = token_then (sign_exact (word (codes "let"))) (λ u. token_then (token_exact new_name) (λ name. token_then (sign_exact (mark punctuation.Equal)) (λ u. start_then (x scope)
+      (λ e. token_then (sign_exact (word (codes "in"))) (λ u. ends_exact (node.Let e) (x (scope ++ name ∷ []))))
+      (λ e. starts_with (word (codes "in"))) (sign_apart (word (codes "in")) operators refl))))
+
+  if_exact : Exact operators (IsIf inner scope) (if_from read scope)
+  unfolding if_from
+  if_exact = token_then (sign_exact (word (codes "if"))) (λ u. start_then (x scope)
+      (λ c. token_then (sign_exact (word (codes "then"))) (λ u. start_then (x scope)
+      (λ e. token_then (sign_exact (word (codes "else"))) (λ u. ends_exact (node.If c e) (x scope)))
+      (λ e. starts_with (word (codes "else"))) (sign_apart (word (codes "else")) operators refl)))
+      (λ c. starts_with (word (codes "then"))) (sign_apart (word (codes "then")) operators refl))
+
+  pub atom_exact : Exact nowhere (IsAtom inner scope listed) (atom_from read scope listed)
+  unfolding atom_from
+  atom_exact = or_exact parenthesized_exact (or_exact list_exact (or_exact table_exact
+      (or_exact call_exact (token_exact (operand_of listed scope)) (call_starts listed inner scope) (token_starts (operand_of listed scope)) (call_apart listed scope))
+      (starts_with (mark punctuation.OpenTable)) (or_starts (call_starts listed inner scope) (token_starts (operand_of listed scope))) (sign_apart (mark punctuation.OpenTable) _ refl))
+      (starts_with (mark punctuation.OpenList)) (table_starts listed inner scope) (sign_apart (mark punctuation.OpenList) _ refl))
+      (starts_with (mark punctuation.Open)) (list_starts listed inner scope) (sign_apart (mark punctuation.Open) _ refl)
+
+  whole_exact : Exact operators (IsWhole inner scope listed) (whole_from read scope listed)
+  unfolding whole_from
+  whole_exact = or_exact let_exact
+      (or_exact if_exact (ranked_exact atom_exact precedences (all_apart precedences refl)) (starts_with (word (codes "if"))) (ranked_starts (atom_starts listed inner scope) precedences) (sign_apart (word (codes "if")) (begins_atom listed scope) refl))
+      (starts_with (word (codes "let"))) (if_starts listed inner scope) (sign_apart (word (codes "let")) _ refl)
+
+pub expr_starts : (listed : List Occ) (levels : ℕ) (scope : Names) → Starts (begins listed scope) (IsExprIn listed levels scope)
+unfolding IsExprIn
+expr_starts listed zero scope = record { leads = λ ts e h. absurd h }
+expr_starts listed (suc levels) scope = whole_starts listed (IsExprIn listed levels) scope
+
+pub expr_exact : (listed : List Occ) (levels : ℕ) (scope : Names) → Exact operators (IsExprIn listed levels scope) (expr_in listed levels scope)
+unfolding expr_in IsExprIn
+expr_exact listed zero scope = record { sound = λ i j e h. (let bad : ⊥ = cc in absurd bad); complete = λ us j e h. absurd h }
+expr_exact listed (suc levels) scope = whole_exact listed (IsExprIn listed levels) (expr_in listed levels) (expr_exact listed levels) (expr_starts listed levels) scope
 
 -- what is left is shorter
 pub shortens : {A : Type 0} {stops test : Token → Bool} {L : List Token → A → Type 0} {r : Parser A} → Exact stops L r → Starts test L → (i j : Input) (a : A) → r i ≡ Ok (a, j) → length j.left < length i.left
@@ -123,13 +224,18 @@ shortens {A} {stops} {test} {L} {r} x starts i j a h = let found = x.sound i j a
     go (u ∷ us) e l = omega (arith, ap (λ (k : Input). length k.left) e, length-append (u ∷ us) j.left)
 
 closer_apart : (k : Precedence) → AllApart (closer k)
+closer_apart precedence.Comparison = all_apart (closer precedence.Comparison) refl
+closer_apart precedence.Join = all_apart (closer precedence.Join) refl
 closer_apart precedence.Sum = all_apart (closer precedence.Sum) refl
 closer_apart precedence.Product = tt
 
-pub other_shortens : (listed : List Occ) (levels : ℕ) (k : Precedence) (i j : Input) (a : Operator × Node) → other_from k (ranked_from (atom_from listed (expr_from listed levels)) (closer k)) i ≡ Ok (a, j) → length j.left < length i.left
-other_shortens listed levels k =
-    let atom = atom_exact listed (IsExpr listed levels) (expr_from listed levels) (expr_exact listed levels) in
-    shortens (other_exact k (ranked_exact atom (closer k) (closer_apart k))) (operated_starts k (IsRanked (IsAtom listed (IsExpr listed levels)) (closer k)))
+pub other_shortens : (listed : List Occ) (levels : ℕ) (scope : Names) (k : Precedence) (i j : Input) (a : Operator × Node) → other_from k (ranked_from (atom_from (expr_in listed levels) scope listed) (closer k)) i ≡ Ok (a, j) → length j.left < length i.left
+other_shortens listed levels scope k =
+    let atom = atom_exact listed (IsExprIn listed levels) (expr_in listed levels) (expr_exact listed levels) (expr_starts listed levels) scope in
+    shortens (other_exact k (ranked_exact atom (closer k) (closer_apart k))) (other_starts k (IsRanked (IsAtom (IsExprIn listed levels) scope listed) (closer k)))
+
+pub next_shortens : (listed : List Occ) (levels : ℕ) (scope : Names) (i j : Input) (a : Node) → next_from (expr_in listed levels) scope i ≡ Ok (a, j) → length j.left < length i.left
+next_shortens listed levels scope = shortens (next_exact listed (IsExprIn listed levels) (expr_in listed levels) (expr_exact listed levels) (expr_starts listed levels) scope) (next_starts listed (IsExprIn listed levels) scope)
 
 end_left : (e : Ending) (ps : List Placed) → is_end e ps ≡ true → (at : ℕ) × (e ≡ ending.EndsAt at) × (ps ≡ [])
 end_left (ending.EndsAt n) [] h = (n, refl, refl)
@@ -140,7 +246,7 @@ end_left (ending.TooLargeAt n) ps h = let bad : ⊥ = cc in absurd bad
 -- what is read to the end of a text is an expression
 pub whole_is : (listed : List Occ) (levels : ℕ) (i j : Input) (e : Node) → expr_from listed levels i ≡ Ok (e, j) → is_end j.ending j.left ≡ true → (at : ℕ) × (i.ending ≡ ending.EndsAt at) × IsExpr listed levels (tokens i.left) e
 whole_is listed levels i j e h ends =
-    let found = (expr_exact listed levels).sound i j e h in
+    let found = (expr_exact listed levels []).sound i j e h in
     let last = end_left j.ending j.left ends in
     let all : i.left ≡ found.0 = ap (λ (k : Input). k.left) found.1 ∙ ap (λ ps. found.0 ++ ps) last.2 ∙ append-nil found.0 in
     (last.0, ap (λ (k : Input). k.ending) found.1 ∙ last.1, subst (λ us. IsExpr listed levels (tokens us) e) (sym all) found.2)
@@ -150,7 +256,7 @@ pub read_whole : (listed : List Occ) (levels at : ℕ) (ps : List Placed) (e : N
 unfolding expr_of
 read_whole listed levels at ps e is =
     let end : Input = record { left = []; ending = ending.EndsAt at } in
-    let read = ap (λ us. expr_from listed levels (record { left = us; ending = ending.EndsAt at })) (sym (append-nil ps)) ∙ (expr_exact listed levels).complete ps end e is tt in
+    let read = ap (λ us. expr_from listed levels (record { left = us; ending = ending.EndsAt at })) (sym (append-nil ps)) ∙ (expr_exact listed levels []).complete ps end e is tt in
     rw read refl
 
 -- what reading a text comes to

@@ -1,75 +1,193 @@
--- The numbers of all occurrences in a tree are below n.
-use Rattle.std.proofs.lemmas.Bool.{and_parts}
-use Rattle.std.proofs.Common.{◌≡◌, ◌<◌, ℕ, ℤ, zero, suc, nat_lt, length, Option, Some, IfSome, subst, List, [], ◌∷◌, Bool, true, ◌&&◌, map, None, inl, inr, refl, ap, sym, ◌∙◌}
+-- The numbers in the tree of an expression: those of occurrences are of the list, and those of bound names of the scope.
+use Rattle.std.proofs.lemmas.Bool.{lt-ltb}
+use Rattle.std.proofs.lemmas.Option.{same_Some}
+use Rattle.std.proofs.Common.{◌≡◌, ◌<◌, ◌+◌, ℕ, zero, suc, nat_lt, length, Option, Some, None, IfSome, subst, List, [], ◌∷◌, ◌++◌, Bool, true, false, cond, ◌&&◌, map, inl, inr, refl, ap, sym, ◌∙◌, arith, length-append, bytes_eq}
+use Rattle.std.specs.Prelude.{option_map}
+use Rattle.ag_value.specs.declared.value.Value.{Value}
+use Rattle.ag_expr.specs.declared.names.Call.{Call}
+use Rattle.ag_expr.specs.declared.names.Call.TheVariants as call
 use Rattle.ag_expr.specs.declared.node.Operator.{Operator}
 use Rattle.ag_expr.specs.declared.node.Node.{Node, roll-Node}
 use Rattle.ag_expr.specs.declared.node.Node.TheVariants as node
-use Rattle.ag_expr.specs.declared.node.Node.TheVariants.{rolls-Chain, rolls-Literal, rolls-Occurrence}
 use Rattle.ag_expr.specs.declared.node.Node.TheOpen.{Node-F}
 use Rattle.ag_expr.specs.declared.node.Node.TheFolds.{fold-roll-Node, map-Node}
 use Rattle.ag_expr.specs.declared.occurrence.Occ.{Occ}
+use Rattle.ag_expr.specs.declared.parser.Precedence.{Precedence}
+use Rattle.ag_expr.specs.language.Names.{Names, last_from, place_in, is_reserved}
+use Rattle.ag_expr.specs.language.Occurrences.{is_of, position_of}
+use Rattle.ag_expr.specs.language.Syntax as syntax
+use Rattle.ag_expr.specs.language.Syntax.{Many, none, more, further, gives, token_as, ◌or◌, precedences, chained, operand_of, takes_one, IsOther, IsChain, IsRanked, IsNext, AreSome, AreNone, IsList, AreArguments, IsCall, IsLet, IsIf, IsAtom, IsWhole, IsExpr, IsExprIn}
 use Rattle.ag_expr.specs.language.Token.{Token}
 use Rattle.ag_expr.specs.language.Token as token
-use Rattle.ag_expr.specs.declared.parser.Precedence.{Precedence}
-use Rattle.std.proofs.lemmas.Option.{same_Some}
-use Rattle.std.specs.Prelude.{option_map}
-use Rattle.ag_expr.specs.language.Occurrences.{is_of, position_of}
-use Rattle.ag_expr.specs.language.Syntax.{Many, none, more, precedences, chained, operand_of, IsOther, IsRanked, IsAtom, IsExpr}
+use Rattle.ag_expr.specs.language.Trees.{is_below, is_within, below_step, all_pass, each_passes}
 use Rattle.ag_expr.proofs.language.Numbered.{within}
-use Rattle.std.proofs.lemmas.Bool.{lt-ltb}
-use Rattle.ag_expr.specs.language.Trees.{is_below, all_below, below_step, is_within}
-use Rattle.ag_value.specs.declared.value.Value.{Value}
-use Rattle.ag_value.specs.declared.value.Value.TheVariants as value
 
-both : (a b : Bool) → a ≡ true → b ≡ true → (a && b) ≡ true
-both a b p q = rw (p, q) refl
+-- ---- what holds of all that a language spells
+
+pub record Holds {A : Type 0} (P : A → Type 0) (L : List Token → A → Type 0) : Type 0 where
+  pub of : (ts : List Token) (a : A) → L ts a → P a
+
+abbrev Any : {A : Type 0} → A → Type 0
+Any a = Unit {0}
+
+any : {A : Type 0} {L : List Token → A → Type 0} → Holds Any L
+any = record { of = λ ts a is. tt }
+
+then_holds : {A B : Type 0} {P : A → Type 0} {Q : B → Type 0} {R : List Token → A → Type 0} {S : A → List Token → B → Type 0} → Holds P R → ((a : A) → P a → Holds Q (S a)) → Holds Q (syntax.◌>>=◌ R S)
+then_holds x y = record { of = λ ts b (us, vs, a, e, is, later). (y a (x.of us a is)).of vs b later }
+
+gives_holds : {A : Type 0} (P : A → Type 0) (a : A) → P a → Holds P (gives a)
+gives_holds P a h = record { of = λ ts b (e, same). subst P (sym same) h }
+
+or_holds : {A : Type 0} {P : A → Type 0} {L M : List Token → A → Type 0} → Holds P L → Holds P M → Holds P (L or M)
+or_holds {A} {P} {L} {M} x y = record { of = one }
+  where
+    one : (ts : List Token) (a : A) → (L or M) ts a → P a
+    one ts a (inl is) = x.of ts a is
+    one ts a (inr is) = y.of ts a is
+
+-- of each of a list
+abbrev pub Each : {A : Type 0} → (A → Type 0) → List A → Type 0
+Each P [] = Unit {0}
+Each P (x ∷ xs) = P x × Each P xs
+
+each-append : {A : Type 0} (P : A → Type 0) (xs ys : List A) → Each P xs → Each P ys → Each P (xs ++ ys)
+each-append P [] ys h g = g
+each-append P (x ∷ xs) ys h g = (h.0, each-append P xs ys h.1 g)
+
+each_of : {A : Type 0} (P : A → Type 0) (L : List Token → A → Type 0) → Holds P L → (ts : List Token) (xs : List A) → Many L ts xs → Each P xs
+each_of P L x ts xs none = tt
+each_of P L x ts xs (more us vs y ys is others) = (x.of us y is, each_of P L x vs ys others)
+
+further_holds : {A : Type 0} (P : A → Type 0) (one : Bool) (found : List A) {L : List Token → A → Type 0} → Holds P L → Each P found → Holds (Each P) (further one found L)
+further_holds P one found {L} x h = record { of = λ ts all (xs, are, le, same). subst (Each P) (sym same) (each-append P found xs h (each_of P L x ts xs are)) }
+
+-- ---- trees
 
 -- one level of a tree at a time
 pub layer : (n : ℕ) (x : Node-F Node) (bound : ℕ) → is_within n (roll-Node x) bound ≡ below_step n (map-Node Node (ℕ → Bool) (is_within n) x) bound
 layer n x bound = ap (λ (f : ℕ → Bool). f bound) (fold-roll-Node (ℕ → Bool) (below_step n) x)
 
-pub in_chain : (n : ℕ) (e : Node) (xs : List (Operator × Node)) → is_below n e ≡ true → all_below n 0 xs ≡ true → is_below n (chained e xs) ≡ true
-in_chain n e [] here all = here
-in_chain n e (x ∷ xs) here all = ap (is_below n) (sym (rolls-Chain e (x ∷ xs))) ∙ layer n (Node-F.Chain e (x ∷ xs)) 0 ∙ both (is_below n e) (all_below n 0 (x ∷ xs)) here all
+abbrev pub Within : ℕ → ℕ → Node → Type 0
+Within n bound e = is_within n e bound ≡ true
 
--- the numbers that the grammar gives are those of listed occurrences
-abbrev Below : ℕ → (List Token → Node → Type 0) → Type 0
-Below n R = (ts : List Token) (e : Node) → R ts e → is_below n e ≡ true
+both : (a b : Bool) → a ≡ true → b ≡ true → (a && b) ≡ true
+both a b p q = rw (p, q) refl
 
-others_below : (n : ℕ) (k : Precedence) (operand : List Token → Node → Type 0) → Below n operand → {ts : List Token} {xs : List (Operator × Node)} → Many (IsOther k operand) ts xs → all_below n 0 xs ≡ true
-others_below n k operand below none = refl
-others_below n k operand below (more us vs x xs (ws, zs, o, e, is, (ys, qs, f, d, one, (no_more, same))) others) =
-    both (is_below n x.1) (all_below n 0 xs) (ap (λ (p : Operator × Node). is_below n p.1) same ∙ below ys f one) (others_below n k operand below others)
+module _ (n bound : ℕ) where
+  rolled : (x : Node-F Node) (e : Node) → roll-Node x ≡ e → below_step n (map-Node Node (ℕ → Bool) (is_within n) x) bound ≡ true → Within n bound e
+  rolled x e is h = ap (λ e. is_within n e bound) (sym is) ∙ layer n x bound ∙ h
 
-ranked_below : (n : ℕ) (atom : List Token → Node → Type 0) → Below n atom → (ks : List Precedence) → Below n (IsRanked atom ks)
-ranked_below n atom below [] ts e is = below ts e is
-ranked_below n atom below (k ∷ ks) ts e (us, vs, f, split, one, (ws, zs, xs, d, others, (no_more, same))) =
-    let inner = ranked_below n atom below ks in
-    ap (is_below n) same ∙ in_chain n f xs (inner us f one) (others_below n k (IsRanked atom ks) inner others)
+  pub in_chain : (first : Node) (others : List (Operator × Node)) → Within n bound first → Each (λ p. Within n bound p.1) others → Within n bound (chained first others)
+  in_chain first [] here all = here
+  in_chain first (x ∷ xs) here all = rolled (Node-F.Chain first (x ∷ xs)) _ (node.rolls-Chain first (x ∷ xs)) (both _ _ here (operands (x ∷ xs) all))
+    where
+      operands : (xs : List (Operator × Node)) → Each (λ p. Within n bound p.1) xs → all_pass bound (map (λ p. (p.0, is_within n p.1)) xs) ≡ true
+      operands [] all = refl
+      operands (x ∷ xs) all = both _ _ all.0 (operands xs all.1)
 
-pub literal_below : (n : ℕ) (v : Value) → is_below n (node.Literal v) ≡ true
-literal_below n v = ap (is_below n) (sym (rolls-Literal v)) ∙ layer n (Node-F.Literal v) 0
+  in_list : (items : List Node) → Each (Within n bound) items → Within n bound (node.List items)
+  in_list items all = rolled (Node-F.List items) _ (node.rolls-List items) (each items all)
+    where
+      each : (xs : List Node) → Each (Within n bound) xs → each_passes bound (map (is_within n) xs) ≡ true
+      each [] all = refl
+      each (x ∷ xs) all = both _ _ all.0 (each xs all.1)
 
-found_below : (listed : List Occ) (place : ℕ) (attr : List ℕ) (k : ℕ) → position_of listed place attr ≡ Some k → nat_lt k (length listed) ≡ true
-found_below listed place attr k e = lt-ltb k (length listed) (subst (λ o. IfSome o (λ k. k < length listed)) e (within (is_of place attr) listed))
+  pub literal_within : (v : Value) → Within n bound (node.Literal v)
+  literal_within v = rolled (Node-F.Literal v) _ (node.rolls-Literal v) refl
 
-pub occurrence_below : (listed : List Occ) (k : ℕ) → nat_lt k (length listed) ≡ true → is_below (length listed) (node.Occurrence k) ≡ true
-occurrence_below listed k less = ap (is_below (length listed)) (sym (rolls-Occurrence k)) ∙ layer (length listed) (Node-F.Occurrence k) 0 ∙ less
+  pub occurrence_within : (k : ℕ) → nat_lt k n ≡ true → Within n bound (node.Occurrence k)
+  occurrence_within k h = rolled (Node-F.Occurrence k) _ (node.rolls-Occurrence k) h
 
-alone_below : (listed : List Occ) (t : Token) (e : Node) → operand_of listed t ≡ Some e → is_below (length listed) e ≡ true
-alone_below listed (token.Number z) e h = ap (is_below (length listed)) (sym (same_Some _ _ h)) ∙ literal_below (length listed) (value.Num z)
-alone_below listed (token.Occurrence place attr) e h = go (position_of listed place attr) refl h
+-- ---- bound names
+
+last_below : {A : Type 0} (test : A → Bool) (at : ℕ) (found : Option ℕ) (ys : List A) → IfSome found (λ k. k < at) → IfSome (last_from test at found ys) (λ k. k < at + length ys)
+last_below test at None [] h = tt
+last_below test at (Some k) [] h = omega arith
+last_below test at found (y ∷ ys) h = subst (λ m. IfSome (last_from test (at + 1) (cond (test y) (Some at) found) ys) (λ k. k < m)) (omega arith) (last_below test (at + 1) (cond (test y) (Some at) found) ys (go (test y) found h))
   where
-    go : (o : Option ℕ) → position_of listed place attr ≡ o → option_map node.Occurrence o ≡ Some e → is_below (length listed) e ≡ true
-    go None is h = let bad : ⊥ = cc in absurd bad
-    go (Some k) is h = ap (is_below (length listed)) (sym (same_Some _ _ h)) ∙ occurrence_below listed k (found_below listed place attr k is)
-alone_below listed _ e h = let bad : ⊥ = cc in absurd bad
+    go : (b : Bool) (found : Option ℕ) → IfSome found (λ k. k < at) → IfSome (cond b (Some at) found) (λ k. k < at + 1)
+    go true found h = omega arith
+    go false None h = tt
+    go false (Some k) h = omega arith
 
-atoms_below : (listed : List Occ) (inner : List Token → Node → Type 0) → Below (length listed) inner → Below (length listed) (IsAtom listed inner)
-atoms_below listed inner below ts e (inl (us, vs, u, d, opens, (ws, zs, f, c, is, (ys, qs, v, b, closes, (no_more, same))))) = ap (is_below (length listed)) same ∙ below ws f is
-atoms_below listed inner below ts e (inr (t, one, is)) = alone_below listed t e is
+-- ---- expressions
 
-pub expr_below : (listed : List Occ) (levels : ℕ) → Below (length listed) (IsExpr listed levels)
-unfolding IsExpr
-expr_below listed zero ts e is = absurd is
-expr_below listed (suc levels) ts e is = ranked_below (length listed) (IsAtom listed (IsExpr listed levels)) (atoms_below listed (IsExpr listed levels) (expr_below listed levels)) precedences ts e is
+module _ (listed : List Occ) where
+  abbrev n : ℕ
+  n = length listed
+
+  operand_within : (scope : Names) → Holds (Within n (length scope)) (token_as (operand_of listed scope))
+  operand_within scope = record { of = λ ts e (t, is, means). go t e means }
+    where
+      occurrence : (o : Option ℕ) (e : Node) → IfSome o (λ k. k < n) → option_map node.Occurrence o ≡ Some e → Within n (length scope) e
+      occurrence None e h means = let bad : ⊥ = cc in absurd bad
+      occurrence (Some k) e h means = subst (Within n (length scope)) (same_Some _ _ means) (occurrence_within n (length scope) k (lt-ltb k n h))
+
+      name : (reserved : Bool) (o : Option ℕ) (e : Node) → IfSome o (λ k. k < length scope) → cond reserved None (option_map node.Bound o) ≡ Some e → Within n (length scope) e
+      name true o e h means = let bad : ⊥ = cc in absurd bad
+      name false None e h means = let bad : ⊥ = cc in absurd bad
+      name false (Some k) e h means = subst (Within n (length scope)) (same_Some _ _ means) (rolled n (length scope) (Node-F.Bound k) _ (node.rolls-Bound k) (lt-ltb k (length scope) h))
+
+      bound : (x : List ℕ) → IfSome (place_in scope x) (λ k. k < length scope)
+      bound x = subst (λ m. IfSome (place_in scope x) (λ k. k < m)) (omega arith) (last_below (λ y. bytes_eq y x) 0 None scope tt)
+
+      go : (t : Token) (e : Node) → operand_of listed scope t ≡ Some e → Within n (length scope) e
+      go (token.Number z) e means = subst (Within n (length scope)) (same_Some _ _ means) (literal_within n (length scope) _)
+      go (token.Text bytes) e means = subst (Within n (length scope)) (same_Some _ _ means) (literal_within n (length scope) _)
+      go (token.Name x) e means = name (is_reserved x) (place_in scope x) e (bound x) means
+      go (token.Occurrence place attr) e means = occurrence (position_of listed place attr) e (within (is_of place attr) listed) means
+      go (token.Punctuation m) e means = let bad : ⊥ = cc in absurd bad
+
+  other_within : (bound : ℕ) (k : Precedence) {L : List Token → Node → Type 0} → Holds (Within n bound) L → Holds (λ (p : Operator × Node). Within n bound p.1) (IsOther k L)
+  other_within bound k x = then_holds any (λ o h. then_holds x (λ e h. gives_holds (λ (p : Operator × Node). Within n bound p.1) (o, e) h))
+
+  ranked_within : (bound : ℕ) {L : List Token → Node → Type 0} → Holds (Within n bound) L → (ks : List Precedence) → Holds (Within n bound) (IsRanked L ks)
+  ranked_within bound x [] = x
+  ranked_within bound x (k ∷ ks) =
+      let inner = ranked_within bound x ks in
+      then_holds inner (λ first h. then_holds (further_holds (λ p. Within n bound p.1) (takes_one k) [] (other_within bound k inner) tt) (λ others all. gives_holds (Within n bound) (chained first others) (in_chain n bound first others h all)))
+
+  module _ (inner : Names → List Token → Node → Type 0) (x : (scope : Names) → Holds (Within n (length scope)) (inner scope)) (scope : Names) where
+    abbrev W : Node → Type 0
+    W = Within n (length scope)
+
+    last : (f : Node → Node) {L : List Token → Node → Type 0} {M : List Token → Unit {0} → Type 0} → Holds W L → ((e : Node) → W e → W (f e)) → Holds W (syntax.◌>>=◌ L (λ e. syntax.◌>>◌ M (gives (f e))))
+    last f y keeps = then_holds y (λ e h. then_holds any (λ u h'. gives_holds W (f e) (keeps e h)))
+
+    next_within : Holds W (IsNext inner scope)
+    next_within = then_holds any (λ u h. x scope)
+
+    list_within : Holds W (IsList inner scope)
+    list_within = then_holds any (λ u h. or_holds (then_holds any (λ u h. gives_holds W (node.List []) (in_list n (length scope) [] tt)))
+        (then_holds (x scope) (λ first here. then_holds (further_holds W false (first ∷ []) next_within (here, tt)) (λ items all. then_holds any (λ u h. gives_holds W (node.List items) (in_list n (length scope) items all))))))
+
+    arguments_within : (c : Call) → Holds W (AreArguments inner scope c)
+    arguments_within (call.Unary c) = last (node.Unary c) (x scope) (λ a h. rolled n (length scope) (Node-F.Unary c a) _ (node.rolls-Unary c a) h)
+    arguments_within (call.Binary c) = then_holds (x scope) (λ a h. last (node.Binary c a) next_within (λ b g. rolled n (length scope) (Node-F.Binary c a b) _ (node.rolls-Binary c a b) (both _ _ h g)))
+    arguments_within call.Put =
+        then_holds (x scope) (λ t f. then_holds next_within (λ k g. last (node.Put t k) next_within (λ v h. rolled n (length scope) (Node-F.Put t k v) _ (node.rolls-Put t k v) (both _ _ f (both _ _ g h)))))
+
+    let_within : Holds W (IsLet inner scope)
+    let_within = then_holds any (λ u h. then_holds any (λ name h. then_holds any (λ u h. then_holds (x scope) (λ e here. then_holds any (λ u h. then_holds (x (scope ++ name ∷ []))
+        (λ f there. let more : length (scope ++ name ∷ []) ≡ suc (length scope) = omega (arith, length-append scope (name ∷ [])) in gives_holds W (node.Let e f) (rolled n (length scope) (Node-F.Let e f) _ (node.rolls-Let e f) (both _ _ here (subst (λ m. Within n m f) more there)))))))))
+
+    if_within : Holds W (IsIf inner scope)
+    if_within = then_holds any (λ u h. then_holds (x scope) (λ c f. then_holds any (λ u h. then_holds (x scope) (λ e g. then_holds any (λ u h. then_holds (x scope)
+        (λ o h. gives_holds W (node.If c e o) (rolled n (length scope) (Node-F.If c e o) _ (node.rolls-If c e o) (both _ _ f (both _ _ g h)))))))))
+
+    atom_within : Holds W (IsAtom inner scope listed)
+    atom_within = or_holds (then_holds any (λ u h. last (λ e. e) (x scope) (λ e h. h))) (or_holds list_within
+        (or_holds (then_holds any (λ u h. then_holds any (λ u h. gives_holds W node.EmptyTable (rolled n (length scope) Node-F.EmptyTable _ node.rolls-EmptyTable refl))))
+        (or_holds (then_holds any (λ c h. then_holds any (λ u h. arguments_within c))) (operand_within scope))))
+
+    whole_within : Holds W (IsWhole inner scope listed)
+    whole_within = or_holds let_within (or_holds if_within (ranked_within (length scope) atom_within precedences))
+
+  expr_within : (levels : ℕ) (scope : Names) → Holds (Within n (length scope)) (IsExprIn listed levels scope)
+  unfolding IsExprIn
+  expr_within zero scope = record { of = λ ts e is. absurd is }
+  expr_within (suc levels) scope = whole_within (IsExprIn listed levels) (expr_within levels) scope
+
+pub expr_below : (listed : List Occ) (levels : ℕ) (ts : List Token) (e : Node) → IsExpr listed levels ts e → is_below (length listed) e ≡ true
+expr_below listed levels = (expr_within listed levels []).of

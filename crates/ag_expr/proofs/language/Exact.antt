@@ -1,16 +1,15 @@
 -- A parser that reads exactly a language, and what keeps this: one lemma for each way to put parsers together.
-use Rattle.std.proofs.Common.{rules, ◌≡◌, ℕ, zero, suc, ◌≤◌, Bool, true, false, ◌||◌, if◌then◌else◌, List, [], ◌∷◌, ◌++◌, length, Option, Some, None, Ok, Err, inl, inr, refl, ap, sym, ◌∙◌, subst, append_assoc, append-nil, arith, length-append}
+use Rattle.std.proofs.Common.{rules, ◌≡◌, ℕ, zero, suc, ◌≤◌, Bool, true, false, ◌||◌, if◌then◌else◌, List, [], ◌∷◌, ◌++◌, length, Option, Some, None, is_some, Ok, Err, inl, inr, refl, ap, sym, ◌∙◌, subst, append_assoc, append-nil, arith, length-append}
 use denote.Enum.Bare.{same_true, true_same}
+use Rattle.std.proofs.lemmas.Slice.Eq.{bytes_eq-Decides}
 use Rattle.ag_expr.specs.contracts.token.Punctuation.{the_type}
-use Rattle.ag_expr.specs.declared.parser.Precedence.{Precedence}
-use Rattle.ag_expr.specs.declared.token.Punctuation.{Punctuation}
 use Rattle.ag_expr.specs.language.Ending.{Ending}
 use Rattle.ag_expr.specs.language.Placed.{Placed, Input, tokens}
 use Rattle.ag_expr.specs.language.Syntax as syntax
-use Rattle.ag_expr.specs.language.Syntax.{gives, spelled, operated, Many, none, more}
+use Rattle.ag_expr.specs.language.Syntax.{gives, spelled, token_as, Many, none, more, IsFew, further}
 use Rattle.ag_expr.specs.language.Reading as reading
-use Rattle.ag_expr.specs.language.Reading.{front, front_of, front_is, sees, is_mark, Outcome, Parser, and_then, pure, expect, as_mark, same_mark, operator, operator_from, taken, choose, many_from, many}
-use Rattle.ag_expr.specs.language.Token.{Token}
+use Rattle.ag_expr.specs.language.Reading.{front, front_of, front_is, sees, is_sign, Outcome, Parser, and_then, pure, expect, as_sign, same_mark, front_as, taken, choose, many_from, turns}
+use Rattle.ag_expr.specs.language.Token.{Token, Sign, mark, word, sign_token}
 use Rattle.ag_expr.specs.language.Token as token
 
 -- the same input with these tokens before it
@@ -153,27 +152,22 @@ or_exact {A} {test} {those} {stops} {L} {M} {l} {m} x y starts others apart = re
     read us j a (inl is) h = rw (sees_leading test us j (starts.leads (tokens us) a is)) (x.complete us j a is h)
     read us j a (inr is) h = rw (sees_without test (us ++ j.left) j (rw (tokens-append us j.left) (led those test (apart_back test those apart) (tokens us ++ tokens j.left) (leads-append those (tokens us) (tokens j.left) (others.leads (tokens us) a is))))) (y.complete us j a is h)
 
--- one token, by what it stands for
-pub taken_exact : {A : Type 0} (sign : Option Token → Option A) (L : List Token → A → Type 0) → sign None ≡ None
-    → ((t : Token) (a : A) → sign (Some t) ≡ Some a → L (t ∷ []) a) → ((ts : List Token) (a : A) → L ts a → (t : Token) × (ts ≡ t ∷ []) × (sign (Some t) ≡ Some a))
-    → Exact nowhere L (λ i. taken (sign (front i)) i)
-taken_exact {A} sign L none_at_end is one = record { sound = λ i j a. found i.left i.ending j a; complete = read }
+-- one token, for what it stands for
+pub token_exact : {A : Type 0} (meaning : Token → Option A) → Exact nowhere (token_as meaning) (reading.token_as meaning)
+token_exact {A} meaning = record { sound = λ i j a. found i.left i.ending j a; complete = read }
   where
-    found : (ps : List Placed) (e : Ending) (j : Input) (a : A) → taken (sign (front_of ps)) (record { left = ps; ending = e }) ≡ Ok (a, j) → (us : List Placed) × (record { left = ps; ending = e } ≡ before us j) × L (tokens us) a
-    found [] e j a h = let h2 = rw none_at_end at h in let bad : ⊥ = cc in absurd bad
-    found (p ∷ ps) e j a h = go (sign (Some p.token)) refl h
+    found : (ps : List Placed) (e : Ending) (j : Input) (a : A) → reading.token_as meaning (record { left = ps; ending = e }) ≡ Ok (a, j) → (us : List Placed) × (record { left = ps; ending = e } ≡ before us j) × token_as meaning (tokens us) a
+    found [] e j a h = let bad : ⊥ = cc in absurd bad
+    found (p ∷ ps) e j a h = go (meaning p.token) refl h
       where
-        go : (o : Option A) → sign (Some p.token) ≡ o → taken o (record { left = p ∷ ps; ending = e }) ≡ Ok (a, j) → (us : List Placed) × (record { left = p ∷ ps; ending = e } ≡ before us j) × L (tokens us) a
+        go : (o : Option A) → meaning p.token ≡ o → taken o (record { left = p ∷ ps; ending = e }) ≡ Ok (a, j) → (us : List Placed) × (record { left = p ∷ ps; ending = e } ≡ before us j) × token_as meaning (tokens us) a
         go None q h = let bad : ⊥ = cc in absurd bad
-        go (Some b) q h = let same = answered b a _ j h in (p ∷ [], ap (before (p ∷ [])) same.1, is p.token a (q ∙ ap Some (sym same.0)))
+        go (Some b) q h = let same = answered b a _ j h in (p ∷ [], ap (before (p ∷ [])) same.1, (p.token, refl, q ∙ ap Some (sym same.0)))
 
-    read : (us : List Placed) (j : Input) (a : A) → L (tokens us) a → Without nowhere (tokens j.left) → taken (sign (front (before us j))) (before us j) ≡ Ok (a, j)
-    read [] j a l h = let found = one [] a l in let bad : ⊥ = cc (found.1) in absurd bad
-    read (u ∷ v ∷ us) j a l h = let found = one (u.token ∷ v.token ∷ tokens us) a l in let bad : ⊥ = cc (found.1) in absurd bad
-    read (u ∷ []) j a l h =
-        let found = one (u.token ∷ []) a l in
-        let same : u.token ≡ found.0 = cc (found.1) in
-        rw (same, found.2) refl
+    read : (us : List Placed) (j : Input) (a : A) → token_as meaning (tokens us) a → Without nowhere (tokens j.left) → reading.token_as meaning (before us j) ≡ Ok (a, j)
+    read [] j a (t, is, means) h = let bad : ⊥ = cc in absurd bad
+    read (u ∷ v ∷ us) j a (t, is, means) h = let bad : ⊥ = cc in absurd bad
+    read (u ∷ []) j a (t, is, means) h = let same : u.token ≡ t = cc in rw (same, means) refl
 
 many_sound : {A : Type 0} (begins stops : Token → Bool) (L : List Token → A → Type 0) (r : Parser A) → Exact stops L r → (n : ℕ) (found : List A) (i j : Input) (all : List A) → many_from begins r n found i ≡ Ok (all, j)
     → (us : List Placed) × (xs : List A) × (i ≡ before us j) × Many L (tokens us) xs × (all ≡ found ++ xs) × (length xs ≤ n)
@@ -230,42 +224,85 @@ pub neither : (a b : Bool) → (a || b) ≡ false → (a ≡ false) × (b ≡ fa
 neither false b h = (refl, h)
 neither true b h = let bad : ⊥ = cc in absurd bad
 
-many_found : {A : Type 0} (found : List A) (begins : Token → Bool) {stops : Token → Bool} {L : List Token → A → Type 0} {r : Parser A} → Exact stops L r
-    → (i j : Input) (all : List A) → many begins r found i ≡ Ok (all, j) → (us : List Placed) × (xs : List A) × (i ≡ before us j) × Many L (tokens us) xs × (all ≡ found ++ xs)
-many_found found begins {stops} {L} {r} x i j all h = let f = many_sound begins stops L r x (length i.left) found i j all h in (f.0, f.1, f.2, f.3, f.4)
+few : (one : Bool) (n m : ℕ) → n ≤ m → (one ≡ true → m ≡ 1) → IsFew one n
+few true n m le same = omega (arith, same refl)
+few false n m le same = tt
 
-pub many_exact : {A : Type 0} {begins stops : Token → Bool} {L : List Token → A → Type 0} {r : Parser A} → Exact stops L r → Starts begins L → Apart begins stops → Exact (λ t. begins t || stops t) (Many L) (many begins r [])
-many_exact {begins = begins} {stops} {L} {r} x starts apart = record {
-  sound = λ i j all h. let f = many_found [] begins x i j all h in (f.0, f.2, subst (Many L (tokens f.0)) (sym f.4) f.3);
-  complete = λ us j xs is h.
-      let short = many_short begins L starts (tokens us) xs is in
-      many_complete begins stops L r x starts apart (length (us ++ j.left)) [] (tokens us) xs is us refl j (without _ stops (λ t e. (neither (begins t) (stops t) e).1) (tokens j.left) h)
-      (without _ begins (λ t e. (neither (begins t) (stops t) e).0) (tokens j.left) h) (omega (arith, length-append us j.left, length-tokens us));
-}
+-- further ones behind those that were found
+pub further_exact : {A : Type 0} (one : Bool) (found : List A) {begins stops : Token → Bool} {L : List Token → A → Type 0} {r : Parser A} → Exact stops L r → Starts begins L → Apart begins stops
+    → Exact (λ t. begins t || stops t) (further one found L) (reading.further one begins r found)
+further_exact {A} one found {begins} {stops} {L} {r} x starts apart = record { sound = λ i j. read_as one i j; complete = λ us j all is. spelled_as one us j all is }
+  where
+    read_as : (one : Bool) (i j : Input) (all : List A) → reading.further one begins r found i ≡ Ok (all, j) → (us : List Placed) × (i ≡ before us j) × further one found L (tokens us) all
+    read_as true i j all h = let f = many_sound begins stops L r x 1 found i j all h in (f.0, f.2, (f.1, f.3, f.5, f.4))
+    read_as false i j all h = let f = many_sound begins stops L r x (length i.left) found i j all h in (f.0, f.2, (f.1, f.3, tt, f.4))
 
--- ---- one token
+    turn : (n : ℕ) (us : List Placed) (j : Input) (xs : List A) → Many L (tokens us) xs → length xs ≤ n → Without (λ t. begins t || stops t) (tokens j.left) → many_from begins r n found (before us j) ≡ Ok (found ++ xs, j)
+    turn n us j xs are le h = many_complete begins stops L r x starts apart n found (tokens us) xs are us refl j (without _ stops (λ t e. (neither (begins t) (stops t) e).1) (tokens j.left) h) (without _ begins (λ t e. (neither (begins t) (stops t) e).0) (tokens j.left) h) le
 
-signs : (s r : Punctuation) (b : Bool) → same_mark r s ≡ b → (a : Unit {0}) → (if b then Some tt else None) ≡ Some a → token.Punctuation r ∷ [] ≡ token.Punctuation s ∷ []
-signs s r true e a h = ap (λ x. token.Punctuation x ∷ []) (same_true the_type (search rules) r s e)
-signs s r false e a h = let bad : ⊥ = cc in absurd bad
+    spelled_as : (one : Bool) (us : List Placed) (j : Input) (all : List A) → further one found L (tokens us) all → Without (λ t. begins t || stops t) (tokens j.left) → reading.further one begins r found (before us j) ≡ Ok (all, j)
+    spelled_as true us j all (xs, are, le, same) h = rw same (turn 1 us j xs are le h)
+    spelled_as false us j all (xs, are, le, same) h =
+        let short = many_short begins L starts (tokens us) xs are in
+        rw same (turn (length (us ++ j.left)) us j xs are (omega (arith, length-append us j.left, length-tokens us)) h)
 
-pub mark_is : (s : Punctuation) (t : Token) (a : Unit {0}) → as_mark s (Some t) ≡ Some a → spelled s (t ∷ []) a
-mark_is s (token.Punctuation r) a h = signs s r (same_mark r s) refl a h
-mark_is s _ a h = let bad : ⊥ = cc in absurd bad
+-- what stands behind a part before them, with what goes on behind them
+pub further_then : {A B : Type 0} (one : Bool) (found : List A) (begins inner outer : Token → Bool) {those : Token → Bool} {L : List Token → A → Type 0} {S : List A → List Token → B → Type 0} → Starts begins L → Apart begins inner
+    → ((xs : List A) → Starts those (S xs)) → Apart those inner → Before outer inner (syntax.◌>>=◌ (further one found L) S)
+further_then one found begins inner outer {those} {L} starts apart behind away vs rest b (us, ws, all, e, (xs, are, le, is), later) h =
+    let next = led those inner away (ws ++ rest) (leads-append those ws rest ((behind all).leads ws b later)) in
+    rw (e, append_assoc us ws rest) (many_leads begins inner L starts apart us xs are (ws ++ rest) next)
 
-pub mark_exact : (s : Punctuation) → Exact nowhere (spelled s) (expect s)
-mark_exact s = taken_exact (as_mark s) (spelled s) refl (mark_is s) (λ ts a e. (token.Punctuation s, e, simp (true_same the_type s s refl)))
+-- and with nothing behind them
+pub further_behind : {A B : Type 0} (one : Bool) (found : List A) (begins stops : Token → Bool) {L : List Token → A → Type 0} (f : List A → B) → Starts begins L → Apart begins stops → Before (λ t. begins t || stops t) stops (syntax.◌>>=◌ (further one found L) (λ xs. gives (f xs)))
+further_behind one found begins stops {L} f starts apart vs rest b (us, ws, all, e, (xs, are, le, is), (no_more, same)) h =
+    let whole : vs ≡ us = e ∙ ap (λ ys. us ++ ys) no_more ∙ append-nil us in
+    rw whole (many_leads begins stops L starts apart us xs are rest (without _ stops (λ t e. (neither (begins t) (stops t) e).1) rest h))
 
-pub operator_exact : (r : Precedence) → Exact nowhere (operated r) (operator r)
-operator_exact r = taken_exact (operator_from r) (operated r) refl (λ t o h. (t, refl, h)) (λ ts o h. h)
+-- ---- one sign
+
+-- a token that is a sign is written so
+pub sign_is : (s : Sign) (t : Token) → is_sign s t ≡ true → t ≡ sign_token s
+sign_is (mark m) (token.Punctuation n) h = ap token.Punctuation (same_true the_type (search rules) n m h)
+sign_is (mark m) (token.Number n) h = let bad : ⊥ = cc in absurd bad
+sign_is (mark m) (token.Text bytes) h = let bad : ⊥ = cc in absurd bad
+sign_is (mark m) (token.Name name) h = let bad : ⊥ = cc in absurd bad
+sign_is (mark m) (token.Occurrence place attr) h = let bad : ⊥ = cc in absurd bad
+sign_is (word m) (token.Name n) h = ap token.Name ((bytes_eq-Decides n m).0 h)
+sign_is (word m) (token.Number n) h = let bad : ⊥ = cc in absurd bad
+sign_is (word m) (token.Text bytes) h = let bad : ⊥ = cc in absurd bad
+sign_is (word m) (token.Occurrence place attr) h = let bad : ⊥ = cc in absurd bad
+sign_is (word m) (token.Punctuation n) h = let bad : ⊥ = cc in absurd bad
+
+pub sign_same : (s : Sign) → is_sign s (sign_token s) ≡ true
+sign_same (mark m) = true_same the_type m m refl
+sign_same (word name) = (bytes_eq-Decides name name).1 refl
+
+pub means_sign : (s : Sign) → as_sign s (sign_token s) ≡ Some tt
+means_sign s = rw (sign_same s) refl
+
+pub spelled_is : (s : Sign) (ts : List Token) (a : Unit {0}) → token_as (as_sign s) ts a → spelled s ts a
+spelled_is s ts a (t, e, means) = go (is_sign s t) refl means
+  where
+    go : (b : Bool) → is_sign s t ≡ b → (if b then Some (tt {0}) else None) ≡ Some a → ts ≡ sign_token s ∷ []
+    go true is h = e ∙ ap (λ u. u ∷ []) (sign_is s t is)
+    go false is h = let bad : ⊥ = cc in absurd bad
+
+pub sign_exact : (s : Sign) → Exact nowhere (spelled s) (expect s)
+sign_exact s =
+    let x = token_exact (as_sign s) in
+    record { sound = λ i j a h. let one = x.sound i j a h in (one.0, one.1, spelled_is s (tokens one.0) a one.2); complete = λ us j a is h. x.complete us j a (sign_token s, is, means_sign s) h }
 
 -- ---- first tokens
 
 pub then_starts : {A B : Type 0} {test : Token → Bool} {R : List Token → A → Type 0} {S : A → List Token → B → Type 0} → Starts test R → Starts test (syntax.◌>>=◌ R S)
 then_starts {A} {B} {test} {R} {S} x = record { leads = λ ts b (us, vs, a, e, is, later). subst (Leads test) (sym e) (leads-append test us vs (x.leads us a is)) }
 
-pub starts_with : {B : Type 0} {S : Unit {0} → List Token → B → Type 0} (s : Punctuation) → Starts (is_mark s) (syntax.◌>>=◌ (spelled s) S)
-starts_with s = then_starts (record { leads = λ ts a e. subst (Leads (is_mark s)) (sym e) (true_same the_type s s refl) })
+pub starts_with : {B : Type 0} {S : Unit {0} → List Token → B → Type 0} (s : Sign) → Starts (is_sign s) (syntax.◌>>=◌ (spelled s) S)
+starts_with s = then_starts (record { leads = λ ts a e. subst (Leads (is_sign s)) (sym e) (sign_same s) })
+
+pub token_starts : {A : Type 0} (meaning : Token → Option A) → Starts (λ t. is_some (meaning t)) (token_as meaning)
+token_starts meaning = record { leads = λ ts a (t, e, h). subst (Leads (λ t. is_some (meaning t))) (sym e) (rw h refl) }
 
 pub or_starts : {A : Type 0} {these those : Token → Bool} {L M : List Token → A → Type 0} → Starts these L → Starts those M → Starts (λ t. these t || those t) (syntax.◌or◌ L M)
 or_starts {A} {these} {those} {L} {M} x y = record { leads = first }

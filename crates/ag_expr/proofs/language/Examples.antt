@@ -10,7 +10,7 @@ use Rattle.ag_expr.specs.language.Token.{Token}
 use Rattle.ag_expr.specs.language.Token as token
 use Rattle.ag_expr.specs.language.Tokens.{AreTokens, ended, separator}
 use Rattle.ag_expr.specs.language.Lexing.{token_from}
-use Rattle.ag_expr.specs.language.Reading.{expr_of, expr_from, ranked_from, chain_from, other_from, atom_from, many_from}
+use Rattle.ag_expr.specs.language.Reading.{expr_of, expr_in, whole_from, ranked_from, chain_from, other_from, atom_from, many_from}
 use Rattle.ag_expr.specs.language.Expression.{ReadsAsExpr}
 use Rattle.ag_expr.specs.language.Worked.{placed, sum_and_product}
 use Rattle.ag_expr.proofs.language.Agree as agree
@@ -62,7 +62,7 @@ are_sum_tokens =
     one_more 0 (codes "2 + 3 * 4") (number 2) (codes " + 3 * 4") _ 9 [] (cut_numbers (codes "+ 3 * 4")).0 (separator 1 32 (codes "+ 3 * 4") _ 9 [] refl two)
 
 sum_is_parsed : expr_of [] 64 (record { left = sum_tokens; ending = ending.EndsAt 9 }) ≡ Ok (sum_and_product, record { left = []; ending = ending.EndsAt 9 })
-unfolding sum_tokens expr_of expr_from ranked_from chain_from other_from atom_from many_from
+unfolding sum_tokens expr_of expr_in whole_from ranked_from chain_from other_from atom_from many_from
 sum_is_parsed = refl
 
 sum_characters : chars (codes "2 + 3 * 4") ≡ codes "2 + 3 * 4"

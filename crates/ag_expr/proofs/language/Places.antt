@@ -1,7 +1,9 @@
 -- The first token that can't be taken: what stands before it is the beginning of an expression, and with it of none.
-use Rattle.std.proofs.Common.{◌≡◌, ℕ, zero, suc, ◌+◌, pos, Bool, true, false, if◌then◌else◌, ◌||◌, List, [], ◌∷◌, ◌++◌, Option, Some, None, is_some, Ok, Err, ◌⊎◌, inl, inr, refl, ap, sym, ◌∙◌, subst, append_assoc, append-nil, arith}
+use Rattle.std.proofs.Common.{◌≡◌, ℕ, zero, suc, ◌+◌, pos, Bool, true, false, if◌then◌else◌, ◌||◌, List, [], ◌∷◌, ◌++◌, Option, Some, None, is_some, Ok, Err, ◌⊎◌, inl, inr, refl, ap, sym, ◌∙◌, subst, append_assoc, append-nil, arith, codes, bytes_eq, cond, not}
 use Rattle.ag_expr.specs.declared.fault.ExprFault.{ExprFault}
 use Rattle.ag_expr.specs.declared.fault.ExprFault.TheVariants as fault
+use Rattle.ag_expr.specs.declared.names.Call.{Call}
+use Rattle.ag_expr.specs.declared.names.Call.TheVariants as call
 use Rattle.ag_expr.specs.declared.node.Operator.{Operator}
 use Rattle.ag_expr.specs.declared.node.Operator.TheVariants as operator
 use Rattle.ag_expr.specs.declared.node.Node.{Node}
@@ -10,123 +12,256 @@ use Rattle.ag_value.specs.declared.value.Value.TheVariants as value
 use Rattle.ag_expr.specs.declared.occurrence.Occ.{Occ}
 use Rattle.ag_expr.specs.declared.parser.Precedence.{Precedence}
 use Rattle.ag_expr.specs.declared.parser.Precedence.TheVariants as precedence
-use Rattle.ag_expr.specs.declared.token.Punctuation.{Punctuation}
 use Rattle.ag_expr.specs.declared.token.Punctuation.TheVariants as punctuation
 use Rattle.ag_expr.specs.language.Ending.{Ending}
 use Rattle.ag_expr.specs.language.Ending as ending
 use Rattle.ag_expr.specs.language.Expression.{begins_expression}
 use Rattle.ag_expr.specs.language.Laws.{RefusesAtTheFirst}
+use Rattle.ag_expr.specs.language.Names.{Names, call_of, is_reserved}
 use Rattle.ag_expr.specs.language.Placed.{Placed, Input, tokens}
 use Rattle.ag_expr.specs.language.Places.{NoneGoesOn, IsToldFirst}
 use Rattle.ag_expr.specs.language.Reading as reading
-use Rattle.ag_expr.specs.language.Reading.{Outcome, Parser, front, front_of, front_is, sees, refusal, refusal_of, is_end, at_end, as_mark, expect, is_mark, is_operator_of, operator_from, operand_from, other_from, chain_from, ranked_from, begins, alone_from, parenthesized_from, atom_from, no_level_of, expr_from, expr_of}
-use Rattle.ag_expr.specs.language.Syntax.{spelled, operated, operand_of, by_itself, none, precedences, chained, IsOther, IsChain, IsRanked, IsParenthesized, IsAtom, IsExpr}
-use Rattle.ag_expr.specs.language.Token.{Token}
+use Rattle.ag_expr.specs.language.Reading.{Outcome, Parser, front, front_of, front_is, sees, refusal, refusal_of, is_end, at_end, expect, is_sign, is_call, is_operand, is_operator_of, choose, begins, begins_atom, other_from, chain_from, ranked_from, none_from, table_from, parenthesized_from, next_from, items_from, some_from, list_from, unary_from, binary_from, put_from, arguments_from, call_from, let_from, if_from, atom_from, whole_from, no_level_of, expr_from, expr_in, expr_of}
+use Rattle.ag_expr.specs.language.Syntax as syntax
+use Rattle.ag_expr.specs.language.Syntax.{gives, spelled, token_as, ◌or◌, none, further, IsFew, operator_of, precedences, takes_one, chained, new_name, call_in, operand_of, bound_in, IsOther, IsChain, IsRanked, AreNone, IsTable, IsParenthesized, IsNext, AreSome, IsList, AreArguments, IsCall, IsLet, IsIf, IsAtom, IsWhole, IsExpr, IsExprIn}
+use Rattle.ag_expr.specs.language.Token.{Token, Sign, mark, word, sign_token}
 use Rattle.ag_expr.specs.language.Token as token
-use Rattle.ag_expr.proofs.language.Exact.{tokens-append, answered, before, Exact, nowhere, mark_is, neither}
-use Rattle.ag_expr.proofs.language.Agree.{AllApart, other_exact, operated_starts, ranked_exact, all_apart, atom_exact, expr_exact, shortens}
-use Rattle.ag_expr.proofs.language.Steady.{Steady, Heads, Refused, Stuck, Deep, then_steady, or_steady, ends_steady, taken_steady, many_steady}
+use Rattle.ag_expr.proofs.language.Exact.{tokens-append, answered, before, Exact, Starts, nowhere, neither, sign_is}
+use Rattle.ag_expr.proofs.language.Agree.{AllApart, operators, other_exact, other_starts, ranked_exact, all_apart, next_exact, next_starts, atom_exact, expr_exact, expr_starts, shortens}
+use Rattle.ag_expr.proofs.language.Steady.{Steady, Heads, Refused, Stuck, Deep, then_steady, or_steady, ends_steady, token_steady, sign_steady, further_steady}
 
-mark_steady : (s : Punctuation) → Steady (spelled s) (expect s) (expect s)
-mark_steady s = taken_steady (as_mark s) (spelled s) refl (mark_is s) (token.Punctuation s ∷ []) tt refl
+-- ---- chains
 
-an_operator : (k : Precedence) → (w : List Token) × (o : Operator) × operated k w o
-an_operator precedence.Sum = (token.Punctuation punctuation.Plus ∷ [], operator.Add, (token.Punctuation punctuation.Plus, refl, refl))
-an_operator precedence.Product = (token.Punctuation punctuation.Times ∷ [], operator.Multiply, (token.Punctuation punctuation.Times, refl, refl))
-
-operator_steady : (k : Precedence) → Steady (operated k) (reading.operator k) (reading.operator k)
-operator_steady k = let w = an_operator k in taken_steady (operator_from k) (operated k) refl (λ t o h. (t, refl, h)) w.0 w.1 w.2
+an_operator : (k : Precedence) → (t : Token) × (o : Operator) × (operator_of k t ≡ Some o)
+an_operator precedence.Comparison = (token.Punctuation punctuation.Less, operator.Less, refl)
+an_operator precedence.Join = (token.Punctuation punctuation.Join, operator.Join, refl)
+an_operator precedence.Sum = (token.Punctuation punctuation.Plus, operator.Add, refl)
+an_operator precedence.Product = (token.Punctuation punctuation.Times, operator.Multiply, refl)
 
 other_steady : (k : Precedence) {L : List Token → Node → Type 0} {r q : Parser Node} → Steady L r q → Steady (IsOther k L) (other_from k r) (other_from k q)
 unfolding other_from
-other_steady k x = then_steady (operator_steady k) (λ o. ends_steady (λ e. (o, e)) x)
+other_steady k x = let w = an_operator k in then_steady (token_steady (operator_of k) w.0 w.1 w.2) (λ o. ends_steady (λ e. (o, e)) x)
 
 chain_steady : (k : Precedence) {stops : Token → Bool} {L M : List Token → Node → Type 0} {r q : Parser Node} → Steady M r q → Exact stops L r → Exact stops M q → Steady (IsChain k M) (chain_from k r) (chain_from k q)
 unfolding chain_from
-chain_steady k {stops} {L} {M} x y z = then_steady x (λ first. ends_steady (chained first) (many_steady (is_operator_of k) (other_steady k x) (shortens (other_exact k y) (operated_starts k L)) (shortens (other_exact k z) (operated_starts k M))))
+chain_steady k {stops} {L} {M} x y z = then_steady x (λ first. ends_steady (chained first) (further_steady (takes_one k) (is_operator_of k) [] (other_steady k x) (shortens (other_exact k y) (other_starts k L)) (shortens (other_exact k z) (other_starts k M))))
 
 ranked_steady : {L M : List Token → Node → Type 0} {r q : Parser Node} → Steady M r q → Exact nowhere L r → Exact nowhere M q → (ks : List Precedence) → AllApart ks → Steady (IsRanked M ks) (ranked_from r ks) (ranked_from q ks)
 unfolding ranked_from
 ranked_steady x y z [] a = x
 ranked_steady x y z (k ∷ ks) a = chain_steady k (ranked_steady x y z ks a.1) (ranked_exact y ks a.1) (ranked_exact z ks a.1)
 
-parenthesized_steady : {L : List Token → Node → Type 0} {r q : Parser Node} → Steady L r q → Steady (IsParenthesized L) (parenthesized_from r) (parenthesized_from q)
-unfolding parenthesized_from
-parenthesized_steady x = then_steady (mark_steady punctuation.Open) (λ u. then_steady x (λ e. ends_steady (λ u. e) (mark_steady punctuation.Close)))
+-- ---- expressions
 
-alone_steady : (listed : List Occ) → Steady (by_itself listed) (alone_from listed) (alone_from listed)
-alone_steady listed = taken_steady (operand_from listed) (by_itself listed) refl (λ t e h. (t, refl, h)) (token.Number (pos 0) ∷ []) (node.Literal (value.Num (pos 0))) (token.Number (pos 0), refl, refl)
+none_steady : Steady AreNone none_from none_from
+unfolding none_from
+none_steady = ends_steady (λ u. node.List []) (sign_steady (mark punctuation.CloseList))
 
-atom_steady : (listed : List Occ) {L : List Token → Node → Type 0} {r q : Parser Node} → Steady L r q → Steady (IsAtom listed L) (atom_from listed r) (atom_from listed q)
-unfolding atom_from
-atom_steady listed x = or_steady (parenthesized_steady x) (alone_steady listed)
+table_steady : Steady IsTable table_from table_from
+unfolding table_from
+table_steady = then_steady (sign_steady (mark punctuation.OpenTable)) (λ u. ends_steady (λ u. node.EmptyTable) (sign_steady (mark punctuation.CloseTable)))
 
--- ---- words, and first tokens
+module _ (listed : List Occ)
+    (inner outer : Names → List Token → Node → Type 0) (r q : Names → Parser Node)
+    (y : (scope : Names) → Exact operators (inner scope) (r scope)) (ys : (scope : Names) → Starts (begins listed scope) (inner scope))
+    (z : (scope : Names) → Exact operators (outer scope) (q scope)) (zs : (scope : Names) → Starts (begins listed scope) (outer scope))
+    (x : (scope : Names) → Steady (outer scope) (r scope) (q scope)) (scope : Names) where
+  closed : {R : List Token → Node → Type 0} {s t : Parser Node} (m : Sign) (f : Node → Node) → Steady R s t
+      → Steady (syntax.◌>>=◌ R (λ e. syntax.◌>>◌ (spelled m) (gives (f e)))) (reading.◌>>=◌ s (λ e. reading.◌>>◌ (expect m) (reading.pure (f e)))) (reading.◌>>=◌ t (λ e. reading.◌>>◌ (expect m) (reading.pure (f e))))
+  closed m f s = then_steady s (λ e. ends_steady (λ u. f e) (sign_steady m))
 
-abbrev zero_token : Token
-zero_token = token.Number (pos 0)
+  parenthesized_steady : Steady (IsParenthesized outer scope) (parenthesized_from r scope) (parenthesized_from q scope)
+  unfolding parenthesized_from
+  parenthesized_steady = then_steady (sign_steady (mark punctuation.Open)) (λ u. closed (mark punctuation.Close) (λ e. e) (x scope))
 
-abbrev zero_node : Node
-zero_node = node.Literal (value.Num (pos 0))
+  next_steady : Steady (IsNext outer scope) (next_from r scope) (next_from q scope)
+  unfolding next_from
+  next_steady = then_steady (sign_steady (mark punctuation.Comma)) (λ u. x scope)
+
+  some_steady : Steady (AreSome outer scope) (some_from r scope) (some_from q scope)
+  unfolding some_from items_from
+  some_steady =
+      then_steady (x scope) (λ first. then_steady (further_steady false (is_sign (mark punctuation.Comma)) (first ∷ []) next_steady
+      (shortens (next_exact listed inner r y ys scope) (next_starts listed inner scope)) (shortens (next_exact listed outer q z zs scope) (next_starts listed outer scope)))
+      (λ items. ends_steady (λ u. node.List items) (sign_steady (mark punctuation.CloseList))))
+
+  list_steady : Steady (IsList outer scope) (list_from r scope) (list_from q scope)
+  unfolding list_from
+  list_steady = then_steady (sign_steady (mark punctuation.OpenList)) (λ u. or_steady none_steady some_steady)
+
+  arguments_steady : (c : Call) → Steady (AreArguments outer scope c) (arguments_from r scope c) (arguments_from q scope c)
+  unfolding unary_from binary_from put_from
+  arguments_steady (call.Unary c) = closed (mark punctuation.Close) (node.Unary c) (x scope)
+  arguments_steady (call.Binary c) = then_steady (x scope) (λ a. closed (mark punctuation.Close) (node.Binary c a) next_steady)
+  arguments_steady call.Put = then_steady (x scope) (λ t. then_steady next_steady (λ k. closed (mark punctuation.Close) (node.Put t k) next_steady))
+
+  call_steady : Steady (IsCall outer scope) (call_from r scope) (call_from q scope)
+  unfolding call_from
+  call_steady = then_steady (token_steady call_in (token.Name (codes "put")) call.Put refl) (λ c. then_steady (sign_steady (mark punctuation.Open)) (λ u. arguments_steady c))
+
+  atom_steady : Steady (IsAtom outer scope listed) (atom_from r scope listed) (atom_from q scope listed)
+  unfolding atom_from
+  atom_steady = or_steady parenthesized_steady (or_steady list_steady (or_steady table_steady (or_steady call_steady (token_steady (operand_of listed scope) (token.Number (pos 0)) (node.Literal (value.Num (pos 0))) refl))))
+
+  let_steady : Steady (IsLet outer scope) (let_from r scope) (let_from q scope)
+  unfolding let_from
+  let_steady = then_steady (sign_steady (word (codes "let"))) (λ u. then_steady (token_steady new_name (token.Name []) [] refl) (λ name. then_steady (sign_steady (mark punctuation.Equal)) (λ u. then_steady (x scope)
+      (λ e. then_steady (sign_steady (word (codes "in"))) (λ u. ends_steady (node.Let e) (x (scope ++ name ∷ [])))))))
+
+  if_steady : Steady (IsIf outer scope) (if_from r scope) (if_from q scope)
+  unfolding if_from
+  if_steady = then_steady (sign_steady (word (codes "if"))) (λ u. then_steady (x scope) (λ c. then_steady (sign_steady (word (codes "then"))) (λ u. then_steady (x scope)
+      (λ e. then_steady (sign_steady (word (codes "else"))) (λ u. ends_steady (node.If c e) (x scope))))))
+
+  whole_steady : Steady (IsWhole outer scope listed) (whole_from r scope listed) (whole_from q scope listed)
+  unfolding whole_from
+  whole_steady = or_steady let_steady (or_steady if_steady (ranked_steady atom_steady (atom_exact listed inner r y ys scope) (atom_exact listed outer q z zs scope) precedences (all_apart precedences refl)))
+
+-- ---- words, and words for each first token
+
+pub record Word {A : Type 0} (L : List Token → A → Type 0) : Type 0 where
+  pub ts : List Token
+  pub a : A
+  pub is : L ts a
+
+pub record Covers {A : Type 0} (test : Token → Bool) (L : List Token → A → Type 0) : Type 0 where
+  pub from : (t : Token) → test t ≡ true → (rest : List Token) × (a : A) × L (t ∷ rest) a
+
+gives_word : {A : Type 0} (a : A) → Word (gives a)
+gives_word a = record { ts = []; a = a; is = (refl, refl) }
+
+sign_word : (s : Sign) → Word (spelled s)
+sign_word s = record { ts = sign_token s ∷ []; a = tt; is = refl }
+
+then_word : {A B : Type 0} {R : List Token → A → Type 0} {S : A → List Token → B → Type 0} → Word R → ((a : A) → Word (S a)) → Word (syntax.◌>>=◌ R S)
+then_word w v = let u = v w.a in record { ts = w.ts ++ u.ts; a = u.a; is = (w.ts, u.ts, w.a, refl, w.is, u.is) }
+
+further_word : {A : Type 0} (one : Bool) (found : List A) (L : List Token → A → Type 0) → Word (further one found L)
+further_word true found L = record { ts = []; a = found ++ []; is = ([], none, omega arith, refl) }
+further_word false found L = record { ts = []; a = found ++ []; is = ([], none, tt, refl) }
+
+sign_covers : (s : Sign) → Covers (is_sign s) (spelled s)
+sign_covers s = record { from = λ t h. ([], tt, ap (λ u. u ∷ []) (sign_is s t h)) }
+
+token_covers : {A : Type 0} (meaning : Token → Option A) → Covers (λ t. is_some (meaning t)) (token_as meaning)
+token_covers {A} meaning = record { from = λ t h. go t (meaning t) refl h }
+  where
+    go : (t : Token) (o : Option A) → meaning t ≡ o → is_some o ≡ true → (rest : List Token) × (a : A) × token_as meaning (t ∷ rest) a
+    go t (Some a) e h = ([], a, (t, refl, e))
+    go t None e h = let bad : ⊥ = cc in absurd bad
+
+then_covers : {A B : Type 0} {test : Token → Bool} {R : List Token → A → Type 0} {S : A → List Token → B → Type 0} → Covers test R → ((a : A) → Word (S a)) → Covers test (syntax.◌>>=◌ R S)
+then_covers x v = record { from = λ t h. let one = x.from t h in let u = v one.1 in (one.0 ++ u.ts, u.a, (t ∷ one.0, u.ts, one.1, refl, one.2, u.is)) }
+
+or_covers : {A : Type 0} {these those : Token → Bool} {L M : List Token → A → Type 0} → Covers these L → Covers those M → Covers (λ t. these t || those t) (L or M)
+or_covers {A} {these} {those} {L} {M} x y = record { from = λ t h. go t (these t) refl h }
+  where
+    go : (t : Token) (b : Bool) → these t ≡ b → (b || those t) ≡ true → (rest : List Token) × (a : A) × (L or M) (t ∷ rest) a
+    go t true e h = let one = x.from t e in (one.0, one.1, inl one.2)
+    go t false e h = let one = y.from t h in (one.0, one.1, inr one.2)
+
+ranked_covers : {test : Token → Bool} {L : List Token → Node → Type 0} → Covers test L → (ks : List Precedence) → Covers test (IsRanked L ks)
+ranked_covers x [] = x
+ranked_covers x (k ∷ ks) = then_covers (ranked_covers x ks) (λ first. then_word (further_word (takes_one k) [] _) (λ others. gives_word (chained first others)))
+
+module _ (listed : List Occ) (inner : Names → List Token → Node → Type 0) (w : (scope : Names) → Word (inner scope)) (scope : Names) where
+  next_word : Word (IsNext inner scope)
+  next_word = then_word (sign_word (mark punctuation.Comma)) (λ u. w scope)
+
+  closed_word : {R : List Token → Node → Type 0} (f : Node → Node) → Word R → Word (syntax.◌>>=◌ R (λ e. syntax.◌>>◌ (spelled (mark punctuation.Close)) (gives (f e))))
+  closed_word f v = then_word v (λ e. then_word (sign_word (mark punctuation.Close)) (λ u. gives_word (f e)))
+
+  arguments_word : (c : Call) → Word (AreArguments inner scope c)
+  arguments_word (call.Unary c) = closed_word (node.Unary c) (w scope)
+  arguments_word (call.Binary c) = then_word (w scope) (λ a. closed_word (node.Binary c a) next_word)
+  arguments_word call.Put = then_word (w scope) (λ t. then_word next_word (λ k. closed_word (node.Put t k) next_word))
+
+  list_word : Word (AreNone or AreSome inner scope)
+  list_word = let v = then_word (sign_word (mark punctuation.CloseList)) (λ u. gives_word (node.List [])) in record { ts = v.ts; a = v.a; is = inl v.is }
+
+  atom_covers : Covers (begins_atom listed scope) (IsAtom inner scope listed)
+  atom_covers = or_covers (then_covers (sign_covers (mark punctuation.Open)) (λ u. closed_word (λ e. e) (w scope)))
+      (or_covers (then_covers (sign_covers (mark punctuation.OpenList)) (λ u. list_word))
+      (or_covers (then_covers (sign_covers (mark punctuation.OpenTable)) (λ u. then_word (sign_word (mark punctuation.CloseTable)) (λ u. gives_word node.EmptyTable)))
+      (or_covers (then_covers (token_covers call_in) (λ c. then_word (sign_word (mark punctuation.Open)) (λ u. arguments_word c))) (token_covers (operand_of listed scope)))))
+
+  let_covers : Covers (is_sign (word (codes "let"))) (IsLet inner scope)
+  let_covers = then_covers (sign_covers (word (codes "let"))) (λ u. then_word (record { ts = token.Name [] ∷ []; a = []; is = (token.Name [], refl, refl) }) (λ name. then_word (sign_word (mark punctuation.Equal)) (λ u. then_word (w scope)
+      (λ e. then_word (sign_word (word (codes "in"))) (λ u. then_word (w (scope ++ name ∷ [])) (λ f. gives_word (node.Let e f)))))))
+
+  if_covers : Covers (is_sign (word (codes "if"))) (IsIf inner scope)
+  if_covers = then_covers (sign_covers (word (codes "if"))) (λ u. then_word (w scope) (λ c. then_word (sign_word (word (codes "then"))) (λ u. then_word (w scope)
+      (λ e. then_word (sign_word (word (codes "else"))) (λ u. then_word (w scope) (λ f. gives_word (node.If c e f)))))))
+
+  whole_covers : Covers (begins listed scope) (IsWhole inner scope listed)
+  whole_covers = or_covers let_covers (or_covers if_covers (ranked_covers atom_covers precedences))
 
 ranked_word : (L : List Token → Node → Type 0) (ts : List Token) (e : Node) → L ts e → (ks : List Precedence) → IsRanked L ks ts e
 ranked_word L ts e is [] = is
-ranked_word L ts e is (k ∷ ks) = (ts, [], e, sym (append-nil ts), ranked_word L ts e is ks, ([], [], [], refl, none, (refl, refl)))
-
-operand_word : (listed : List Occ) (levels : ℕ) (ts : List Token) (e : Node) → IsAtom listed (IsExpr listed levels) ts e → IsExpr listed (suc levels) ts e
-unfolding IsExpr
-operand_word listed levels ts e is = ranked_word (IsAtom listed (IsExpr listed levels)) ts e is precedences
-
-a_number : (listed : List Occ) (levels : ℕ) → IsExpr listed (suc levels) (zero_token ∷ []) zero_node
-a_number listed levels = operand_word listed levels (zero_token ∷ []) zero_node (inr (zero_token, refl, refl))
-
-abbrev BeginsWith : List Occ → ℕ → Token → Type 0
-BeginsWith listed levels t = (rest : List Token) × (e : Node) × IsExpr listed levels (t ∷ rest) e
-
-open_begins : (listed : List Occ) (levels : ℕ) → BeginsWith listed (suc (suc levels)) (token.Punctuation punctuation.Open)
-open_begins listed levels =
-    let close = token.Punctuation punctuation.Close ∷ [] in
-    let word : IsParenthesized (IsExpr listed (suc levels)) (token.Punctuation punctuation.Open ∷ zero_token ∷ close) zero_node =
-    (token.Punctuation punctuation.Open ∷ [], zero_token ∷ close, tt, refl, refl, (zero_token ∷ [], close, zero_node, refl, a_number listed levels, (close, [], tt, refl, refl, (refl, refl)))) in
-    (zero_token ∷ close, zero_node, operand_word listed (suc levels) _ zero_node (inl word))
-
-begun : (listed : List Occ) (levels : ℕ) (t : Token) → begins listed t ≡ true → BeginsWith listed (suc (suc levels)) t
-begun listed levels t h = go (is_mark punctuation.Open t) refl (operand_of listed t) refl h
+ranked_word L ts e is (k ∷ ks) = (ts, [], e, sym (append-nil ts), ranked_word L ts e is ks, ([], [], [], refl, ([], none, few (takes_one k), refl), (refl, refl)))
   where
-    go : (b : Bool) → is_mark punctuation.Open t ≡ b → (o : Option Node) → operand_of listed t ≡ o → (b || is_some o) ≡ true → BeginsWith listed (suc (suc levels)) t
-    go true b o e h =
-        let same : as_mark punctuation.Open (Some t) ≡ Some tt = rw b refl in
-        let is : t ∷ [] ≡ token.Punctuation punctuation.Open ∷ [] = mark_is punctuation.Open t tt same in
-        let one : t ≡ token.Punctuation punctuation.Open = cc in
-        rw one (open_begins listed levels)
-    go false b (Some n) e h = ([], n, operand_word listed (suc levels) (t ∷ []) n (inr (t, refl, e)))
-    go false b None e h = let bad : ⊥ = cc in absurd bad
+    few : (one : Bool) → IsFew one 0
+    few true = omega arith
+    few false = tt
 
-begins_one : (listed : List Occ) (t : Token) → begins listed t ≡ true → begins_expression t ≡ true
-begins_one listed (token.Number n) h = refl
-begins_one listed (token.Occurrence place attr) h = refl
-begins_one listed (token.Text bytes) h = let bad : ⊥ = cc in absurd bad
-begins_one listed (token.Name name) h = let bad : ⊥ = cc in absurd bad
-begins_one listed (token.Punctuation punctuation.Open) h = refl
-begins_one listed (token.Punctuation _) h = let bad : ⊥ = cc in absurd bad
+a_number : (listed : List Occ) (levels : ℕ) (scope : Names) → Word (IsExprIn listed (suc levels) scope)
+unfolding IsExprIn
+a_number listed levels scope = record { ts = token.Number (pos 0) ∷ []; a = node.Literal (value.Num (pos 0)); is = inr (inr (ranked_word _ _ _ (inr (inr (inr (inr (token.Number (pos 0), refl, refl))))) precedences)) }
 
-no_operand : (o : Option Node) → is_some o ≡ false → o ≡ None
-no_operand None h = refl
-no_operand (Some n) h = let bad : ⊥ = cc in absurd bad
+begun : (listed : List Occ) (levels : ℕ) (scope : Names) → Covers (begins listed scope) (IsExprIn listed (suc (suc levels)) scope)
+unfolding IsExprIn
+begun listed levels scope = whole_covers listed (IsExprIn listed (suc levels)) (a_number listed levels) scope
 
-unseen : (listed : List Occ) (o : Option Token) → front_is (begins listed) o ≡ false → (front_is (is_mark punctuation.Open) o ≡ false) × (operand_from listed o ≡ None)
-unseen listed None h = (refl, refl)
-unseen listed (Some t) h = let a = neither (is_mark punctuation.Open t) _ h in (a.0, no_operand (operand_of listed t) a.1)
+-- ---- what is refused at its first token
 
-ranked_refused : (l : Parser Node) (i : Input) (f : ExprFault) → l i ≡ Err f → (ks : List Precedence) → ranked_from l ks i ≡ Err f
+pub record Refuses {A : Type 0} (test : Token → Bool) (r : Parser A) : Type 0 where
+  pub at : (k : Input) → sees test k ≡ false → r k ≡ Err (refusal k)
+
+token_refuses : {A : Type 0} (meaning : Token → Option A) → Refuses (λ t. is_some (meaning t)) (reading.token_as meaning)
+token_refuses {A} meaning = record { at = λ k h. go k (front k) h }
+  where
+    none_of : (o : Option A) → is_some o ≡ false → o ≡ None
+    none_of None h = refl
+    none_of (Some a) h = let bad : ⊥ = cc in absurd bad
+
+    go : (k : Input) (o : Option Token) → front_is (λ t. is_some (meaning t)) o ≡ false → reading.taken (reading.front_as meaning o) k ≡ Err (refusal k)
+    go k None h = refl
+    go k (Some t) h = rw (none_of (meaning t) h) refl
+
+choose_refuses : {A : Type 0} {these those : Token → Bool} {l m : Parser A} → Refuses those m → Refuses (λ t. these t || those t) (choose these l m)
+choose_refuses {A} {these} {those} {l} {m} x = record { at = λ k h. go k (front k) refl h }
+  where
+    go : (k : Input) (o : Option Token) → front k ≡ o → front_is (λ t. these t || those t) o ≡ false → choose these l m k ≡ Err (refusal k)
+    go k None e h = rw e (x.at k (ap (front_is those) e))
+    go k (Some t) e h = let both = neither (these t) (those t) h in rw (e, both.0) (x.at k (ap (front_is those) e ∙ both.1))
+
+ranked_refuses : {test : Token → Bool} {l : Parser Node} → Refuses test l → (ks : List Precedence) → Refuses test (ranked_from l ks)
 unfolding ranked_from chain_from
-ranked_refused l i f e [] = e
-ranked_refused l i f e (k ∷ ks) = let inner = ranked_refused l i f e ks in rw inner refl
+ranked_refuses x [] = x
+ranked_refuses x (k ∷ ks) = record { at = λ i h. let one = (ranked_refuses x ks).at i h in rw one refl }
 
 -- what an expression can't begin with is refused
-refused_first : (listed : List Occ) (levels : ℕ) (k : Input) → sees (begins listed) k ≡ false → expr_from listed (suc levels) k ≡ Err (refusal k)
-unfolding expr_from atom_from
-refused_first listed levels k h = let none_of = unseen listed (front k) h in ranked_refused (atom_from listed (expr_from listed levels)) k (refusal k) (rw (none_of.0, none_of.1) refl) precedences
+refused_first : (listed : List Occ) (levels : ℕ) (scope : Names) → Refuses (begins listed scope) (expr_in listed (suc levels) scope)
+unfolding expr_in whole_from atom_from
+refused_first listed levels scope = choose_refuses (choose_refuses (ranked_refuses (choose_refuses (choose_refuses (choose_refuses (choose_refuses (token_refuses (operand_of listed scope)))))) precedences))
+
+-- what one begins with among these occurrences and names, one can begin with
+begins_one : (listed : List Occ) (scope : Names) (t : Token) → begins listed scope t ≡ true → begins_expression t ≡ true
+begins_one listed scope (token.Number n) h = refl
+begins_one listed scope (token.Text bytes) h = refl
+begins_one listed scope (token.Name name) h = go (bytes_eq name (codes "let")) (bytes_eq name (codes "if")) (is_some (call_of name)) (is_reserved name) (bound_in scope name) h
+  where
+    go : (a b c reserved : Bool) (o : Option Node) → (a || (b || (c || is_some (cond reserved None o)))) ≡ true → (not reserved || (a || (b || c))) ≡ true
+    go a b c false o h = refl
+    go true b c true o h = refl
+    go false true c true o h = refl
+    go false false true true o h = refl
+    go false false false true o h = let bad : ⊥ = cc in absurd bad
+begins_one listed scope (token.Occurrence place attr) h = refl
+begins_one listed scope (token.Punctuation punctuation.Open) h = refl
+begins_one listed scope (token.Punctuation punctuation.OpenList) h = refl
+begins_one listed scope (token.Punctuation punctuation.OpenTable) h = refl
+begins_one listed scope (token.Punctuation _) h = let bad : ⊥ = cc in absurd bad
 
 -- ---- by levels
 
@@ -139,27 +274,30 @@ above-sum : (d n : ℕ) → above d n ≡ suc (suc (d + n))
 above-sum d zero = omega arith
 above-sum d (suc n) = let e = above-sum d n in omega arith
 
-expr_steady : (listed : List Occ) (d n : ℕ) → Steady (IsExpr listed (above d n)) (expr_from listed n) (expr_from listed (above d n))
-unfolding expr_from IsExpr
-expr_steady listed d zero = record { at = λ i. record { ok = λ j a h. (let bad : ⊥ = cc in absurd bad); err = λ f h. (let same : f ≡ no_level_of listed i.ending i.left = cc in go i.left i.ending f same) }; word = (zero_token ∷ [], zero_node, a_number listed (suc d)) }
+expr_steady : (listed : List Occ) (d n : ℕ) (scope : Names) → Steady (IsExprIn listed (above d n) scope) (expr_in listed n scope) (expr_in listed (above d n) scope)
+unfolding expr_in IsExprIn
+expr_steady listed d zero scope = record { at = λ i. record { ok = λ j a h. (let bad : ⊥ = cc in absurd bad); err = λ f h. (let same : f ≡ no_level_of listed scope i.ending i.left = cc in go i.left i.ending f same) }; word = (number.ts, number.a, number.is) }
   where
-    stuck : (i : Input) (f : ExprFault) → f ≡ refusal i → sees (begins listed) i ≡ false → Refused (IsExpr listed (above d 0)) (expr_from listed 0) (expr_from listed (above d 0)) i f
-    stuck i f same unlike = record { us = []; j = i; cut = refl; rest = zero_token ∷ []; a = zero_node; begins = a_number listed (suc d); how = inl (same, λ k fr. refused_first listed (suc d) k (ap (front_is (begins listed)) fr ∙ unlike)) }
+    number : Word (IsExprIn listed (above d 0) scope)
+    number = a_number listed (suc d) scope
 
-    go : (ps : List Placed) (e : Ending) (f : ExprFault) → f ≡ no_level_of listed e ps → Refused (IsExpr listed (above d 0)) (expr_from listed 0) (expr_from listed (above d 0)) (record { left = ps; ending = e }) f
+    stuck : (i : Input) (f : ExprFault) → f ≡ refusal i → sees (begins listed scope) i ≡ false → Refused (IsExprIn listed (above d 0) scope) (expr_in listed 0 scope) (expr_in listed (above d 0) scope) i f
+    stuck i f same unlike = record { us = []; j = i; cut = refl; rest = number.ts; a = number.a; begins = number.is; how = inl (same, λ k fr. (refused_first listed (suc d) scope).at k (ap (front_is (begins listed scope)) fr ∙ unlike)) }
+
+    go : (ps : List Placed) (e : Ending) (f : ExprFault) → f ≡ no_level_of listed scope e ps → Refused (IsExprIn listed (above d 0) scope) (expr_in listed 0 scope) (expr_in listed (above d 0) scope) (record { left = ps; ending = e }) f
     go [] e f same = stuck (record { left = []; ending = e }) f same refl
-    go (p ∷ ps) e f same = first (begins listed p.token) refl same
+    go (p ∷ ps) e f same = first (begins listed scope p.token) refl same
       where
-        first : (b : Bool) → begins listed p.token ≡ b → f ≡ (if b then fault.TooDeep p.at else fault.Unexpected p.at) → Refused (IsExpr listed (above d 0)) (expr_from listed 0) (expr_from listed (above d 0)) (record { left = p ∷ ps; ending = e }) f
+        first : (b : Bool) → begins listed scope p.token ≡ b → f ≡ (if b then fault.TooDeep p.at else fault.Unexpected p.at) → Refused (IsExprIn listed (above d 0) scope) (expr_in listed 0 scope) (expr_in listed (above d 0) scope) (record { left = p ∷ ps; ending = e }) f
         first true b same =
-            let w = begun listed d p.token b in
-            record { us = []; j = record { left = p ∷ ps; ending = e }; cut = refl; rest = p.token ∷ w.0; a = w.1; begins = w.2; how = inr (p, ps, refl, same, begins_one listed p.token b, refl, λ k e. (no_level_of listed k.ending k.left, refl)) }
+            let w = (begun listed d scope).from p.token b in
+            record { us = []; j = record { left = p ∷ ps; ending = e }; cut = refl; rest = p.token ∷ w.0; a = w.1; begins = w.2; how = inr (p, ps, refl, same, begins_one listed scope p.token b, refl, λ k e. (no_level_of listed scope k.ending k.left, refl)) }
         first false b same = stuck (record { left = p ∷ ps; ending = e }) f same b
-expr_steady listed d (suc n) =
-    ranked_steady (atom_steady listed (expr_steady listed d n)) (atom_exact listed (IsExpr listed n) (expr_from listed n) (expr_exact listed n)) (atom_exact listed (IsExpr listed (above d n)) (expr_from listed (above d n)) (expr_exact listed (above d n))) precedences (all_apart precedences refl)
+expr_steady listed d (suc n) scope =
+    whole_steady listed (IsExprIn listed n) (IsExprIn listed (above d n)) (expr_in listed n) (expr_in listed (above d n)) (expr_exact listed n) (expr_starts listed n) (expr_exact listed (above d n)) (expr_starts listed (above d n)) (expr_steady listed d n) scope
 
 up : (listed : List Occ) (d n : ℕ) (i j : Input) (e : Node) → expr_from listed n i ≡ Ok (e, j) → expr_from listed (above d n) i ≡ Ok (e, j)
-up listed d n i j e h = let one = ((expr_steady listed d n).at i).ok j e h in ap (expr_from listed (above d n)) one.1 ∙ (one.3 j refl).1
+up listed d n i j e h = let one = ((expr_steady listed d n []).at i).ok j e h in ap (expr_from listed (above d n)) one.1 ∙ (one.3 j refl).1
 
 meet : (m n : ℕ) → above m n ≡ above n m
 meet m n = let a = above-sum m n in let b = above-sum n m in omega arith
@@ -171,7 +309,7 @@ NotDeep (Err f) = (at : ℕ) → f ≡ fault.TooDeep at → ⊥
 -- The number of levels changes nothing but what is too deep.
 one_outcome : (listed : List Occ) (m n : ℕ) (i j : Input) (e : Node) → expr_from listed m i ≡ Ok (e, j) → (o : Outcome Node) → expr_from listed n i ≡ o → NotDeep o → o ≡ Ok (e, j)
 one_outcome listed m n i j e h (Ok (a, k)) is sure = sym (up listed m n i k a is) ∙ ap (λ l. expr_from listed l i) (meet m n) ∙ up listed n m i j e h
-one_outcome listed m n i j e h (Err f) is sure = let x = ((expr_steady listed m n).at i).err f is in go x x.how
+one_outcome listed m n i j e h (Err f) is sure = let x = ((expr_steady listed m n []).at i).err f is in go x x.how
   where
     go : (x : Refused (IsExpr listed (above m n)) (expr_from listed n) (expr_from listed (above m n)) i f) → Stuck (expr_from listed (above m n)) x.us x.j f ⊎ Deep (expr_from listed n) x.us x.j f x.rest → ◌≡◌ {A = Outcome Node} (Err f) (Ok (e, j))
     go x (inr (p, ps, l, says, one, w, deep)) = absurd (sure p.at says)
@@ -200,7 +338,7 @@ module _ (listed : List Occ) (n : ℕ) (us : List Placed) where
   settled m k e is o read sure =
       let end : Input = record { left = []; ending = k.ending } in
       let whole : IsExpr listed m (tokens (us ++ k.left)) e = rw tokens-append is in
-      let found = (expr_exact listed m).complete (us ++ k.left) end e whole tt in
+      let found = (expr_exact listed m []).complete (us ++ k.left) end e whole tt in
       one_outcome listed m n (before us k) end e (ap (λ ys. expr_from listed m (record { left = ys; ending = k.ending })) (sym (append-nil (us ++ k.left))) ∙ found) o read sure
 
   -- an expression that goes on with a token, with offsets that don't matter
@@ -258,7 +396,7 @@ refuses_at_the_first listed levels i f h = go (expr_from listed levels i) refl h
               let k : Input = record { left = p ∷ placed more; ending = i.ending } in
               let end : Input = record { left = []; ending = i.ending } in
               let whole : IsExpr listed levels (tokens (x.us ++ k.left)) tree = rw tokens-append (going_on listed levels x.us p levels more tree is) in
-              let found = (expr_exact listed levels).complete (x.us ++ k.left) end tree whole tt in
+              let found = (expr_exact listed levels []).complete (x.us ++ k.left) end tree whole tt in
               let other = deep k (ap front_of (sym l)) in
               let same = ap (λ ys. expr_from listed levels (record { left = ys; ending = i.ending })) (append-nil (x.us ++ k.left)) in
               let clash = sym other.1 ∙ sym same ∙ found in
@@ -268,7 +406,7 @@ refuses_at_the_first listed levels i f h = go (expr_from listed levels i) refl h
     ended : (j : Input) (e : Node) → expr_from listed levels i ≡ Ok (e, j) → (b : Bool) → is_end j.ending j.left ≡ b → reading.and_then {A = Unit {0}} (if b then Ok (tt {0}, j) else Err (refusal j)) (λ u. reading.pure e) ≡ Err f → IsToldFirst listed levels i f
     ended j e found true b h = let bad : ⊥ = cc in absurd bad
     ended j e found false b h =
-        let x = ((expr_steady listed 0 levels).at i).ok j e found in
+        let x = ((expr_steady listed 0 levels []).at i).ok j e found in
         let ends : i.ending ≡ j.ending = ap (λ (k : Input). k.ending) x.1 in
         let says : f ≡ refusal j = cc in
         inl (record {
@@ -282,4 +420,4 @@ refuses_at_the_first listed levels i f h = go (expr_from listed levels i) refl h
 
     go : (o : Outcome Node) → expr_from listed levels i ≡ o → reading.and_then o (λ e. reading.◌>>◌ at_end (reading.pure e)) ≡ Err f → IsToldFirst listed levels i f
     go (Ok (e, j)) found h = ended j e found (is_end j.ending j.left) refl h
-    go (Err g) found h = let same : g ≡ f = cc in let x = ((expr_steady listed 0 levels).at i).err f (found ∙ ap Err same) in refused x x.how
+    go (Err g) found h = let same : g ≡ f = cc in let x = ((expr_steady listed 0 levels []).at i).err f (found ∙ ap Err same) in refused x x.how

@@ -7,17 +7,16 @@ use Rattle.ag_expr.specs.language.Ending as ending
 use Rattle.ag_expr.specs.language.Placed.{Placed, Input}
 use Rattle.ag_expr.specs.language.Token.{Token}
 use Rattle.ag_expr.specs.language.Token as token
-use Rattle.ag_expr.specs.declared.token.Punctuation.TheVariants as punctuation
 use Rattle.ag_expr.specs.declared.token.Token as lent
 use Rattle.ag_expr.specs.declared.fault.TokenFault.{TokenFault}
 use Rattle.ag_expr.specs.declared.fault.TokenFault.TheVariants as token_fault
 use Rattle.ag_expr.specs.declared.fault.ExprFault.TheVariants as fault
 use Rattle.ag_expr.specs.declared.occurrence.Occ.{Occ}
-use Rattle.ag_expr.specs.language.Expression.{begins_expression}
+use Rattle.ag_expr.specs.language.Names.{Names}
 use Rattle.ag_expr.specs.language.Tokens.{width, is_within}
 use Rattle.ag_expr.specs.language.Lexing.{token_from, token_of, GivesToken, IsTooLarge}
 use Rattle.ag_expr.specs.language.Occurrences.{occurrence_in, all_occurrences, listed_with, listed_with_all, position_of}
-use Rattle.ag_expr.specs.language.Left.{State, Keeps, unspaced, none_left, one_before, ending_at, ending_by, left_by, cut, offset, input, everything, behind, behind_front, is_occurrence, no_level}
+use Rattle.ag_expr.specs.language.Left.{State, Keeps, unspaced, none_left, one_before, ending_at, ending_by, left_by, cut, offset, input, everything, behind, behind_front, is_occurrence, no_level, begins_here}
 use Rattle.ag_expr.specs.language.Reading.{front, next, begins, ending_fault, no_level_of, refusal, is_end}
 use Rattle.ag_expr.proofs.language.Lexed.{is_behind, spaces, width-chars}
 use Rattle.ag_expr.proofs.language.Lexes.{nothing_cut, same_cut, shorter}
@@ -122,24 +121,23 @@ first_stands s (Ok x) t given e = subst (Stands s) (same_Some _ _ (sym (in_front
 first_stands s (Err f) t given e = let bad : None ≡ Some t = sym (ap front (none_stands s f given)) ∙ e in absurd (none-some t bad)
 
 -- an expression begins with a token in front where it begins with it among all occurrences of the text
-pub begins_same : (s : State) (t : Token) → Stands s t → begins (everything s) t ≡ begins_expression t
-begins_same s (token.Number n) st = refl
-begins_same s (token.Text bytes) st = refl
-begins_same s (token.Name name) st = refl
-begins_same s (token.Occurrence place attr) st = let k = has_number s.0 (record { place = place; attr = attr; at = offset s }) in rw (taken_number s place attr _ st refl k.0 k.1) refl
-begins_same s (token.Punctuation punctuation.Open) st = refl
-begins_same s (token.Punctuation _) st = refl
+pub begins_same : (scope : Names) (s : State) (t : Token) → Stands s t → begins (everything s) scope t ≡ begins_here scope t
+begins_same scope s (token.Number n) st = refl
+begins_same scope s (token.Text bytes) st = refl
+begins_same scope s (token.Name name) st = refl
+begins_same scope s (token.Occurrence place attr) st = let k = has_number s.0 (record { place = place; attr = attr; at = offset s }) in rw (taken_number s place attr _ st refl k.0 k.1) refl
+begins_same scope s (token.Punctuation m) st = refl
 
 -- why no expression begins here where no level is left
-module _ (s : State) where
-  pub too_deep : (t : Token) → Stands s t → begins_expression t ≡ true → no_level s ≡ fault.TooDeep (offset s)
-  too_deep t st h = ap (λ (i : Input). no_level_of (everything s) i.ending i.left) (input_is s t st) ∙ rw (begins_same s t st, h) refl
+module _ (scope : Names) (s : State) where
+  pub too_deep : (t : Token) → Stands s t → begins_here scope t ≡ true → no_level scope s ≡ fault.TooDeep (offset s)
+  too_deep t st h = ap (λ (i : Input). no_level_of (everything s) scope i.ending i.left) (input_is s t st) ∙ rw (begins_same scope s t st, h) refl
 
-  pub not_begun : (t : Token) → Stands s t → begins_expression t ≡ false → no_level s ≡ refusal (input s)
-  not_begun t st h = ap (λ (i : Input). no_level_of (everything s) i.ending i.left) (input_is s t st) ∙ rw (begins_same s t st, h) (sym (ap refusal (input_is s t st)))
+  pub not_begun : (t : Token) → Stands s t → begins_here scope t ≡ false → no_level scope s ≡ refusal (input s)
+  not_begun t st h = ap (λ (i : Input). no_level_of (everything s) scope i.ending i.left) (input_is s t st) ∙ rw (begins_same scope s t st, h) (sym (ap refusal (input_is s t st)))
 
-  pub none_begun : (f : TokenFault) → GivesToken (Err f) (token_from s.1.1) → no_level s ≡ refusal (input s)
-  none_begun f given = let is = none_stands s f given in ap (λ (i : Input). no_level_of (everything s) i.ending i.left) is ∙ sym (ap refusal is)
+  pub none_begun : (f : TokenFault) → GivesToken (Err f) (token_from s.1.1) → no_level scope s ≡ refusal (input s)
+  none_begun f given = let is = none_stands s f given in ap (λ (i : Input). no_level_of (everything s) scope i.ending i.left) is ∙ sym (ap refusal is)
 
 no_width : (cs : List ℕ) → width cs ≡ 0 → cs ≡ []
 no_width [] e = refl

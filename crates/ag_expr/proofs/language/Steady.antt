@@ -6,11 +6,11 @@ use Rattle.ag_expr.specs.language.Ending.{Ending}
 use Rattle.ag_expr.specs.language.Expression.{begins_expression}
 use Rattle.ag_expr.specs.language.Placed.{Placed, Input, tokens}
 use Rattle.ag_expr.specs.language.Syntax as syntax
-use Rattle.ag_expr.specs.language.Syntax.{gives, Many, none, more}
+use Rattle.ag_expr.specs.language.Syntax.{gives, spelled, token_as, Many, none, more, IsFew, further}
 use Rattle.ag_expr.specs.language.Reading as reading
-use Rattle.ag_expr.specs.language.Reading.{Outcome, Parser, front, front_is, sees, refusal, and_then, pure, taken, front_of, choose, many_from, many}
-use Rattle.ag_expr.specs.language.Token.{Token}
-use Rattle.ag_expr.proofs.language.Exact.{before, tokens-append, opened, answered}
+use Rattle.ag_expr.specs.language.Reading.{Outcome, Parser, front, front_of, front_is, sees, refusal, refuse, and_then, pure, expect, as_sign, is_sign, front_as, taken, choose, many_from, turns}
+use Rattle.ag_expr.specs.language.Token.{Token, Sign, sign_token}
+use Rattle.ag_expr.proofs.language.Exact.{before, tokens-append, opened, answered, means_sign, spelled_is}
 
 abbrev pub Heads : Token → List Token → Type 0
 Heads t [] = ⊥
@@ -145,26 +145,30 @@ or_steady x y = record { at = λ i. choose_at (λ b. x.at i) (λ b. y.at i); wor
 pub ends_steady : {A B : Type 0} {R : List Token → A → Type 0} {r q : Parser A} (f : A → B) → Steady R r q → Steady (syntax.◌>>=◌ R (λ a. gives (f a))) (reading.◌>>=◌ r (λ a. pure (f a))) (reading.◌>>=◌ q (λ a. pure (f a)))
 ends_steady f x = then_steady x (λ a. record { at = pure_at (f a); word = ([], f a, (refl, refl)) })
 
-pub taken_steady : {A : Type 0} (sign : Option Token → Option A) (L : List Token → A → Type 0) → sign None ≡ None
-    → ((t : Token) (a : A) → sign (Some t) ≡ Some a → L (t ∷ []) a) → (w : List Token) (a : A) → L w a → Steady L (λ i. taken (sign (front i)) i) (λ i. taken (sign (front i)) i)
-taken_steady {A} sign L none_at_end is w v word = record { at = λ i. record { ok = λ j a. found i.left i.ending j a; err = λ f. refused i f (sign (front i)) refl }; word = (w, v, word) }
+pub token_steady : {A : Type 0} (meaning : Token → Option A) (w : Token) (v : A) → meaning w ≡ Some v → Steady (token_as meaning) (reading.token_as meaning) (reading.token_as meaning)
+token_steady {A} meaning w v means = record { at = λ i. record { ok = λ j a. found i.left i.ending j a; err = λ f. refused i f (front_as meaning (front i)) refl }; word = (w ∷ [], v, (w, refl, means)) }
   where
     read : Parser A
-    read i = taken (sign (front i)) i
+    read = reading.token_as meaning
 
     found : (ps : List Placed) (e : Ending) (j : Input) (a : A) → read (record { left = ps; ending = e }) ≡ Ok (a, j)
-        → (us : List Placed) × (record { left = ps; ending = e } ≡ before us j) × L (tokens us) a × ((k : Input) → front k ≡ front j → (read (before us k) ≡ Ok (a, k)) × (read (before us k) ≡ Ok (a, k)))
-    found [] e j a h = let h2 = rw none_at_end at h in let bad : ⊥ = cc in absurd bad
-    found (p ∷ ps) e j a h = go (sign (Some p.token)) refl h
+        → (us : List Placed) × (record { left = ps; ending = e } ≡ before us j) × token_as meaning (tokens us) a × ((k : Input) → front k ≡ front j → (read (before us k) ≡ Ok (a, k)) × (read (before us k) ≡ Ok (a, k)))
+    found [] e j a h = let bad : ⊥ = cc in absurd bad
+    found (p ∷ ps) e j a h = go (meaning p.token) refl h
       where
-        go : (o : Option A) → sign (Some p.token) ≡ o → taken o (record { left = p ∷ ps; ending = e }) ≡ Ok (a, j)
-            → (us : List Placed) × (record { left = p ∷ ps; ending = e } ≡ before us j) × L (tokens us) a × ((k : Input) → front k ≡ front j → (read (before us k) ≡ Ok (a, k)) × (read (before us k) ≡ Ok (a, k)))
+        go : (o : Option A) → meaning p.token ≡ o → taken o (record { left = p ∷ ps; ending = e }) ≡ Ok (a, j)
+            → (us : List Placed) × (record { left = p ∷ ps; ending = e } ≡ before us j) × token_as meaning (tokens us) a × ((k : Input) → front k ≡ front j → (read (before us k) ≡ Ok (a, k)) × (read (before us k) ≡ Ok (a, k)))
         go None q h = let bad : ⊥ = cc in absurd bad
-        go (Some b) q h = let same = answered b a _ j h in let whole = q ∙ ap Some (sym same.0) in (p ∷ [], ap (before (p ∷ [])) same.1, is p.token a whole, λ k e. (rw whole refl, rw whole refl))
+        go (Some b) q h = let same = answered b a _ j h in let whole = q ∙ ap Some (sym same.0) in (p ∷ [], ap (before (p ∷ [])) same.1, (p.token, refl, whole), λ k e. (rw whole refl, rw whole refl))
 
-    refused : (i : Input) (f : ExprFault) (o : Option A) → sign (front i) ≡ o → taken o i ≡ Err f → Refused L read read i f
-    refused i f None q h = let same : f ≡ refusal i = cc in record { us = []; j = i; cut = refl; rest = w; a = v; begins = word; how = inl (same, λ k e. rw (ap sign e ∙ q) refl) }
+    refused : (i : Input) (f : ExprFault) (o : Option A) → front_as meaning (front i) ≡ o → taken o i ≡ Err f → Refused (token_as meaning) read read i f
+    refused i f None q h = let same : f ≡ refusal i = cc in record { us = []; j = i; cut = refl; rest = w ∷ []; a = v; begins = (w, refl, means); how = inl (same, λ k e. rw (ap (front_as meaning) e ∙ q) refl) }
     refused i f (Some a) q h = let bad : ⊥ = cc in absurd bad
+
+pub sign_steady : (s : Sign) → Steady (spelled s) (expect s) (expect s)
+sign_steady s =
+    let x = token_steady (as_sign s) (sign_token s) tt (means_sign s) in
+    record { at = λ i. as_well (spelled_is s) (λ k. refl) (λ k. refl) (x.at i); word = (sign_token s ∷ [], tt, refl) }
 
 -- ---- as often as there is a further one
 
@@ -189,45 +193,44 @@ many_enough {A} begins r short (suc n) (suc m) found i e d = go (sees begins i) 
     go true (Ok (a, j)) is ih = let less = short i j a is in ih (found ++ a ∷ []) j (omega arith) (omega arith)
 
 abbrev Step : {A : Type 0} → (Token → Bool) → Parser A → List A → Parser (List A)
-Step begins r found = choose begins (reading.◌>>=◌ r (λ a. many begins r (found ++ a ∷ []))) (pure found)
+Step begins r found = choose begins (reading.◌>>=◌ r (λ a. reading.further false begins r (found ++ a ∷ []))) (pure found)
 
 -- one turn, and then as many as there are
-pub many_turn : {A : Type 0} (begins : Token → Bool) (r : Parser A) → Shortens r → (found : List A) (i : Input) → many begins r found i ≡ Step begins r found i
+pub many_turn : {A : Type 0} (begins : Token → Bool) (r : Parser A) → Shortens r → (found : List A) (i : Input) → reading.further false begins r found i ≡ Step begins r found i
 unfolding many_from
 many_turn {A} begins r short found i = many_enough begins r short (length i.left) (suc (length i.left)) found i (omega arith) (omega arith) ∙ go (sees begins i) (r i) refl
   where
     go : (b : Bool) (o : Outcome A) → r i ≡ o
-        → (if b then and_then o (λ a. many_from begins r (length i.left) (found ++ a ∷ [])) else pure found i) ≡ (if b then and_then o (λ a. many begins r (found ++ a ∷ [])) else pure found i)
+        → (if b then and_then o (λ a. many_from begins r (length i.left) (found ++ a ∷ [])) else pure found i) ≡ (if b then and_then o (λ a. reading.further false begins r (found ++ a ∷ [])) else pure found i)
     go false o is = refl
     go true (Err f) is = refl
     go true (Ok (a, j)) is = let less = short i j a is in many_enough begins r short (length i.left) (length j.left) (found ++ a ∷ []) j (omega arith) (omega arith)
 
--- those that were found and further ones
-abbrev Added : {A : Type 0} → (List Token → A → Type 0) → List A → List Token → List A → Type 0
-Added L found = syntax.◌>>=◌ (Many L) (λ xs. gives (found ++ xs))
+-- a turn as a language
+abbrev Turn : {A : Type 0} → (List Token → A → Type 0) → (A → List Token → List A → Type 0) → List A → List Token → List A → Type 0
+Turn L behind found = syntax.◌or◌ (syntax.◌>>=◌ L behind) (gives found)
 
-abbrev Turn : {A : Type 0} → (List Token → A → Type 0) → List A → List Token → List A → Type 0
-Turn L found = syntax.◌or◌ (syntax.◌>>=◌ L (λ a. Added L (found ++ a ∷ []))) (gives found)
-
-turned : {A : Type 0} (L : List Token → A → Type 0) (found : List A) (ts : List Token) (all : List A) → Turn L found ts all → Added L found ts all
-turned L found ts all (inl (us, vs, a, e, is, (ws, zs, xs, d, others, (no_more, same)))) =
-    (us ++ ws, [], a ∷ xs, e ∙ ap (λ ys. us ++ ys) (d ∙ ap (λ ys. ws ++ ys) no_more ∙ append-nil ws) ∙ sym (append-nil (us ++ ws)), more us ws a xs is others, (refl, same ∙ append_assoc found (a ∷ []) xs))
-turned L found ts all (inr (empty, same)) = ([], [], [], empty, none, (refl, same ∙ sym (append-nil found)))
+turned : {A : Type 0} (L : List Token → A → Type 0) (found : List A) (ts : List Token) (all : List A) → Turn L (λ a. further false (found ++ a ∷ []) L) found ts all → further false found L ts all
+turned L found ts all (inl (us, vs, a, e, is, (xs, others, le, same))) = rw e (a ∷ xs, more us vs a xs is others, tt, same ∙ append_assoc found (a ∷ []) xs)
+turned L found ts all (inr (empty, same)) = rw empty ([], none, tt, same ∙ sym (append-nil found))
 
 more_at : {A : Type 0} (begins : Token → Bool) (L : List Token → A → Type 0) (r q : Parser A) → Steady L r q → Shortens r → Shortens q → (n : ℕ) (found : List A) (i : Input) → length i.left ≤ n
-    → SteadyAt (Added L found) (many begins r found) (many begins q found) i
+    → SteadyAt (further false found L) (reading.further false begins r found) (reading.further false begins q found) i
 more_at begins L r q x short shorter zero found i le =
     as_well (turned L found) (many_turn begins r short found) (many_turn begins q shorter found)
-    (choose_at {L = syntax.◌>>=◌ L (λ a. Added L (found ++ a ∷ []))} {l = reading.◌>>=◌ r (λ a. many begins r (found ++ a ∷ []))} {l' = reading.◌>>=◌ q (λ a. many begins q (found ++ a ∷ []))} none_comes (λ b. pure_at found i))
+    (choose_at {L = syntax.◌>>=◌ L (λ a. further false (found ++ a ∷ []) L)} {l = reading.◌>>=◌ r (λ a. reading.further false begins r (found ++ a ∷ []))} {l' = reading.◌>>=◌ q (λ a. reading.further false begins q (found ++ a ∷ []))} none_comes (λ b. pure_at found i))
   where
-    none_comes : sees begins i ≡ true → SteadyAt (syntax.◌>>=◌ L (λ a. Added L (found ++ a ∷ []))) (reading.◌>>=◌ r (λ a. many begins r (found ++ a ∷ []))) (reading.◌>>=◌ q (λ a. many begins q (found ++ a ∷ []))) i
+    none_comes : sees begins i ≡ true → SteadyAt (syntax.◌>>=◌ L (λ a. further false (found ++ a ∷ []) L)) (reading.◌>>=◌ r (λ a. reading.further false begins r (found ++ a ∷ []))) (reading.◌>>=◌ q (λ a. reading.further false begins q (found ++ a ∷ []))) i
     none_comes b = let unseen : sees begins i ≡ false = ap (front_is begins) (nothing_left i.left le) in let bad : ⊥ = cc in absurd bad
 more_at begins L r q x short shorter (suc n) found i le =
     as_well (turned L found) (many_turn begins r short found) (many_turn begins q shorter found)
-    (choose_at (λ b. then_at (x.at i) (λ a j e. let less = short i j a e in more_at begins L r q x short shorter n (found ++ a ∷ []) j (omega arith)) (λ a. ([], (found ++ a ∷ []) ++ [], ([], [], [], refl, none, (refl, refl))))) (λ b. pure_at found i))
+    (choose_at (λ b. then_at (x.at i) (λ a j e. let less = short i j a e in more_at begins L r q x short shorter n (found ++ a ∷ []) j (omega arith)) (λ a. ([], (found ++ a ∷ []) ++ [], ([], none, tt, refl)))) (λ b. pure_at found i))
 
-pub many_steady : {A : Type 0} (begins : Token → Bool) {L : List Token → A → Type 0} {r q : Parser A} → Steady L r q → Shortens r → Shortens q → Steady (Many L) (many begins r []) (many begins q [])
-many_steady {A} begins {L} {r} {q} x short shorter = record { at = λ i. as_well all (λ k. refl) (λ k. refl) (more_at begins L r q x short shorter (length i.left) [] i (omega arith)); word = ([], [], none) }
+pub further_steady : {A : Type 0} (one : Bool) (begins : Token → Bool) (found : List A) {L : List Token → A → Type 0} {r q : Parser A} → Steady L r q → Shortens r → Shortens q → Steady (further one found L) (reading.further one begins r found) (reading.further one begins q found)
+unfolding many_from
+further_steady {A} false begins found {L} {r} {q} x short shorter = record { at = λ i. more_at begins L r q x short shorter (length i.left) found i (omega arith); word = (([], found ++ [], ([], none, tt, refl))) }
+further_steady {A} true begins found {L} {r} {q} x short shorter = record { at = λ i. as_well all (λ k. refl) (λ k. refl) (choose_at (λ b. (ends_steady (λ a. found ++ a ∷ []) x).at i) (λ b. pure_at found i)); word = ([], found ++ [], ([], none, omega arith, refl)) }
   where
-    all : (ts : List Token) (xs : List A) → Added L [] ts xs → Many L ts xs
-    all ts xs (us, vs, ys, e, is, (no_more, same)) = let whole : ts ≡ us = e ∙ ap (λ ys. us ++ ys) no_more ∙ append-nil us in rw (whole, same) is
+    all : (ts : List Token) (xs : List A) → Turn L (λ a. gives (found ++ a ∷ [])) found ts xs → further true found L ts xs
+    all ts xs (inl (us, vs, a, e, is, (no_more, same))) = let whole : ts ≡ us ++ [] = e ∙ ap (λ ys. us ++ ys) no_more in rw whole (a ∷ [], more us [] a [] is none, omega arith, same)
+    all ts xs (inr (empty, same)) = rw empty ([], none, omega arith, same ∙ sym (append-nil found))

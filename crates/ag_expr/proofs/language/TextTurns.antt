@@ -9,7 +9,7 @@ use Rattle.std.proofs.lemmas.Bool.{eqb-true, ne_eqb}
 use Rattle.ag_expr.specs.language.Token.{Token}
 use Rattle.ag_expr.specs.language.Token as token
 use Rattle.ag_expr.specs.language.Tokens.{IsBody, empty, plain, escape, escaped}
-use Rattle.ag_expr.specs.language.Lexing.{character_from, escape_from, text_from, unquoted, unescaped, after_backslash, IsPast, PassesEscape}
+use Rattle.ag_expr.specs.language.Lexing.{where_some, piece_from, character_from, escape_from, text_from, unquoted, unescaped, after_backslash, IsPast, PassesEscape}
 
 -- The characters in `taken` were read, which stand for the bytes in `front`; `rest` is left, and with turns enough for it the total is read.
 pub record Within (text rest : List ℕ) (total : Option (Token × List ℕ)) : Type 0 where
@@ -147,3 +147,45 @@ past_plain text rest c quote slash characters split = record {
 
 -- what stands behind one character of a text literal
 pub ruleset past = (past_escape, past_plain)
+
+-- ---- what stands between the quotes is worked out piece by piece
+
+pub piece_some : (cs : List ℕ) (c : ℕ) (rest : List ℕ) → Some (c, rest) ≡ piece_from cs → (unescaped cs ≡ encode_utf8 c ++ unescaped rest) × (length rest < length cs)
+piece_some [] c rest h = let bad : ⊥ = cc in absurd bad
+piece_some (d ∷ cs) c rest h = go (d == 92) h
+  where
+    escapes : (cs : List ℕ) → Some (c, rest) ≡ escape_from cs → (after_backslash cs ≡ encode_utf8 c ++ unescaped rest) × (length rest < suc (length cs))
+    escapes [] h = let bad : ⊥ = cc in absurd bad
+    escapes (e ∷ cs) h = by (escaped e) h
+      where
+        by : (o : Option ℕ) → ◌≡◌ {A = Option (ℕ × List ℕ)} (Some (c, rest)) (option_and_then (λ d. Some (d, cs)) o) → (where_some o [] (λ d. encode_utf8 d ++ unescaped cs) ≡ encode_utf8 c ++ unescaped rest) × (length rest < suc (suc (length cs)))
+        by None h = let bad : ⊥ = cc in absurd bad
+        by (Some f) h =
+            let pair = same_Some _ _ h in
+            let same = ap (λ (x : ℕ × List ℕ). x.0) pair in
+            let left = ap (λ (x : ℕ × List ℕ). x.1) pair in
+            (rw (same, left) refl, omega (arith, ap length left))
+
+    go : (b : Bool) → Some (c, rest) ≡ cond b (escape_from cs) (Some (d, cs)) → (cond b (after_backslash cs) (encode_utf8 d ++ unescaped cs) ≡ encode_utf8 c ++ unescaped rest) × (length rest < suc (length cs))
+    go true h = escapes cs h
+    go false h =
+        let pair = same_Some _ _ h in
+        let same = ap (λ (x : ℕ × List ℕ). x.0) pair in
+        let left = ap (λ (x : ℕ × List ℕ). x.1) pair in
+        (rw (same, left) refl, omega (arith, ap length left))
+
+pub piece_none : (cs : List ℕ) → None ≡ piece_from cs → unescaped cs ≡ []
+piece_none [] h = refl
+piece_none (d ∷ cs) h = go (d == 92) h
+  where
+    escapes : (cs : List ℕ) → None ≡ escape_from cs → after_backslash cs ≡ []
+    escapes [] h = refl
+    escapes (e ∷ cs) h = by (escaped e) h
+      where
+        by : (o : Option ℕ) → ◌≡◌ {A = Option (ℕ × List ℕ)} None (option_and_then (λ d. Some (d, cs)) o) → where_some o [] (λ d. encode_utf8 d ++ unescaped cs) ≡ []
+        by None h = refl
+        by (Some d) h = let bad : ⊥ = cc in absurd bad
+
+    go : (b : Bool) → None ≡ cond b (escape_from cs) (Some (d, cs)) → cond b (after_backslash cs) (encode_utf8 d ++ unescaped cs) ≡ []
+    go true h = escapes cs h
+    go false h = let bad : ⊥ = cc in absurd bad

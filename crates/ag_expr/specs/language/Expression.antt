@@ -1,5 +1,5 @@
 -- Which texts read as which expressions: this project's language.
-use Rattle.std.specs.Prelude.{◌≡◌, ◌⊎◌, ℕ, Bool, true, false, List, length, chars}
+use Rattle.std.specs.Prelude.{◌≡◌, ◌⊎◌, ℕ, Bool, true, false, not, ◌||◌, is_some, bytes_eq, codes, List, length, chars}
 use Rattle.ag_expr.specs.declared.fault.ExprFault.{ExprFault}
 use Rattle.ag_expr.specs.declared.fault.ExprFault.TheVariants as fault
 use Rattle.ag_expr.specs.declared.token.Punctuation.TheVariants as punctuation
@@ -11,6 +11,7 @@ use Rattle.ag_expr.specs.language.Ending as ending
 use Rattle.ag_expr.specs.language.Placed.{Placed, tokens}
 use Rattle.ag_expr.specs.language.Tokens.{Lexes, NoTokenAt, TooLargeAt, TokenAt, EndsAt}
 use Rattle.ag_expr.specs.language.Occurrences.{all_occurrences, different}
+use Rattle.ag_expr.specs.language.Names.{call_of, is_reserved}
 use Rattle.ag_expr.specs.language.Syntax.{IsExpr}
 
 -- how many levels an expression has at most
@@ -34,11 +35,19 @@ abbrev pub IsRefused : List ℕ → ExprFault → Type 0
 IsRefused text fault.NoMemory = Unit {0}
 IsRefused text e = ReadsAsNone text
 
--- an expression begins with a number, an occurrence or `(`
+-- an expression begins with a name that is not reserved, and with the name of a form or a call
+abbrev pub begins_with : List ℕ → Bool
+begins_with name = not (is_reserved name) || (bytes_eq name (codes "let") || (bytes_eq name (codes "if") || is_some (call_of name)))
+
+-- and with a number, a text, an occurrence, `(`, `[` and `{`
 abbrev pub begins_expression : Token → Bool
 begins_expression (token.Number n) = true
+begins_expression (token.Text bytes) = true
+begins_expression (token.Name name) = begins_with name
 begins_expression (token.Occurrence place attr) = true
 begins_expression (token.Punctuation punctuation.Open) = true
+begins_expression (token.Punctuation punctuation.OpenList) = true
+begins_expression (token.Punctuation punctuation.OpenTable) = true
 begins_expression _ = false
 
 -- What a fault says of its offset, where these characters stand from the offset `from` on: X1, no token begins there; X3, the

@@ -15,7 +15,8 @@ use Rattle.ag_expr.specs.declared.fault.TokenFault.TheVariants as token_fault
 use Rattle.ag_expr.specs.declared.occurrence.Occ.{Occ}
 use Rattle.ag_expr.specs.language.Lexing.{token_from, GivesToken}
 use Rattle.ag_expr.specs.language.Occurrences.{all_occurrences, listed_with_all, position_of}
-use Rattle.ag_expr.specs.language.Reading.{Parser, front, is_end, no_level_of, refusal}
+use Rattle.ag_expr.specs.language.Names.{Names}
+use Rattle.ag_expr.specs.language.Reading.{Parser, begins, front, is_end, no_level_of, refusal}
 use Rattle.ag_expr.specs.language.Tokens.{is_separator, is_within, width}
 
 -- no separator stands in front
@@ -108,8 +109,13 @@ abbrev pub HasNumber : State → ℕ → List ℕ → ℕ → Type 0
 HasNumber s place attr k = position_of (everything s) place attr ≡ Some k
 
 -- why an expression that has no level left can't begin here
-abbrev pub no_level : State → ExprFault
-no_level s = no_level_of (everything s) (input s).ending (input s).left
+abbrev pub no_level : Names → State → ExprFault
+no_level scope s = no_level_of (everything s) scope (input s).ending (input s).left
+
+-- whether one begins with the token among the occurrences of its own text
+abbrev pub begins_here : Names → Token → Bool
+begins_here scope (token.Occurrence place attr) = true
+begins_here scope t = begins [] scope t
 
 -- whether the text ends where it is read to the end, with the fault of what stands there where not
 abbrev pub Finishes : {X : Type 0} → State → Result X ExprFault → Type 0

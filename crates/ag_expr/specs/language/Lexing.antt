@@ -36,7 +36,17 @@ front_in c cs = take (prefix_len (is_in c) cs) cs
 abbrev pub back_of : Class → List ℕ → List ℕ
 back_of c cs = drop (prefix_len (is_in c) cs) cs
 
--- the bytes of the text that the characters between the quotes of a text literal stand for
+-- the character that stands behind a backslash for another, and what stands behind it
+abbrev pub escape_from : List ℕ → Option (ℕ × List ℕ)
+escape_from [] = None
+escape_from (c ∷ cs) = option_and_then (λ d. Some (d, cs)) (escaped c)
+
+-- the character in front, an escape for what it stands for
+abbrev pub piece_from : List ℕ → Option (ℕ × List ℕ)
+piece_from [] = None
+piece_from (c ∷ cs) = cond (c == 92) (escape_from cs) (Some (c, cs))
+
+-- the bytes of the text that the characters between the quotes of a text literal stand for, up to an escape that is none
 abbrev mutual
   pub unescaped : List ℕ → List ℕ
   unescaped [] = []
@@ -44,7 +54,7 @@ abbrev mutual
 
   pub after_backslash : List ℕ → List ℕ
   after_backslash [] = []
-  after_backslash (c ∷ cs) = where_some (escaped c) (unescaped cs) (λ d. encode_utf8 d ++ unescaped cs)
+  after_backslash (c ∷ cs) = where_some (escaped c) [] (λ d. encode_utf8 d ++ unescaped cs)
 
 -- the token that a lent one is
 abbrev pub token_of : lent.Token → Token
@@ -79,10 +89,6 @@ abbrev pub punctuation_from : List ℕ → Option (Punctuation × List ℕ)
 punctuation_from [] = None
 punctuation_from (c ∷ cs) =
     cond (c == 43) (Some (doubled 43 punctuation.Join punctuation.Plus cs)) (cond (c == 61) (Some (doubled 61 punctuation.EqualEqual punctuation.Equal cs)) (option_and_then (λ s. Some (s, cs)) (single_punctuation c)))
-
-abbrev pub escape_from : List ℕ → Option (ℕ × List ℕ)
-escape_from [] = None
-escape_from (c ∷ cs) = option_and_then (λ d. Some (d, cs)) (escaped c)
 
 -- one character of a text literal, and what stands behind it
 abbrev pub character_from : List ℕ → Option (ℕ × List ℕ)

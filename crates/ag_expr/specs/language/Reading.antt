@@ -1,5 +1,5 @@
 -- Reading an expression from the front of placed tokens: what is read, and what is left; or the fault of the first token that can't be taken.
-use Rattle.std.specs.Prelude.{ℕ, zero, suc, Bool, true, false, ◌||◌, if◌then◌else◌, List, [], ◌∷◌, ◌++◌, length, Option, Some, None, Result, Ok, Err, is_some}
+use Rattle.std.specs.Prelude.{ℕ, zero, suc, Bool, true, false, ◌||◌, if◌then◌else◌, List, [], ◌∷◌, ◌++◌, length, Option, Some, None, Result, Ok, Err, is_some, bytes_eq, codes}
 use denote.Enum.Bare.{sameb}
 use Rattle.ag_expr.specs.contracts.token.Punctuation.{the_type}
 use Rattle.ag_expr.specs.declared.token.Punctuation.{Punctuation}
@@ -13,8 +13,14 @@ use Rattle.ag_expr.specs.declared.parser.Precedence.{Precedence}
 use Rattle.ag_expr.specs.language.Ending.{Ending}
 use Rattle.ag_expr.specs.language.Ending as ending
 use Rattle.ag_expr.specs.language.Placed.{Placed, Input}
-use Rattle.ag_expr.specs.language.Syntax.{operator_of, precedences, chained, operand_of}
-use Rattle.ag_expr.specs.language.Token.{Token}
+use Rattle.ag_expr.specs.declared.node.Node.TheVariants as node
+use Rattle.ag_expr.specs.declared.names.Call.{Call}
+use Rattle.ag_expr.specs.declared.names.Call.TheVariants as call
+use Rattle.ag_expr.specs.declared.node.UnaryCall.{UnaryCall}
+use Rattle.ag_expr.specs.declared.node.BinaryCall.{BinaryCall}
+use Rattle.ag_expr.specs.language.Names.{Names}
+use Rattle.ag_expr.specs.language.Syntax.{operator_of, precedences, takes_one, chained, new_name, call_in, operand_of}
+use Rattle.ag_expr.specs.language.Token.{Token, Sign, mark, word}
 use Rattle.ag_expr.specs.language.Token as token
 
 -- ---- the next token
@@ -57,9 +63,10 @@ sees test i = front_is test (front i)
 abbrev pub same_mark : Punctuation → Punctuation → Bool
 same_mark = sameb the_type
 
-abbrev pub is_mark : Punctuation → Token → Bool
-is_mark mark (token.Punctuation other) = same_mark other mark
-is_mark mark _ = false
+abbrev pub is_sign : Sign → Token → Bool
+is_sign (mark m) (token.Punctuation other) = same_mark other m
+is_sign (word name) (token.Name other) = bytes_eq other name
+is_sign s t = false
 
 -- ---- parsers
 
@@ -92,11 +99,18 @@ abbrev pub taken : {A : Type 0} → Option A → Parser A
 taken None = refuse
 taken (Some a) = λ i. Ok (a, next i)
 
-abbrev pub as_mark : Punctuation → Option Token → Option (Unit {0})
-as_mark mark o = if front_is (is_mark mark) o then Some tt else None
+abbrev pub front_as : {A : Type 0} → (Token → Option A) → Option Token → Option A
+front_as meaning None = None
+front_as meaning (Some t) = meaning t
 
-abbrev pub expect : Punctuation → Parser (Unit {0})
-expect mark = λ i. taken (as_mark mark (front i)) i
+abbrev pub token_as : {A : Type 0} → (Token → Option A) → Parser A
+token_as meaning = λ i. taken (front_as meaning (front i)) i
+
+abbrev pub as_sign : Sign → Token → Option (Unit {0})
+as_sign s t = if is_sign s t then Some tt else None
+
+abbrev pub expect : Sign → Parser (Unit {0})
+expect s = token_as (as_sign s)
 
 abbrev pub choose : {A : Type 0} → (Token → Bool) → Parser A → Parser A → Parser A
 choose test one other = λ i. if sees test i then one i else other i
@@ -106,18 +120,15 @@ unfoldable pub many_from : {A : Type 0} → (Token → Bool) → Parser A → �
 many_from begins item zero found = pure found
 many_from begins item (suc n) found = choose begins (item >>= λ x. many_from begins item n (found ++ x ∷ [])) (pure found)
 
--- as many as there are
-abbrev pub many : {A : Type 0} → (Token → Bool) → Parser A → List A → Parser (List A)
-many begins item found = λ i. many_from begins item (length i.left) found i
+abbrev pub turns : Bool → List Placed → ℕ
+turns true ps = 1
+turns false ps = length ps
 
--- ---- expressions
+-- one at most where the test says so, else as many as there are, behind those that were found
+abbrev pub further : {A : Type 0} → Bool → (Token → Bool) → Parser A → List A → Parser (List A)
+further one begins item found = λ i. many_from begins item (turns one i.left) found i
 
-abbrev pub operator_from : Precedence → Option Token → Option Operator
-operator_from k None = None
-operator_from k (Some t) = operator_of k t
-
-abbrev pub operator : Precedence → Parser Operator
-operator k = λ i. taken (operator_from k (front i)) i
+-- ---- chains of operators
 
 -- whether the token is an operator of the precedence
 abbrev pub is_operator_of : Precedence → Token → Bool
@@ -125,50 +136,147 @@ is_operator_of k t = is_some (operator_of k t)
 
 unfoldable pub other_from : Precedence → Parser Node → Parser (Operator × Node)
 other_from k operand = do
-  o ← operator k
+  o ← token_as (operator_of k)
   e ← operand
   pure (o, e)
 
 unfoldable pub chain_from : Precedence → Parser Node → Parser Node
 chain_from k operand = do
   first ← operand
-  others ← many (is_operator_of k) (other_from k operand) []
+  others ← further (takes_one k) (is_operator_of k) (other_from k operand) []
   pure (chained first others)
 
 unfoldable pub ranked_from : Parser Node → List Precedence → Parser Node
 ranked_from atom [] = atom
 ranked_from atom (k ∷ ks) = chain_from k (ranked_from atom ks)
 
-abbrev pub operand_from : List Occ → Option Token → Option Node
-operand_from listed None = None
-operand_from listed (Some t) = operand_of listed t
+-- ---- expressions
 
--- whether an expression begins with the token
-abbrev pub begins : List Occ → Token → Bool
-begins listed t = is_mark punctuation.Open t || is_some (operand_of listed t)
+-- whether one begins with the token: an operand, or any
+abbrev pub is_call : Token → Bool
+is_call t = is_some (call_in t)
 
-unfoldable pub parenthesized_from : Parser Node → Parser Node
-parenthesized_from inner = do
-  expect punctuation.Open
-  e ← inner
-  expect punctuation.Close
-  pure e
+abbrev pub is_operand : List Occ → Names → Token → Bool
+is_operand listed scope t = is_some (operand_of listed scope t)
 
-abbrev pub alone_from : List Occ → Parser Node
-alone_from listed = λ i. taken (operand_from listed (front i)) i
+abbrev pub begins_atom : List Occ → Names → Token → Bool
+begins_atom listed scope t = is_sign (mark punctuation.Open) t || (is_sign (mark punctuation.OpenList) t || (is_sign (mark punctuation.OpenTable) t || (is_call t || is_operand listed scope t)))
 
-unfoldable pub atom_from : List Occ → Parser Node → Parser Node
-atom_from listed inner = choose (is_mark punctuation.Open) (parenthesized_from inner) (alone_from listed)
+abbrev pub begins : List Occ → Names → Token → Bool
+begins listed scope t = is_sign (word (codes "let")) t || (is_sign (word (codes "if")) t || begins_atom listed scope t)
+
+unfoldable pub none_from : Parser Node
+none_from = do
+  expect (mark punctuation.CloseList)
+  pure (node.List [])
+
+unfoldable pub table_from : Parser Node
+table_from = do
+  expect (mark punctuation.OpenTable)
+  expect (mark punctuation.CloseTable)
+  pure node.EmptyTable
+
+module _ (inner : Names → Parser Node) (scope : Names) where
+  unfoldable pub parenthesized_from : Parser Node
+  parenthesized_from = do
+    expect (mark punctuation.Open)
+    e ← inner scope
+    expect (mark punctuation.Close)
+    pure e
+
+  unfoldable pub next_from : Parser Node
+  next_from = do
+    expect (mark punctuation.Comma)
+    inner scope
+
+  unfoldable pub items_from : Node → Parser (List Node)
+  items_from first = further false (is_sign (mark punctuation.Comma)) next_from (first ∷ [])
+
+  unfoldable pub some_from : Parser Node
+  some_from = do
+    first ← inner scope
+    items ← items_from first
+    expect (mark punctuation.CloseList)
+    pure (node.List items)
+
+  unfoldable pub list_from : Parser Node
+  list_from = do
+    expect (mark punctuation.OpenList)
+    choose (is_sign (mark punctuation.CloseList)) none_from some_from
+
+  unfoldable pub unary_from : UnaryCall → Parser Node
+  unary_from c = do
+    a ← inner scope
+    expect (mark punctuation.Close)
+    pure (node.Unary c a)
+
+  unfoldable pub binary_from : BinaryCall → Parser Node
+  binary_from c = do
+    a ← inner scope
+    b ← next_from
+    expect (mark punctuation.Close)
+    pure (node.Binary c a b)
+
+  unfoldable pub put_from : Parser Node
+  put_from = do
+    t ← inner scope
+    k ← next_from
+    v ← next_from
+    expect (mark punctuation.Close)
+    pure (node.Put t k v)
+
+  abbrev pub arguments_from : Call → Parser Node
+  arguments_from (call.Unary c) = unary_from c
+  arguments_from (call.Binary c) = binary_from c
+  arguments_from call.Put = put_from
+
+  unfoldable pub call_from : Parser Node
+  call_from = do
+    c ← token_as call_in
+    expect (mark punctuation.Open)
+    arguments_from c
+
+  unfoldable pub let_from : Parser Node
+  let_from = do
+    expect (word (codes "let"))
+    x ← token_as new_name
+    expect (mark punctuation.Equal)
+    e ← inner scope
+    expect (word (codes "in"))
+    f ← inner (scope ++ x ∷ [])
+    pure (node.Let e f)
+
+  unfoldable pub if_from : Parser Node
+  if_from = do
+    expect (word (codes "if"))
+    c ← inner scope
+    expect (word (codes "then"))
+    e ← inner scope
+    expect (word (codes "else"))
+    f ← inner scope
+    pure (node.If c e f)
+
+  module _ (listed : List Occ) where
+    unfoldable pub atom_from : Parser Node
+    atom_from =
+        choose (is_sign (mark punctuation.Open)) parenthesized_from (choose (is_sign (mark punctuation.OpenList)) list_from
+        (choose (is_sign (mark punctuation.OpenTable)) table_from (choose is_call call_from (token_as (operand_of listed scope)))))
+
+    unfoldable pub whole_from : Parser Node
+    whole_from = choose (is_sign (word (codes "let"))) let_from (choose (is_sign (word (codes "if"))) if_from (ranked_from atom_from precedences))
 
 -- why an expression that has no level left can't begin
-abbrev pub no_level_of : List Occ → Ending → List Placed → ExprFault
-no_level_of listed e [] = ending_fault e
-no_level_of listed e (p ∷ ps) = if begins listed p.token then fault.TooDeep p.at else fault.Unexpected p.at
+abbrev pub no_level_of : List Occ → Names → Ending → List Placed → ExprFault
+no_level_of listed scope e [] = ending_fault e
+no_level_of listed scope e (p ∷ ps) = if begins listed scope p.token then fault.TooDeep p.at else fault.Unexpected p.at
 
--- an expression of at most so many levels
-unfoldable pub expr_from : List Occ → ℕ → Parser Node
-expr_from listed zero = λ i. Err (no_level_of listed i.ending i.left)
-expr_from listed (suc levels) = ranked_from (atom_from listed (expr_from listed levels)) precedences
+-- an expression of at most so many levels, where these names are bound around it
+unfoldable pub expr_in : List Occ → ℕ → Names → Parser Node
+expr_in listed zero scope = λ i. Err (no_level_of listed scope i.ending i.left)
+expr_in listed (suc levels) scope = whole_from (expr_in listed levels) scope listed
+
+abbrev pub expr_from : List Occ → ℕ → Parser Node
+expr_from listed levels = expr_in listed levels []
 
 -- ---- a whole text
 

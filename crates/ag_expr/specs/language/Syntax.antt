@@ -1,12 +1,12 @@
 -- Which tokens spell an expression, and of which tree, by levels and by precedences of operators: this project's grammar.
-use Rattle.std.specs.Prelude.{◌≡◌, ℕ, zero, suc, Bool, List, [], ◌∷◌, ◌++◌, Option, Some, None, cond, bytes_eq, codes, option_map, ◌⊎◌}
+use Rattle.std.specs.Prelude.{◌≡◌, ◌≤◌, ℕ, zero, suc, Bool, true, false, List, [], ◌∷◌, ◌++◌, length, Option, Some, None, cond, bytes_eq, codes, option_map, ◌⊎◌}
 use denote.Enum.Bare.{sameb}
 use Rattle.ag_expr.specs.contracts.parser.Precedence.{the_type}
 use Rattle.ag_expr.specs.declared.parser.Precedence.{Precedence}
 use Rattle.ag_expr.specs.declared.parser.Precedence.TheVariants as precedence
 use Rattle.ag_expr.specs.declared.token.Punctuation.{Punctuation}
 use Rattle.ag_expr.specs.declared.token.Punctuation.TheVariants as punctuation
-use Rattle.ag_expr.specs.language.Token.{Token}
+use Rattle.ag_expr.specs.language.Token.{Token, Sign, mark, word, sign_token}
 use Rattle.ag_expr.specs.language.Token as token
 use Rattle.ag_expr.specs.declared.node.Operator.{Operator}
 use Rattle.ag_expr.specs.declared.node.Operator.TheVariants as operator
@@ -14,6 +14,11 @@ use Rattle.ag_expr.specs.declared.node.Node.{Node}
 use Rattle.ag_expr.specs.declared.node.Node.TheVariants as node
 use Rattle.ag_value.specs.declared.value.Value.TheVariants as value
 use Rattle.ag_expr.specs.declared.occurrence.Occ.{Occ}
+use Rattle.ag_expr.specs.declared.names.Call.{Call}
+use Rattle.ag_expr.specs.declared.names.Call.TheVariants as call
+use Rattle.ag_expr.specs.declared.node.UnaryCall.{UnaryCall}
+use Rattle.ag_expr.specs.declared.node.BinaryCall.{BinaryCall}
+use Rattle.ag_expr.specs.language.Names.{Names, call_of, is_reserved, place_in}
 use Rattle.ag_expr.specs.language.Occurrences.{position_of}
 
 -- ---- how languages are put together
@@ -31,9 +36,13 @@ first >> more = first >>= (λ _. more)
 abbrev pub gives : {A : Type 0} → A → List Token → A → Type 0
 gives a ts b = (ts ≡ []) × (b ≡ a)
 
--- this punctuation alone
-abbrev pub spelled : Punctuation → List Token → Unit {0} → Type 0
-spelled mark ts u = ts ≡ token.Punctuation mark ∷ []
+-- one token, for what it stands for
+abbrev pub token_as : {A : Type 0} → (Token → Option A) → List Token → A → Type 0
+token_as meaning ts a = (t : Token) × (ts ≡ t ∷ []) × (meaning t ≡ Some a)
+
+-- this punctuation or this name alone
+abbrev pub spelled : Sign → List Token → Unit {0} → Type 0
+spelled s ts u = ts ≡ sign_token s ∷ []
 
 -- one of two
 infixr 8 ◌or◌
@@ -45,9 +54,21 @@ pub data Many {A : Type 0} (item : List Token → A → Type 0) : List Token →
   none : Many item [] []
   more : (us vs : List Token) (x : A) (xs : List A) → item us x → Many item vs xs → Many item (us ++ vs) (x ∷ xs)
 
+-- at most one, where the test says so
+abbrev pub IsFew : Bool → ℕ → Type 0
+IsFew true n = n ≤ 1
+IsFew false n = Unit {0}
+
+-- further ones behind those that were found: one at most where the test says so, else any number
+abbrev pub further : {A : Type 0} → Bool → List A → (List Token → A → Type 0) → List Token → List A → Type 0
+further {A} one found item ts all = (xs : List A) × Many item ts xs × IsFew one (length xs) × (all ≡ found ++ xs)
+
 -- ---- the table of operators: the precedence of each, and what it does
 
 abbrev pub marked_operator : Punctuation → Option (Precedence × Operator)
+marked_operator punctuation.EqualEqual = Some (precedence.Comparison, operator.Equal)
+marked_operator punctuation.Less = Some (precedence.Comparison, operator.Less)
+marked_operator punctuation.Join = Some (precedence.Join, operator.Join)
 marked_operator punctuation.Plus = Some (precedence.Sum, operator.Add)
 marked_operator punctuation.Minus = Some (precedence.Sum, operator.Subtract)
 marked_operator punctuation.Times = Some (precedence.Product, operator.Multiply)
@@ -58,17 +79,24 @@ abbrev pub named_operator : List ℕ → Option (Precedence × Operator)
 named_operator name = cond (bytes_eq name (codes "div")) (Some (precedence.Product, operator.Divide)) (cond (bytes_eq name (codes "mod")) (Some (precedence.Product, operator.Remainder)) None)
 
 abbrev pub binary_operator : Token → Option (Precedence × Operator)
-binary_operator (token.Punctuation mark) = marked_operator mark
+binary_operator (token.Punctuation m) = marked_operator m
 binary_operator (token.Name name) = named_operator name
 binary_operator _ = None
 
 -- those that bind more closely than a precedence, and all of them, the weakest first
 abbrev pub closer : Precedence → List Precedence
+closer precedence.Comparison = precedence.Join ∷ precedence.Sum ∷ precedence.Product ∷ []
+closer precedence.Join = precedence.Sum ∷ precedence.Product ∷ []
 closer precedence.Sum = precedence.Product ∷ []
 closer precedence.Product = []
 
 abbrev pub precedences : List Precedence
-precedences = precedence.Sum ∷ closer precedence.Sum
+precedences = precedence.Comparison ∷ closer precedence.Comparison
+
+-- what was compared is not compared again
+abbrev pub takes_one : Precedence → Bool
+takes_one precedence.Comparison = true
+takes_one _ = false
 
 abbrev pub same_precedence : Precedence → Precedence → Bool
 same_precedence = sameb the_type
@@ -81,11 +109,31 @@ of_precedence k (Some p) = cond (same_precedence k p.0) (Some p.1) None
 abbrev pub operator_of : Precedence → Token → Option Operator
 operator_of k t = of_precedence k (binary_operator t)
 
--- one operator of a precedence
-abbrev pub operated : Precedence → List Token → Operator → Type 0
-operated k ts o = (t : Token) × (ts ≡ t ∷ []) × (operator_of k t ≡ Some o)
+-- ---- operands of one token
 
--- ---- expressions
+-- the name that a token can bind: one that is not reserved
+abbrev pub new_name : Token → Option (List ℕ)
+new_name (token.Name name) = cond (is_reserved name) None (Some name)
+new_name _ = None
+
+abbrev pub bound_in : Names → List ℕ → Option Node
+bound_in scope name = option_map node.Bound (place_in scope name)
+
+-- The operand that one token is: a number, a text, an occurrence by its number among the different ones of the whole text, and a name by that of
+-- its binding.
+abbrev pub operand_of : List Occ → Names → Token → Option Node
+operand_of listed scope (token.Number n) = Some (node.Literal (value.Num n))
+operand_of listed scope (token.Text bytes) = Some (node.Literal (value.Text bytes))
+operand_of listed scope (token.Name name) = cond (is_reserved name) None (bound_in scope name)
+operand_of listed scope (token.Occurrence place attr) = option_map node.Occurrence (position_of listed place attr)
+operand_of listed scope (token.Punctuation m) = None
+
+-- the call that a token names
+abbrev pub call_in : Token → Option Call
+call_in (token.Name name) = call_of name
+call_in _ = None
+
+-- ---- chains of operators
 
 -- one operand is itself, and more are a chain, kept flat
 abbrev pub chained : Node → List (Operator × Node) → Node
@@ -95,7 +143,7 @@ chained first (x ∷ xs) = node.Chain first (x ∷ xs)
 -- an operator of a precedence and the operand behind it
 abbrev pub IsOther : Precedence → (List Token → Node → Type 0) → List Token → Operator × Node → Type 0
 IsOther k operand = do
-  o ← operated k
+  o ← token_as (operator_of k)
   e ← operand
   gives (o, e)
 
@@ -103,7 +151,7 @@ IsOther k operand = do
 abbrev pub IsChain : Precedence → (List Token → Node → Type 0) → List Token → Node → Type 0
 IsChain k operand = do
   first ← operand
-  others ← Many (IsOther k operand)
+  others ← further (takes_one k) [] (IsOther k operand)
   gives (chained first others)
 
 -- by precedences, with what stands between the operators that bind most closely
@@ -111,27 +159,115 @@ abbrev pub IsRanked : (List Token → Node → Type 0) → List Precedence → L
 IsRanked atom [] = atom
 IsRanked atom (k ∷ ks) = IsChain k (IsRanked atom ks)
 
--- the operand that one token is: a number, and an occurrence by its number among the different ones of the whole text
-abbrev pub operand_of : List Occ → Token → Option Node
-operand_of listed (token.Number n) = Some (node.Literal (value.Num n))
-operand_of listed (token.Occurrence place attr) = option_map node.Occurrence (position_of listed place attr)
-operand_of listed _ = None
+-- ---- forms without parts
 
-abbrev pub by_itself : List Occ → List Token → Node → Type 0
-by_itself listed ts e = (t : Token) × (ts ≡ t ∷ []) × (operand_of listed t ≡ Some e)
+-- what stands behind the opening sign of an empty list
+abbrev pub AreNone : List Token → Node → Type 0
+AreNone = do
+  spelled (mark punctuation.CloseList)
+  gives (node.List [])
 
--- an expression one level further in
-abbrev pub IsParenthesized : (List Token → Node → Type 0) → List Token → Node → Type 0
-IsParenthesized inner = do
-  spelled punctuation.Open
-  e ← inner
-  spelled punctuation.Close
-  gives e
+abbrev pub IsTable : List Token → Node → Type 0
+IsTable = do
+  spelled (mark punctuation.OpenTable)
+  spelled (mark punctuation.CloseTable)
+  gives node.EmptyTable
 
-abbrev pub IsAtom : List Occ → (List Token → Node → Type 0) → List Token → Node → Type 0
-IsAtom listed inner = IsParenthesized inner or by_itself listed
+-- ---- expressions, where `inner` is what one that is one level further in may be, by the names that are bound around it
 
--- The tokens are an expression of at most so many levels, with this tree.
-unfoldable pub IsExpr : List Occ → ℕ → List Token → Node → Type 0
-IsExpr listed zero ts e = ⊥
-IsExpr listed (suc levels) ts e = IsRanked (IsAtom listed (IsExpr listed levels)) precedences ts e
+module _ (inner : Names → List Token → Node → Type 0) (scope : Names) where
+  abbrev pub IsParenthesized : List Token → Node → Type 0
+  IsParenthesized = do
+    spelled (mark punctuation.Open)
+    e ← inner scope
+    spelled (mark punctuation.Close)
+    gives e
+
+  -- one more behind a comma
+  abbrev pub IsNext : List Token → Node → Type 0
+  IsNext = do
+    spelled (mark punctuation.Comma)
+    inner scope
+
+  -- what stands behind the opening sign of a list that has items: these, with commas between them
+  abbrev pub AreSome : List Token → Node → Type 0
+  AreSome = do
+    first ← inner scope
+    items ← further false (first ∷ []) IsNext
+    spelled (mark punctuation.CloseList)
+    gives (node.List items)
+
+  abbrev pub IsList : List Token → Node → Type 0
+  IsList = do
+    spelled (mark punctuation.OpenList)
+    AreNone or AreSome
+
+  -- the arguments of a call, as many as it takes, and the closing parenthesis
+  abbrev pub IsUnary : UnaryCall → List Token → Node → Type 0
+  IsUnary c = do
+    a ← inner scope
+    spelled (mark punctuation.Close)
+    gives (node.Unary c a)
+
+  abbrev pub IsBinary : BinaryCall → List Token → Node → Type 0
+  IsBinary c = do
+    a ← inner scope
+    b ← IsNext
+    spelled (mark punctuation.Close)
+    gives (node.Binary c a b)
+
+  abbrev pub IsPut : List Token → Node → Type 0
+  IsPut = do
+    t ← inner scope
+    k ← IsNext
+    v ← IsNext
+    spelled (mark punctuation.Close)
+    gives (node.Put t k v)
+
+  abbrev pub AreArguments : Call → List Token → Node → Type 0
+  AreArguments (call.Unary c) = IsUnary c
+  AreArguments (call.Binary c) = IsBinary c
+  AreArguments call.Put = IsPut
+
+  abbrev pub IsCall : List Token → Node → Type 0
+  IsCall = do
+    c ← token_as call_in
+    spelled (mark punctuation.Open)
+    AreArguments c
+
+  -- a definition is not in the scope of its own name, and a body is
+  abbrev pub IsLet : List Token → Node → Type 0
+  IsLet = do
+    spelled (word (codes "let"))
+    x ← token_as new_name
+    spelled (mark punctuation.Equal)
+    e ← inner scope
+    spelled (word (codes "in"))
+    f ← inner (scope ++ x ∷ [])
+    gives (node.Let e f)
+
+  abbrev pub IsIf : List Token → Node → Type 0
+  IsIf = do
+    spelled (word (codes "if"))
+    c ← inner scope
+    spelled (word (codes "then"))
+    e ← inner scope
+    spelled (word (codes "else"))
+    f ← inner scope
+    gives (node.If c e f)
+
+  module _ (listed : List Occ) where
+    abbrev pub IsAtom : List Token → Node → Type 0
+    IsAtom = IsParenthesized or IsList or IsTable or IsCall or token_as (operand_of listed scope)
+
+    abbrev pub IsWhole : List Token → Node → Type 0
+    IsWhole = IsLet or IsIf or IsRanked IsAtom precedences
+
+-- The tokens are an expression of at most so many levels, with this tree, where these names are bound around it.
+unfoldable pub IsExprIn : List Occ → ℕ → Names → List Token → Node → Type 0
+IsExprIn listed zero scope ts e = ⊥
+IsExprIn listed (suc levels) scope ts e = IsWhole (IsExprIn listed levels) scope listed ts e
+
+-- and so where none is
+abbrev pub IsExpr : List Occ → ℕ → List Token → Node → Type 0
+IsExpr listed levels = IsExprIn listed levels []

@@ -12,3 +12,12 @@ pub data Token : Type 0 where
   -- an occurrence of an attribute, by its place and the bytes of the attribute's name
   Occurrence : ℕ → List ℕ → Token
   Punctuation : punctuation.Punctuation → Token
+
+-- A token that is written in one way only: punctuation, or a name of the language.
+pub data Sign : Type 0 where
+  mark : punctuation.Punctuation → Sign
+  word : List ℕ → Sign
+
+abbrev pub sign_token : Sign → Token
+sign_token (mark m) = Punctuation m
+sign_token (word name) = Name name

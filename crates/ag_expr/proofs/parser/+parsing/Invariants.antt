@@ -1,46 +1,98 @@
-use Rattle.std.proofs.Common.{[], ◌≡◌, ℕ, ◌+◌, ◌*◌, length}
+use Rattle.std.proofs.Common.{false, [], ◌≡◌, ℕ, ◌+◌, ◌*◌, length}
 use Rattle.ag_expr.specs.language.Left.{Keeps, everything, input}
-use Rattle.ag_expr.specs.language.Reading.{many, is_operator_of, other_from, ranked_from, atom_from, expr_from}
-use Rattle.ag_expr.specs.language.Syntax.{closer}
+use Rattle.ag_expr.specs.language.Reading.{further, items_from, is_operator_of, is_sign, next_from, other_from, ranked_from, atom_from, expr_in}
+use Rattle.ag_expr.specs.language.Syntax.{closer, takes_one}
+use Rattle.ag_expr.specs.language.Token.{mark}
 use Rattle.ag_expr.specs.declared.parser.Precedence.{Precedence}
 use Rattle.ag_expr.specs.declared.parser.Precedence.TheVariants as precedence
+use Rattle.ag_expr.specs.declared.token.Punctuation.TheVariants as punctuation
 use Rattle.ag_expr.proofs.language.Turns.{Going}
 use Rattle.ag_expr.proofs.parser.+parsing.Given as goal
 
 -- how many calls lie between a precedence and an atom
 abbrev above : Precedence → ℕ
-above precedence.Sum = 4
-above precedence.Product = 0
+above precedence.Comparison = 18
+above precedence.Join = 14
+above precedence.Sum = 10
+above precedence.Product = 6
 
 abbrev pub decreases-expression : goal.decreases-expression
-decreases-expression l = 12 * l.levels
+decreases-expression l = 40 * l.levels
+
+abbrev pub decreases-boxed : goal.decreases-boxed
+decreases-boxed l = 40 * l.levels + 1
+
+abbrev pub decreases-argument : goal.decreases-argument
+decreases-argument l = 40 * l.levels + 2
+
+abbrev pub decreases-binding : goal.decreases-binding
+decreases-binding l = 40 * l.levels + 2
+
+abbrev pub decreases-conditional : goal.decreases-conditional
+decreases-conditional l = 40 * l.levels + 2
 
 abbrev pub decreases-chain : goal.decreases-chain
-decreases-chain l = 12 * l.levels + (above l.precedence + 6)
+decreases-chain l = 40 * l.levels + (above l.precedence + 3)
 
-abbrev pub decreases-further : goal.decreases-further
-decreases-further l = 12 * l.levels + (above l.precedence + 5)
+abbrev pub decreases-others : goal.decreases-others
+decreases-others l = 40 * l.levels + (above l.precedence + 2)
 
 abbrev pub decreases-other : goal.decreases-other
-decreases-other l = 12 * l.levels + (above l.precedence + 4)
+decreases-other l = 40 * l.levels + (above l.precedence + 1)
 
 abbrev pub decreases-operand : goal.decreases-operand
-decreases-operand l = 12 * l.levels + (above l.precedence + 3)
+decreases-operand l = 40 * l.levels + above l.precedence
 
 abbrev pub decreases-atom : goal.decreases-atom
-decreases-atom l = 12 * l.levels + 2
+decreases-atom l = 40 * l.levels + 5
 
 abbrev pub decreases-parenthesized : goal.decreases-parenthesized
-decreases-parenthesized l = 12 * l.levels + 1
+decreases-parenthesized l = 40 * l.levels + 1
 
-abbrev pub invariant-further-loop-alloc : goal.invariant-further-loop-alloc
-invariant-further-loop-alloc l = record {
+abbrev pub decreases-list : goal.decreases-list
+decreases-list l = 40 * l.levels + 4
+
+abbrev pub decreases-some_items : goal.decreases-some_items
+decreases-some_items l = 40 * l.levels + 3
+
+abbrev pub decreases-items : goal.decreases-items
+decreases-items l = 40 * l.levels + 2
+
+abbrev pub decreases-next : goal.decreases-next
+decreases-next l = 40 * l.levels + 1
+
+abbrev pub decreases-call : goal.decreases-call
+decreases-call l = 40 * l.levels + 4
+
+abbrev pub decreases-unary : goal.decreases-unary
+decreases-unary l = 40 * l.levels + 3
+
+abbrev pub decreases-binary : goal.decreases-binary
+decreases-binary l = 40 * l.levels + 3
+
+abbrev pub decreases-put : goal.decreases-put
+decreases-put l = 40 * l.levels + 3
+
+abbrev pub invariant-others-loop-alloc : goal.invariant-others-loop-alloc
+invariant-others-loop-alloc l = record {
   keeps : Keeps l.fn.cursor l.cursor;
-  going : Going (is_operator_of l.fn.precedence) (other_from l.fn.precedence (ranked_from (atom_from (everything l.fn.cursor) (expr_from (everything l.fn.cursor) l.fn.levels)) (closer l.fn.precedence))) l.others.items (input l.cursor)
-      (many (is_operator_of l.fn.precedence) (other_from l.fn.precedence (ranked_from (atom_from (everything l.fn.cursor) (expr_from (everything l.fn.cursor) l.fn.levels)) (closer l.fn.precedence))) [] (input l.fn.cursor));
+  names : l.scope ≡ l.fn.scope;
+  going : Going (takes_one l.fn.precedence) (is_operator_of l.fn.precedence) (other_from l.fn.precedence (ranked_from (atom_from (expr_in (everything l.fn.cursor) l.fn.levels) l.fn.scope (everything l.fn.cursor)) (closer l.fn.precedence))) l.others.items (input l.cursor)
+      (further (takes_one l.fn.precedence) (is_operator_of l.fn.precedence) (other_from l.fn.precedence (ranked_from (atom_from (expr_in (everything l.fn.cursor) l.fn.levels) l.fn.scope (everything l.fn.cursor)) (closer l.fn.precedence))) [] (input l.fn.cursor));
   same : l.levels ≡ l.fn.levels;
   ranked : l.precedence ≡ l.fn.precedence;
 }
 
-abbrev pub decreases-further-loop-alloc : goal.decreases-further-loop-alloc
-decreases-further-loop-alloc l = length (input l.cursor).left
+abbrev pub decreases-others-loop-alloc : goal.decreases-others-loop-alloc
+decreases-others-loop-alloc l = length (input l.cursor).left
+
+abbrev pub invariant-items-loop-alloc : goal.invariant-items-loop-alloc
+invariant-items-loop-alloc l = record {
+  keeps : Keeps l.fn.cursor l.cursor;
+  names : l.scope ≡ l.fn.scope;
+  going : Going false (is_sign (mark punctuation.Comma)) (next_from (expr_in (everything l.fn.cursor) l.fn.levels) l.fn.scope) l.items.items (input l.cursor) (items_from (expr_in (everything l.fn.cursor) l.fn.levels) l.fn.scope l.fn.first (input l.fn.cursor));
+  same : l.levels ≡ l.fn.levels;
+}
+
+abbrev pub decreases-items-loop-alloc : goal.decreases-items-loop-alloc
+decreases-items-loop-alloc l = length (input l.cursor).left
