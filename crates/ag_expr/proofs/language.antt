@@ -10,6 +10,7 @@ pub mod Lexes
 pub mod Listing
 pub mod Numbered
 pub mod Numerals
+pub mod Offsets
 pub mod Places
 pub mod Scopes
 pub mod Spans
@@ -19,4 +20,3 @@ pub mod TextTurns
 pub mod Texts
 pub mod TokenLaws
 pub mod Turns
-pub mod Until

@@ -10,7 +10,7 @@ ghost use Rattle.ag_expr.specs.language.Lexing.{token_of};
 ghost use Rattle.ag_expr.specs.language.Reading as reading;
 ghost use Rattle.ag_expr.specs.language.Syntax as syntax;
 ghost use Rattle.ag_expr.specs.language.Token as tokens;
-ghost use Rattle.ag_expr.specs.language.Until as until;
+ghost use Rattle.ag_expr.specs.language.Offsets.{place};
 
 use crate::fault::{ExprFault, TokenFault};
 use crate::lexer::{skip_separators, token_in_front};
@@ -135,7 +135,7 @@ impl<'t> Cursor<'t> {
 
     /// The offset of the token in front, or of the place where the tokens end. Takes no memory.
     pub fn place(&self) -> usize
-        ensures { result ≡ until.place (input self.now) }
+        ensures { result ≡ place (input self.now) }
     {
         self.text.len() - self.rest.len()
     }

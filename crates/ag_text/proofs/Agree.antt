@@ -9,7 +9,7 @@ use Rattle.ag_text.specs.declared.raw.RawGrammar.{RawGrammar}
 use Rattle.ag_text.specs.Laws.{ReadingAgrees, RefusesAtTheFirst, OneGrammar}
 use Rattle.ag_text.specs.Places.{NoneGoesOn, IsFirstWrong}
 use Rattle.ag_text.specs.Reading as reading
-use Rattle.ag_expr.specs.language.Until.{place}
+use Rattle.ag_expr.specs.language.Offsets.{place}
 use Rattle.ag_text.specs.Reading.{Outcome, grammar_from, grammar_of}
 use Rattle.ag_text.specs.declared.stop.Stop.TheVariants.{WrongAt}
 use Rattle.ag_text.specs.Syntax.{IsGrammar}

@@ -7,14 +7,13 @@ use Rattle.ag_expr.specs.declared.token.Punctuation.TheVariants as punctuation
 use Rattle.ag_expr.specs.language.Ending as ending
 use Rattle.ag_expr.specs.language.Lexing.{token_from}
 use Rattle.ag_expr.specs.language.Placed.{Placed, Input}
-use Rattle.ag_expr.specs.language.Reading.{expr_of, expr_from, ranked_from, chain_from, atom_from}
+use Rattle.ag_expr.specs.language.Reading.{expr_of, expr_in, whole_from, ranked_from, chain_from, atom_from}
 use Rattle.ag_expr.specs.language.Reading as expr_reading
 use Rattle.ag_expr.specs.language.Token as token
 use Rattle.ag_expr.specs.language.Tokens.{AreTokens, ended, separator, Lexes}
 use Rattle.ag_expr.proofs.language.Lexed.{one_more}
 use Rattle.ag_expr.proofs.language.Lexes.{one_input}
 use Rattle.ag_expr.proofs.language.TokenLaws.{no_start, punctuation_cut}
-use Rattle.ag_expr.specs.language.Until.{read_until}
 use Rattle.ag_text.specs.Grammar.{ReadsAsGrammar, ReadsAsNone}
 use Rattle.ag_text.specs.Reading.{many_from, further_from, names_from, section_from, attributes_from, symbol_from, ended_expr_from, rule_from, production_from, grammar_from, grammar_of}
 use Rattle.ag_text.specs.declared.stop.Stop.TheVariants.{WrongAt}
@@ -23,7 +22,7 @@ use Rattle.ag_text.specs.Worked.{name_at, mark_at, start_tokens, start_alone, co
 use Rattle.ag_text.proofs.Agree.{reading_agrees}
 
 constant_is_read : grammar_of (record { left = constant_tokens; ending = ending.EndsAt 57 }) ≡ Ok (constant, record { left = []; ending = ending.EndsAt 57 })
-unfolding grammar_of grammar_from many_from symbol_from attributes_from section_from names_from further_from production_from rule_from ended_expr_from read_until expr_of expr_from ranked_from chain_from atom_from expr_reading.many_from
+unfolding grammar_of grammar_from many_from symbol_from attributes_from section_from names_from further_from production_from rule_from ended_expr_from expr_of expr_in whole_from ranked_from chain_from atom_from expr_reading.many_from
 constant_is_read = refl
 
 pub constant_is_spelled : IsGrammar constant_tokens constant

@@ -5,7 +5,7 @@ use Rattle.ag_expr.specs.language.Placed.{Placed, Input}
 use Rattle.ag_expr.specs.language.Reading as expr_reading
 use Rattle.ag_expr.specs.language.Reading.{front, front_of, sees}
 use Rattle.ag_expr.specs.language.Token.{Token}
-use Rattle.ag_expr.specs.language.Until.{place}
+use Rattle.ag_expr.specs.language.Offsets.{place}
 use Rattle.ag_text.specs.Reading as reading
 use Rattle.ag_text.specs.Reading.{Outcome, Parser, and_then, pure, taken, sign_of, one_from, choose, many_from, many}
 use Rattle.ag_text.specs.Spelling as spelling

@@ -4,7 +4,7 @@ use Rattle.ag_expr.specs.language.Ending.{Ending}
 use Rattle.ag_expr.specs.language.Ending as ending
 use Rattle.ag_expr.specs.language.Placed.{Placed, Input}
 use Rattle.ag_text.specs.declared.raw.RawGrammar.{RawGrammar}
-use Rattle.ag_expr.specs.language.Until.{place_of}
+use Rattle.ag_expr.specs.language.Offsets.{place_of}
 use Rattle.ag_text.specs.Syntax.{IsGrammar}
 
 -- the tokens are the beginning of a grammar's text

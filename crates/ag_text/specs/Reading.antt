@@ -1,13 +1,14 @@
 -- Reading a grammar from the front of placed tokens: what is read, and what is left; or why reading stops.
-use Rattle.std.specs.Prelude.{ℕ, zero, suc, Bool, true, not, if◌then◌else◌, List, [], ◌∷◌, ◌++◌, length, Option, Some, None, Result, Ok, Err, codes}
+use Rattle.std.specs.Prelude.{ℕ, zero, suc, Bool, true, not, cond, if◌then◌else◌, List, [], ◌∷◌, ◌++◌, length, Option, Some, None, Result, Ok, Err, codes}
 use Rattle.ag_expr.specs.declared.fault.ExprFault.{ExprFault}
 use Rattle.ag_expr.specs.declared.node.Node.{Node}
 use Rattle.ag_expr.specs.declared.occurrence.Occ.{Occ}
 use Rattle.ag_expr.specs.declared.token.Punctuation.{Punctuation}
 use Rattle.ag_expr.specs.declared.token.Punctuation.TheVariants as punctuation
-use Rattle.ag_expr.specs.language.Placed.{Input}
+use Rattle.ag_expr.specs.language.Placed.{Placed, Input}
 use Rattle.ag_expr.specs.language.Reading.{front, is_end, next, sees}
-use Rattle.ag_expr.specs.language.Until.{place, read_until}
+use Rattle.ag_expr.specs.language.Offsets.{place}
+use Rattle.ag_expr.specs.language.Until.{Ended, read_until_from}
 use Rattle.ag_expr.specs.language.Token.{Token}
 use Rattle.ag_text.specs.declared.raw.Named.{Named}
 use Rattle.ag_text.specs.declared.raw.RawGrammar.{RawGrammar}
@@ -69,13 +70,18 @@ many begins item found = λ i. many_from begins item (length i.left) found i
 
 -- ---- the expression of a rule
 
+-- the tokens behind the first `;`
+abbrev pub behind_semicolon : List Placed → List Placed
+behind_semicolon [] = []
+behind_semicolon (p ∷ ps) = cond (is_mark punctuation.Semicolon p.token) ps (behind_semicolon ps)
+
 -- an expression that is read up to its `;`, which is passed
-abbrev pub ended : Result ((Node × List Occ) × Input) ExprFault → Outcome (Node × List Occ)
-ended (Ok p) = Ok (p.0, next p.1)
-ended (Err f) = Err (InExpr f)
+abbrev pub ended : Input → Result Ended ExprFault → Outcome (Node × List Occ)
+ended i (Ok x) = Ok (x.0, record i { left = behind_semicolon i.left })
+ended i (Err f) = Err (InExpr f)
 
 unfoldable pub ended_expr_from : Parser (Node × List Occ)
-ended_expr_from = λ i. ended (read_until i)
+ended_expr_from = λ i. ended i (read_until_from i)
 
 -- ---- grammars
 

@@ -1,5 +1,5 @@
 -- Which placed tokens spell a grammar: this project's grammar of grammars.
-use Rattle.std.specs.Prelude.{◌≡◌, ℕ, Bool, true, not, ◌&&◌, List, [], ◌∷◌, codes}
+use Rattle.std.specs.Prelude.{◌≡◌, ℕ, List, [], ◌∷◌, None, codes}
 use Rattle.ag_expr.specs.declared.node.Node.{Node}
 use Rattle.ag_expr.specs.declared.occurrence.Occ.{Occ}
 use Rattle.ag_expr.specs.declared.token.Punctuation.{Punctuation}
@@ -8,7 +8,7 @@ use Rattle.ag_expr.specs.language.Expression.{max_levels}
 use Rattle.ag_expr.specs.language.Occurrences.{all_occurrences, different}
 use Rattle.ag_expr.specs.language.Placed.{Placed, tokens}
 use Rattle.ag_expr.specs.language.Syntax.{IsExpr}
-use Rattle.ag_expr.specs.language.Until.{is_semicolon}
+use Rattle.ag_expr.specs.language.Until.{first_semicolon}
 use Rattle.ag_text.specs.declared.raw.Named.{Named}
 use Rattle.ag_text.specs.declared.raw.RawGrammar.{RawGrammar}
 use Rattle.ag_text.specs.declared.raw.RawProduction.{RawProduction}
@@ -55,13 +55,9 @@ IsSymbol = do
   mark punctuation.Semicolon
   gives (record { name = name; syn = syn; inh = inh })
 
-abbrev pub free_of_semicolons : List Placed → Bool
-free_of_semicolons [] = true
-free_of_semicolons (p ∷ ps) = not (is_semicolon p.token) && free_of_semicolons ps
-
 -- The tokens are an expression, with its tree and the different occurrences among its own tokens. No `;` is among them.
 pub record IsOwnExpr (ps : List Placed) (expr : Node × List Occ) : Type 0 where
-  pub free : free_of_semicolons ps ≡ true
+  pub free : first_semicolon ps ≡ None
   pub listed : expr.1 ≡ different (all_occurrences ps)
   pub spells : IsExpr expr.1 max_levels (tokens ps) expr.0
 

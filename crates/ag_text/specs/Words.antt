@@ -1,11 +1,10 @@
 -- What one token stands for in a grammar's text: this project's.
 use Rattle.std.specs.Prelude.{ℕ, Bool, false, not, cond, if◌then◌else◌, List, [], ◌∷◌, Option, Some, None, bytes_eq, codes}
 use Rattle.std.specs.List.{list_all, list_any}
-use denote.Enum.Bare.{sameb}
-use Rattle.ag_expr.specs.contracts.token.Punctuation.{the_type}
 use Rattle.ag_expr.specs.declared.token.Punctuation.{Punctuation}
 use Rattle.ag_expr.specs.declared.occurrence.Occ.{Occ}
-use Rattle.ag_expr.specs.language.Token.{Token}
+use Rattle.ag_expr.specs.language.Reading.{is_sign}
+use Rattle.ag_expr.specs.language.Token.{Token, mark, word}
 use Rattle.ag_expr.specs.language.Token as token
 use Rattle.ag_expr.specs.language.Tokens.{is_separator}
 use Rattle.ag_text.specs.declared.raw.Named.{Named}
@@ -24,18 +23,16 @@ some_where b a = if b then Some a else None
 
 -- whether the token is this punctuation, or this reserved name
 abbrev pub is_mark : Punctuation → Token → Bool
-is_mark mark (token.Punctuation other) = sameb the_type other mark
-is_mark mark _ = false
+is_mark m = is_sign (mark m)
 
 abbrev pub is_word : List ℕ → Token → Bool
-is_word word (token.Name name) = bytes_eq name word
-is_word word _ = false
+is_word w = is_sign (word w)
 
 abbrev pub mark_in : Punctuation → ℕ → Token → Option (Unit {0})
-mark_in mark at t = some_where (is_mark mark t) tt
+mark_in m at t = some_where (is_mark m t) tt
 
 abbrev pub word_in : List ℕ → ℕ → Token → Option (Unit {0})
-word_in word at t = some_where (is_word word t) tt
+word_in w at t = some_where (is_word w t) tt
 
 -- a name that is not reserved, where it stands
 abbrev pub named : ℕ → List ℕ → Option Named

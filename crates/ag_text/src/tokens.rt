@@ -4,7 +4,7 @@ ghost use Rattle.std.specs.Prelude.{◌≡◌, Some, IfOk, is_some, option_map};
 ghost use Rattle.ag_expr.specs.language.Left.{input};
 ghost use Rattle.ag_expr.specs.language.Lexing.{token_of};
 ghost use Rattle.ag_expr.specs.language.Reading.{sees};
-ghost use Rattle.ag_expr.specs.language.Until.{place};
+ghost use Rattle.ag_expr.specs.language.Offsets.{place};
 ghost use Rattle.ag_text.specs.Passing.{Reads};
 ghost use Rattle.ag_text.specs.Reading as reading;
 ghost use Rattle.ag_text.specs.Words as words;

@@ -1,66 +1,69 @@
--- An expression up to a `;`, in a longer text: this project's language.
-use Rattle.std.specs.Prelude.{◌≢◌, ◌≡◌, ℕ, Bool, true, false, if◌then◌else◌, List, [], ◌∷◌, Option, Some, None, Result, Ok, Err, option_map}
+-- Reading an expression up to a semicolon: this project's language.
+use Rattle.std.specs.Prelude.{◌≡◌, ◌≢◌, ℕ, cond, List, [], ◌∷◌, ◌++◌, drop, Option, Some, None, Result, Ok, Err, chars}
 use Rattle.ag_expr.specs.declared.fault.ExprFault.{ExprFault}
 use Rattle.ag_expr.specs.declared.fault.ExprFault.TheVariants as fault
 use Rattle.ag_expr.specs.declared.node.Node.{Node}
 use Rattle.ag_expr.specs.declared.occurrence.Occ.{Occ}
 use Rattle.ag_expr.specs.declared.token.Punctuation.TheVariants as punctuation
-use Rattle.ag_expr.specs.language.Ending.{Ending, offset_of}
+use Rattle.ag_expr.specs.language.Ending.{Ending}
 use Rattle.ag_expr.specs.language.Ending as ending
-use Rattle.ag_expr.specs.language.Left.{State, input}
-use Rattle.ag_expr.specs.language.Placed.{Placed, Input}
+use Rattle.ag_expr.specs.language.Expression.{max_levels}
+use Rattle.ag_expr.specs.language.Occurrences.{all_occurrences, different}
+use Rattle.ag_expr.specs.language.Placed.{Placed, Input, tokens}
 use Rattle.ag_expr.specs.language.Places.{read_from}
-use Rattle.ag_expr.specs.language.Reading.{ending_fault}
-use Rattle.ag_expr.specs.language.Token.{Token}
+use Rattle.ag_expr.specs.language.Reading.{is_sign, ending_fault}
+use Rattle.ag_expr.specs.language.Syntax.{IsExpr}
+use Rattle.ag_expr.specs.language.Token.{mark}
 use Rattle.ag_expr.specs.language.Token as token
+use Rattle.ag_expr.specs.language.Tokens.{Lexes}
 
--- where the next token stands, or the tokens end
-abbrev pub place_of : Ending → List Placed → ℕ
-place_of e [] = offset_of e
-place_of e (p ∷ ps) = p.at
+-- an expression that was read, with the offset of the semicolon behind it
+abbrev pub Ended : Type 0
+Ended = (Node × List Occ) × ℕ
 
-abbrev pub place : Input → ℕ
-place i = place_of i.ending i.left
+-- the offset of the first semicolon among tokens, and the tokens before it
+abbrev pub first_semicolon : List Placed → Option ℕ
+first_semicolon [] = None
+first_semicolon (p ∷ ps) = cond (is_sign (mark punctuation.Semicolon) p.token) (Some p.at) (first_semicolon ps)
 
-abbrev pub is_semicolon : Token → Bool
-is_semicolon (token.Punctuation punctuation.Semicolon) = true
-is_semicolon _ = false
+abbrev pub before_semicolon : List Placed → List Placed
+before_semicolon [] = []
+before_semicolon (p ∷ ps) = cond (is_sign (mark punctuation.Semicolon) p.token) [] (p ∷ before_semicolon ps)
 
--- the tokens before the first `;`, it, and the tokens behind it
-pub record Until : Type 0 where
-  pub before : List Placed
-  pub semicolon : Placed
-  pub behind : List Placed
+abbrev pub with_offset : ℕ → Result (Node × List Occ) ExprFault → Result Ended ExprFault
+with_offset at (Ok x) = Ok (x, at)
+with_offset at (Err f) = Err f
 
-abbrev pub one_before : Placed → Until → Until
-one_before p u = record u { before = p ∷ u.before }
+-- no answer but a fault: the one that there is, or else this
+abbrev pub or_fault : ExprFault → Result (Node × List Occ) ExprFault → Result Ended ExprFault
+or_fault e (Ok x) = Err e
+or_fault e (Err f) = Err f
 
-abbrev pub until : List Placed → Option Until
-until [] = None
-until (p ∷ ps) = if is_semicolon p.token then Some (record { before = []; semicolon = p; behind = ps }) else option_map (one_before p) (until ps)
+-- The tokens before the first semicolon are read as those of a text that ends there. Where no semicolon stands the fault is that of all tokens, or
+-- that of their end.
+abbrev pub until_by : Option ℕ → Input → Result Ended ExprFault
+until_by (Some at) i = with_offset at (read_from (record { left = before_semicolon i.left; ending = ending.EndsAt at }))
+until_by None i = or_fault (ending_fault i.ending) (read_from i)
 
--- the tokens before the `;`, as those of a whole text that ends there
-abbrev pub input_before : Until → Input
-input_before u = record { left = u.before; ending = ending.EndsAt u.semicolon.at }
+abbrev pub read_until_from : Input → Result Ended ExprFault
+read_until_from i = until_by (first_semicolon i.left) i
 
-abbrev pub up_to : Until → Ending → Result (Node × List Occ) ExprFault → Result ((Node × List Occ) × Input) ExprFault
-up_to u e (Ok expr) = Ok (expr, record { left = u.semicolon ∷ u.behind; ending = e })
-up_to u e (Err f) = Err f
+-- The answer is what reading the tokens of the text gives from the offset `from` on up to a semicolon, or that memory ran out.
+abbrev pub IsReadUntil : List ℕ → ℕ → Result Ended ExprFault → Type 0
+IsReadUntil text from answer = (i : Input) → Lexes from (chars (drop from text)) i → answer ≢ Err fault.NoMemory → read_until_from i ≡ answer
 
--- where no `;` is left: the fault of what stands there, and behind a whole expression that of the end
-abbrev pub unended : Ending → Result (Node × List Occ) ExprFault → ExprFault
-unended e (Ok expr) = ending_fault e
-unended e (Err f) = f
+-- From the offset `from` on the text reads as the expression up to its first semicolon: the tokens before it spell the tree, and the list has the
+-- different occurrences among them.
+pub record ReadsUntil (text : List ℕ) (from : ℕ) (x : Ended) : Type 0 where
+  pub placed : List Placed
+  pub rest : List Placed
+  pub ending : Ending
+  pub lexes : Lexes from (chars (drop from text)) (record { left = placed ++ record { at = x.1; token = token.Punctuation punctuation.Semicolon } ∷ rest; ending = ending })
+  pub first : first_semicolon placed ≡ None
+  pub listed : x.0.1 ≡ different (all_occurrences placed)
+  pub spells : IsExpr x.0.1 max_levels (tokens placed) x.0.0
 
-abbrev pub read_by : Input → Option Until → Result ((Node × List Occ) × Input) ExprFault
-read_by i None = Err (unended i.ending (read_from i))
-read_by i (Some u) = up_to u i.ending (read_from (input_before u))
-
--- what reading an expression up to a `;` gives: its tree and the different occurrences in it, with what is left from the `;` on; or a fault
-unfoldable pub read_until : Input → Result ((Node × List Occ) × Input) ExprFault
-read_until i = read_by i (until i.left)
-
--- What a function that reads so answers, and what is left behind it; unless memory ran out.
-abbrev pub ReadsUntil : State → Result (Node × List Occ) ExprFault → State → Type 0
-ReadsUntil old (Ok expr) new = read_until (input old) ≡ Ok (expr, input new)
-ReadsUntil old (Err e) new = e ≢ fault.NoMemory → read_until (input old) ≡ Err e
+-- what a refusal says of the text: that no expression stands there up to a semicolon, unless memory ran out
+abbrev pub IsRefusedUntil : List ℕ → ℕ → ExprFault → Type 0
+IsRefusedUntil text from fault.NoMemory = Unit {0}
+IsRefusedUntil text from e = (x : Ended) → ReadsUntil text from x → ⊥

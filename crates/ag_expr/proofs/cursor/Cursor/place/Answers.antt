@@ -1,4 +1,4 @@
-use Rattle.ag_expr.proofs.language.Until.{place_left}
+use Rattle.ag_expr.proofs.language.Offsets.{place_left}
 use Rattle.ag_expr.proofs.cursor.Cursor.place.Goals as goal
 
 pub returns : goal.returns

@@ -1,4 +1,4 @@
--- Where a reader stands, and what it reads up to a `;`.
+-- Where a reader of tokens stands.
 use Rattle.std.proofs.Common.{◌≡◌, ℕ, ◌-◌, List, [], ◌∷◌, Result, Ok, Err, Bor, refl, ap, sym, ◌∙◌}
 use Rattle.ag_expr.specs.declared.fault.TokenFault.{TokenFault}
 use Rattle.ag_expr.specs.declared.fault.TokenFault.TheVariants as token_fault
@@ -7,7 +7,7 @@ use Rattle.ag_expr.specs.language.Ending.{offset_of}
 use Rattle.ag_expr.specs.language.Left.{State, ending_at, ending_by, offset, input}
 use Rattle.ag_expr.specs.language.Lexing.{token_from, token_of, GivesToken}
 use Rattle.ag_expr.specs.language.Tokens.{width}
-use Rattle.ag_expr.specs.language.Until.{place}
+use Rattle.ag_expr.specs.language.Offsets.{place}
 use Rattle.ag_expr.proofs.language.States.{input_is, stands, none_stands}
 
 ending_place : (f : TokenFault) (at : ℕ) (cs : List ℕ) → offset_of (ending_by f at cs) ≡ at
