@@ -1,11 +1,17 @@
--- What a function that passes tokens of a grammar answers: this project's.
-use Rattle.std.specs.Prelude.{◌≡◌, ◌≢◌, Result, Ok, Err}
-use Rattle.ag_expr.specs.language.Left.{State, input}
+-- What is left of a text, and what a function that passes tokens of it answers: this project's.
+use Rattle.std.specs.Prelude.{◌≡◌, ◌≢◌, ℕ, List, ◌++◌, Result, Ok, Err}
+use Rattle.ag_expr.specs.language.Placed.{Placed, Input}
+use Rattle.ag_expr.specs.language.Tokens.{Lexes}
 use Rattle.ag_text.specs.Reading.{Parser}
 use Rattle.ag_text.specs.declared.stop.Stop.{Stop}
 use Rattle.ag_text.specs.declared.stop.Stop.TheVariants as stop
 
+-- The tokens are the last ones of a text.
+pub record IsLeftOf (cs : List ℕ) (i : Input) : Type 0 where
+  pub passed : List Placed
+  pub lexes : Lexes 0 cs (record i { left = passed ++ i.left })
+
 -- what is read from the tokens that are left, and then those behind are left; or why reading stops, unless memory ran out
-abbrev pub Reads : {X : Type 0} → Parser X → State → Result X Stop → State → Type 0
-Reads read old (Ok x) new = read (input old) ≡ Ok (x, input new)
-Reads read old (Err e) new = e ≢ stop.NoMemory → read (input old) ≡ Err e
+abbrev pub Reads : {X : Type 0} → Parser X → Input → Result X Stop → Input → Type 0
+Reads read old (Ok x) new = read old ≡ Ok (x, new)
+Reads read old (Err e) new = e ≢ stop.NoMemory → read old ≡ Err e

@@ -1,6 +1,6 @@
 -- What one token stands for in a grammar's text: this project's.
-use Rattle.std.specs.Prelude.{ℕ, Bool, false, not, cond, if◌then◌else◌, List, [], ◌∷◌, Option, Some, None, bytes_eq, codes}
-use Rattle.std.specs.List.{list_all, list_any}
+use Rattle.std.specs.Prelude.{ℕ, ◌==◌, ◌&&◌, length, Bool, false, not, cond, if◌then◌else◌, List, [], ◌∷◌, Option, Some, None, bytes_eq, codes}
+use Rattle.std.specs.List.{list_any}
 use Rattle.ag_expr.specs.declared.token.Punctuation.{Punctuation}
 use Rattle.ag_expr.specs.declared.occurrence.Occ.{Occ}
 use Rattle.ag_expr.specs.language.Reading.{is_sign}
@@ -44,8 +44,10 @@ name_in at _ = None
 
 -- a literal is not empty, and no separator is in it
 abbrev pub is_literal : List ℕ → Bool
-is_literal [] = false
-is_literal (c ∷ cs) = list_all (λ x. not (is_separator x)) (c ∷ cs)
+is_literal bytes = not (length bytes == 0) && not (list_any is_separator bytes)
+
+abbrev pub literal_of : List ℕ → Option RawItem
+literal_of bytes = some_where (is_literal bytes) (item.Literal bytes)
 
 -- the class of tokens that a reserved name means
 abbrev pub class_of : List ℕ → Option ℕ
@@ -59,7 +61,7 @@ class_or_name None None = None
 -- what stands on the right side of a production: a class, a name or a literal
 abbrev pub item_in : ℕ → Token → Option RawItem
 item_in at (token.Name name) = class_or_name (class_of name) (named at name)
-item_in at (token.Text bytes) = some_where (is_literal bytes) (item.Literal bytes)
+item_in at (token.Text bytes) = literal_of bytes
 item_in at _ = None
 
 -- what a rule gives a value

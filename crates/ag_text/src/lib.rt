@@ -4,6 +4,7 @@
 pub mod laws;
 mod parser;
 mod raw;
+mod reader;
 mod stop;
 mod tokens;
 

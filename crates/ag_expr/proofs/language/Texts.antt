@@ -23,7 +23,7 @@ use Rattle.ag_expr.proofs.language.Listing.{listed_are_different}
 use Rattle.ag_expr.proofs.language.Places.{refuses_at_the_first}
 
 -- a reader at the front has all tokens of the text before it
-starts : (text : List ℕ) → Lexes 0 (chars text) (input (start_of text))
+pub starts : (text : List ℕ) → Lexes 0 (chars text) (input (start_of text))
 unfolding input cut_of
 starts text = cut_first (chars text)
 
