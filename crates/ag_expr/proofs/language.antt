@@ -20,3 +20,4 @@ pub mod TextTurns
 pub mod Texts
 pub mod TokenLaws
 pub mod Turns
+pub mod Until

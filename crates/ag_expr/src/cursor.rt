@@ -2,6 +2,7 @@
 //! occurrences that it passes.
 
 ghost use Rattle.std.specs.Prelude.{◌≡◌, chars, Some, IfOk, OnOk, option_map};
+ghost use Rattle.std.specs.Str.{IsCharBoundary};
 ghost use Rattle.ag_expr.specs.language.Left as left;
 ghost use Rattle.ag_expr.specs.language.Left.{HasNumber, Keeps, PassesOther, Reads, ReadsAs};
 ghost use Rattle.ag_expr.specs.language.Left.{everything};
@@ -108,6 +109,22 @@ impl<'t> Cursor<'t> {
         ensures { result ≡ left.start_of text.now }
     {
         let rest = skip_separators(text);
+        Cursor {
+            text,
+            rest,
+            front: token_in_front(rest),
+            listed: OccurrenceTable::new(alloc),
+        }
+    }
+
+    /// A cursor in front of what stands from an offset on; the offsets that it tells are those of
+    /// the whole text. Takes no memory.
+    pub fn at(alloc: Global, text: &'t str, from: usize) -> Cursor<'t>
+        requires { IsCharBoundary text.now from }
+        ensures { result ≡ left.start_at text.now from }
+    {
+        let (_, behind) = text.split_at(from);
+        let rest = skip_separators(behind);
         Cursor {
             text,
             rest,

@@ -3,13 +3,18 @@
 ghost use Rattle.std.specs.Prelude.{◌≡◌, length, true, IfOk, IfErr};
 ghost use Rattle.ag_expr.specs.language.Trees.{is_below};
 ghost use Rattle.ag_expr.specs.language.Expression.{ReadsAsExpr, IsRefused, IsAt};
-ghost use Rattle.ag_expr.specs.language.Places.{IsFirstOf, IsRead};
+ghost use Rattle.std.specs.Str.{IsCharBoundary};
+ghost use Rattle.ag_expr.specs.language.Left.{input};
+ghost use Rattle.ag_expr.specs.language.Places.{IsFirstOf, IsRead, IsReadToEnd};
+ghost use Rattle.ag_expr.specs.language.Until.{IsReadUntil, IsRefusedUntil, ReadsUntil};
+ghost use Rattle.ag_expr.specs.language.Until.{first_semicolon};
 
 use crate::cursor::Cursor;
 use crate::fault::ExprFault;
 use crate::node::Node;
 use crate::occurrence::Occ;
 use crate::parser::parse;
+use crate::token::Punctuation;
 use smallvec::SmallVec;
 use std::alloc::Global;
 use std::marker::Model;
@@ -60,7 +65,51 @@ pub fn read_expr(alloc: Global, text: &str) -> Result<Expr, ExprFault>
     ensures refuses { IfErr result (λ e. IsRefused text.now e) }
     ensures places { IfErr result (λ e. IsAt text.now e) }
 {
-    let mut cursor = Cursor::new(alloc, text);
+    whole(alloc, Cursor::new(alloc, text))
+}
+
+/// Reads the expression that stands from an offset on up to a `;`, and answers it with the offset of
+/// the `;`. Offsets are those of the whole text. Takes memory.
+///
+/// What stands up to the first `;` is read as `read_expr` reads a text, and refused as it is there;
+/// where no `;` stands, the rest of the text is refused so, or at its end. A refusal other than for
+/// memory means that no expression stands there up to a `;`.
+pub fn read_until(alloc: Global, text: &str, from: usize) -> Result<(Expr, usize), ExprFault>
+    requires { IsCharBoundary text.now from }
+    ensures exact { IsReadUntil text.now from result }
+    ensures reads { IfOk result (λ x. ReadsUntil text.now from x) }
+    ensures refuses { IfErr result (λ e. IsRefusedUntil text.now from e) }
+{
+    match next_semicolon(Cursor::at(alloc, text, from)) {
+        Some(at) => {
+            let (statement, _) = text.split_at(at);
+            let expr = whole(alloc, Cursor::at(alloc, statement, from))?;
+            Ok((expr, at))
+        }
+        None => {
+            let _unended = whole(alloc, Cursor::at(alloc, text, from))?;
+            Err(ExprFault::Unexpected(text.len()))
+        }
+    }
+}
+
+/// The offset of the first `;` that is left. Takes no memory.
+fn next_semicolon(mut cursor: Cursor<'_>) -> Option<usize>
+    ensures { result ≡ first_semicolon (input cursor.entry).left }
+{
+    while !cursor.sees(Punctuation::Semicolon) {
+        if cursor.peek().is_none() {
+            return None;
+        }
+        cursor.bump();
+    }
+    Some(cursor.offset())
+}
+
+/// Reads all that is left as an expression.
+fn whole(alloc: Global, mut cursor: Cursor<'_>) -> Result<Expr, ExprFault>
+    ensures { IsReadToEnd cursor.entry result }
+{
     let node = parse(alloc, &mut cursor)?;
     let occurrences = cursor.finish()?;
     Ok(Expr { node, occurrences })

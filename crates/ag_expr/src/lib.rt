@@ -22,7 +22,7 @@ mod token;
 
 pub use cursor::Cursor;
 pub use environment::Env;
-pub use expression::{Expr, occurrences, read_expr};
+pub use expression::{Expr, occurrences, read_expr, read_until};
 pub use fault::ExprFault;
 pub use grammar::{Item, Production, Rule, Symbol, Target, Terminal};
 pub use lexer::unescaped;

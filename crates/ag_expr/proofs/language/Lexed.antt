@@ -76,7 +76,7 @@ one_more at cs t behind ps end rest e more =
     let wide : at + (width cs - width behind) ≡ at + width cut.word = omega (arith, ap width cut.split, width-append cut.word behind) in
     word at cs cut.word behind t ps end rest cut.split cut.token (cut_longest cs t behind cut.word e cut.split) (subst (λ n. AreTokens n behind ps end rest) wide more)
 
-width-encoded : (cs : List ℕ) → width cs ≡ length (encode_utf8_all cs)
+pub width-encoded : (cs : List ℕ) → width cs ≡ length (encode_utf8_all cs)
 width-encoded [] = refl
 width-encoded (c ∷ cs) = let more = width-encoded cs in omega (arith, length-append (encode_utf8 c) (encode_utf8_all cs), length-encode c)
 

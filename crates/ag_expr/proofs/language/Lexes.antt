@@ -157,23 +157,23 @@ cut_is (word at all w cs t ps end rest split is longest are) e ends stops within
     let more = cut_is are e ends stops both.1 n len (omega (arith, ap width split, width-append w cs)) fewer in
     rw (plain.0, cut_there all w cs t split is longest, both.0, there, more) refl
 
--- the one list of tokens, and the ending, of characters
-unfoldable pub cut_of : List ℕ → Input
-cut_of cs = cut (suc (length (unspaced cs))) (width cs) (unspaced cs)
+-- the one list of tokens, and the ending, of characters that end at the offset `len`
+unfoldable pub cut_at : ℕ → List ℕ → Input
+cut_at len cs = cut (suc (length (unspaced cs))) len (unspaced cs)
 
-pub cut_first : (cs : List ℕ) → Lexes 0 cs (cut_of cs)
-unfolding cut_of
-cut_first cs =
+pub cut_first : (from len : ℕ) (cs : List ℕ) → from + width cs ≡ len → Lexes from cs (cut_at len cs)
+unfolding cut_at
+cut_first from len cs fits =
     let space = spaces cs in
-    let is = cut_lexes (suc (length (unspaced cs))) (width cs) (unspaced cs) (omega arith) (omega arith) (plain_behind cs) in
-    let place : width cs - width (unspaced cs) ≡ 0 + prefix_len is_separator cs = omega arith in
-    let left = cut_of cs in
+    let is = cut_lexes (suc (length (unspaced cs))) len (unspaced cs) (omega arith) (omega arith) (plain_behind cs) in
+    let place : len - width (unspaced cs) ≡ from + prefix_len is_separator cs = omega arith in
+    let left = cut_at len cs in
     let end = offset_of left.ending in
-    record { rest = is.rest; before = spaced 0 cs left.left end is.rest (subst (λ m. AreTokens m (unspaced cs) left.left end is.rest) place is.before); within = is.within; stops = is.stops }
+    record { rest = is.rest; before = spaced from cs left.left end is.rest (subst (λ m. AreTokens m (unspaced cs) left.left end is.rest) place is.before); within = is.within; stops = is.stops }
 
-pub cut_only : (cs : List ℕ) (i : Input) → Lexes 0 cs i → i ≡ cut_of cs
-unfolding cut_of
-cut_only cs i is = sym (cut_is is.before i.ending refl is.stops is.within (suc (length (unspaced cs))) (width cs) (omega arith) (omega arith))
+pub cut_only : (from len : ℕ) (cs : List ℕ) → from + width cs ≡ len → (i : Input) → Lexes from cs i → i ≡ cut_at len cs
+unfolding cut_at
+cut_only from len cs fits i is = sym (cut_is is.before i.ending refl is.stops is.within (suc (length (unspaced cs))) len fits (omega arith))
 
 pub one_input : OneInput
-one_input cs = (cut_of cs, cut_first cs, cut_only cs)
+one_input cs = (cut_at (width cs) cs, cut_first 0 (width cs) cs (omega arith), cut_only 0 (width cs) cs (omega arith))

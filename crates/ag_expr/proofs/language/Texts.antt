@@ -1,7 +1,10 @@
 -- What is answered is what reading the tokens of the text gives, and what follows of the text.
-use Rattle.std.proofs.Common.{◌≡◌, ◌≢◌, ℕ, ◌+◌, true, false, List, [], ◌∷◌, ◌++◌, length, Result, Ok, Err, IfErr, chars, IsUtf8, inl, inr, refl, ap, sym, ◌∙◌, subst, arith, length-append}
+use Rattle.std.proofs.Common.{◌≡◌, ◌≢◌, ℕ, ◌+◌, true, false, List, [], ◌∷◌, ◌++◌, length, Result, Ok, Err, IfOk, IfErr, chars, drop, IsUtf8, inl, inr, refl, ap, sym, ◌∙◌, subst, arith, length-append}
 use Rattle.std.proofs.lemmas.Bool.{and_parts}
 use Rattle.std.specs.Result.{IsErrAnd}
+use Rattle.std.specs.Str.{IsCharBoundary}
+use Rattle.std.proofs.lemmas.Str.{IsUtf8-drop}
+use Rattle.std.proofs.lemmas.List.{length-drop}
 use Rattle.ag_expr.specs.declared.fault.ExprFault.{ExprFault}
 use Rattle.ag_expr.specs.declared.fault.ExprFault.TheVariants as fault
 use Rattle.ag_expr.specs.declared.node.Node.{Node}
@@ -9,60 +12,62 @@ use Rattle.ag_expr.specs.declared.occurrence.Occ.{Occ}
 use Rattle.ag_expr.specs.language.Ending.{Ending, offset_of}
 use Rattle.ag_expr.specs.language.Ending as ending
 use Rattle.ag_expr.specs.language.Expression.{max_levels, ReadsAsExpr, ReadsAsNone, IsRefused, IsAt, Says, begins_expression}
-use Rattle.ag_expr.specs.language.Left.{start_of, input, everything}
+use Rattle.ag_expr.specs.language.Left.{State, start_of, start_at, input, everything}
 use Rattle.ag_expr.specs.language.Occurrences.{all_occurrences, different}
 use Rattle.ag_expr.specs.language.Placed.{Placed, Input, tokens}
-use Rattle.ag_expr.specs.language.Places.{IsFirstOf, IsRead, IsToldFirst, answer_of, occurrences_of, read_from}
+use Rattle.ag_expr.specs.language.Places.{IsFirstOf, IsRead, IsReadFrom, IsReadToEnd, IsToldFirst, answer_of, occurrences_of, read_from}
 use Rattle.ag_expr.specs.language.Reading.{Outcome, expr_from, expr_of, ending_fault, refusal, refusal_of, is_end}
 use Rattle.ag_expr.specs.language.Syntax.{IsExpr}
 use Rattle.ag_expr.specs.language.Tokens.{AreTokens, ended, separator, word, AnyTokenAt, TokenAt, HasNoToken, width, is_within, all_within, Lexes}
 use Rattle.ag_expr.proofs.language.Agree.{whole_is, read_whole, read_to_end, read_of}
 use Rattle.ag_expr.proofs.language.Lexed.{separator_width, width-append, width-chars}
-use Rattle.ag_expr.proofs.language.Lexes.{cut_of, cut_first, cut_only}
+use Rattle.ag_expr.proofs.language.Lexes.{cut_at, cut_first, cut_only}
 use Rattle.ag_expr.proofs.language.Listing.{listed_are_different}
 use Rattle.ag_expr.proofs.language.Places.{refuses_at_the_first}
 
--- a reader at the front has all tokens of the text before it
-pub starts : (text : List ℕ) → Lexes 0 (chars text) (input (start_of text))
-unfolding input cut_of
-starts text = cut_first (chars text)
+-- a reader has all tokens of the text before it from its offset on
+module _ (text : List ℕ) (from : ℕ) (fits : from + width (chars (drop from text)) ≡ width (chars text)) where
+  pub starts : Lexes from (chars (drop from text)) (input (start_at text from))
+  unfolding input cut_at
+  starts = cut_first from (width (chars text)) (chars (drop from text)) fits
 
-only : (text : List ℕ) (i : Input) → Lexes 0 (chars text) i → i ≡ input (start_of text)
-unfolding input cut_of
-only text i lexes = cut_only (chars text) i lexes
+  pub only : (i : Input) → Lexes from (chars (drop from text)) i → i ≡ input (start_at text from)
+  unfolding input cut_at
+  only i lexes = cut_only from (width (chars text)) (chars (drop from text)) fits i lexes
 
-all_different : (text : List ℕ) → everything (start_of text) ≡ occurrences_of (input (start_of text))
-unfolding everything
-all_different text = listed_are_different (all_occurrences (input (start_of text)).left)
+  all_different : everything (start_at text from) ≡ occurrences_of (input (start_at text from))
+  unfolding everything
+  all_different = listed_are_different (all_occurrences (input (start_at text from)).left)
+
+  -- what is read to the end is what reading gives
+  pub read_to : (r : Result (Node × List Occ) ExprFault) → IsReadToEnd (start_at text from) r → IsReadFrom text from r
+  read_to r is i lexes memory = ap read_from (only i lexes) ∙ ap (λ os. answer_of os (expr_of os max_levels (input (start_at text from)))) (sym all_different) ∙ is memory
+
+pub fits_at : (text : List ℕ) (from : ℕ) → IsUtf8 text → IsCharBoundary text from → from + width (chars (drop from text)) ≡ width (chars text)
+fits_at text from utf8 boundary = let within = boundary.0 in omega (arith, width-chars text utf8, width-chars (drop from text) (IsUtf8-drop text from utf8 boundary), length-drop from text)
+
+pub fits_first : (text : List ℕ) → 0 + width (chars (drop 0 text)) ≡ width (chars text)
+fits_first text = omega arith
 
 -- ---- what the parts of reading come to
 
-module _ (text : List ℕ) where
-  abbrev all : List Occ
-  all = everything (start_of text)
-
-  abbrev first : Input
-  first = input (start_of text)
-
-  read_at : (o : Outcome Node) → expr_of all max_levels first ≡ o → (i : Input) → Lexes 0 (chars text) i → read_from i ≡ answer_of all o
-  read_at o h i lexes = ap read_from (only text i lexes) ∙ ap (λ os. answer_of os (expr_of os max_levels first)) (sym (all_different text)) ∙ ap (answer_of all) h
-
-  pub refused_within : (r : Result (Node × List Occ) ExprFault) (e : ExprFault) → IsErrAnd r (λ x. x ≡ e) → (e ≢ fault.NoMemory → expr_from all max_levels first ≡ Err e) → IsRead text r
+module _ (s : State) where
+  pub refused_within : (r : Result (Node × List Occ) ExprFault) (e : ExprFault) → IsErrAnd r (λ x. x ≡ e) → (e ≢ fault.NoMemory → expr_from (everything s) max_levels (input s) ≡ Err e) → IsReadToEnd s r
   unfolding expr_of
   refused_within (Ok x) e is h = absurd is
-  refused_within (Err x) e is h = λ i lexes memory. read_at (Err x) (rw (h (λ q. memory (ap Err (is ∙ q)))) (ap Err (sym is))) i lexes
+  refused_within (Err x) e is h = λ memory. rw (h (λ q. memory (ap Err (is ∙ q)))) (ap Err (sym is))
 
-  pub refused_behind : (r : Result (Node × List Occ) ExprFault) (e : ExprFault) (f : Node) (j : Input) → IsErrAnd r (λ x. x ≡ e) → expr_from all max_levels first ≡ Ok (f, j) → is_end j.ending j.left ≡ false → e ≡ refusal j → IsRead text r
+  pub refused_behind : (r : Result (Node × List Occ) ExprFault) (e : ExprFault) (f : Node) (j : Input) → IsErrAnd r (λ x. x ≡ e) → expr_from (everything s) max_levels (input s) ≡ Ok (f, j) → is_end j.ending j.left ≡ false → e ≡ refusal j → IsReadToEnd s r
   unfolding expr_of
   refused_behind (Ok x) e f j is read more says = absurd is
-  refused_behind (Err x) e f j is read more says = λ i lexes memory. read_at (Err x) (rw (read, more) (ap Err (sym (is ∙ says)))) i lexes
+  refused_behind (Err x) e f j is read more says = λ memory. rw (read, more) (ap Err (sym (is ∙ says)))
 
-  pub read_all : (f : Node) (j : Input) (listed : List Occ) → expr_from all max_levels first ≡ Ok (f, j) → is_end j.ending j.left ≡ true → listed ≡ all → IsRead text (Ok (f, listed))
-  read_all f j listed read ends same = λ i lexes memory. read_at (Ok (f, j)) (read_of all max_levels first j f read ends) i lexes ∙ ap (λ os. Ok (f, os)) (sym same)
+  pub read_all : (f : Node) (j : Input) (listed : List Occ) → expr_from (everything s) max_levels (input s) ≡ Ok (f, j) → is_end j.ending j.left ≡ true → listed ≡ everything s → IsReadToEnd s (Ok (f, listed))
+  read_all f j listed read ends same = λ memory. ap (answer_of (everything s)) (read_of (everything s) max_levels (input s) j f read ends) ∙ ap (λ os. Ok (f, os)) (sym same)
 
 -- ---- what follows of the text
 
-ends_wide : {at : ℕ} {cs : List ℕ} {ps : List Placed} {end : ℕ} {rest : List ℕ} → AreTokens at cs ps end rest → at + width cs ≡ end + width rest
+pub ends_wide : {at : ℕ} {cs : List ℕ} {ps : List Placed} {end : ℕ} {rest : List ℕ} → AreTokens at cs ps end rest → at + width cs ≡ end + width rest
 ends_wide (ended at cs) = refl
 ends_wide (separator at c cs ps end rest h are) = let one = separator_width c h in let more = ends_wide are in omega arith
 ends_wide (word at all w cs t ps end rest split is longest are) = let more = ends_wide are in omega (arith, ap width split, width-append w cs)
@@ -75,14 +80,25 @@ answered_fault : (listed : List Occ) (o : Outcome Node) (e : ExprFault) → answ
 answered_fault listed (Ok x) e h = let bad : ⊥ = cc in absurd bad
 answered_fault listed (Err f) e h = let same : f ≡ e = cc in ap Err same
 
+-- what reading answers of tokens that end a text
+pub record Spells (i : Input) (x : Node × List Occ) : Type 0 where
+  pub at : ℕ
+  pub ends : i.ending ≡ ending.EndsAt at
+  pub listed : x.1 ≡ occurrences_of i
+  pub spells : IsExpr (occurrences_of i) max_levels (tokens i.left) x.0
+
+pub spells_of : (i : Input) (x : Node × List Occ) → read_from i ≡ Ok x → Spells i x
+spells_of i x is =
+    let one = answered_tree (occurrences_of i) (expr_of (occurrences_of i) max_levels i) x is in
+    let read = read_to_end (occurrences_of i) max_levels i one.0 x.0 one.1 in
+    let all = whole_is (occurrences_of i) max_levels i one.0 x.0 read.0 read.1 in
+    record { at = all.0; ends = all.1; listed = one.2; spells = all.2 }
+
 pub reads_of : (text : List ℕ) (x : Node × List Occ) → IsUtf8 text → IsRead text (Ok x) → ReadsAsExpr text x
 reads_of text x utf8 is =
-    let i = input (start_of text) in
-    let lexes = starts text in
-    let one = answered_tree (occurrences_of i) (expr_of (occurrences_of i) max_levels i) x (is i lexes (λ q. cc)) in
-    let read = read_to_end (occurrences_of i) max_levels i one.0 x.0 one.1 in
-    let whole = whole_is (occurrences_of i) max_levels i one.0 x.0 read.0 read.1 in
-    go i.left i.ending lexes whole.0 whole.1 one.2 whole.2
+    let lexes = starts text 0 (fits_first text) in
+    let s = spells_of (input (start_of text)) x (is (input (start_of text)) lexes (λ q. cc)) in
+    go (input (start_of text)).left (input (start_of text)).ending lexes s.at s.ends s.listed s.spells
   where
     go : (ps : List Placed) (e : Ending) → Lexes 0 (chars text) (record { left = ps; ending = e }) → (at : ℕ) → e ≡ ending.EndsAt at → x.1 ≡ different (all_occurrences ps) → IsExpr (different (all_occurrences ps)) max_levels (tokens ps) x.0 → ReadsAsExpr text x
     go ps (ending.EndsAt n) lexes at ends listed spells =
@@ -91,11 +107,18 @@ reads_of text x utf8 is =
     go ps (ending.NoTokenAt n) lexes at ends listed spells = let bad : ⊥ = cc in absurd bad
     go ps (ending.TooLargeAt n) lexes at ends listed spells = let bad : ⊥ = cc in absurd bad
 
+pub reads_as : (text : List ℕ) (r : Result (Node × List Occ) ExprFault) → IsUtf8 text → IsRead text r → IfOk r (ReadsAsExpr text)
+reads_as text (Ok x) utf8 is = reads_of text x utf8 is
+reads_as text (Err e) utf8 is = tt
+
 -- and what reads as an expression is read
+pub spelled_back : (placed : List Placed) (at : ℕ) (x : Node × List Occ) → x.1 ≡ different (all_occurrences placed) → IsExpr x.1 max_levels (tokens placed) x.0 → read_from (record { left = placed; ending = ending.EndsAt at }) ≡ Ok x
+spelled_back placed at x listed spells =
+    let i : Input = record { left = placed; ending = ending.EndsAt at } in
+    ap (λ os. answer_of os (expr_of os max_levels i)) (sym listed) ∙ ap (answer_of x.1) (read_whole x.1 max_levels at placed x.0 spells)
+
 read_back : (text : List ℕ) (x : Node × List Occ) (reads : ReadsAsExpr text x) → read_from (record { left = reads.placed; ending = ending.EndsAt (length text) }) ≡ Ok x
-read_back text x reads =
-    let i : Input = record { left = reads.placed; ending = ending.EndsAt (length text) } in
-    ap (λ os. answer_of os (expr_of os max_levels i)) (sym reads.listed) ∙ ap (answer_of x.1) (read_whole x.1 max_levels (length text) reads.placed x.0 reads.spells)
+read_back text x reads = spelled_back reads.placed (length text) x reads.listed reads.spells
 
 none_of : (text : List ℕ) (e : ExprFault) → e ≢ fault.NoMemory → IsRead text (Err e) → ReadsAsNone text
 none_of text e memory is x reads = let clash = sym (is _ reads.lexes (λ q. memory cc)) ∙ read_back text x reads in cc
@@ -167,7 +190,7 @@ module _ (cs : List ℕ) (i : Input) (lexes : Lexes 0 cs i) where
   told_at listed levels f (inr d) = let one = stands_at d.before d.first d.rest d.cut in subst (Says 0 cs) (sym d.says) (one.0, ap begins_expression one.1 ∙ d.begins_one)
 
 says_of : (text : List ℕ) (e : ExprFault) → e ≢ fault.NoMemory → IsRead text (Err e) → IsAt text e
-says_of text e memory is = told_at (chars text) (input (start_of text)) (starts text) (occurrences_of (input (start_of text))) max_levels e (first_fault text e is (input (start_of text)) (starts text) memory)
+says_of text e memory is = told_at (chars text) (input (start_of text)) (starts text 0 (fits_first text)) (occurrences_of (input (start_of text))) max_levels e (first_fault text e is (input (start_of text)) (starts text 0 (fits_first text)) memory)
 
 pub places_of : (text : List ℕ) (r : Result (Node × List Occ) ExprFault) → IsRead text r → IfErr r (IsAt text)
 places_of text (Ok x) is = tt
@@ -180,6 +203,6 @@ places_of text (Err (fault.TooDeep at)) is = says_of text _ (λ e. cc) is
 -- a text reads as one expression at most
 pub one_expression : (text : List ℕ) (one other : Node × List Occ) → ReadsAsExpr text one → ReadsAsExpr text other → one ≡ other
 one_expression text one other is also =
-    let same = only text _ is.lexes ∙ sym (only text _ also.lexes) in
+    let same = only text 0 (fits_first text) _ is.lexes ∙ sym (only text 0 (fits_first text) _ also.lexes) in
     let both = sym (read_back text one is) ∙ ap read_from same ∙ read_back text other also in
     cc

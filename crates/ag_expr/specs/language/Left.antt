@@ -60,8 +60,11 @@ cut (suc turns) len cs = left_by (cut turns len) (len - width cs) cs (token_from
 abbrev pub State : Type 0
 State = List Occ × (List ℕ × List ℕ)
 
+abbrev pub start_at : List ℕ → ℕ → State
+start_at text from = ([], (chars text, unspaced (chars (drop from text))))
+
 abbrev pub start_of : List ℕ → State
-start_of text = ([], (chars text, unspaced (chars text)))
+start_of text = start_at text 0
 
 -- the offset of what is left
 abbrev pub offset : State → ℕ

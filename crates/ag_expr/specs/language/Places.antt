@@ -1,5 +1,5 @@
 -- Which token is the first that can't be taken: this project's language.
-use Rattle.std.specs.Prelude.{◌≡◌, ◌≢◌, ℕ, List, [], ◌∷◌, ◌++◌, Result, Ok, Err, ◌⊎◌, true, chars}
+use Rattle.std.specs.Prelude.{◌≡◌, ◌≢◌, ℕ, List, [], ◌∷◌, ◌++◌, Result, Ok, Err, ◌⊎◌, true, drop, chars}
 use Rattle.ag_expr.specs.declared.fault.ExprFault.{ExprFault}
 use Rattle.ag_expr.specs.declared.fault.ExprFault.TheVariants as fault
 use Rattle.ag_expr.specs.declared.node.Node.{Node}
@@ -7,6 +7,7 @@ use Rattle.ag_expr.specs.declared.occurrence.Occ.{Occ}
 use Rattle.ag_expr.specs.language.Ending.{Ending}
 use Rattle.ag_expr.specs.language.Ending as ending
 use Rattle.ag_expr.specs.language.Expression.{begins_expression, max_levels}
+use Rattle.ag_expr.specs.language.Left.{State, everything, input}
 use Rattle.ag_expr.specs.language.Occurrences.{all_occurrences, different}
 use Rattle.ag_expr.specs.language.Placed.{Placed, Input, tokens}
 use Rattle.ag_expr.specs.language.Reading.{Outcome, refusal_of, expr_of}
@@ -58,9 +59,17 @@ occurrences_of i = different (all_occurrences i.left)
 abbrev pub read_from : Input → Result (Node × List Occ) ExprFault
 read_from i = answer_of (occurrences_of i) (expr_of (occurrences_of i) max_levels i)
 
--- The answer is what reading the tokens of the text gives, or that memory ran out.
+-- The answer is what reading the tokens that are left gives, to their end, or that memory ran out.
+abbrev pub IsReadToEnd : State → Result (Node × List Occ) ExprFault → Type 0
+IsReadToEnd s answer = answer ≢ Err fault.NoMemory → answer_of (everything s) (expr_of (everything s) max_levels (input s)) ≡ answer
+
+-- The answer is what reading the tokens of the text gives from the offset `from` on, or that memory ran out.
+abbrev pub IsReadFrom : List ℕ → ℕ → Result (Node × List Occ) ExprFault → Type 0
+IsReadFrom text from answer = (i : Input) → Lexes from (chars (drop from text)) i → answer ≢ Err fault.NoMemory → read_from i ≡ answer
+
+-- and so of a whole text
 abbrev pub IsRead : List ℕ → Result (Node × List Occ) ExprFault → Type 0
-IsRead text answer = (i : Input) → Lexes 0 (chars text) i → answer ≢ Err fault.NoMemory → read_from i ≡ answer
+IsRead text = IsReadFrom text 0
 
 -- A fault other than for memory is told of the first token of the text that can't be taken.
 abbrev pub IsFirstOf : List ℕ → ExprFault → Type 0
