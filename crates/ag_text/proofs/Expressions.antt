@@ -31,14 +31,14 @@ abbrev is_semicolon : Token → Bool
 is_semicolon = is_mark punctuation.Semicolon
 
 -- the tokens are cut at the first `;`
-record Cut (ps : List Placed) (at : ℕ) : Type 0 where
-  semicolon : Placed
+pub record Cut (ps : List Placed) (at : ℕ) : Type 0 where
+  pub semicolon : Placed
   is : is_semicolon semicolon.token ≡ true
-  there : semicolon.at ≡ at
-  whole : ps ≡ before_semicolon ps ++ semicolon ∷ behind_semicolon ps
+  pub there : semicolon.at ≡ at
+  pub whole : ps ≡ before_semicolon ps ++ semicolon ∷ behind_semicolon ps
   free : first_semicolon (before_semicolon ps) ≡ None
 
-cut_at : (ps : List Placed) (at : ℕ) → first_semicolon ps ≡ Some at → Cut ps at
+pub cut_at : (ps : List Placed) (at : ℕ) → first_semicolon ps ≡ Some at → Cut ps at
 cut_at [] at h = let bad : ⊥ = cc in absurd bad
 cut_at (p ∷ ps) at h = go (is_semicolon p.token) refl h (cut_at ps at)
   where

@@ -5,8 +5,11 @@ ghost use Rattle.ag_expr.specs.language.Lexing.{token_of};
 ghost use Rattle.ag_expr.specs.language.Offsets.{place};
 ghost use Rattle.ag_expr.specs.language.Reading.{front, next};
 ghost use Rattle.ag_expr.specs.language.Tokens.{Lexes};
+ghost use Rattle.ag_text.specs.Passing.{Reads};
+ghost use Rattle.ag_text.specs.Reading.{ended_expr_from};
 
-use ag_expr::{Cursor, Token};
+use crate::stop::{Stop, in_expr};
+use ag_expr::{Cursor, Expr, Token, read_until};
 use std::alloc::Global;
 use std::marker::Model;
 
@@ -18,7 +21,6 @@ pub struct Reader<'t> {
 }
 
 impl<'t> Model for Reader<'t> {
-    ghost use Rattle.std.specs.Prelude.{chars};
     ghost use Rattle.ag_expr.specs.language.Left.{input};
     ghost use Rattle.ag_expr.specs.language.Placed.{Input};
     ghost use Rattle.ag_text.specs.Passing.{IsLeftOf};
@@ -27,7 +29,7 @@ impl<'t> Model for Reader<'t> {
 
     ghost view = { λ r. input r.cursor };
 
-    ghost invariant = { λ r. IsLeftOf (chars r.text.now) (input r.cursor) };
+    ghost invariant = { λ r. IsLeftOf r.text.now (input r.cursor) };
 }
 
 impl<'t> Reader<'t> {
@@ -62,5 +64,19 @@ impl<'t> Reader<'t> {
         ensures { self.new ≡ next self.old }
     {
         self.cursor.bump();
+    }
+
+    /// Passes the expression in front, and the `;` behind it.
+    pub fn ended_expr(&mut self, alloc: Global) -> Result<Expr, Stop>
+        ensures { Reads ended_expr_from self.old result self.new }
+    {
+        match read_until(alloc, self.text, self.cursor.place()) {
+            Ok((expr, at)) => {
+                self.cursor = Cursor::at(alloc, self.text, at);
+                self.cursor.bump();
+                Ok(expr)
+            }
+            Err(fault) => Err(in_expr(fault)),
+        }
     }
 }

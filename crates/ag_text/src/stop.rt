@@ -1,6 +1,7 @@
 //! Why reading a grammar's tokens stops.
 
 ghost use Rattle.std.specs.Prelude.{◌≡◌};
+ghost use Rattle.ag_text.specs.Passing.{stop_of};
 ghost use Rattle.ag_text.specs.declared.stop.Stop.TheVariants as stop;
 
 use ag_expr::ExprFault;
@@ -39,5 +40,15 @@ impl<T: Drop> From<AllocFailed<T>> for Stop {
 
     fn from(_error: AllocFailed<T>) -> Stop {
         Stop::NoMemory
+    }
+}
+
+/// What a fault of a rule's expression is to a grammar's text.
+pub fn in_expr(fault: ExprFault) -> Stop
+    ensures { result ≡ stop_of fault }
+{
+    match fault {
+        ExprFault::NoMemory => Stop::NoMemory,
+        _ => Stop::InExpr(fault),
     }
 }
