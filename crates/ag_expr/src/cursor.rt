@@ -157,6 +157,13 @@ impl<'t> Cursor<'t> {
         self.text.len() - self.rest.len()
     }
 
+    /// Whether the text ends here. Takes no memory.
+    pub fn is_at_end(&self) -> bool
+        ensures { result ≡ reading.is_end (input self.now).ending (input self.now).left }
+    {
+        self.rest.is_empty()
+    }
+
     /// Why the token in front cannot be taken, or why none is there.
     pub fn refusal(&self) -> ExprFault
         ensures { result ≡ reading.refusal (input self.now) }

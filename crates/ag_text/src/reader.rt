@@ -3,7 +3,7 @@
 ghost use Rattle.std.specs.Prelude.{◌≡◌, chars, option_map};
 ghost use Rattle.ag_expr.specs.language.Lexing.{token_of};
 ghost use Rattle.ag_expr.specs.language.Offsets.{place};
-ghost use Rattle.ag_expr.specs.language.Reading.{front, next};
+ghost use Rattle.ag_expr.specs.language.Reading.{front, is_end, next};
 ghost use Rattle.ag_expr.specs.language.Tokens.{Lexes};
 ghost use Rattle.ag_text.specs.Passing.{Reads};
 ghost use Rattle.ag_text.specs.Reading.{ended_expr_from};
@@ -56,6 +56,13 @@ impl<'t> Reader<'t> {
         ensures { result ≡ place self.now }
     {
         self.cursor.place()
+    }
+
+    /// Whether the text ends here. Takes no memory.
+    pub fn is_at_end(&self) -> bool
+        ensures { result ≡ is_end self.now.ending self.now.left }
+    {
+        self.cursor.is_at_end()
     }
 
     /// Passes the token in front. Takes no memory.

@@ -243,3 +243,13 @@ pub fn target(alloc: Global, reader: &mut Reader<'_>) -> Result<Occ, Stop>
         _ => Err(wrong(reader)),
     }
 }
+
+/// Passes the end of the text, where nothing else is left.
+pub fn end(reader: &mut Reader<'_>) -> Result<(), Stop>
+    ensures { Reads reading.at_end reader.old result reader.new }
+{
+    if !reader.is_at_end() {
+        return Err(wrong(reader));
+    }
+    Ok(())
+}
