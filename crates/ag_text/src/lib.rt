@@ -1,6 +1,8 @@
 //! Grammars as they stand in a text: what a text is to be read as, and reading it.
 #![tactic(auto)]
 
+mod fault;
+mod grammar;
 pub mod laws;
 mod parser;
 mod raw;
@@ -8,4 +10,6 @@ mod reader;
 mod stop;
 mod tokens;
 
+pub use fault::TextFault;
+pub use grammar::read_grammar;
 pub use raw::{Named, RawGrammar, RawItem, RawProduction, RawRule, RawSymbol};
