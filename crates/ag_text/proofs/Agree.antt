@@ -23,9 +23,9 @@ end_left (ending.NoTokenAt n) (p ∷ ps) h = let bad : ⊥ = cc in absurd bad
 end_left (ending.TooLargeAt n) (p ∷ ps) h = let bad : ⊥ = cc in absurd bad
 
 -- what is read to the end
-record Whole (i j : Input) (raw : RawGrammar) : Type 0 where
-  read : grammar_from i ≡ Ok (raw, j)
-  ends : is_end j.ending j.left ≡ true
+pub record Whole (i j : Input) (raw : RawGrammar) : Type 0 where
+  pub read : grammar_from i ≡ Ok (raw, j)
+  pub ends : is_end j.ending j.left ≡ true
 
 ended : (i k j : Input) (raw other : RawGrammar) → grammar_from i ≡ Ok (raw, k) → (b : Bool) → is_end k.ending k.left ≡ b → reading.and_then {A = Unit {0}} (if b then Ok (tt {0}, k) else Err (WrongAt (place k))) (λ u. reading.pure raw) ≡ Ok (other, j) → Whole i j other
 ended i k j raw other read true ends h =
@@ -36,11 +36,11 @@ ended i k j raw other read true ends h =
     reading_same = answered raw other k j h
 ended i k j raw other read false ends h = let bad : ⊥ = cc in absurd bad
 
-whole_of : (i j : Input) (raw : RawGrammar) → grammar_of i ≡ Ok (raw, j) → Whole i j raw
+pub whole_of : (i j : Input) (raw : RawGrammar) → grammar_of i ≡ Ok (raw, j) → Whole i j raw
 unfolding grammar_of
 whole_of i j raw h = let one = opened (grammar_from i) _ _ h in ended i one.0.1 j one.0.0 raw one.1 (is_end one.0.1.ending one.0.1.left) refl one.2
 
-sound : (at : ℕ) (ps : List Placed) (j : Input) (raw : RawGrammar) → grammar_of (record { left = ps; ending = ending.EndsAt at }) ≡ Ok (raw, j) → IsGrammar ps raw
+pub sound : (at : ℕ) (ps : List Placed) (j : Input) (raw : RawGrammar) → grammar_of (record { left = ps; ending = ending.EndsAt at }) ≡ Ok (raw, j) → IsGrammar ps raw
 sound at ps j raw h =
     let i : Input = record { left = ps; ending = ending.EndsAt at } in
     let whole = whole_of i j raw h in
@@ -52,7 +52,7 @@ sound at ps j raw h =
 read_whole : (e : Ending) (ps : List Placed) (raw : RawGrammar) → IsGrammar ps raw → grammar_from (record { left = ps; ending = e }) ≡ Ok (raw, record { left = []; ending = e })
 read_whole e ps raw is = ap (λ qs. grammar_from (record { left = qs; ending = e })) (sym (append-nil ps)) ∙ grammar_complete.read ps (record { left = []; ending = e }) raw is refl
 
-complete : (at : ℕ) (ps : List Placed) (raw : RawGrammar) → IsGrammar ps raw → grammar_of (record { left = ps; ending = ending.EndsAt at }) ≡ Ok (raw, record { left = []; ending = ending.EndsAt at })
+pub complete : (at : ℕ) (ps : List Placed) (raw : RawGrammar) → IsGrammar ps raw → grammar_of (record { left = ps; ending = ending.EndsAt at }) ≡ Ok (raw, record { left = []; ending = ending.EndsAt at })
 unfolding grammar_of
 complete at ps raw is = rw (read_whole (ending.EndsAt at) ps raw is) refl
 

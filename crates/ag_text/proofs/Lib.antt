@@ -4,5 +4,6 @@ pub mod Examples
 pub mod Expressions
 pub mod Grammars
 pub mod Parts
+pub mod Read
 pub mod Steady
 pub mod Turns
