@@ -1,5 +1,5 @@
 -- What is left of a text: its last tokens, from the offset of the first of them on.
-use Rattle.std.proofs.Common.{◌≡◌, ◌≢◌, ℕ, ◌+◌, Bool, true, ◌&&◌, List, [], ◌∷◌, ◌++◌, length, drop, Option, Some, None, Result, Ok, Err, chars, IsUtf8, encode_utf8_all, refl, ap, sym, ◌∙◌, subst, append_assoc, append-nil, arith, length-append}
+use Rattle.std.proofs.Common.{◌≡◌, ◌≢◌, ℕ, ◌+◌, true, List, [], ◌∷◌, ◌++◌, length, drop, Option, Some, None, Result, Ok, Err, chars, IsUtf8, encode_utf8_all, refl, ap, sym, ◌∙◌, subst, append_assoc, arith}
 use Rattle.std.proofs.lemmas.Bool.{and_parts}
 use Rattle.std.proofs.lemmas.Str.{IsCharBoundary-at_seam, chars-encodes, encodes-append, encodes-chars, scalars-chars}
 use Rattle.std.proofs.Math.Seq.{drop-append_seam}
@@ -10,7 +10,6 @@ use Rattle.ag_expr.specs.declared.fault.ExprFault.TheVariants as fault
 use Rattle.ag_expr.specs.declared.node.Node.{Node}
 use Rattle.ag_expr.specs.declared.occurrence.Occ.{Occ}
 use Rattle.ag_expr.specs.language.Ending.{Ending, offset_of}
-use Rattle.ag_expr.specs.language.Ending as ending
 use Rattle.ag_expr.specs.language.Left.{start_of, start_at, input}
 use Rattle.ag_expr.specs.language.Offsets.{place_of, place}
 use Rattle.ag_expr.specs.language.Placed.{Placed, Input}

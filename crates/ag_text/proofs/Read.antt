@@ -1,5 +1,5 @@
 -- What is answered of a text is what reading its tokens gives, and what follows of the text.
-use Rattle.std.proofs.Common.{◌≡◌, ◌≢◌, ◌≤◌, ◌<◌, ℕ, nat_lt, Bool, true, false, cond, List, [], length, Result, Ok, Err, IfOk, IfErr, chars, IsUtf8, refl, ap, sym, ◌∙◌, subst, arith}
+use Rattle.std.proofs.Common.{◌≡◌, ◌≢◌, ◌≤◌, ◌<◌, ℕ, nat_lt, Bool, true, false, List, length, Result, Ok, Err, IfOk, IfErr, chars, IsUtf8, refl, ap, sym, ◌∙◌, subst, arith}
 use Rattle.std.proofs.lemmas.Bool.{ltb-true}
 use Rattle.std.proofs.lemmas.Str.{IsUtf8-from_is_utf8, is_utf8-from_IsUtf8}
 use Rattle.std.specs.Str.{is_utf8}
@@ -15,15 +15,13 @@ use Rattle.ag_expr.proofs.language.Texts.{ends_wide}
 use Rattle.ag_text.specs.Answers.{fault_of, answer_of, read_text, line_of, IsRead, IsReadText, IsFirstOf, IsRefused}
 use Rattle.ag_text.specs.Grammar.{max_length, ReadsAsGrammar, ReadsAsNone}
 use Rattle.ag_text.specs.Places.{IsFirstWrong}
-use Rattle.ag_text.specs.Reading.{Outcome, grammar_from, grammar_of}
-use Rattle.ag_text.specs.Syntax.{IsGrammar}
+use Rattle.ag_text.specs.Reading.{Outcome, grammar_of}
 use Rattle.ag_text.specs.declared.fault.TextFault.{TextFault}
 use Rattle.ag_text.specs.declared.fault.TextFault.TheVariants as fault
 use Rattle.ag_text.specs.declared.raw.RawGrammar.{RawGrammar}
 use Rattle.ag_text.specs.declared.stop.Stop.{Stop}
 use Rattle.ag_text.specs.declared.stop.Stop.TheVariants as stop
 use Rattle.ag_text.proofs.Agree.{whole_of, sound, complete, refuses_at_the_first}
-use Rattle.ag_text.proofs.Steady.{Found}
 use Rattle.ag_text.proofs.Grammars.{grammar_steady}
 
 -- a text has one list of tokens

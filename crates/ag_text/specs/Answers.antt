@@ -1,5 +1,5 @@
 -- What reading a text as a grammar answers: this project's.
-use Rattle.std.specs.Prelude.{◌≡◌, ◌≢◌, ◌+◌, ◌==◌, ℕ, nat_lt, Bool, cond, List, length, take, Result, Ok, Err, chars}
+use Rattle.std.specs.Prelude.{◌≡◌, ◌≢◌, ◌+◌, ◌==◌, ℕ, nat_lt, cond, List, length, take, Result, Ok, Err, chars}
 use Rattle.std.specs.List.{count_by}
 use Rattle.std.specs.Str.{is_utf8}
 use Rattle.std.specs.Str.Lossy.{utf8_valid_len}

@@ -1,5 +1,5 @@
 -- What one token stands for in a grammar's text: this project's.
-use Rattle.std.specs.Prelude.{ℕ, ◌==◌, ◌&&◌, length, Bool, false, not, cond, if◌then◌else◌, List, [], ◌∷◌, Option, Some, None, bytes_eq, codes}
+use Rattle.std.specs.Prelude.{ℕ, ◌==◌, ◌&&◌, length, Bool, not, cond, if◌then◌else◌, List, [], ◌∷◌, Option, Some, None, bytes_eq, codes}
 use Rattle.std.specs.List.{list_any}
 use Rattle.ag_expr.specs.declared.token.Punctuation.{Punctuation}
 use Rattle.ag_expr.specs.declared.occurrence.Occ.{Occ}

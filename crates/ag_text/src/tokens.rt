@@ -181,7 +181,8 @@ fn is_literal(text: &str) -> bool
 
 /// The literal of what stands between the quotes of a text.
 fn literal(alloc: Global, body: &str) -> Result<Option<RawItem>, NoMemory>
-    ensures { IfOk result (λ found. found ≡ words.literal_of (unescaped_bytes (chars body.now))) }
+    ensures { IfOk result (λ found. found
+        ≡ words.literal_of (unescaped_bytes (chars body.now))) }
 {
     let text = unescaped(alloc, body)?;
     if is_literal(text.as_str()) {

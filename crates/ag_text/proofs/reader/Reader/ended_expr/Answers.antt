@@ -1,4 +1,3 @@
-use Rattle.std.proofs.Common.{sym, ap, ◌∙◌}
 use Rattle.ag_text.proofs.Parts.{boundary, boundary_there, left_behind, read_ended, read_here, read_refused}
 use Rattle.ag_text.proofs.reader.Reader.ended_expr.Goals as goal
 
