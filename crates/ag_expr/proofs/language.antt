@@ -10,6 +10,7 @@ pub mod Lexes
 pub mod Listing
 pub mod Numbered
 pub mod Numerals
+pub mod Offsets
 pub mod Places
 pub mod Scopes
 pub mod Spans

@@ -9,6 +9,7 @@ pub mod Lexing
 pub mod Names
 pub mod Numbers
 pub mod Occurrences
+pub mod Offsets
 pub mod Placed
 pub mod Places
 pub mod Reading

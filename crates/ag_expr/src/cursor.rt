@@ -11,6 +11,7 @@ ghost use Rattle.ag_expr.specs.language.Lexing.{token_of};
 ghost use Rattle.ag_expr.specs.language.Reading as reading;
 ghost use Rattle.ag_expr.specs.language.Syntax as syntax;
 ghost use Rattle.ag_expr.specs.language.Token as tokens;
+ghost use Rattle.ag_expr.specs.language.Offsets.{place};
 
 use crate::fault::{ExprFault, TokenFault};
 use crate::lexer::{skip_separators, token_in_front};
@@ -151,6 +152,20 @@ impl<'t> Cursor<'t> {
         ensures { result ≡ left.offset self.now }
     {
         self.text.len() - self.rest.len()
+    }
+
+    /// The offset of the token in front, or of the place where the tokens end. Takes no memory.
+    pub fn place(&self) -> usize
+        ensures { result ≡ place (input self.now) }
+    {
+        self.text.len() - self.rest.len()
+    }
+
+    /// Whether the text ends here. Takes no memory.
+    pub fn is_at_end(&self) -> bool
+        ensures { result ≡ reading.is_end (input self.now).ending (input self.now).left }
+    {
+        self.rest.is_empty()
     }
 
     /// Why the token in front cannot be taken: X2 at its offset. Where none is there: X1 where no

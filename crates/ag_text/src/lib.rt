@@ -1,6 +1,15 @@
-//! A grammar as it stands in a text: the types alone. What reads a text as one is to come.
+//! Grammars as they stand in a text: what a text is to be read as, and reading it.
 #![tactic(auto)]
 
+mod fault;
+mod grammar;
+pub mod laws;
+mod parser;
 mod raw;
+mod reader;
+mod stop;
+mod tokens;
 
+pub use fault::TextFault;
+pub use grammar::read_grammar;
 pub use raw::{Named, RawGrammar, RawItem, RawProduction, RawRule, RawSymbol};

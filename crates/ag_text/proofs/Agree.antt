@@ -1,0 +1,124 @@
+-- The laws of the grammar language.
+use Rattle.std.proofs.Common.{◌≡◌, ℕ, Bool, true, false, if◌then◌else◌, List, [], ◌∷◌, ◌++◌, Ok, Err, chars, refl, ap, sym, ◌∙◌, subst, append_assoc, append-nil}
+use Rattle.ag_expr.specs.language.Ending.{Ending}
+use Rattle.ag_expr.specs.language.Ending as ending
+use Rattle.ag_expr.specs.language.Placed.{Placed, Input}
+use Rattle.ag_expr.specs.language.Reading.{is_end}
+use Rattle.ag_expr.proofs.language.Lexes.{one_input}
+use Rattle.ag_text.specs.declared.raw.RawGrammar.{RawGrammar}
+use Rattle.ag_text.specs.Laws.{ReadingAgrees, RefusesAtTheFirst, OneGrammar}
+use Rattle.ag_text.specs.Places.{NoneGoesOn, IsFirstWrong}
+use Rattle.ag_text.specs.Reading as reading
+use Rattle.ag_expr.specs.language.Offsets.{place}
+use Rattle.ag_text.specs.Reading.{Outcome, grammar_from, grammar_of}
+use Rattle.ag_text.specs.declared.stop.Stop.TheVariants.{WrongAt}
+use Rattle.ag_text.specs.Syntax.{IsGrammar}
+use Rattle.ag_text.proofs.Grammars.{grammar_complete, grammar_steady}
+use Rattle.ag_text.proofs.Steady.{Found, Refused, before, first, first_of, opened, answered}
+
+end_left : (e : Ending) (ps : List Placed) → is_end e ps ≡ true → ps ≡ []
+end_left e [] h = refl
+end_left (ending.EndsAt n) (p ∷ ps) h = let bad : ⊥ = cc in absurd bad
+end_left (ending.NoTokenAt n) (p ∷ ps) h = let bad : ⊥ = cc in absurd bad
+end_left (ending.TooLargeAt n) (p ∷ ps) h = let bad : ⊥ = cc in absurd bad
+
+-- what is read to the end
+pub record Whole (i j : Input) (raw : RawGrammar) : Type 0 where
+  pub read : grammar_from i ≡ Ok (raw, j)
+  pub ends : is_end j.ending j.left ≡ true
+
+ended : (i k j : Input) (raw other : RawGrammar) → grammar_from i ≡ Ok (raw, k) → (b : Bool) → is_end k.ending k.left ≡ b → reading.and_then {A = Unit {0}} (if b then Ok (tt {0}, k) else Err (WrongAt (place k))) (λ u. reading.pure raw) ≡ Ok (other, j) → Whole i j other
+ended i k j raw other read true ends h =
+    let same = reading_same in
+    record { read = read ∙ ap (λ x. Ok (x, k)) (sym same.0) ∙ ap (λ x. Ok (other, x)) same.1; ends = subst (λ (x : Input). is_end x.ending x.left ≡ true) same.1 ends }
+  where
+    reading_same : (other ≡ raw) × (k ≡ j)
+    reading_same = answered raw other k j h
+ended i k j raw other read false ends h = let bad : ⊥ = cc in absurd bad
+
+pub whole_of : (i j : Input) (raw : RawGrammar) → grammar_of i ≡ Ok (raw, j) → Whole i j raw
+unfolding grammar_of
+whole_of i j raw h = let one = opened (grammar_from i) _ _ h in ended i one.0.1 j one.0.0 raw one.1 (is_end one.0.1.ending one.0.1.left) refl one.2
+
+pub sound : (at : ℕ) (ps : List Placed) (j : Input) (raw : RawGrammar) → grammar_of (record { left = ps; ending = ending.EndsAt at }) ≡ Ok (raw, j) → IsGrammar ps raw
+sound at ps j raw h =
+    let i : Input = record { left = ps; ending = ending.EndsAt at } in
+    let whole = whole_of i j raw h in
+    let found = (grammar_steady.at i).ok j raw whole.read in
+    let last = end_left j.ending j.left whole.ends in
+    let all : ps ≡ found.us = ap (λ (k : Input). k.left) found.cut ∙ ap (λ qs. found.us ++ qs) last ∙ append-nil found.us in
+    subst (λ qs. IsGrammar qs raw) (sym all) found.is
+
+read_whole : (e : Ending) (ps : List Placed) (raw : RawGrammar) → IsGrammar ps raw → grammar_from (record { left = ps; ending = e }) ≡ Ok (raw, record { left = []; ending = e })
+read_whole e ps raw is = ap (λ qs. grammar_from (record { left = qs; ending = e })) (sym (append-nil ps)) ∙ grammar_complete.read ps (record { left = []; ending = e }) raw is refl
+
+pub complete : (at : ℕ) (ps : List Placed) (raw : RawGrammar) → IsGrammar ps raw → grammar_of (record { left = ps; ending = ending.EndsAt at }) ≡ Ok (raw, record { left = []; ending = ending.EndsAt at })
+unfolding grammar_of
+complete at ps raw is = rw (read_whole (ending.EndsAt at) ps raw is) refl
+
+pub reading_agrees : ReadingAgrees
+reading_agrees at ps raw = (λ h. sound at ps _ raw h, complete at ps raw)
+
+pub one_grammar : OneGrammar
+one_grammar text left right is also =
+    let input = one_input (chars text) in
+    let end : Input = record { left = []; ending = ending.EndsAt 0 } in
+    let same : is.placed ≡ also.placed = ap (λ (i : Input). i.left) (input.2 _ is.lexes ∙ sym (input.2 _ also.lexes)) in
+    let both = sym (read_whole (ending.EndsAt 0) is.placed left is.spells) ∙ ap (λ ps. grammar_from (record { left = ps; ending = ending.EndsAt 0 })) same ∙ read_whole (ending.EndsAt 0) also.placed right also.spells in
+    sym (answered left right end end both).0
+
+-- ---- the first wrong token
+
+module _ (us : List Placed) where
+  -- where reading settles, nothing else is a grammar
+  settled : (e : Ending) (rest : List Placed) (raw : RawGrammar) → IsGrammar (us ++ rest) raw → grammar_from (before us (record { left = rest; ending = e })) ≡ Ok (raw, record { left = []; ending = e })
+  settled e rest raw is = read_whole e (us ++ rest) raw is
+
+  none_goes_on : (e : Ending) (ps : List Placed) → ((k : Input) → first k ≡ first (record { left = ps; ending = e }) → (raw : RawGrammar) → grammar_from (before us k) ≡ Ok (raw, record { left = []; ending = k.ending }) → ⊥) → NoneGoesOn us e ps
+  none_goes_on e [] refutes = λ at ends raw is. refutes (record { left = []; ending = e }) refl raw (settled e [] raw (subst (λ qs. IsGrammar qs raw) (sym (append-nil us)) is))
+  none_goes_on e (p ∷ ps) refutes = λ (more, raw, is). refutes (record { left = p ∷ more; ending = e }) refl raw (settled e (p ∷ more) raw (subst (λ qs. IsGrammar qs raw) (append_assoc us (p ∷ []) more) is))
+
+nothing : (qs : List Placed) (p : Placed) (ps : List Placed) → first_of qs ≡ first_of (p ∷ ps) → qs ≡ [] → ⊥
+nothing [] p ps h e = cc
+nothing (q ∷ qs) p ps h e = cc
+
+refused : (i : Input) (at : ℕ) → Refused IsGrammar grammar_from i at → IsFirstWrong i at
+refused i at x =
+    let ends : i.ending ≡ x.j.ending = ap (λ (k : Input). k.ending) x.cut in
+    record {
+      before = x.us;
+      rest = x.j.left;
+      cut = ap (λ (k : Input). k.left) x.cut;
+      start = (x.rest, x.a, x.begins);
+      says = rw ends x.there;
+      none = none_goes_on x.us i.ending x.j.left (λ k same raw read. let stuck = x.stuck k same in let clash = sym stuck.1 ∙ read in cc);
+    }
+
+-- a whole grammar, and more behind it
+followed : (i j : Input) (raw : RawGrammar) → Found IsGrammar grammar_from i j raw → is_end j.ending j.left ≡ false → IsFirstWrong i (place j)
+followed i j raw x open_end =
+    let ends : i.ending ≡ j.ending = ap (λ (k : Input). k.ending) x.cut in
+    record {
+      before = x.us;
+      rest = j.left;
+      cut = ap (λ (k : Input). k.left) x.cut;
+      start = ([], raw, subst (λ qs. IsGrammar qs raw) (sym (append-nil x.us)) x.is);
+      says = rw ends refl;
+      none = go j.left j.ending ends open_end x.again;
+    }
+  where
+    go : (ps : List Placed) (e : Ending) → i.ending ≡ e → is_end e ps ≡ false → ((k : Input) → first k ≡ first (record { left = ps; ending = e }) → grammar_from (before x.us k) ≡ Ok (raw, k)) → NoneGoesOn x.us i.ending ps
+    go [] e same open_end again = λ at is raw all. let bad : is_end (ending.EndsAt at) [] ≡ false = subst (λ y. is_end y [] ≡ false) (sym same ∙ is) open_end in let never : ⊥ = cc in never
+    go (p ∷ ps) e same open_end again = none_goes_on x.us i.ending (p ∷ ps) (λ k first_same other read. nothing k.left p ps first_same (ap (λ (l : Input). l.left) (answered raw other k _ (sym (again k first_same) ∙ read)).1))
+
+pub refuses_at_the_first : RefusesAtTheFirst
+unfolding grammar_of
+refuses_at_the_first i at h = go (grammar_from i) refl h
+  where
+    behind : (j : Input) (raw : RawGrammar) → grammar_from i ≡ Ok (raw, j) → (b : Bool) → is_end j.ending j.left ≡ b → reading.and_then {A = Unit {0}} (if b then Ok (tt {0}, j) else Err (WrongAt (place j))) (λ u. reading.pure raw) ≡ Err (WrongAt at) → IsFirstWrong i at
+    behind j raw read true e h = let bad : ⊥ = cc in absurd bad
+    behind j raw read false e h = let same : place j ≡ at = cc in subst (IsFirstWrong i) same (followed i j raw ((grammar_steady.at i).ok j raw read) e)
+
+    go : (o : Outcome RawGrammar) → grammar_from i ≡ o → reading.and_then o (λ g. reading.◌>>◌ reading.at_end (reading.pure g)) ≡ Err (WrongAt at) → IsFirstWrong i at
+    go (Ok (raw, j)) read h = behind j raw read (is_end j.ending j.left) refl h
+    go (Err s) read h = let same : s ≡ WrongAt at = cc in refused i at ((grammar_steady.at i).err at (read ∙ ap Err same))

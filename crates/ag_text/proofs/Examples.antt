@@ -1,0 +1,88 @@
+-- Examples worked out by hand.
+use Rattle.std.proofs.Common.{◌≡◌, ℕ, List, [], ◌∷◌, ◌++◌, Some, Ok, Err, codes, IsUtf8, lit<, refl, ap, sym, ◌∙◌, subst, arith}
+use Rattle.std.proofs.lemmas.Str.{encode_ascii}
+use Rattle.std.specs.Str.{chars}
+use Rattle.unicode_ident.proofs.IdentLemmas.{is_xid_start-ascii, is_xid_continue-ascii}
+use Rattle.ag_expr.specs.declared.token.Punctuation.TheVariants as punctuation
+use Rattle.ag_expr.specs.language.Ending as ending
+use Rattle.ag_expr.specs.language.Lexing.{token_from}
+use Rattle.ag_expr.specs.language.Placed.{Placed, Input}
+use Rattle.ag_expr.specs.language.Reading.{expr_of, expr_in, whole_from, ranked_from, chain_from, atom_from}
+use Rattle.ag_expr.specs.language.Reading as expr_reading
+use Rattle.ag_expr.specs.language.Token as token
+use Rattle.ag_expr.specs.language.Tokens.{AreTokens, ended, separator, Lexes}
+use Rattle.ag_expr.proofs.language.Lexed.{one_more}
+use Rattle.ag_expr.proofs.language.Lexes.{one_input}
+use Rattle.ag_expr.proofs.language.TokenLaws.{no_start, punctuation_cut}
+use Rattle.ag_text.specs.Grammar.{ReadsAsGrammar, ReadsAsNone}
+use Rattle.ag_text.specs.Reading.{many_from, further_from, names_from, section_from, attributes_from, symbol_from, ended_expr_from, rule_from, production_from, grammar_from, grammar_of}
+use Rattle.ag_text.specs.declared.stop.Stop.TheVariants.{WrongAt}
+use Rattle.ag_text.specs.Syntax.{IsGrammar}
+use Rattle.ag_text.specs.Worked.{name_at, mark_at, start_tokens, start_alone, constant_tokens, constant}
+use Rattle.ag_text.proofs.Agree.{reading_agrees}
+
+constant_is_read : grammar_of (record { left = constant_tokens; ending = ending.EndsAt 57 }) ≡ Ok (constant, record { left = []; ending = ending.EndsAt 57 })
+unfolding grammar_of grammar_from many_from symbol_from attributes_from section_from names_from further_from production_from rule_from ended_expr_from expr_of expr_in whole_from ranked_from chain_from atom_from expr_reading.many_from
+constant_is_read = refl
+
+pub constant_is_spelled : IsGrammar constant_tokens constant
+constant_is_spelled = (reading_agrees 57 constant_tokens constant).0 constant_is_read
+
+start_is_read : grammar_of (record { left = start_tokens; ending = ending.EndsAt 8 }) ≡ Ok (start_alone, record { left = []; ending = ending.EndsAt 8 })
+unfolding grammar_of grammar_from many_from
+start_is_read = refl
+
+cut_start : (rest : List ℕ) → token_from (codes "start" ++ 32 ∷ rest) ≡ Some (token.Name (codes "start"), 32 ∷ rest)
+unfolding token_from
+cut_start rest = rw (is_xid_start-ascii 115 (lit< tt), is_xid_continue-ascii 115 (lit< tt), is_xid_continue-ascii 116 (lit< tt), is_xid_continue-ascii 97 (lit< tt), is_xid_continue-ascii 114 (lit< tt), is_xid_continue-ascii 32 (lit< tt), encode_ascii 115 (lit< tt), encode_ascii 116 (lit< tt), encode_ascii 97 (lit< tt), encode_ascii 114 (lit< tt)) refl
+
+cut_name : token_from (codes "S;") ≡ Some (token.Name (codes "S"), codes ";")
+unfolding token_from
+cut_name = rw (is_xid_start-ascii 83 (lit< tt), is_xid_continue-ascii 83 (lit< tt), is_xid_continue-ascii 59 (lit< tt), encode_ascii 83 (lit< tt)) refl
+
+cut_semicolon : token_from (codes ";") ≡ Some (token.Punctuation punctuation.Semicolon, [])
+cut_semicolon = punctuation_cut 59 [] (punctuation.Semicolon, []) (no_start 59 (lit< tt) refl refl) refl refl refl refl
+
+start_characters : (chars (codes "start S;") ≡ codes "start S;") × (chars (codes "start ;") ≡ codes "start ;")
+unfolding chars
+start_characters = (refl, refl)
+
+are_start_tokens : AreTokens 0 (codes "start S;") start_tokens 8 []
+are_start_tokens =
+    let three = one_more 7 (codes ";") (token.Punctuation punctuation.Semicolon) [] [] 8 [] cut_semicolon (ended 8 []) in
+    let two = one_more 6 (codes "S;") (token.Name (codes "S")) (codes ";") _ 8 [] cut_name three in
+    one_more 0 (codes "start S;") (token.Name (codes "start")) (codes " S;") _ 8 [] (cut_start (codes "S;")) (separator 5 32 (codes "S;") _ 8 [] refl two)
+
+start_utf8 : IsUtf8 (codes "start S;")
+start_utf8 = (codes "start S;", (refl, rw (encode_ascii 115 (lit< tt), encode_ascii 116 (lit< tt), encode_ascii 97 (lit< tt), encode_ascii 114 (lit< tt), encode_ascii 32 (lit< tt), encode_ascii 83 (lit< tt), encode_ascii 59 (lit< tt)) refl))
+
+pub start_alone_is_read : ReadsAsGrammar (codes "start S;") start_alone
+start_alone_is_read = record {
+  short = omega arith;
+  utf8 = start_utf8;
+  placed = start_tokens;
+  lexes = record { rest = []; before = subst (λ cs. AreTokens 0 cs start_tokens 8 []) (sym start_characters.0) are_start_tokens; within = refl; stops = refl };
+  spells = (reading_agrees 8 start_tokens start_alone).0 start_is_read;
+}
+
+-- without the name
+abbrev bare_tokens : List Placed
+bare_tokens = name_at 0 (codes "start") ∷ mark_at 6 punctuation.Semicolon ∷ []
+
+are_bare_tokens : AreTokens 0 (codes "start ;") bare_tokens 7 []
+are_bare_tokens =
+    let two = one_more 6 (codes ";") (token.Punctuation punctuation.Semicolon) [] [] 7 [] cut_semicolon (ended 7 []) in
+    one_more 0 (codes "start ;") (token.Name (codes "start")) (codes " ;") _ 7 [] (cut_start (codes ";")) (separator 5 32 (codes ";") _ 7 [] refl two)
+
+bare_is_refused : grammar_of (record { left = bare_tokens; ending = ending.EndsAt 7 }) ≡ Err (WrongAt 6)
+unfolding grammar_of grammar_from
+bare_is_refused = refl
+
+pub no_start_is_none : ReadsAsNone (codes "start ;")
+no_start_is_none raw is =
+    let bare : Lexes 0 (chars (codes "start ;")) (record { left = bare_tokens; ending = ending.EndsAt 7 }) = record { rest = []; before = subst (λ cs. AreTokens 0 cs bare_tokens 7 []) (sym start_characters.1) are_bare_tokens; within = refl; stops = refl } in
+    let input = one_input (chars (codes "start ;")) in
+    let same : is.placed ≡ bare_tokens = ap (λ (i : Input). i.left) (input.2 _ is.lexes ∙ sym (input.2 _ bare)) in
+    let read = (reading_agrees 7 bare_tokens raw).1 (subst (λ ps. IsGrammar ps raw) same is.spells) in
+    let bad = sym bare_is_refused ∙ read in
+    cc

@@ -1,0 +1,150 @@
+-- The expression of a rule, up to its `;`, is read as the expression language reads it.
+use Rattle.std.proofs.Common.{◌≡◌, ℕ, pos, Bool, true, false, cond, List, [], ◌∷◌, ◌++◌, Option, Some, None, Result, Ok, Err, refl, ap, sym, ◌∙◌, subst, append_assoc}
+use Rattle.ag_expr.specs.declared.fault.ExprFault.{ExprFault}
+use Rattle.ag_expr.specs.declared.node.Node.{Node}
+use Rattle.ag_expr.specs.declared.node.Node.TheVariants as node
+use Rattle.ag_expr.specs.declared.occurrence.Occ.{Occ}
+use Rattle.ag_expr.specs.declared.token.Punctuation.TheVariants as punctuation
+use Rattle.ag_value.specs.declared.value.Value.TheVariants as value
+use Rattle.ag_expr.specs.language.Ending.{Ending}
+use Rattle.ag_expr.specs.language.Ending as ending
+use Rattle.ag_expr.specs.language.Expression.{max_levels}
+use Rattle.ag_expr.specs.language.Placed.{Placed, Input}
+use Rattle.ag_expr.specs.language.Places.{answer_of, occurrences_of, read_from}
+use Rattle.ag_expr.specs.language.Reading as expr_reading
+use Rattle.ag_expr.specs.language.Reading.{ending_fault, expr_of, expr_in, whole_from, ranked_from, chain_from, atom_from, many_from}
+use Rattle.ag_expr.specs.language.Token.{Token}
+use Rattle.ag_expr.specs.language.Token as token
+use Rattle.ag_expr.proofs.language.Agree as agree
+use Rattle.ag_expr.specs.language.Until.{Ended, first_semicolon, before_semicolon, with_offset, or_fault, until_by, read_until_from}
+use Rattle.ag_text.specs.Reading.{behind_semicolon, ended, ended_expr_from}
+use Rattle.ag_text.specs.declared.stop.Stop.TheVariants.{WrongAt}
+use Rattle.ag_text.specs.Syntax.{IsOwnExpr, IsEndedExpr}
+use Rattle.ag_text.specs.Words.{some_where, is_mark, mark_in}
+use Rattle.ag_text.proofs.Complete.{Complete, nowhere, anywhere}
+use Rattle.ag_text.proofs.Steady.{Found, Steady, before, front_is}
+
+-- ---- tokens up to a `;`
+
+abbrev is_semicolon : Token → Bool
+is_semicolon = is_mark punctuation.Semicolon
+
+-- the tokens are cut at the first `;`
+pub record Cut (ps : List Placed) (at : ℕ) : Type 0 where
+  pub semicolon : Placed
+  is : is_semicolon semicolon.token ≡ true
+  pub there : semicolon.at ≡ at
+  pub whole : ps ≡ before_semicolon ps ++ semicolon ∷ behind_semicolon ps
+  free : first_semicolon (before_semicolon ps) ≡ None
+
+pub cut_at : (ps : List Placed) (at : ℕ) → first_semicolon ps ≡ Some at → Cut ps at
+cut_at [] at h = let bad : ⊥ = cc in absurd bad
+cut_at (p ∷ ps) at h = go (is_semicolon p.token) refl h (cut_at ps at)
+  where
+    go : (b : Bool) → is_semicolon p.token ≡ b → cond b (Some p.at) (first_semicolon ps) ≡ Some at → (first_semicolon ps ≡ Some at → Cut ps at) → Cut (p ∷ ps) at
+    go true b h more = record { semicolon = p; is = b; there = cc; whole = rw b refl; free = rw b refl }
+    go false b h more = let c = more h in record { semicolon = c.semicolon; is = c.is; there = c.there; whole = rw b (ap (λ qs. p ∷ qs) c.whole); free = (let one : first_semicolon (p ∷ before_semicolon ps) ≡ None = rw b c.free in rw b one) }
+
+-- where an expression and a `;` stand in front
+record Found3 (es rest : List Placed) (p : Placed) : Type 0 where
+  at : first_semicolon (es ++ p ∷ rest) ≡ Some p.at
+  front : before_semicolon (es ++ p ∷ rest) ≡ es
+  back : behind_semicolon (es ++ p ∷ rest) ≡ rest
+
+find : (es : List Placed) (p : Placed) (rest : List Placed) → first_semicolon es ≡ None → is_semicolon p.token ≡ true → Found3 es rest p
+find [] p rest free is = record { at = rw is refl; front = rw is refl; back = rw is refl }
+find (e ∷ es) p rest free is = go (is_semicolon e.token) refl free (λ h. find es p rest h is)
+  where
+    go : (b : Bool) → is_semicolon e.token ≡ b → cond b (Some e.at) (first_semicolon es) ≡ None → (first_semicolon es ≡ None → Found3 es rest p) → Found3 (e ∷ es) rest p
+    go true b h more = let bad : ⊥ = cc in absurd bad
+    go false b h more = let f = more h in record { at = rw b f.at; front = rw b (ap (λ qs. e ∷ qs) f.front); back = rw b f.back }
+
+-- ---- a whole text of tokens
+
+own_read : (at : ℕ) (es : List Placed) (x : Node × List Occ) → IsOwnExpr es x → read_from (record { left = es; ending = ending.EndsAt at }) ≡ Ok x
+own_read at es x is =
+    let i : Input = record { left = es; ending = ending.EndsAt at } in
+    ap (λ os. answer_of os (expr_of os max_levels i)) (sym is.listed) ∙ ap (answer_of x.1) ((agree.exact x.1 max_levels at es x.0).1 is.spells)
+
+own_of : (at : ℕ) (es : List Placed) (x : Node × List Occ) → first_semicolon es ≡ None → read_from (record { left = es; ending = ending.EndsAt at }) ≡ Ok x → IsOwnExpr es x
+own_of at es x free h = go (expr_of (occurrences_of i) max_levels i) refl h
+  where
+    i : Input
+    i = record { left = es; ending = ending.EndsAt at }
+
+    go : (o : expr_reading.Outcome Node) → expr_of (occurrences_of i) max_levels i ≡ o → answer_of (occurrences_of i) o ≡ Ok x → IsOwnExpr es x
+    go (Err f) e h = let bad : ⊥ = cc in absurd bad
+    go (Ok (tree, j)) e h =
+        let both = agree.read_to_end (occurrences_of i) max_levels i j tree e in
+        let is = agree.whole_is (occurrences_of i) max_levels i j tree both.0 both.1 in
+        let same : (tree, occurrences_of i) ≡ x = cc in
+        subst (IsOwnExpr es) same (record { free = free; listed = refl; spells = is.2 })
+
+zero_tokens : List Placed
+zero_tokens = record { at = 0; token = token.Number (pos 0) } ∷ []
+
+abbrev zero_node : Node
+zero_node = node.Literal (value.Num (pos 0))
+
+zero_read : expr_of [] 64 (record { left = zero_tokens; ending = ending.EndsAt 1 }) ≡ Ok (zero_node, record { left = []; ending = ending.EndsAt 1 })
+unfolding zero_tokens expr_of expr_in whole_from ranked_from chain_from atom_from many_from
+zero_read = refl
+
+zero_own : IsOwnExpr zero_tokens (zero_node, [])
+unfolding zero_tokens
+zero_own = record { free = refl; listed = refl; spells = (agree.exact [] 64 1 zero_tokens zero_node).0 zero_read }
+
+-- ---- with the `;`
+
+semicolon_is : (at : ℕ) (t : Token) → is_semicolon t ≡ true → mark_in punctuation.Semicolon at t ≡ Some tt
+semicolon_is at t h = rw h refl
+
+is_semicolon_of : (t : Token) (b : Bool) → is_semicolon t ≡ b → (u : Unit {0}) → some_where b tt ≡ Some u → is_semicolon t ≡ true
+is_semicolon_of t true e u h = e
+is_semicolon_of t false e u h = let bad : ⊥ = cc in absurd bad
+
+ended_is : (es : List Placed) (p : Placed) (x : Node × List Occ) → IsOwnExpr es x → is_semicolon p.token ≡ true → IsEndedExpr (es ++ p ∷ []) x
+ended_is es p x is mark = (es, p ∷ [], x, refl, is, (p ∷ [], [], tt, refl, (p, refl, semicolon_is p.at p.token mark), (refl, refl)))
+
+pub ended_complete : Complete nowhere IsEndedExpr ended_expr_from
+unfolding ended_expr_from
+ended_complete = record { read = read }
+  where
+    read : (us : List Placed) (j : Input) (x : Node × List Occ) → IsEndedExpr us x → front_is nowhere j.left ≡ false → ended (before us j) (until_by (first_semicolon (us ++ j.left)) (before us j)) ≡ Ok (x, j)
+    read us j x (es, vs, y, e, is, (ms, ns, u, d, (p, single, sign), (empty, same))) h =
+        let text : us ++ j.left ≡ es ++ p ∷ j.left = rw (e, d, single, empty) (append_assoc es (p ∷ []) j.left) in
+        let cut = find es p j.left is.free (is_semicolon_of p.token (is_semicolon p.token) refl u sign) in
+        let found = own_read p.at es y is in
+        rw (text, cut.at, cut.front, found, cut.back, same) refl
+
+found_at : (i j : Input) (x : Node × List Occ) (o : Option ℕ) → first_semicolon i.left ≡ o → ended i (until_by o i) ≡ Ok (x, j) → Found IsEndedExpr ended_expr_from i j x
+found_at i j x None e h = go (read_from i) h
+  where
+    go : (r : Result (Node × List Occ) ExprFault) → ended i (or_fault (ending_fault i.ending) r) ≡ Ok (x, j) → Found IsEndedExpr ended_expr_from i j x
+    go (Ok y) h = let bad : ⊥ = cc in absurd bad
+    go (Err f) h = let bad : ⊥ = cc in absurd bad
+found_at i j x (Some at) e h = go (read_from (record { left = before_semicolon i.left; ending = ending.EndsAt at })) refl h
+  where
+    go : (r : Result (Node × List Occ) ExprFault) → read_from (record { left = before_semicolon i.left; ending = ending.EndsAt at }) ≡ r → ended i (with_offset at r) ≡ Ok (x, j) → Found IsEndedExpr ended_expr_from i j x
+    go (Err f) d h = let bad : ⊥ = cc in absurd bad
+    go (Ok y) d h =
+        let cut = cut_at i.left at e in
+        let es : List Placed = before_semicolon i.left in
+        let us : List Placed = es ++ cut.semicolon ∷ [] in
+        let both : ◌≡◌ {A = (Node × List Occ) × Input} (y, record { left = behind_semicolon i.left; ending = i.ending }) (x, j) = cc in
+        let same : y ≡ x = ap (λ p. p.0) both in
+        let left : record { left = behind_semicolon i.left; ending = i.ending } ≡ j = ap (λ p. p.1) both in
+        let is : IsEndedExpr us x = subst (IsEndedExpr us) same (ended_is es cut.semicolon y (own_of at es y cut.free d) cut.is) in
+        let whole : i.left ≡ us ++ behind_semicolon i.left = cut.whole ∙ sym (append_assoc es (cut.semicolon ∷ []) (behind_semicolon i.left)) in
+        record { us = us; cut = ap (λ ps. record { left = ps; ending = i.ending }) whole ∙ ap (before us) left; is = is; again = λ k same_first. ended_complete.read us k x is (anywhere k.left) }
+
+never_wrong : (i : Input) (r : Result Ended ExprFault) (at : ℕ) → ended i r ≡ Err (WrongAt at) → ⊥
+never_wrong i (Ok x) at h = cc
+never_wrong i (Err f) at h = cc
+
+pub ended_steady : Steady IsEndedExpr ended_expr_from
+unfolding ended_expr_from
+ended_steady = record {
+  at = λ i. record { ok = λ j x h. found_at i j x (first_semicolon i.left) refl h; err = λ at h. absurd (never_wrong i (read_until_from i) at h) };
+  word = (zero_tokens ++ (record { at = 1; token = token.Punctuation punctuation.Semicolon }) ∷ [], (zero_node, []), ended_is zero_tokens _ (zero_node, []) zero_own refl);
+}

@@ -1,0 +1,24 @@
+-- Which texts read as which grammars, and what is told of those that read as none: this project's.
+use Rattle.std.specs.Prelude.{◌≤◌, ℕ, List, length, chars, IsUtf8}
+use Rattle.ag_expr.specs.language.Ending as ending
+use Rattle.ag_expr.specs.language.Placed.{Placed}
+use Rattle.ag_expr.specs.language.Tokens.{Lexes}
+use Rattle.ag_text.specs.declared.raw.RawGrammar.{RawGrammar}
+use Rattle.ag_text.specs.Syntax.{IsGrammar}
+
+-- how many bytes a grammar's text has at most
+abbrev pub max_length : ℕ
+max_length = 1048576
+
+-- The text reads as the grammar: it is short enough and UTF-8; it is separators and longest tokens, each number within its limit; and
+-- they spell the grammar.
+pub record ReadsAsGrammar (text : List ℕ) (raw : RawGrammar) : Type 0 where
+  pub short : length text ≤ max_length
+  pub utf8 : IsUtf8 text
+  pub placed : List Placed
+  pub lexes : Lexes 0 (chars text) (record { left = placed; ending = ending.EndsAt (length text) })
+  pub spells : IsGrammar placed raw
+
+-- the text reads as no grammar
+abbrev pub ReadsAsNone : List ℕ → Type 0
+ReadsAsNone text = (raw : RawGrammar) → ReadsAsGrammar text raw → ⊥

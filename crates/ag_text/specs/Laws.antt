@@ -1,0 +1,23 @@
+-- What the laws of the grammar language state.
+use Rattle.std.specs.Prelude.{◌≡◌, ◌↔◌, List, [], ℕ, Ok, Err}
+use Rattle.ag_expr.specs.language.Ending as ending
+use Rattle.ag_expr.specs.language.Placed.{Placed, Input}
+use Rattle.ag_text.specs.declared.raw.RawGrammar.{RawGrammar}
+use Rattle.ag_text.specs.Grammar.{ReadsAsGrammar}
+use Rattle.ag_text.specs.Places.{IsFirstWrong}
+use Rattle.ag_text.specs.Reading.{grammar_of}
+use Rattle.ag_text.specs.declared.stop.Stop.TheVariants.{WrongAt}
+use Rattle.ag_text.specs.Syntax.{IsGrammar}
+
+-- What is read from tokens, to their end, is what the syntax relates to them, and the other way round.
+abbrev pub ReadingAgrees : Type 0
+ReadingAgrees = (at : ℕ) (placed : List Placed) (raw : RawGrammar)
+    → (grammar_of (record { left = placed; ending = ending.EndsAt at }) ≡ Ok (raw, record { left = []; ending = ending.EndsAt at })) ↔ IsGrammar placed raw
+
+-- Outside expressions, placed tokens that spell no grammar are refused at the first that can't be taken.
+abbrev pub RefusesAtTheFirst : Type 0
+RefusesAtTheFirst = (i : Input) (at : ℕ) → grammar_of i ≡ Err (WrongAt at) → IsFirstWrong i at
+
+-- A text reads as one grammar at most.
+abbrev pub OneGrammar : Type 0
+OneGrammar = (text : List ℕ) (left right : RawGrammar) → ReadsAsGrammar text left → ReadsAsGrammar text right → left ≡ right

@@ -1,0 +1,10 @@
+pub mod Answers
+pub mod Grammar
+pub mod Laws
+pub mod Passing
+pub mod Places
+pub mod Reading
+pub mod Spelling
+pub mod Syntax
+pub mod Words
+pub mod Worked

@@ -1,0 +1,26 @@
+-- Which token of a grammar's text is the first that can't be taken: this project's.
+use Rattle.std.specs.Prelude.{◌≡◌, ℕ, List, [], ◌∷◌, ◌++◌}
+use Rattle.ag_expr.specs.language.Ending.{Ending}
+use Rattle.ag_expr.specs.language.Ending as ending
+use Rattle.ag_expr.specs.language.Placed.{Placed, Input}
+use Rattle.ag_text.specs.declared.raw.RawGrammar.{RawGrammar}
+use Rattle.ag_expr.specs.language.Offsets.{place_of}
+use Rattle.ag_text.specs.Syntax.{IsGrammar}
+
+-- the tokens are the beginning of a grammar's text
+abbrev pub Begins : List Placed → Type 0
+Begins ps = (more : List Placed) × (raw : RawGrammar) × IsGrammar (ps ++ more) raw
+
+-- no grammar's text goes on with the token in front of the rest, wherever it stands, or ends with the text
+abbrev pub NoneGoesOn : List Placed → Ending → List Placed → Type 0
+NoneGoesOn ps e [] = (at : ℕ) → e ≡ ending.EndsAt at → (raw : RawGrammar) → IsGrammar ps raw → ⊥
+NoneGoesOn ps e (p ∷ rest) = Begins (ps ++ p ∷ []) → ⊥
+
+-- The offset is that of the place in front of `rest`: what stands before is the beginning of a grammar's text, and with what stands there none goes on.
+pub record IsFirstWrong (i : Input) (at : ℕ) : Type 0 where
+  pub before : List Placed
+  pub rest : List Placed
+  pub cut : i.left ≡ before ++ rest
+  pub start : Begins before
+  pub says : at ≡ place_of i.ending rest
+  pub none : NoneGoesOn before i.ending rest

@@ -1,0 +1,174 @@
+-- Reading a grammar from the front of placed tokens: what is read, and what is left; or why reading stops.
+use Rattle.std.specs.Prelude.{ℕ, zero, suc, Bool, true, not, cond, if◌then◌else◌, List, [], ◌∷◌, ◌++◌, length, Option, Some, None, Result, Ok, Err, codes}
+use Rattle.ag_expr.specs.declared.fault.ExprFault.{ExprFault}
+use Rattle.ag_expr.specs.declared.node.Node.{Node}
+use Rattle.ag_expr.specs.declared.occurrence.Occ.{Occ}
+use Rattle.ag_expr.specs.declared.token.Punctuation.{Punctuation}
+use Rattle.ag_expr.specs.declared.token.Punctuation.TheVariants as punctuation
+use Rattle.ag_expr.specs.language.Placed.{Placed, Input}
+use Rattle.ag_expr.specs.language.Reading.{front, is_end, next, sees}
+use Rattle.ag_expr.specs.language.Offsets.{place}
+use Rattle.ag_expr.specs.language.Until.{Ended, read_until_from}
+use Rattle.ag_expr.specs.language.Token.{Token}
+use Rattle.ag_text.specs.declared.raw.Named.{Named}
+use Rattle.ag_text.specs.declared.raw.RawGrammar.{RawGrammar}
+use Rattle.ag_text.specs.declared.raw.RawItem.{RawItem}
+use Rattle.ag_text.specs.declared.raw.RawProduction.{RawProduction}
+use Rattle.ag_text.specs.declared.raw.RawRule.{RawRule}
+use Rattle.ag_text.specs.declared.raw.RawSymbol.{RawSymbol}
+use Rattle.ag_text.specs.declared.stop.Stop.{Stop}
+use Rattle.ag_text.specs.declared.stop.Stop.TheVariants.{WrongAt, InExpr}
+use Rattle.ag_text.specs.Words.{is_mark, is_word, mark_in, word_in, name_in, item_in, target_in}
+
+-- ---- parsers
+
+abbrev pub Outcome : Type 0 → Type 0
+Outcome A = Result (A × Input) Stop
+
+abbrev pub Parser : Type 0 → Type 0
+Parser A = Input → Outcome A
+
+abbrev pub and_then : {A B : Type 0} → Outcome A → (A → Parser B) → Outcome B
+and_then (Ok p) f = f p.0 p.1
+and_then (Err e) f = Err e
+
+infixl 10 ◌>>=◌
+abbrev pub ◌>>=◌ : {A B : Type 0} → Parser A → (A → Parser B) → Parser B
+p >>= f = λ i. and_then (p i) f
+
+infixl 10 ◌>>◌
+abbrev pub ◌>>◌ : {A B : Type 0} → Parser A → Parser B → Parser B
+p >> q = p >>= (λ _. q)
+
+abbrev pub pure : {A : Type 0} → A → Parser A
+pure a = λ i. Ok (a, i)
+
+-- takes the next token for what it stands for, where it stands for something
+abbrev pub taken : {A : Type 0} → Option A → Parser A
+taken None = λ i. Err (WrongAt (place i))
+taken (Some a) = λ i. Ok (a, next i)
+
+-- what a token stands for at an offset, where there is one
+abbrev pub sign_of : {A : Type 0} → (ℕ → Token → Option A) → ℕ → Option Token → Option A
+sign_of sign at None = None
+sign_of sign at (Some t) = sign at t
+
+abbrev pub one_from : {A : Type 0} → (ℕ → Token → Option A) → Parser A
+one_from sign = λ i. taken (sign_of sign (place i) (front i)) i
+
+abbrev pub choose : {A : Type 0} → (Token → Bool) → Parser A → Parser A → Parser A
+choose test left right = λ i. if sees test i then left i else right i
+
+-- as long as the next token begins a further one, so many turns at most
+unfoldable pub many_from : {A : Type 0} → (Token → Bool) → Parser A → ℕ → List A → Parser (List A)
+many_from begins item zero found = pure found
+many_from begins item (suc n) found = choose begins (item >>= λ x. many_from begins item n (found ++ x ∷ [])) (pure found)
+
+-- as many as there are
+abbrev pub many : {A : Type 0} → (Token → Bool) → Parser A → List A → Parser (List A)
+many begins item found = λ i. many_from begins item (length i.left) found i
+
+-- ---- the expression of a rule
+
+-- the tokens behind the first `;`
+abbrev pub behind_semicolon : List Placed → List Placed
+behind_semicolon [] = []
+behind_semicolon (p ∷ ps) = cond (is_mark punctuation.Semicolon p.token) ps (behind_semicolon ps)
+
+-- an expression that is read up to its `;`, which is passed
+abbrev pub ended : Input → Result Ended ExprFault → Outcome (Node × List Occ)
+ended i (Ok x) = Ok (x.0, record i { left = behind_semicolon i.left })
+ended i (Err f) = Err (InExpr f)
+
+unfoldable pub ended_expr_from : Parser (Node × List Occ)
+ended_expr_from = λ i. ended i (read_until_from i)
+
+-- ---- grammars
+
+abbrev pub expect : Punctuation → Parser (Unit {0})
+expect m = one_from (mark_in m)
+
+abbrev pub expect_word : List ℕ → Parser (Unit {0})
+expect_word w = one_from (word_in w)
+
+unfoldable pub further_from : Parser Named
+further_from = do
+  expect punctuation.Comma
+  one_from name_in
+
+unfoldable pub names_from : Parser (List Named)
+names_from = do
+  first ← one_from name_in
+  many (is_mark punctuation.Comma) further_from (first ∷ [])
+
+unfoldable pub section_from : List ℕ → Parser (List Named)
+section_from w = do
+  expect_word w
+  names_from
+
+unfoldable pub attributes_from : List ℕ → Parser (List Named)
+attributes_from w = choose (is_word w) (section_from w) (pure [])
+
+unfoldable pub symbol_from : Parser RawSymbol
+symbol_from = do
+  expect_word (codes "symbol")
+  name ← one_from name_in
+  syn ← attributes_from (codes "syn")
+  inh ← attributes_from (codes "inh")
+  expect punctuation.Semicolon
+  pure (record { name = name; syn = syn; inh = inh })
+
+abbrev pub symbols_from : Parser (List RawSymbol)
+symbols_from = many (is_word (codes "symbol")) symbol_from []
+
+unfoldable pub rule_from : Parser RawRule
+rule_from = do
+  target ← one_from target_in
+  expect punctuation.Equal
+  expr ← ended_expr_from
+  pure (record { target = target; expr = expr })
+
+abbrev pub is_other_than : Punctuation → Token → Bool
+is_other_than m t = not (is_mark m t)
+
+abbrev pub is_any : Token → Bool
+is_any t = true
+
+abbrev pub items_from : Parser (List RawItem)
+items_from = many (is_other_than punctuation.OpenTable) (one_from item_in) []
+
+abbrev pub rules_from : Parser (List RawRule)
+rules_from = many (is_other_than punctuation.CloseTable) rule_from []
+
+unfoldable pub production_from : Parser RawProduction
+production_from = do
+  left ← one_from name_in
+  expect punctuation.Equal
+  items ← items_from
+  expect punctuation.OpenTable
+  rules ← rules_from
+  expect punctuation.CloseTable
+  pure (record { left = left; items = items; rules = rules })
+
+abbrev pub productions_from : Parser (List RawProduction)
+productions_from = many is_any production_from []
+
+unfoldable pub grammar_from : Parser RawGrammar
+grammar_from = do
+  expect_word (codes "start")
+  start ← one_from name_in
+  expect punctuation.Semicolon
+  symbols ← symbols_from
+  productions ← productions_from
+  pure (record { start = start; symbols = symbols; productions = productions })
+
+-- ---- a whole text
+
+abbrev pub at_end : Parser (Unit {0})
+at_end = λ i. if is_end i.ending i.left then Ok (tt, i) else Err (WrongAt (place i))
+
+unfoldable pub grammar_of : Parser RawGrammar
+grammar_of = do
+  g ← grammar_from
+  at_end
+  pure g

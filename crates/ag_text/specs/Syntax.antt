@@ -1,0 +1,98 @@
+-- Which placed tokens spell a grammar: this project's grammar of grammars.
+use Rattle.std.specs.Prelude.{◌≡◌, ℕ, List, [], ◌∷◌, None, codes}
+use Rattle.ag_expr.specs.declared.node.Node.{Node}
+use Rattle.ag_expr.specs.declared.occurrence.Occ.{Occ}
+use Rattle.ag_expr.specs.declared.token.Punctuation.{Punctuation}
+use Rattle.ag_expr.specs.declared.token.Punctuation.TheVariants as punctuation
+use Rattle.ag_expr.specs.language.Expression.{max_levels}
+use Rattle.ag_expr.specs.language.Occurrences.{all_occurrences, different}
+use Rattle.ag_expr.specs.language.Placed.{Placed, tokens}
+use Rattle.ag_expr.specs.language.Syntax.{IsExpr}
+use Rattle.ag_expr.specs.language.Until.{first_semicolon}
+use Rattle.ag_text.specs.declared.raw.Named.{Named}
+use Rattle.ag_text.specs.declared.raw.RawGrammar.{RawGrammar}
+use Rattle.ag_text.specs.declared.raw.RawProduction.{RawProduction}
+use Rattle.ag_text.specs.declared.raw.RawRule.{RawRule}
+use Rattle.ag_text.specs.declared.raw.RawSymbol.{RawSymbol}
+use Rattle.ag_text.specs.Spelling.{◌>>=◌, ◌>>◌, gives, one, ◌or◌, Many, further}
+use Rattle.ag_text.specs.Words.{mark_in, word_in, name_in, item_in, target_in}
+
+abbrev pub mark : Punctuation → List Placed → Unit {0} → Type 0
+mark m = one (mark_in m)
+
+abbrev pub word : List ℕ → List Placed → Unit {0} → Type 0
+word w = one (word_in w)
+
+-- `, name`
+abbrev pub IsFurther : List Placed → Named → Type 0
+IsFurther = do
+  mark punctuation.Comma
+  one name_in
+
+-- `name { "," name }`
+abbrev pub IsNames : List Placed → List Named → Type 0
+IsNames = do
+  first ← one name_in
+  further (first ∷ []) IsFurther
+
+-- names behind `syn` or `inh`
+abbrev pub IsSection : List ℕ → List Placed → List Named → Type 0
+IsSection w = do
+  word w
+  IsNames
+
+-- or none
+abbrev pub IsAttributes : List ℕ → List Placed → List Named → Type 0
+IsAttributes w = IsSection w or gives []
+
+-- `"symbol" name [ "syn" names ] [ "inh" names ] ";"`
+abbrev pub IsSymbol : List Placed → RawSymbol → Type 0
+IsSymbol = do
+  word (codes "symbol")
+  name ← one name_in
+  syn ← IsAttributes (codes "syn")
+  inh ← IsAttributes (codes "inh")
+  mark punctuation.Semicolon
+  gives (record { name = name; syn = syn; inh = inh })
+
+-- The tokens are an expression, with its tree and the different occurrences among its own tokens. No `;` is among them.
+pub record IsOwnExpr (ps : List Placed) (expr : Node × List Occ) : Type 0 where
+  pub free : first_semicolon ps ≡ None
+  pub listed : expr.1 ≡ different (all_occurrences ps)
+  pub spells : IsExpr expr.1 max_levels (tokens ps) expr.0
+
+-- `expr ";"`
+abbrev pub IsEndedExpr : List Placed → Node × List Occ → Type 0
+IsEndedExpr = do
+  expr ← IsOwnExpr
+  mark punctuation.Semicolon
+  gives expr
+
+-- `occurrence "=" expr ";"`
+abbrev pub IsRule : List Placed → RawRule → Type 0
+IsRule = do
+  target ← one target_in
+  mark punctuation.Equal
+  expr ← IsEndedExpr
+  gives (record { target = target; expr = expr })
+
+-- `name "=" { item } "{" { rule } "}"`
+abbrev pub IsProduction : List Placed → RawProduction → Type 0
+IsProduction = do
+  left ← one name_in
+  mark punctuation.Equal
+  items ← Many (one item_in)
+  mark punctuation.OpenTable
+  rules ← Many IsRule
+  mark punctuation.CloseTable
+  gives (record { left = left; items = items; rules = rules })
+
+-- `"start" name ";" { symbol } { production }`
+unfoldable pub IsGrammar : List Placed → RawGrammar → Type 0
+IsGrammar = do
+  word (codes "start")
+  start ← one name_in
+  mark punctuation.Semicolon
+  symbols ← Many IsSymbol
+  productions ← Many IsProduction
+  gives (record { start = start; symbols = symbols; productions = productions })

@@ -1,0 +1,70 @@
+-- What one token stands for in a grammar's text: this project's.
+use Rattle.std.specs.Prelude.{ℕ, ◌==◌, ◌&&◌, length, Bool, not, cond, if◌then◌else◌, List, [], ◌∷◌, Option, Some, None, bytes_eq, codes}
+use Rattle.std.specs.List.{list_any}
+use Rattle.ag_expr.specs.declared.token.Punctuation.{Punctuation}
+use Rattle.ag_expr.specs.declared.occurrence.Occ.{Occ}
+use Rattle.ag_expr.specs.language.Reading.{is_sign}
+use Rattle.ag_expr.specs.language.Token.{Token, mark, word}
+use Rattle.ag_expr.specs.language.Token as token
+use Rattle.ag_expr.specs.language.Tokens.{is_separator}
+use Rattle.ag_text.specs.declared.raw.Named.{Named}
+use Rattle.ag_text.specs.declared.raw.RawItem.{RawItem}
+use Rattle.ag_text.specs.declared.raw.RawItem.TheVariants as item
+
+-- the names that name no symbol and no attribute
+abbrev pub reserved : List (List ℕ)
+reserved = codes "start" ∷ codes "symbol" ∷ codes "syn" ∷ codes "inh" ∷ codes "NAME" ∷ codes "NUMBER" ∷ codes "TEXT" ∷ []
+
+abbrev pub is_reserved : List ℕ → Bool
+is_reserved name = list_any (bytes_eq name) reserved
+
+abbrev pub some_where : {A : Type 0} → Bool → A → Option A
+some_where b a = if b then Some a else None
+
+-- whether the token is this punctuation, or this reserved name
+abbrev pub is_mark : Punctuation → Token → Bool
+is_mark m = is_sign (mark m)
+
+abbrev pub is_word : List ℕ → Token → Bool
+is_word w = is_sign (word w)
+
+abbrev pub mark_in : Punctuation → ℕ → Token → Option (Unit {0})
+mark_in m at t = some_where (is_mark m t) tt
+
+abbrev pub word_in : List ℕ → ℕ → Token → Option (Unit {0})
+word_in w at t = some_where (is_word w t) tt
+
+-- a name that is not reserved, where it stands
+abbrev pub named : ℕ → List ℕ → Option Named
+named at name = some_where (not (is_reserved name)) (record { name = name; at = at })
+
+abbrev pub name_in : ℕ → Token → Option Named
+name_in at (token.Name name) = named at name
+name_in at _ = None
+
+-- a literal is not empty, and no separator is in it
+abbrev pub is_literal : List ℕ → Bool
+is_literal bytes = not (length bytes == 0) && not (list_any is_separator bytes)
+
+abbrev pub literal_of : List ℕ → Option RawItem
+literal_of bytes = some_where (is_literal bytes) (item.Literal bytes)
+
+-- the class of tokens that a reserved name means
+abbrev pub class_of : List ℕ → Option ℕ
+class_of name = cond (bytes_eq name (codes "NAME")) (Some 0) (cond (bytes_eq name (codes "NUMBER")) (Some 1) (cond (bytes_eq name (codes "TEXT")) (Some 2) None))
+
+abbrev pub class_or_name : Option ℕ → Option Named → Option RawItem
+class_or_name (Some class) name = Some (item.Class class)
+class_or_name None (Some name) = Some (item.Name name)
+class_or_name None None = None
+
+-- what stands on the right side of a production: a class, a name or a literal
+abbrev pub item_in : ℕ → Token → Option RawItem
+item_in at (token.Name name) = class_or_name (class_of name) (named at name)
+item_in at (token.Text bytes) = literal_of bytes
+item_in at _ = None
+
+-- what a rule gives a value
+abbrev pub target_in : ℕ → Token → Option Occ
+target_in at (token.Occurrence place attr) = Some (record { place = place; attr = attr; at = at })
+target_in at _ = None

@@ -1,0 +1,83 @@
+//! Reading a text as a grammar.
+
+ghost use Rattle.std.specs.Prelude.{◌≡◌, IfErr, IfOk};
+ghost use Rattle.ag_text.specs.Answers as answers;
+ghost use Rattle.ag_text.specs.Answers.{IsFirstOf, IsRead, IsReadText, IsRefused};
+ghost use Rattle.ag_text.specs.Grammar.{ReadsAsGrammar};
+
+use crate::fault::TextFault;
+use crate::parser::whole_grammar;
+use crate::raw::RawGrammar;
+use crate::reader::Reader;
+use crate::stop::Stop;
+use std::alloc::Global;
+
+/// How many bytes a grammar's text has at most.
+const MAX_LENGTH: usize = 1_048_576;
+
+/// How many line feeds there are.
+fn line_feeds(bytes: &[u8]) -> usize
+    ensures { result ≡ answers.line_feeds bytes.now }
+{
+    let mut count: usize = 0;
+    for byte in bytes {
+        if *byte == b'\n' {
+            count += 1;
+        }
+    }
+    count
+}
+
+/// The line on which an offset stands, from 1.
+fn line_of(text: &str, at: usize) -> usize
+    ensures { result ≡ answers.line_of text.now at }
+{
+    let bytes = text.as_bytes();
+    if at < bytes.len() {
+        return 1 + line_feeds(&bytes[..at]);
+    }
+    1 + line_feeds(bytes)
+}
+
+/// The fault of a text where its reading stops so.
+fn told(text: &str, stop: Stop) -> TextFault
+    ensures { result ≡ answers.fault_of text.now stop }
+{
+    match stop {
+        Stop::WrongAt(at) => TextFault::Unexpected(line_of(text, at), at),
+        Stop::InExpr(fault) => TextFault::Expr(fault),
+        Stop::NoMemory => TextFault::NoMemory,
+    }
+}
+
+/// Reads the characters of a text as a grammar.
+fn read_characters(alloc: Global, text: &str) -> Result<RawGrammar, TextFault>
+    ensures { IsReadText text.now result }
+{
+    let mut reader = Reader::new(alloc, text);
+    match whole_grammar(alloc, &mut reader) {
+        Ok(grammar) => Ok(grammar),
+        Err(stop) => Err(told(text, stop)),
+    }
+}
+
+/// Reads a text as a grammar. Takes memory.
+///
+/// A text of more than 1,048,576 bytes is refused as too long; else one that is not UTF-8 as that;
+/// else it is read from its front, and the first token that cannot be taken decides: within the
+/// expression of a rule, up to its `;`, it is the fault of the expression, and elsewhere the token
+/// is told with its line. A refusal other than for memory means that the text reads as no grammar.
+pub fn read_grammar(alloc: Global, text: &[u8]) -> Result<RawGrammar, TextFault>
+    ensures exact { IsRead text.now result }
+    ensures first { IfErr result (λ e. IsFirstOf text.now e) }
+    ensures reads { IfOk result (λ raw. ReadsAsGrammar text.now raw) }
+    ensures refuses { IfErr result (λ e. IsRefused text.now e) }
+{
+    if text.len() > MAX_LENGTH {
+        return Err(TextFault::TooLong);
+    }
+    match str::from_utf8(text) {
+        Ok(characters) => read_characters(alloc, characters),
+        Err(fault) => Err(TextFault::BadUtf8(fault.valid_up_to())),
+    }
+}

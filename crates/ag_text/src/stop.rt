@@ -1,0 +1,54 @@
+//! Why reading a grammar's tokens stops.
+
+ghost use Rattle.std.specs.Prelude.{◌≡◌};
+ghost use Rattle.ag_text.specs.Passing.{stop_of};
+ghost use Rattle.ag_text.specs.declared.stop.Stop.TheVariants as stop;
+
+use ag_expr::ExprFault;
+use ag_value::NoMemory;
+use std::alloc::{AllocError, AllocFailed};
+
+/// Why reading a grammar's tokens stops. Offsets are in bytes from the front of the text.
+#[derive(Clone, Copy, Debug, PartialEq, Eq)]
+pub enum Stop {
+    /// The token at this offset cannot be taken, or the text ends there.
+    WrongAt(usize),
+    /// This is the fault of a rule's expression.
+    InExpr(ExprFault),
+    /// A growth was refused.
+    NoMemory,
+}
+
+impl From<NoMemory> for Stop {
+    ghost from_gives = { λ _ e. e ≡ stop.NoMemory };
+
+    fn from(_error: NoMemory) -> Stop {
+        Stop::NoMemory
+    }
+}
+
+impl From<AllocError> for Stop {
+    ghost from_gives = { λ _ e. e ≡ stop.NoMemory };
+
+    fn from(_error: AllocError) -> Stop {
+        Stop::NoMemory
+    }
+}
+
+impl<T: Drop> From<AllocFailed<T>> for Stop {
+    ghost from_gives = { λ _ e. e ≡ stop.NoMemory };
+
+    fn from(_error: AllocFailed<T>) -> Stop {
+        Stop::NoMemory
+    }
+}
+
+/// What a fault of a rule's expression is to a grammar's text.
+pub fn in_expr(fault: ExprFault) -> Stop
+    ensures { result ≡ stop_of fault }
+{
+    match fault {
+        ExprFault::NoMemory => Stop::NoMemory,
+        _ => Stop::InExpr(fault),
+    }
+}

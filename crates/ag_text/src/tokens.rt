@@ -1,0 +1,256 @@
+//! Passing one token of a grammar's text, for what it stands for.
+
+ghost use Rattle.std.specs.List.{list_any};
+ghost use Rattle.std.specs.Prelude.{◌≡◌, IfOk, chars};
+ghost use Rattle.ag_expr.specs.language.Lexing.{token_of, unescaped as unescaped_bytes};
+ghost use Rattle.ag_expr.specs.language.Reading.{sees};
+ghost use Rattle.ag_expr.specs.language.Offsets.{place};
+ghost use Rattle.ag_expr.specs.language.Token as token;
+ghost use Rattle.ag_expr.specs.language.Tokens.{is_separator};
+ghost use Rattle.ag_text.specs.Passing.{Reads};
+ghost use Rattle.ag_text.specs.Reading as reading;
+ghost use Rattle.ag_text.specs.Words as words;
+ghost use Rattle.ag_text.specs.declared.stop.Stop.TheVariants as stop;
+
+use crate::raw::{Named, RawItem};
+use crate::reader::Reader;
+use crate::stop::Stop;
+use ag_expr::{Occ, Punctuation, Token, unescaped};
+use ag_value::{NoMemory, Text};
+use std::alloc::Global;
+
+/// Whether a token is this punctuation.
+fn is_mark(mark: Punctuation, token: Token<'_>) -> bool
+    ensures { result ≡ words.is_mark mark (token_of token.entry) }
+{
+    match token {
+        Token::Punctuation(other) => other == mark,
+        _ => false,
+    }
+}
+
+/// Whether a token is this reserved name.
+fn is_word(word: &str, token: Token<'_>) -> bool
+    ensures { result ≡ words.is_word word.now (token_of token.entry) }
+{
+    match token {
+        Token::Name(name) => name == word,
+        _ => false,
+    }
+}
+
+/// Whether a name is reserved in a grammar's text.
+fn is_reserved(name: &str) -> bool
+    ensures { result ≡ words.is_reserved name.now }
+{
+    name == "start"
+        || name == "symbol"
+        || name == "syn"
+        || name == "inh"
+        || name == "NAME"
+        || name == "NUMBER"
+        || name == "TEXT"
+}
+
+/// Why reading stops at the token in front, or where the tokens end.
+pub fn wrong(reader: &Reader<'_>) -> Stop
+    ensures { result ≡ stop.WrongAt (place reader.now) }
+{
+    Stop::WrongAt(reader.place())
+}
+
+/// Whether this punctuation stands in front.
+pub fn sees_mark(reader: &Reader<'_>, mark: Punctuation) -> bool
+    ensures { result ≡ sees (words.is_mark mark) reader.now }
+{
+    match reader.peek() {
+        Some(token) => is_mark(mark, token),
+        None => false,
+    }
+}
+
+/// Whether this reserved name stands in front.
+pub fn sees_word(reader: &Reader<'_>, word: &str) -> bool
+    ensures { result ≡ sees (words.is_word word.now) reader.now }
+{
+    match reader.peek() {
+        Some(token) => is_word(word, token),
+        None => false,
+    }
+}
+
+/// Whether a token stands in front that is not this punctuation.
+pub fn sees_other(reader: &Reader<'_>, mark: Punctuation) -> bool
+    ensures { result ≡ sees (reading.is_other_than mark) reader.now }
+{
+    match reader.peek() {
+        Some(token) => !is_mark(mark, token),
+        None => false,
+    }
+}
+
+/// Whether any token stands in front.
+pub fn sees_any(reader: &Reader<'_>) -> bool
+    ensures { result ≡ sees reading.is_any reader.now }
+{
+    reader.peek().is_some()
+}
+
+/// Passes this punctuation.
+pub fn expect(reader: &mut Reader<'_>, mark: Punctuation) -> Result<(), Stop>
+    ensures { Reads (reading.expect mark) reader.old result reader.new }
+{
+    match reader.peek() {
+        Some(token) if is_mark(mark, token) => {
+            reader.bump();
+            Ok(())
+        }
+        _ => Err(wrong(reader)),
+    }
+}
+
+/// Passes this reserved name.
+pub fn expect_word(reader: &mut Reader<'_>, word: &str) -> Result<(), Stop>
+    ensures { Reads (reading.expect_word word.now) reader.old result reader.new }
+{
+    match reader.peek() {
+        Some(token) if is_word(word, token) => {
+            reader.bump();
+            Ok(())
+        }
+        _ => Err(wrong(reader)),
+    }
+}
+
+/// A copy of a text.
+fn copied(alloc: Global, text: &str) -> Result<Text, NoMemory>
+    ensures { IfOk result (λ copy. copy ≡ text.now) }
+{
+    Ok(Text::from_string(String::from_str(alloc, text)?))
+}
+
+/// Passes a name that is not reserved.
+pub fn name(alloc: Global, reader: &mut Reader<'_>) -> Result<Named, Stop>
+    ensures { Reads (reading.one_from words.name_in) reader.old result reader.new }
+{
+    match reader.peek() {
+        Some(Token::Name(name)) if !is_reserved(name) => {
+            let at = reader.place();
+            let name = copied(alloc, name)?;
+            reader.bump();
+            Ok(Named { name, at })
+        }
+        _ => Err(wrong(reader)),
+    }
+}
+
+/// The class of tokens that a reserved name means.
+fn class(name: &str) -> Option<u16>
+    ensures { result ≡ words.class_of name.now }
+{
+    if name == "NAME" {
+        Some(0)
+    } else if name == "NUMBER" {
+        Some(1)
+    } else if name == "TEXT" {
+        Some(2)
+    } else {
+        None
+    }
+}
+
+/// Whether a separator is among the bytes of a text.
+fn has_separator(bytes: &[u8]) -> bool
+    ensures { result ≡ list_any is_separator bytes.now }
+{
+    for byte in bytes {
+        let c = *byte;
+        if c == b' ' || c == b'\t' || c == b'\r' || c == b'\n' {
+            return true;
+        }
+    }
+    false
+}
+
+/// Whether a text can be a literal: it is not empty, and no separator is in it.
+fn is_literal(text: &str) -> bool
+    ensures { result ≡ words.is_literal text.now }
+{
+    !text.is_empty() && !has_separator(text.as_bytes())
+}
+
+/// The literal of what stands between the quotes of a text.
+fn literal(alloc: Global, body: &str) -> Result<Option<RawItem>, NoMemory>
+    ensures { IfOk result (λ found. found
+        ≡ words.literal_of (unescaped_bytes (chars body.now))) }
+{
+    let text = unescaped(alloc, body)?;
+    if is_literal(text.as_str()) {
+        return Ok(Some(RawItem::Literal(text)));
+    }
+    Ok(None)
+}
+
+/// The item that a name is.
+fn named_item(alloc: Global, name: &str, at: usize) -> Result<Option<RawItem>, NoMemory>
+    ensures { IfOk result (λ found. found ≡ words.item_in at (token.Name name.now)) }
+{
+    if let Some(class) = class(name) {
+        return Ok(Some(RawItem::Class(class)));
+    }
+    if is_reserved(name) {
+        return Ok(None);
+    }
+    let name = copied(alloc, name)?;
+    Ok(Some(RawItem::Name(Named { name, at })))
+}
+
+/// What a token is on the right side of a production.
+fn item_of(alloc: Global, token: Token<'_>, at: usize) -> Result<Option<RawItem>, NoMemory>
+    ensures { IfOk result (λ found. found ≡ words.item_in at (token_of token.entry)) }
+{
+    match token {
+        Token::Name(name) => named_item(alloc, name, at),
+        Token::Text(body) => literal(alloc, body),
+        _ => Ok(None),
+    }
+}
+
+/// Passes what stands on the right side of a production: a class, a name or a literal.
+pub fn item(alloc: Global, reader: &mut Reader<'_>) -> Result<RawItem, Stop>
+    ensures { Reads (reading.one_from words.item_in) reader.old result reader.new }
+{
+    let at = reader.place();
+    if let Some(token) = reader.peek() {
+        if let Some(item) = item_of(alloc, token, at)? {
+            reader.bump();
+            return Ok(item);
+        }
+    }
+    Err(wrong(reader))
+}
+
+/// Passes an occurrence.
+pub fn target(alloc: Global, reader: &mut Reader<'_>) -> Result<Occ, Stop>
+    ensures { Reads (reading.one_from words.target_in) reader.old result reader.new }
+{
+    match reader.peek() {
+        Some(Token::Occurrence(place, attr)) => {
+            let at = reader.place();
+            let attr = copied(alloc, attr)?;
+            reader.bump();
+            Ok(Occ { place, attr, at })
+        }
+        _ => Err(wrong(reader)),
+    }
+}
+
+/// Passes the end of the text, where nothing else is left.
+pub fn end(reader: &mut Reader<'_>) -> Result<(), Stop>
+    ensures { Reads reading.at_end reader.old result reader.new }
+{
+    if !reader.is_at_end() {
+        return Err(wrong(reader));
+    }
+    Ok(())
+}
