@@ -5,8 +5,6 @@
 #[cfg(test)]
 mod expressions;
 #[cfg(test)]
-mod grammar_texts;
-#[cfg(test)]
 mod reading_back;
 #[cfg(test)]
 mod tree_files;
