@@ -1,6 +1,7 @@
 -- Lemmas on the expression language.
 pub mod Agree
 pub mod Below
+pub mod Bindings
 pub mod Exact
 pub mod Examples
 pub mod Expressions
@@ -19,5 +20,6 @@ pub mod Steady
 pub mod TextTurns
 pub mod Texts
 pub mod TokenLaws
+pub mod Trees
 pub mod Turns
 pub mod Until

@@ -1,28 +1,36 @@
 //! Expressions over the values of attributes: how a text is read as one, and what its value is.
 #![tactic(auto)]
 
+mod builtins;
+mod calls;
 mod cursor;
 mod display;
 mod environment;
+mod evaluation;
 mod expected;
 mod expression;
 mod fault;
+mod gathering;
 mod grammar;
 pub mod grammar_laws;
 pub mod laws;
 mod lexer;
 mod literal;
+mod measured;
 mod meter;
 mod names;
 mod node;
 mod occurrence;
 mod occurrence_table;
+mod operand;
 mod parser;
 pub mod samples;
+mod scope;
 mod token;
 
 pub use cursor::Cursor;
 pub use environment::Env;
+pub use evaluation::eval;
 pub use expected::{Expected, expected_at};
 pub use expression::{Expr, occurrences, read_expr, read_until};
 pub use fault::ExprFault;
