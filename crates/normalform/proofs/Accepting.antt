@@ -13,7 +13,7 @@ use Rattle.ag_expr.specs.declared.grammar.Symbol.{Symbol}
 use Rattle.ag_expr.specs.declared.grammar.Terminal.TheVariants.{Literal, Class}
 use Rattle.ag_expr.specs.grammars.Accepted.{IsAccepted, IsNamed, IsNamedItem, IsInUse, IsStart, IsComplete, IsNormal, IsWithinGrammarLimits, IsSeparator, out_name, most_symbols, most_attributes, most_productions, most_items, most_stored, most_literals, most_literal_bytes}
 use Rattle.ag_expr.specs.grammars.AttributeGrammar.{attribute_names, stored_items}
-use Rattle.ag_expr.specs.language.Evaluation.{is_below}
+use Rattle.ag_expr.specs.language.Trees.{is_below}
 use Rattle.ag_text.specs.declared.raw.RawGrammar.{RawGrammar}
 use Rattle.ag_text.specs.declared.raw.RawItem.{RawItem}
 use Rattle.ag_text.specs.declared.raw.RawItem.TheVariants as raw_item

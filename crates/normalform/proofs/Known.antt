@@ -7,7 +7,7 @@ use Rattle.ag_expr.specs.declared.grammar.Symbol.{Symbol}
 use Rattle.ag_expr.specs.declared.occurrence.Occ.{Occ}
 use Rattle.ag_expr.specs.grammars.Accepted.{IsNamed, IsNamedItem, IsNamedRule}
 use Rattle.ag_expr.specs.grammars.AttributeGrammar.{attribute_names, StandsFor}
-use Rattle.ag_expr.specs.language.Evaluation.{is_below}
+use Rattle.ag_expr.specs.language.Trees.{is_below}
 use Rattle.ag_text.specs.declared.raw.Named.{Named}
 use Rattle.ag_text.specs.declared.raw.RawGrammar.{RawGrammar}
 use Rattle.ag_text.specs.declared.raw.RawItem.{RawItem}

@@ -13,7 +13,7 @@ use Rattle.ag_expr.specs.declared.grammar.Target.{Target}
 use Rattle.ag_expr.specs.declared.occurrence.Occ.{Occ}
 use Rattle.ag_expr.specs.grammars.Accepted.{IsAccepted, IsProductive, IsReached, IsSeparator, class_count, out_name, most_symbols, most_attributes, most_productions, most_items, most_stored, most_literals, most_literal_bytes}
 use Rattle.ag_expr.specs.grammars.AttributeGrammar.{Kind, Synthesized, Inherited, attribute_names, item_kinds, given_kind, found_kind}
-use Rattle.ag_expr.specs.language.Evaluation.{is_below}
+use Rattle.ag_expr.specs.language.Trees.{is_below}
 use Rattle.ag_text.specs.declared.raw.Named.{Named}
 use Rattle.ag_text.specs.declared.raw.RawGrammar.{RawGrammar}
 use Rattle.ag_text.specs.declared.raw.RawItem.{RawItem}
