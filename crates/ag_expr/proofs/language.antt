@@ -11,10 +11,12 @@ pub mod Listing
 pub mod Numbered
 pub mod Numerals
 pub mod Places
+pub mod Scopes
 pub mod Spans
 pub mod States
 pub mod Steady
 pub mod TextTurns
 pub mod Texts
 pub mod TokenLaws
+pub mod Trees
 pub mod Turns

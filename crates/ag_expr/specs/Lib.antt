@@ -1,3 +1,4 @@
 pub mod grammars
 pub mod language
 pub mod Lists
+pub mod values

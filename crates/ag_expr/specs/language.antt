@@ -8,6 +8,7 @@ pub mod Left
 pub mod Lexing
 pub mod Numbers
 pub mod Occurrences
+pub mod Operands
 pub mod Placed
 pub mod Places
 pub mod Reading

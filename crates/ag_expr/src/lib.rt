@@ -1,29 +1,37 @@
 //! Expressions over the values of attributes: how a text is read as one, and what its value is.
 #![tactic(auto)]
 
+mod builtins;
+mod calls;
 mod cursor;
 mod display;
 mod environment;
+mod evaluation;
 mod expression;
 mod fault;
+mod gathering;
 mod grammar;
 pub mod grammar_laws;
 pub mod laws;
 mod lexer;
 mod literal;
+mod measured;
 mod meter;
 mod node;
 mod occurrence;
 mod occurrence_table;
+mod operand;
 mod parser;
 pub mod samples;
+mod scope;
 mod token;
 
 pub use environment::Env;
+pub use evaluation::eval;
 pub use expression::{Expr, occurrences, read_expr};
 pub use fault::ExprFault;
 pub use grammar::{Item, Production, Rule, Symbol, Target, Terminal};
-pub use meter::Meter;
 pub use literal::Literal;
+pub use meter::Meter;
 pub use node::{BinaryCall, Node, Operator, UnaryCall};
 pub use occurrence::Occ;

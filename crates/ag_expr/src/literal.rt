@@ -34,7 +34,9 @@ impl Literal {
     pub fn number(number: i64) -> Literal
         ensures { result ≡ value.Num number }
     {
-        Literal { value: Value::Num(number) }
+        Literal {
+            value: Value::Num(number),
+        }
     }
 
     /// The literal of a text. Takes no memory.
@@ -44,7 +46,9 @@ impl Literal {
     {
         // a text is UTF-8, which a look at it tells the prover
         let _utf8 = text.as_str();
-        Literal { value: Value::Text(text) }
+        Literal {
+            value: Value::Text(text),
+        }
     }
 
     /// Lends the value. Takes no memory.

@@ -14,18 +14,11 @@ pub fn copy(alloc: Global, value: &Value) -> Result<Value, NoMemory>
 {
     match value {
         Value::Num(n) => Ok(Value::Num(*n)),
-        Value::Text(text) => Ok(Value::Text(copy_text(alloc, text)?)),
+        Value::Text(text) => Ok(Value::Text(Text::from_str(alloc, text.as_str())?)),
         Value::List(items) => Ok(Value::List(copy_items(alloc, items.as_slice())?)),
         Value::Table(pairs) => Ok(Value::Table(copy_pairs(alloc, pairs.as_slice())?)),
         Value::Fault(code) => Ok(Value::Fault(*code)),
     }
-}
-
-fn copy_text(alloc: Global, text: &Text) -> Result<Text, NoMemory>
-    ensures { IfOk result (λ copied. copied ≡ text.now) }
-{
-    let string = String::from_str(alloc, text.as_str())?;
-    Ok(Text::from_string(string))
 }
 
 #[cycle(copy)]
@@ -45,7 +38,7 @@ fn copy_pairs(alloc: Global, pairs: &[(Text, Value)]) -> Result<Items<(Text, Val
 {
     let mut copies = Vec::with_capacity(alloc, pairs.len())?;
     for pair in pairs {
-        let key = copy_text(alloc, &pair.0)?;
+        let key = Text::from_str(alloc, pair.0.as_str())?;
         let value = copy(alloc, &pair.1)?;
         copies.push((key, value))?;
     }

@@ -170,8 +170,7 @@ fn text_of(alloc: Global, bytes: &[u8]) -> Result<(Text, &[u8]), ValueFault>
     let Some(text) = utf8_of(front) else {
         return Err(ValueFault::Malformed);
     };
-    let string = String::from_str(alloc, text)?;
-    Ok((Text::from_string(string), rest))
+    Ok((Text::from_str(alloc, text)?, rest))
 }
 
 #[tactic(auto, using(crate::proofs::Utf8::utf8))]

@@ -1,6 +1,8 @@
 //! A string that contracts see as the list of its bytes.
-ghost use Rattle.std.specs.Prelude.{◌≡◌, string_bytes};
+ghost use Rattle.std.specs.Prelude.{◌≡◌, string_bytes, IfOk};
 
+use crate::fault::NoMemory;
+use std::alloc::Global;
 use std::marker::Model;
 
 /// A `String` that contracts see as the list of its bytes.
@@ -23,6 +25,14 @@ impl Text {
         ensures { result ≡ string_bytes string }
     {
         Text { string }
+    }
+
+    /// A copy of a text, in memory of its own.
+    pub fn from_str(alloc: Global, text: &str) -> Result<Text, NoMemory>
+        ensures { IfOk result (λ copied. copied ≡ text.now) }
+    {
+        let string = String::from_str(alloc, text)?;
+        Ok(Text { string })
     }
 
     /// Lends the text.

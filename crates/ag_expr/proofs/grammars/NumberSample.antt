@@ -1,6 +1,6 @@
 -- The grammar of numbers, its tree and its values.
-use Rattle.ag_expr.specs.language.Evaluation.{calculated}
-use Rattle.std.proofs.Common.{slice_index_or, ℕ, zero, suc, ◌≡◌, ◌≤◌, ◌<◌, inl, inr, Some, List, [], ◌∷◌, slice_get, slice_index_or, length, refl, ap, sym, ◌∙◌, arith, pos}
+use Rattle.ag_expr.specs.values.Numbers.{number_value}
+use Rattle.std.proofs.Common.{slice_index_or, ℕ, zero, suc, ◌≡◌, ◌≤◌, ◌<◌, inl, inr, Some, List, [], ◌∷◌, slice_get, slice_index_or, length, refl, ap, sym, ◌∙◌, ◌+ℤ◌, arith, pos}
 use Rattle.ag_value.specs.declared.value.Value.{Num}
 use Rattle.ag_expr.specs.declared.node.Node.TheVariants as node_of
 use Rattle.ag_expr.specs.declared.node.Operator.TheVariants.{Add}
@@ -58,7 +58,7 @@ three : (P : Rule → Type 0) → P rule_out → P rule_first → P rule_second 
 three P h k l = each_more P rule_out (rule_first ∷ rule_second ∷ []) h (both P rule_first rule_second k l)
 
 -- an A's rule holds where `s` is one more than `i`
-child_holds : (j n : ℕ) → at (children (sample_values 2) j) 0 1 ≡ Num (pos n) → at (children (sample_values 2) j) 0 0 ≡ calculated Add (pos n) (pos 1) → Each (λ r. Holds r (at (children (sample_values 2) j))) production_a.rules
+child_holds : (j n : ℕ) → at (children (sample_values 2) j) 0 1 ≡ Num (pos n) → at (children (sample_values 2) j) 0 0 ≡ number_value (pos n +ℤ pos 1) → Each (λ r. Holds r (at (children (sample_values 2) j))) production_a.rules
 child_holds j n is more = only (λ r. Holds r (at (children (sample_values 2) j))) rule_s (λ env lent. more ∙ sym (and_one (pos n) env (lent 0 (attribute 0 1) refl ∙ is)))
 
 first_holds : Each (λ r. Holds r (at (sample_values 2))) first.rules

@@ -1,0 +1,9 @@
+-- What the forms of an expression give for the values of their arguments, by subject.
+pub mod Arguments
+pub mod Calls
+pub mod Fitting
+pub mod Lists
+pub mod Numbers
+pub mod Operators
+pub mod Tables
+pub mod Texts

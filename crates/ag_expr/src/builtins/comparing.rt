@@ -1,0 +1,38 @@
+//! Comparisons of values.
+
+ghost use Rattle.std.specs.Prelude.{◌≡◌};
+ghost use Rattle.ag_value.specs.Well.{IsWell};
+ghost use Rattle.ag_expr.specs.values.Arguments.{truth};
+ghost use Rattle.ag_expr.specs.values.Operators.{compared, ordered};
+
+use ag_value::{ErrorCode, Value, same};
+
+/// What a test gives: 1 where it holds, else 0.
+pub fn truth(holds: bool) -> Value
+    ensures value { result ≡ truth holds }
+    ensures well { IsWell result }
+{
+    if holds { Value::Num(1) } else { Value::Num(0) }
+}
+
+/// `a == b`
+pub fn equal(left: &Value, right: &Value) -> Value
+    requires left { IsWell left.now }
+    requires right { IsWell right.now }
+    ensures value { result ≡ compared left.now right.now }
+    ensures well { IsWell result }
+{
+    truth(same(left, right))
+}
+
+/// `a < b`
+pub fn less(left: &Value, right: &Value) -> Value
+    ensures value { result ≡ ordered left.now right.now }
+    ensures well { IsWell result }
+{
+    match (left, right) {
+        (Value::Num(m), Value::Num(n)) => truth(*m < *n),
+        (Value::Text(s), Value::Text(t)) => truth(s.as_str() < t.as_str()),
+        _ => Value::Fault(ErrorCode::Kind),
+    }
+}

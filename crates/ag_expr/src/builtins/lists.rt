@@ -1,0 +1,124 @@
+//! Operations on lists, and those that texts, lists and tables share.
+
+ghost use Rattle.std.specs.Prelude.{◌≡◌, ◌+◌, ◌++◌, ◌≤◌, ◌∷◌, [], max, option_copied, pos};
+ghost use Rattle.std.specs.Prelude.{false, IfOk, MatchResult, None};
+ghost use Rattle.ag_value.specs.Measure.{depth_of, max_weight, weight_of};
+ghost use Rattle.ag_value.specs.Well.{IsWell};
+ghost use Rattle.ag_value.specs.declared.value.Value.TheVariants as value;
+ghost use Rattle.ag_value.specs.declared.value.Value.{Value as AttributeValue};
+ghost use Rattle.ag_expr.specs.values.Arguments.{fault_of};
+ghost use Rattle.ag_expr.specs.values.Fitting.{fit};
+ghost use Rattle.ag_expr.specs.values.Texts.{is_text};
+ghost use Rattle.ag_expr.specs.values.Lists.{appended, concatenated, item_at, length_of, nth_of};
+
+use crate::measured::Measured;
+use ag_value::{ErrorCode, Items, NoMemory, Value};
+
+/// `len(a)`
+#[tactic(auto, using(crate::proofs::values::Wells::short))]
+pub fn length(value: &Value) -> Value
+    requires { IsWell value.now }
+    ensures value { result ≡ length_of value.now }
+    ensures well { IsWell result }
+{
+    match value {
+        Value::Text(text) => count(text.as_str().len()),
+        Value::List(items) => count(items.as_slice().len()),
+        Value::Table(pairs) => count(pairs.as_slice().len()),
+        _ => Value::Fault(ErrorCode::Kind),
+    }
+}
+
+fn count(length: usize) -> Value
+    requires { length ≤ max_weight }
+    ensures value { result ≡ value.Num (pos length) }
+    ensures well { IsWell result }
+{
+    Value::Num(length as i64)
+}
+
+/// `a ++ b` where b is no text: the left argument grows by what is in the right one. Takes memory
+/// for the growth.
+pub fn extend_list(left: Measured, right: Measured) -> Result<Measured, NoMemory>
+    requires { is_text right ≡ false }
+    ensures { IfOk result (λ m. m ≡ concatenated left right) }
+{
+    let weight = left.weight() + right.weight();
+    let depth = left.depth().max(right.depth());
+    match (left.into_value(), right.into_value()) {
+        (Value::List(items), Value::List(more)) => extended(items, more, weight, depth),
+        _ => Ok(Measured::new(Value::Fault(ErrorCode::Kind))),
+    }
+}
+
+/// Two lists, one behind the other, from the sum of their weights and the greater of their depths.
+fn extended(
+    items: Items<Value>,
+    more: Items<Value>,
+    weight: u64,
+    depth: u32,
+) -> Result<Measured, NoMemory>
+    requires left { IsWell (value.List items) }
+    requires right { IsWell (value.List more) }
+    requires weighed { weight ≡ weight_of (value.List items) + weight_of (value.List more) }
+    requires sounded { depth ≡ max (depth_of (value.List items)) (depth_of (value.List more)) }
+    ensures { IfOk result (λ m. m ≡ fit (value.List (items ++ more))) }
+{
+    let mut items = items.into_vec();
+    items.append(&mut more.into_vec())?;
+    Ok(Measured::fit(Value::List(Items::from_vec(items)), weight - 5, depth))
+}
+
+/// `append(l, v)`: the list grows by the item. Takes memory for the growth.
+pub fn append(list: Measured, item: Measured) -> Result<Measured, NoMemory>
+    requires { fault_of item ≡ None }
+    ensures { IfOk result (λ m. m ≡ appended list item) }
+{
+    let weight = list.weight() + item.weight();
+    let depth = list.depth().max(item.depth() + 1);
+    match list.into_value() {
+        Value::List(items) => pushed(items, item.into_value(), weight, depth),
+        _ => Ok(Measured::new(Value::Fault(ErrorCode::Kind))),
+    }
+}
+
+/// A list with one item more, from the sum of their weights and the depth of what comes of it.
+fn pushed(items: Items<Value>, item: Value, weight: u64, depth: u32) -> Result<Measured, NoMemory>
+    requires list { IsWell (value.List items) }
+    requires item { IsWell item }
+    requires no_fault { fault_of item ≡ None }
+    requires weighed { weight ≡ weight_of (value.List items) + weight_of item }
+    requires sounded { depth ≡ max (depth_of (value.List items)) (1 + depth_of item) }
+    ensures { IfOk result (λ m. m ≡ fit (value.List (items ++ item ∷ []))) }
+{
+    let mut items = items.into_vec();
+    items.push(item)?;
+    Ok(Measured::fit(Value::List(Items::from_vec(items)), weight, depth))
+}
+
+/// `nth(l, i)`: lends the item, or says why there is none.
+pub fn nth<'a>(list: &'a Value, place: &Value) -> Result<&'a Value, ErrorCode>
+    requires { IsWell list.now }
+    ensures value { MatchResult result (λ item. item.now ≡ nth_of list.now place.now)
+        (λ code. nth_of list.now place.now ≡ value.Fault code) }
+    ensures well { IfOk result (λ item. IsWell item.now) }
+{
+    match (list, place) {
+        (Value::List(items), Value::Num(place)) => {
+            match item_at(items.as_slice(), *place) {
+                Some(item) => Ok(item),
+                None => Err(ErrorCode::Index),
+            }
+        }
+        _ => Err(ErrorCode::Kind),
+    }
+}
+
+fn item_at(items: &[Value], place: i64) -> Option<&Value>
+    ensures { option_copied result ≡ item_at items.now place }
+{
+    if place < 0 {
+        return None;
+    }
+    items.get(place as usize)
+}

@@ -1,0 +1,193 @@
+//! Operations on tables.
+
+ghost use Rattle.std.specs.Prelude.{◌≡◌, ◌<◌, ◌≤◌, ℕ, List, length, map, option_copied, insert};
+ghost use Rattle.std.specs.Prelude.{slice_get, slice_set, true, None, Some};
+ghost use Rattle.std.specs.Prelude.{IfOk, MatchResult};
+ghost use Rattle.ag_value.specs.Measure.{depth_of, max_weight, weight_of};
+ghost use Rattle.ag_value.specs.Well.{IsWell, is_item, is_rising, key_of};
+ghost use Rattle.ag_value.specs.declared.value.Value.TheVariants as value;
+ghost use Rattle.ag_expr.specs.values.Arguments.{fault_of};
+ghost use Rattle.ag_expr.specs.values.Fitting.{fit};
+ghost use Rattle.ag_expr.specs.values.Tables.{IsPlace, got_from, had_by, has_key, keys_of};
+ghost use Rattle.ag_expr.specs.values.Tables.{pair_with, put_in, with_pair};
+
+use crate::builtins::comparing::truth;
+use crate::measured::Measured;
+use ag_value::{ErrorCode, Items, NoMemory, Text, Value};
+use std::alloc::Global;
+
+/// The place of a key among those of a table: how many come before it.
+fn place_of(pairs: &[(Text, Value)], key: &str) -> usize
+    requires { is_rising (map key_of pairs.now) ≡ true }
+    ensures within { result ≤ length pairs.now }
+    ensures place { IsPlace key.now pairs.now result }
+{
+    pairs.partition_point(|pair| pair.0.as_str() < key)
+}
+
+/// The pair with a key.
+fn pair_with<'a>(pairs: &'a [(Text, Value)], key: &str) -> Option<&'a (Text, Value)>
+    requires { is_rising (map key_of pairs.now) ≡ true }
+    ensures { option_copied result ≡ pair_with key.now pairs.now }
+{
+    let place = place_of(pairs, key);
+    match pairs.get(place) {
+        Some(pair) if pair.0.as_str() == key => Some(pair),
+        _ => None,
+    }
+}
+
+/// `get(t, k)`: lends the key's value, or says why there is none.
+pub fn get<'a>(table: &'a Value, key: &Value) -> Result<&'a Value, ErrorCode>
+    requires { IsWell table.now }
+    ensures value { MatchResult result (λ v. v.now ≡ got_from table.now key.now)
+        (λ code. got_from table.now key.now ≡ value.Fault code) }
+    ensures well { IfOk result (λ v. IsWell v.now) }
+{
+    match (table, key) {
+        (Value::Table(pairs), Value::Text(key)) => {
+            match pair_with(pairs.as_slice(), key.as_str()) {
+                Some(pair) => Ok(&pair.1),
+                None => Err(ErrorCode::Key),
+            }
+        }
+        _ => Err(ErrorCode::Kind),
+    }
+}
+
+/// `has(t, k)`
+pub fn has(table: &Value, key: &Value) -> Value
+    requires { IsWell table.now }
+    ensures value { result ≡ had_by table.now key.now }
+    ensures well { IsWell result }
+{
+    match (table, key) {
+        (Value::Table(pairs), Value::Text(key)) => {
+            match pair_with(pairs.as_slice(), key.as_str()) {
+                Some(_) => truth(true),
+                None => truth(false),
+            }
+        }
+        _ => Value::Fault(ErrorCode::Kind),
+    }
+}
+
+/// `put(t, k, v)`: the table grows by the pair, or the key has the value from then on. Takes memory
+/// for the growth.
+#[tactic(auto, using(crate::proofs::values::Wells::short))]
+pub fn put(
+    alloc: Global,
+    table: Measured,
+    key: &Value,
+    value: Measured,
+) -> Result<Measured, NoMemory>
+    requires key { IsWell key.now }
+    requires no_fault { fault_of value ≡ None }
+    ensures { IfOk result (λ m. m ≡ put_in table key.now value) }
+{
+    let weight = table.weight();
+    let depth = table.depth();
+    match (table.into_value(), key) {
+        (Value::Table(pairs), Value::Text(key)) => {
+            put_pair(alloc, pairs, key.as_str(), value, weight, depth)
+        }
+        _ => Ok(Measured::new(Value::Fault(ErrorCode::Kind))),
+    }
+}
+
+/// Whether the pair at a place has the key.
+fn has_at(pairs: &[(Text, Value)], place: usize, key: &str) -> bool
+    ensures { result ≡ has_key key.now (slice_get pairs.now place) }
+{
+    match pairs.get(place) {
+        Some(pair) => pair.0.as_str() == key,
+        None => false,
+    }
+}
+
+/// A table with a pair more, or another value beside a key, from its weight and depth.
+fn put_pair(
+    alloc: Global,
+    pairs: Items<(Text, Value)>,
+    key: &str,
+    item: Measured,
+    weight: u64,
+    depth: u32,
+) -> Result<Measured, NoMemory>
+    requires table { IsWell (value.Table pairs) }
+    requires short { length key.now ≤ max_weight }
+    requires no_fault { fault_of item ≡ None }
+    requires weighed { weight ≡ weight_of (value.Table pairs) }
+    requires sounded { depth ≡ depth_of (value.Table pairs) }
+    ensures { IfOk result (λ m. m ≡ fit (value.Table (with_pair key.now item pairs))) }
+{
+    let place = place_of(pairs.as_slice(), key);
+    if has_at(pairs.as_slice(), place, key) {
+        return Ok(replaced(pairs, place, item.into_value()));
+    }
+    let weight = weight + 4 + key.len() as u64 + item.weight();
+    let depth = depth.max(item.depth() + 1);
+    let pairs = inserted(alloc, pairs, place, key, item.into_value())?;
+    Ok(Measured::fit(Value::Table(pairs), weight, depth))
+}
+
+/// A table with another value at a place, weighed anew.
+fn replaced(pairs: Items<(Text, Value)>, place: usize, item: Value) -> Measured
+    requires table { IsWell (value.Table pairs) }
+    requires item { is_item item ≡ true }
+    requires within { place < length pairs }
+    ensures { (key : List ℕ) → IsPlace key pairs place
+        → has_key key (slice_get pairs place) ≡ true
+        → result ≡ fit (value.Table (with_pair key item pairs)) }
+{
+    let mut pairs = pairs.into_vec();
+    set_value(&mut pairs, place, item);
+    Measured::weighed(Value::Table(Items::from_vec(pairs)))
+}
+
+/// Gives the pair at a place another value.
+fn set_value(pairs: &mut Vec<(Text, Value)>, place: usize, item: Value)
+    requires { place < length pairs.old.items }
+    ensures { (p : _) → slice_get pairs.old.items place ≡ Some p
+        → pairs.new.items ≡ slice_set pairs.old.items place (p.0, item) }
+{
+    pairs[place].1 = item;
+}
+
+/// The pairs with one more at a place.
+fn inserted(
+    alloc: Global,
+    pairs: Items<(Text, Value)>,
+    place: usize,
+    key: &str,
+    item: Value,
+) -> Result<Items<(Text, Value)>, NoMemory>
+    requires { place ≤ length pairs }
+    ensures { IfOk result (λ grown. grown ≡ insert pairs place (key.now, item)) }
+{
+    let mut pairs = pairs.into_vec();
+    pairs.insert(place, (Text::from_str(alloc, key)?, item))?;
+    Ok(Items::from_vec(pairs))
+}
+
+/// `keys(t)`. Takes memory for the list.
+pub fn keys(alloc: Global, table: &Value) -> Result<Value, NoMemory>
+    requires { IsWell table.now }
+    ensures value { IfOk result (λ v. v ≡ keys_of table.now) }
+    ensures well { IfOk result (λ v. IsWell v) }
+{
+    match table {
+        Value::Table(pairs) => Ok(Value::List(key_texts(alloc, pairs.as_slice())?)),
+        _ => Ok(Value::Fault(ErrorCode::Kind)),
+    }
+}
+
+fn key_texts(alloc: Global, pairs: &[(Text, Value)]) -> Result<Items<Value>, NoMemory>
+    ensures { IfOk result (λ keys. keys ≡ map (λ p. value.Text p.0) pairs.now) }
+{
+    let mut keys = Vec::with_capacity(alloc, pairs.len())?;
+    for pair in pairs {
+        keys.push(Value::Text(Text::from_str(alloc, pair.0.as_str())?))?;
+    }
+    Ok(Items::from_vec(keys))
+}

@@ -1,0 +1,120 @@
+//! Operations on texts.
+
+ghost use Rattle.std.specs.Prelude.{◌≡◌, ◌++◌, ◌-◌, ◌^◌, length, min, string_bytes, IfOk};
+ghost use Rattle.std.specs.List.{flat_map, join_by, list_all};
+ghost use Rattle.ag_value.specs.Well.{IsWell};
+ghost use Rattle.ag_expr.specs.values.Fitting.{fit};
+ghost use Rattle.ag_expr.specs.values.Lists.{concatenated};
+ghost use Rattle.ag_expr.specs.values.Texts.{bytes_of, is_text, joined_by, joined_texts};
+ghost use Rattle.ag_value.specs.declared.value.Value.TheVariants as value;
+
+use crate::measured::Measured;
+use ag_value::{ErrorCode, MAX_WEIGHT, NoMemory, Text, Value};
+use std::alloc::Global;
+
+/// `join(l, s)`. Takes memory for the text, where it is within the limits.
+pub fn join(alloc: Global, list: &Value, separator: &Value) -> Result<Measured, NoMemory>
+    ensures { IfOk result (λ m. m ≡ joined_by list.now separator.now) }
+{
+    match (list, separator) {
+        (Value::List(items), Value::Text(separator)) => {
+            join_items(alloc, items.as_slice(), separator.as_str())
+        }
+        _ => Ok(Measured::new(Value::Fault(ErrorCode::Kind))),
+    }
+}
+
+#[tactic(auto, using(ag_value::proofs::Layers::items, ag_value::proofs::Utf8::utf8))]
+fn join_items(alloc: Global, items: &[Value], separator: &str) -> Result<Measured, NoMemory>
+    ensures { IfOk result (λ m. m ≡ joined_texts items.now separator.now) }
+{
+    if !are_texts(items) {
+        return Ok(Measured::new(Value::Fault(ErrorCode::Kind)));
+    }
+    let weight = 5u64.saturating_add(joined_length(items, separator));
+    if weight > MAX_WEIGHT {
+        return Ok(Measured::new(Value::Fault(ErrorCode::Big)));
+    }
+    let text = Text::from_string(joined(alloc, items, separator)?);
+    // a look tells the prover that a text is UTF-8
+    let _utf8 = text.as_str();
+    Ok(Measured::fit(Value::Text(text), weight, 0))
+}
+
+/// Whether all are texts.
+fn are_texts(items: &[Value]) -> bool
+    ensures { result ≡ list_all is_text items.now }
+{
+    for item in items {
+        if !matches!(item, Value::Text(_)) {
+            return false;
+        }
+    }
+    true
+}
+
+/// The bytes of a text, and none of another value.
+fn bytes_of(value: &Value) -> &str
+    ensures { result.now ≡ bytes_of value.now }
+{
+    match value {
+        Value::Text(text) => text.as_str(),
+        _ => "",
+    }
+}
+
+/// How many bytes the texts have with the separator between neighbours, or `u64::MAX` where they
+/// have more.
+fn joined_length(items: &[Value], separator: &str) -> u64
+    ensures { result ≡ min (length (join_by bytes_of separator.now items.now)) (2 ^ 64 - 1) }
+{
+    let [first, rest @ ..] = items else {
+        return 0;
+    };
+    let mut total = bytes_of(first).len() as u64;
+    for item in rest {
+        total = total.saturating_add(separator.len() as u64);
+        total = total.saturating_add(bytes_of(item).len() as u64);
+    }
+    total
+}
+
+/// The texts with the separator between neighbours.
+fn joined(alloc: Global, items: &[Value], separator: &str) -> Result<String, NoMemory>
+    ensures { IfOk result (λ text. string_bytes text
+        ≡ join_by bytes_of separator.now items.now) }
+{
+    let mut text = String::new(alloc);
+    let [first, rest @ ..] = items else {
+        return Ok(text);
+    };
+    text.push_str(bytes_of(first))?;
+    for item in rest {
+        text.push_str(separator)?;
+        text.push_str(bytes_of(item))?;
+    }
+    Ok(text)
+}
+
+/// `a ++ b` where b is a text: the left argument grows by it. Takes memory for the growth.
+pub fn extend_text(left: Measured, right: &str) -> Result<Measured, NoMemory>
+    ensures { IfOk result (λ m. m ≡ concatenated left (value.Text right.now)) }
+{
+    match left.into_value() {
+        Value::Text(text) => extended(text, right),
+        _ => Ok(Measured::new(Value::Fault(ErrorCode::Kind))),
+    }
+}
+
+/// Two texts, one behind the other.
+#[tactic(auto, using(ag_value::proofs::Layers::items, ag_value::proofs::Utf8::utf8))]
+fn extended(left: Text, right: &str) -> Result<Measured, NoMemory>
+    ensures { IfOk result (λ m. m ≡ fit (value.Text (left ++ right.now))) }
+{
+    let mut string = left.into_string();
+    string.push_str(right)?;
+    let text = Text::from_string(string);
+    // a look tells the prover that a text is UTF-8
+    let weight = 5u64.saturating_add(text.as_str().len() as u64);
+    Ok(Measured::fit(Value::Text(text), weight, 0))
+}

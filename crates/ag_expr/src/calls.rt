@@ -1,0 +1,332 @@
+//! What the operators and calls give for operands, lent where they can be.
+
+ghost use Rattle.std.specs.Prelude.{◌≡◌, ◌≢◌, IfOk, None};
+ghost use Rattle.ag_value.specs.Well.{IsWell};
+ghost use Rattle.ag_value.specs.declared.value.Value.TheVariants as value;
+ghost use Rattle.ag_expr.specs.declared.operand.Held.{Held};
+ghost use Rattle.ag_expr.specs.language.Operands.{IsIn, found_part, operand_value, part_value};
+ghost use Rattle.ag_expr.specs.values.Arguments.{fault_of};
+ghost use Rattle.ag_expr.specs.values.Calls.{called, called_with, put};
+ghost use Rattle.ag_expr.specs.values.Lists.{appended, concatenated, nth_of};
+ghost use Rattle.ag_expr.specs.values.Operators.{applied};
+ghost use Rattle.ag_expr.specs.values.Tables.{got_from};
+
+use crate::builtins::comparing::{equal, less, truth};
+use crate::builtins::faults::{fault_of, fault_of_one, fault_of_three, fault_of_two};
+use crate::builtins::lists::{append, extend_list, length, nth};
+use crate::builtins::numbers::{decimal, difference, number, product, quotient, remainder, sum};
+use crate::builtins::tables;
+use crate::builtins::tables::{get, has, keys};
+use crate::builtins::texts::{extend_text, join};
+use crate::measured::Measured;
+use crate::node::{BinaryCall, Operator, UnaryCall};
+use crate::operand::Operand;
+use crate::scope::Scope;
+use ag_value::{ErrorCode, NoMemory, Value, copy};
+use std::alloc::Global;
+
+/// An operand that is a value of its own.
+fn made<'e>(value: Value) -> Operand<'e>
+    requires { IsWell value }
+    ensures { result ≡ Operand.Held (Held.Owned value) }
+{
+    Operand::owned(Measured::new(value))
+}
+
+/// An operand that is an error.
+pub fn fault<'e>(code: ErrorCode) -> Operand<'e>
+    ensures { result ≡ Operand.Held (Held.Owned (value.Fault code)) }
+{
+    made(Value::Fault(code))
+}
+
+/// The value of an operator between two operands. Takes memory where `++` grows its left argument.
+pub fn apply<'e>(
+    alloc: Global,
+    operator: Operator,
+    left: Operand<'e>,
+    right: Operand<'e>,
+    scope: &Scope<'e>,
+) -> Result<Operand<'e>, NoMemory>
+    requires left { IsIn scope.now left }
+    requires right { IsIn scope.now right }
+    ensures value { IfOk result (λ o. operand_value scope.now o
+        ≡ applied operator (operand_value scope.now left.entry)
+        (operand_value scope.now right.entry)) }
+    ensures within { IfOk result (λ o. IsIn scope.now o) }
+{
+    if operator == Operator::Join {
+        return concatenate(alloc, left, right, scope);
+    }
+    Ok(made(calculate(operator, left.get(&*scope), right.get(&*scope))))
+}
+
+/// The value of an operator that makes a number, between two values.
+fn calculate(operator: Operator, left: &Value, right: &Value) -> Value
+    requires number { operator ≢ Operator.Join }
+    requires left { IsWell left.now }
+    requires right { IsWell right.now }
+    ensures value { result ≡ applied operator left.now right.now }
+    ensures well { IsWell result }
+{
+    if let Some(code) = fault_of_two(left, right) {
+        return Value::Fault(code);
+    }
+    match operator {
+        Operator::Equal => equal(left, right),
+        Operator::Less => less(left, right),
+        // `++` makes no number
+        Operator::Join => Value::Fault(ErrorCode::Kind),
+        Operator::Add => sum(left, right),
+        Operator::Subtract => difference(left, right),
+        Operator::Multiply => product(left, right),
+        Operator::Divide => quotient(left, right),
+        Operator::Remainder => remainder(left, right),
+    }
+}
+
+/// `a ++ b`: the left operand grows, and is copied before where it is lent or bound. What is in the
+/// right one is moved, or copied where it is lent or bound.
+fn concatenate<'e>(
+    alloc: Global,
+    left: Operand<'e>,
+    right: Operand<'e>,
+    scope: &Scope<'e>,
+) -> Result<Operand<'e>, NoMemory>
+    requires left { IsIn scope.now left }
+    requires right { IsIn scope.now right }
+    ensures value { IfOk result (λ o. operand_value scope.now o
+        ≡ applied Operator.Join (operand_value scope.now left.entry)
+        (operand_value scope.now right.entry)) }
+    ensures within { IfOk result (λ o. IsIn scope.now o) }
+{
+    if let Some(code) = fault_of_two(left.get(&*scope), right.get(&*scope)) {
+        return Ok(fault(code));
+    }
+    let left = left.into_owned(alloc, &*scope)?;
+    if let Value::Text(more) = right.get(&*scope) {
+        return Ok(Operand::owned(extend_text(left, more.as_str())?));
+    }
+    let right = right.into_owned(alloc, &*scope)?;
+    Ok(Operand::owned(extend_list(left, right)?))
+}
+
+/// The value of a call of one operand. Takes memory for what is made.
+pub fn call_unary(alloc: Global, call: UnaryCall, argument: &Value) -> Result<Measured, NoMemory>
+    requires { IsWell argument.now }
+    ensures { IfOk result (λ m. m ≡ called call argument.now) }
+{
+    if call == UnaryCall::IsError {
+        return Ok(Measured::new(truth(fault_of(argument).is_some())));
+    }
+    if let Some(code) = fault_of_one(argument) {
+        return Ok(Measured::new(Value::Fault(code)));
+    }
+    let value = match call {
+        UnaryCall::Len => length(argument),
+        UnaryCall::Text => decimal(alloc, argument)?,
+        UnaryCall::Number => number(argument),
+        UnaryCall::Keys => keys(alloc, argument)?,
+        // no argument is an error here
+        UnaryCall::IsError => truth(false),
+    };
+    Ok(Measured::new(value))
+}
+
+/// The value of a call of two operands. Takes memory for what is made.
+pub fn call_binary<'e>(
+    alloc: Global,
+    call: BinaryCall,
+    first: Operand<'e>,
+    second: Operand<'e>,
+    scope: &Scope<'e>,
+) -> Result<Operand<'e>, NoMemory>
+    requires first { IsIn scope.now first }
+    requires second { IsIn scope.now second }
+    ensures value { IfOk result (λ o. operand_value scope.now o
+        ≡ called_with call (operand_value scope.now first.entry)
+        (operand_value scope.now second.entry)) }
+    ensures within { IfOk result (λ o. IsIn scope.now o) }
+{
+    match call {
+        BinaryCall::Nth => nth_of(alloc, first, second, scope),
+        BinaryCall::Append => append_to(alloc, first, second, scope),
+        BinaryCall::Join => join_by(alloc, first, second, scope),
+        BinaryCall::Get => get_from(alloc, first, second, scope),
+        BinaryCall::Has => Ok(had_by(first, second, scope)),
+        BinaryCall::OrElse => Ok(or_else(first, second, scope)),
+    }
+}
+
+/// `nth(l, i)`: lent where the list is lent from outside, else a copy.
+fn nth_of<'e>(
+    alloc: Global,
+    list: Operand<'e>,
+    place: Operand<'e>,
+    scope: &Scope<'e>,
+) -> Result<Operand<'e>, NoMemory>
+    requires list { IsIn scope.now list }
+    requires place { IsIn scope.now place }
+    ensures value { IfOk result (λ o. operand_value scope.now o
+        ≡ called_with BinaryCall.Nth (operand_value scope.now list.entry)
+        (operand_value scope.now place.entry)) }
+    ensures within { IfOk result (λ o. IsIn scope.now o) }
+{
+    let (whole, place) = (list.get(&*scope), place.get(&*scope));
+    if let Some(code) = fault_of_two(whole, place) {
+        return Ok(fault(code));
+    }
+    match list.from_outside(&*scope) {
+        Some(lent) => Ok(lent_part(nth(lent, place))),
+        None => copied_part(alloc, nth(whole, place)),
+    }
+}
+
+/// `get(t, k)`: lent where the table is lent from outside, else a copy.
+fn get_from<'e>(
+    alloc: Global,
+    table: Operand<'e>,
+    key: Operand<'e>,
+    scope: &Scope<'e>,
+) -> Result<Operand<'e>, NoMemory>
+    requires table { IsIn scope.now table }
+    requires key { IsIn scope.now key }
+    ensures value { IfOk result (λ o. operand_value scope.now o
+        ≡ called_with BinaryCall.Get (operand_value scope.now table.entry)
+        (operand_value scope.now key.entry)) }
+    ensures within { IfOk result (λ o. IsIn scope.now o) }
+{
+    let (whole, key) = (table.get(&*scope), key.get(&*scope));
+    if let Some(code) = fault_of_two(whole, key) {
+        return Ok(fault(code));
+    }
+    match table.from_outside(&*scope) {
+        Some(lent) => Ok(lent_part(get(lent, key))),
+        None => copied_part(alloc, get(whole, key)),
+    }
+}
+
+/// A part of a value that is lent from outside: lent too.
+fn lent_part<'e>(found: Result<&'e Value, ErrorCode>) -> Operand<'e>
+    requires { IfOk found (λ v. IsWell v.now) }
+    ensures { result ≡ Operand.Held (found_part found.entry) }
+{
+    match found {
+        Ok(part) => Operand::lent(part),
+        Err(code) => fault(code),
+    }
+}
+
+/// A part of a value: a copy of it.
+fn copied_part<'e>(alloc: Global, found: Result<&Value, ErrorCode>) -> Result<Operand<'e>, NoMemory>
+    requires { IfOk found (λ v. IsWell v.now) }
+    ensures { IfOk result (λ o. o ≡ Operand.Held (Held.Owned (part_value found.entry))) }
+{
+    match found {
+        Ok(part) => Ok(made(copy(alloc, part)?)),
+        Err(code) => Ok(fault(code)),
+    }
+}
+
+/// `append(l, v)`: the list grows, and is copied before where it is lent or bound. The item is
+/// moved, or copied where it is lent or bound.
+#[tactic(auto, using(crate::proofs::values::Arguments::no_faults))]
+fn append_to<'e>(
+    alloc: Global,
+    list: Operand<'e>,
+    item: Operand<'e>,
+    scope: &Scope<'e>,
+) -> Result<Operand<'e>, NoMemory>
+    requires list { IsIn scope.now list }
+    requires item { IsIn scope.now item }
+    ensures value { IfOk result (λ o. operand_value scope.now o
+        ≡ called_with BinaryCall.Append (operand_value scope.now list.entry)
+        (operand_value scope.now item.entry)) }
+    ensures within { IfOk result (λ o. IsIn scope.now o) }
+{
+    if let Some(code) = fault_of_two(list.get(&*scope), item.get(&*scope)) {
+        return Ok(fault(code));
+    }
+    let list = list.into_owned(alloc, &*scope)?;
+    let item = item.into_owned(alloc, &*scope)?;
+    Ok(Operand::owned(append(list, item)?))
+}
+
+/// `join(l, s)`
+fn join_by<'e>(
+    alloc: Global,
+    list: Operand<'e>,
+    separator: Operand<'e>,
+    scope: &Scope<'e>,
+) -> Result<Operand<'e>, NoMemory>
+    requires list { IsIn scope.now list }
+    requires separator { IsIn scope.now separator }
+    ensures value { IfOk result (λ o. operand_value scope.now o
+        ≡ called_with BinaryCall.Join (operand_value scope.now list.entry)
+        (operand_value scope.now separator.entry)) }
+    ensures within { IfOk result (λ o. IsIn scope.now o) }
+{
+    let (list, separator) = (list.get(&*scope), separator.get(&*scope));
+    if let Some(code) = fault_of_two(list, separator) {
+        return Ok(fault(code));
+    }
+    Ok(Operand::owned(join(alloc, list, separator)?))
+}
+
+/// `has(t, k)`
+fn had_by<'e>(table: Operand<'e>, key: Operand<'e>, scope: &Scope<'e>) -> Operand<'e>
+    requires table { IsIn scope.now table }
+    requires key { IsIn scope.now key }
+    ensures value { operand_value scope.now result
+        ≡ called_with BinaryCall.Has (operand_value scope.now table.entry)
+        (operand_value scope.now key.entry) }
+    ensures within { IsIn scope.now result }
+{
+    let (table, key) = (table.get(&*scope), key.get(&*scope));
+    match fault_of_two(table, key) {
+        Some(code) => fault(code),
+        None => made(has(table, key)),
+    }
+}
+
+/// `orelse(v, w)`
+fn or_else<'e>(value: Operand<'e>, other: Operand<'e>, scope: &Scope<'e>) -> Operand<'e>
+    requires value { IsIn scope.now value }
+    requires other { IsIn scope.now other }
+    ensures value { operand_value scope.now result
+        ≡ called_with BinaryCall.OrElse (operand_value scope.now value.entry)
+        (operand_value scope.now other.entry) }
+    ensures within { IsIn scope.now result }
+{
+    match fault_of(value.get(&*scope)) {
+        Some(_) => other,
+        None => value,
+    }
+}
+
+/// `put(t, k, v)`: the table grows, and is copied before where it is lent or bound. The value is
+/// moved, or copied where it is lent or bound.
+#[tactic(auto, using(crate::proofs::values::Arguments::no_faults))]
+pub fn call_put<'e>(
+    alloc: Global,
+    table: Operand<'e>,
+    key: Operand<'e>,
+    item: Operand<'e>,
+    scope: &Scope<'e>,
+) -> Result<Operand<'e>, NoMemory>
+    requires table { IsIn scope.now table }
+    requires key { IsIn scope.now key }
+    requires item { IsIn scope.now item }
+    ensures value { IfOk result (λ o. operand_value scope.now o
+        ≡ put (operand_value scope.now table.entry) (operand_value scope.now key.entry)
+        (operand_value scope.now item.entry)) }
+    ensures within { IfOk result (λ o. IsIn scope.now o) }
+{
+    let text = key.get(&*scope);
+    if let Some(code) = fault_of_three(table.get(&*scope), text, item.get(&*scope)) {
+        return Ok(fault(code));
+    }
+    let table = table.into_owned(alloc, &*scope)?;
+    let item = item.into_owned(alloc, &*scope)?;
+    Ok(Operand::owned(tables::put(alloc, table, text, item)?))
+}

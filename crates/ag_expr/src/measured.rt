@@ -1,0 +1,112 @@
+//! Values that are weighed once, so that what grows from them need not be weighed again.
+
+ghost use Rattle.std.specs.Prelude.{◌≡◌, ◌-◌, ◌^◌, ◌≤◌, min, true};
+ghost use Rattle.ag_value.specs.Measure.{depth_of, max_depth, max_weight, weight_of};
+ghost use Rattle.ag_value.specs.Well.{IsWell, is_item};
+ghost use Rattle.ag_expr.specs.values.Fitting.{fit};
+
+use ag_value::{ErrorCode, MAX_DEPTH, MAX_WEIGHT, Value, depth, weight};
+use std::marker::Model;
+
+/// A well value, beside its weight and its depth.
+#[derive(Debug, Drop)]
+pub struct Measured {
+    value: Value,
+    weight: u64,
+    depth: u32,
+}
+
+impl Model for Measured {
+    ghost use Rattle.std.specs.Coded.{codes};
+    ghost use Rattle.ag_value.specs.declared.value.Value.{Value as AttributeValue};
+    ghost use Rattle.ag_value.specs.contracts.value.Value as value_row;
+    ghost use Rattle.ag_expr.specs.values.Fitting.{IsMeasured};
+
+    ghost Value = { AttributeValue };
+
+    ghost coded = { Prim.hlevel (codes, value_row.the_row.coded) };
+
+    ghost view = { λ m. m.value };
+
+    ghost invariant = { λ m. IsMeasured m.value m.weight m.depth };
+}
+
+impl Measured {
+    /// A well value, weighed here.
+    pub fn new(value: Value) -> Measured
+        requires { IsWell value }
+        ensures { result ≡ value }
+    {
+        let weight = weight(&value);
+        let depth = depth(&value);
+        Measured {
+            value,
+            weight,
+            depth,
+        }
+    }
+
+    /// A value that was made, with its weight and its depth: an error in its place where it is
+    /// beyond the limits.
+    pub fn fit(value: Value, weight: u64, depth: u32) -> Measured
+        requires item { is_item value ≡ true }
+        requires weighed { weight ≡ min (weight_of value) (2 ^ 64 - 1) }
+        requires sounded { depth ≡ min (depth_of value) (2 ^ 32 - 1) }
+        ensures { result ≡ fit value }
+    {
+        if depth > MAX_DEPTH {
+            return Measured::new(Value::Fault(ErrorCode::Deep));
+        }
+        if weight > MAX_WEIGHT {
+            return Measured::new(Value::Fault(ErrorCode::Big));
+        }
+        Measured {
+            value,
+            weight,
+            depth,
+        }
+    }
+
+    /// A value that was made, weighed here: an error in its place where it is beyond the limits.
+    pub fn weighed(value: Value) -> Measured
+        requires { is_item value ≡ true }
+        ensures { result ≡ fit value }
+    {
+        let weight = weight(&value);
+        let depth = depth(&value);
+        Measured::fit(value, weight, depth)
+    }
+
+    /// Lends the value.
+    pub fn get(&self) -> &Value
+        ensures value { result.now ≡ self.now }
+        ensures well { IsWell result.now }
+    {
+        &self.value
+    }
+
+    /// The value itself.
+    pub fn into_value(self) -> Value
+        ensures value { result ≡ self }
+        ensures well { IsWell result }
+    {
+        let Measured { value, .. } = self;
+        value
+    }
+
+    /// Its weight.
+    pub fn weight(&self) -> u64
+        ensures value { result ≡ weight_of self.now }
+        ensures light { result ≤ max_weight }
+    {
+        self.weight
+    }
+
+    /// Its depth.
+    pub fn depth(&self) -> u32
+        ensures value { result ≡ depth_of self.now }
+        ensures shallow { result ≤ max_depth }
+    {
+        self.depth
+    }
+}
