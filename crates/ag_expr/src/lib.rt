@@ -25,6 +25,7 @@ mod parser;
 pub mod samples;
 mod scope;
 mod token;
+pub mod value_laws;
 
 pub use environment::Env;
 pub use evaluation::eval;
