@@ -20,3 +20,4 @@ pub mod Texts
 pub mod TokenLaws
 pub mod Trees
 pub mod Turns
+pub mod Values

@@ -28,7 +28,7 @@ impl<'a> Env for Same<'a> {
 
 /// The value of a text where every occurrence has this value.
 #[tactic(auto, using(ag_expr::proofs::language::Values::are_well))]
-fn value_where(
+pub fn value_where(
     rt: &(impl Abort + Alloc<A = Global>),
     text: &str,
     value: &Value,
@@ -43,7 +43,7 @@ fn value_where(
 }
 
 /// The value of a text without occurrences.
-fn value_of_text(rt: &(impl Abort + Alloc<A = Global>), text: &str) -> Result<Value, Fail> {
+pub fn value_of_text(rt: &(impl Abort + Alloc<A = Global>), text: &str) -> Result<Value, Fail> {
     value_where(rt, text, &Value::Num(0))
 }
 
