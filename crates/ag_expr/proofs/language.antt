@@ -23,3 +23,4 @@ pub mod TokenLaws
 pub mod Trees
 pub mod Turns
 pub mod Until
+pub mod Values

@@ -7,3 +7,4 @@ pub mod Same
 pub mod Spelled
 pub mod Tables
 pub mod Wells
+pub mod Worked

@@ -2,8 +2,10 @@
 pub mod Arguments
 pub mod Calls
 pub mod Fitting
+pub mod Laws
 pub mod Lists
 pub mod Numbers
 pub mod Operators
 pub mod Tables
 pub mod Texts
+pub mod Worked

@@ -27,6 +27,7 @@ mod parser;
 pub mod samples;
 mod scope;
 mod token;
+pub mod value_laws;
 
 pub use cursor::Cursor;
 pub use environment::Env;

@@ -3,6 +3,8 @@
 #![tactic(auto)]
 
 #[cfg(test)]
+mod all_values;
+#[cfg(test)]
 mod expressions;
 #[cfg(test)]
 mod reading_back;

@@ -1,14 +1,17 @@
 -- The parts of a tree, a variant at a time.
-use Rattle.std.proofs.Common.{◌≡◌, ℕ, zero, suc, ◌<◌, Bool, get_or, drop, arith, true, ◌&&◌, List, [], ◌∷◌, ◌++◌, length, map, refl, sym, ap, ◌∙◌, subst}
+use Rattle.std.proofs.Common.{◌≡◌, ℕ, zero, suc, ◌<◌, Bool, get_or, slice_get, drop, arith, true, ◌&&◌, List, [], ◌∷◌, ◌++◌, length, map, refl, sym, ap, ◌∙◌, subst}
 use Rattle.std.proofs.lemmas.Bool.{and_parts}
 use Rattle.ag_value.specs.declared.value.Value.{Value}
 use Rattle.ag_expr.specs.declared.node.Operator.{Operator}
 use Rattle.ag_expr.specs.declared.node.Node.{Node}
 use Rattle.ag_expr.specs.declared.node.Node.TheVariants as node
-use Rattle.ag_expr.specs.declared.node.Node.TheVariants.{rolls-Chain, rolls-Let}
+use Rattle.ag_expr.specs.declared.node.Node.TheVariants.{rolls-Bound, rolls-Chain, rolls-If, rolls-Let, rolls-Literal, rolls-Unary}
 use Rattle.ag_expr.specs.declared.node.Node.TheOpen.{Node-F}
 use Rattle.ag_expr.specs.declared.node.Node.TheFolds.{fold-roll-Node}
-use Rattle.ag_expr.specs.language.Evaluation.{Meaning, chain_value, value_in, value_step}
+use Rattle.ag_expr.specs.declared.node.UnaryCall.{UnaryCall}
+use Rattle.ag_expr.specs.values.Calls.{called, chosen}
+use Rattle.ag_expr.specs.values.Fitting.{fit}
+use Rattle.ag_expr.specs.language.Evaluation.{Meaning, bound_value, chain_value, value_in, value_step}
 use Rattle.ag_expr.specs.language.Trees.{all_below, below_step, is_within}
 
 within-Chain : (n bound : ℕ) (first : Node) (others : List (Operator × Node)) → is_within n (node.Chain first others) bound ≡ (is_within n first bound && all_below n bound others)
@@ -19,6 +22,21 @@ within-Let n bound e f = ap (λ (g : ℕ → Bool). g bound) (ap (is_within n) (
 
 pub value-Chain : (first : Node) (others : List (Operator × Node)) (env : ℕ → Value) (bound : List Value) → value_in (node.Chain first others) env bound ≡ chain_value env bound (value_in first env bound) (map (λ p. (p.0, value_in p.1)) others)
 value-Chain first others env bound = ap (λ (m : Meaning). m env bound) (ap value_in (sym (rolls-Chain first others)) ∙ fold-roll-Node Meaning value_step (Node-F.Chain first others))
+
+pub value-Literal : (v : Value) (env : ℕ → Value) (bound : List Value) → value_in (node.Literal v) env bound ≡ fit v
+value-Literal v env bound = ap (λ (m : Meaning). m env bound) (ap value_in (sym (rolls-Literal v)) ∙ fold-roll-Node Meaning value_step (Node-F.Literal v))
+
+pub value-Bound : (k : ℕ) (env : ℕ → Value) (bound : List Value) → value_in (node.Bound k) env bound ≡ bound_value (slice_get bound k)
+value-Bound k env bound = ap (λ (m : Meaning). m env bound) (ap value_in (sym (rolls-Bound k)) ∙ fold-roll-Node Meaning value_step (Node-F.Bound k))
+
+pub value-Let : (e f : Node) (env : ℕ → Value) (bound : List Value) → value_in (node.Let e f) env bound ≡ value_in f env (bound ++ value_in e env bound ∷ [])
+value-Let e f env bound = ap (λ (m : Meaning). m env bound) (ap value_in (sym (rolls-Let e f)) ∙ fold-roll-Node Meaning value_step (Node-F.Let e f))
+
+pub value-If : (c e f : Node) (env : ℕ → Value) (bound : List Value) → value_in (node.If c e f) env bound ≡ chosen (value_in c env bound) (value_in e env bound) (value_in f env bound)
+value-If c e f env bound = ap (λ (m : Meaning). m env bound) (ap value_in (sym (rolls-If c e f)) ∙ fold-roll-Node Meaning value_step (Node-F.If c e f))
+
+pub value-Unary : (call : UnaryCall) (a : Node) (env : ℕ → Value) (bound : List Value) → value_in (node.Unary call a) env bound ≡ called call (value_in a env bound)
+value-Unary call a env bound = ap (λ (m : Meaning). m env bound) (ap value_in (sym (rolls-Unary call a)) ∙ fold-roll-Node Meaning value_step (Node-F.Unary call a))
 
 -- the operands of a chain
 pub chain_below : (n bound : ℕ) (tree first : Node) (others : List (Operator × Node)) → tree ≡ node.Chain first others → is_within n tree bound ≡ true → all_below n bound others ≡ true
