@@ -1,5 +1,5 @@
 -- An expression that is read up to a semicolon: the text before it is read as one that ends there.
-use Rattle.std.proofs.Common.{◌≡◌, ◌≢◌, ℕ, ◌+◌, ◌-◌, Bool, true, false, cond, List, [], ◌∷◌, ◌++◌, length, take, drop, Option, Some, None, Result, Ok, Err, IfOk, IfErr, chars, IsUtf8, encode_utf8_all, refl, ap, sym, ◌∙◌, subst, arith, append_assoc, length-append}
+use Rattle.std.proofs.Common.{◌≡◌, ℕ, ◌+◌, ◌-◌, Bool, true, false, cond, List, [], ◌∷◌, ◌++◌, length, take, drop, Option, Some, None, Result, Ok, Err, IfOk, IfErr, chars, IsUtf8, encode_utf8_all, refl, ap, sym, ◌∙◌, subst, arith, append_assoc, length-append}
 use Rattle.std.proofs.lemmas.Bool.{and_parts}
 use Rattle.std.proofs.lemmas.List.{drop-take, length-take-le}
 use Rattle.std.proofs.lemmas.Str.{IsCharBoundary-at_seam, IsCharBoundary-from_drop, IsCharBoundary-from_rest, IsUtf8-drop, IsUtf8-take, chars-encodes, encodes-append, encodes-chars, scalars-chars}
@@ -22,7 +22,6 @@ use Rattle.ag_expr.specs.language.Syntax.{IsExpr}
 use Rattle.ag_expr.specs.language.Places.{IsReadFrom, read_from}
 use Rattle.ag_expr.specs.language.Reading.{front, front_is, sees, is_sign, ending_fault}
 use Rattle.ag_expr.specs.language.Token.{Token, mark}
-use Rattle.ag_expr.specs.language.Token as token
 use Rattle.ag_expr.specs.language.Tokens.{AreTokens, ended, separator, word, IsLongest, Lexes, all_within, is_within, width}
 use Rattle.ag_expr.specs.language.Until.{Ended, semicolon, first_semicolon, before_semicolon, with_offset, or_fault, until_by, read_until_from, IsReadUntil, ReadsUntil, IsRefusedUntil}
 use Rattle.ag_expr.proofs.language.Exact.{sign_is}
