@@ -24,8 +24,11 @@ use smallvec::SmallVec;
 use std::alloc::Global;
 use std::marker::Model;
 
-/// What is left of a text, from the front of a token on, and the different occurrences that stand
-/// before. Each token is cut when the one before it is passed.
+/// A reader's place in a text: what is left of it, from the front of a token on, and the different
+/// occurrences that were passed. Each token is cut when the one before it is passed.
+///
+/// Expressions are read from it, and so can be other languages with the same tokens. Offsets are in
+/// bytes from the front of the text. A refusal leaves the cursor where it stood.
 #[derive(Drop)]
 pub struct Cursor<'t> {
     text: &'t str,
@@ -104,7 +107,7 @@ fn fault_at(fault: TokenFault, at: usize, rest: &str) -> ExprFault
 }
 
 impl<'t> Cursor<'t> {
-    /// A cursor at the front of a text. Takes no memory.
+    /// A cursor at the first token of a text. Takes no memory.
     pub fn new(alloc: Global, text: &'t str) -> Cursor<'t>
         ensures { result ≡ left.start_of text.now }
     {
@@ -117,8 +120,8 @@ impl<'t> Cursor<'t> {
         }
     }
 
-    /// A cursor in front of what stands from an offset on; the offsets that it tells are those of
-    /// the whole text. Takes no memory.
+    /// A cursor at the first token from an offset on, at which a character begins or the text ends.
+    /// The offsets that it tells are those of the whole text. Takes no memory.
     pub fn at(alloc: Global, text: &'t str, from: usize) -> Cursor<'t>
         requires { IsCharBoundary text.now from }
         ensures { result ≡ left.start_at text.now from }
@@ -133,7 +136,8 @@ impl<'t> Cursor<'t> {
         }
     }
 
-    /// The token in front. Takes no memory.
+    /// The token in front: None at the end of the text, where no token begins, and where its number
+    /// is too large. Takes no memory.
     pub fn peek(&self) -> Option<Token<'t>>
         ensures { option_map token_of result ≡ reading.front (input self.now) }
     {
@@ -143,7 +147,7 @@ impl<'t> Cursor<'t> {
         }
     }
 
-    /// The offset of what is left.
+    /// The offset of the token in front, or of what stands there, or the text's length at its end.
     pub fn offset(&self) -> usize
         ensures { result ≡ left.offset self.now }
     {
@@ -164,7 +168,8 @@ impl<'t> Cursor<'t> {
         self.rest.is_empty()
     }
 
-    /// Why the token in front cannot be taken, or why none is there.
+    /// Why the token in front cannot be taken: X2 at its offset. Where none is there: X1 where no
+    /// token begins, X3 where its number is too large, X2 at the end of the text.
     pub fn refusal(&self) -> ExprFault
         ensures { result ≡ reading.refusal (input self.now) }
     {
@@ -176,7 +181,7 @@ impl<'t> Cursor<'t> {
 
     /// Why an expression that has no level left cannot begin here, where these names are bound
     /// around it.
-    pub fn no_level(&self, scope: &Scope<'_>) -> ExprFault
+    pub(crate) fn no_level(&self, scope: &Scope<'_>) -> ExprFault
         ensures { result ≡ left.no_level scope.now self.now }
     {
         match self.front {
@@ -185,7 +190,7 @@ impl<'t> Cursor<'t> {
         }
     }
 
-    /// Passes the token in front.
+    /// Passes the token in front, where one is there. An occurrence that is passed so is not listed.
     pub fn bump(&mut self)
         ensures exact { self.new ≡ left.behind self.old }
         ensures tokens { input self.new ≡ reading.next (input self.old) }
@@ -226,7 +231,7 @@ impl<'t> Cursor<'t> {
         }
     }
 
-    /// Passes this punctuation.
+    /// Passes this punctuation, or refuses what stands there as `refusal` does. Takes no memory.
     pub fn expect(&mut self, mark: Punctuation) -> Result<(), ExprFault>
         ensures { Reads (λ _. reading.expect (tokens.mark mark)) self.old result self.new }
     {
@@ -250,7 +255,7 @@ impl<'t> Cursor<'t> {
         }
     }
 
-    /// Passes this name.
+    /// Passes this name, or refuses what stands there as `refusal` does. Takes no memory.
     pub fn expect_word(&mut self, name: &str) -> Result<(), ExprFault>
         ensures { Reads (λ _. reading.expect (tokens.word name.now)) self.old result self.new }
     {
@@ -263,7 +268,8 @@ impl<'t> Cursor<'t> {
         }
     }
 
-    /// Passes a name that is not reserved.
+    /// Passes a name that is not reserved in expressions, or refuses what stands there as `refusal`
+    /// does. Takes no memory.
     pub fn new_name(&mut self) -> Result<&'t str, ExprFault>
         ensures { ReadsAs (λ name. name.now) (λ _. reading.token_as syntax.new_name)
             self.old result self.new }
@@ -277,8 +283,8 @@ impl<'t> Cursor<'t> {
         }
     }
 
-    /// The different occurrences, at the end of the text; else why the text goes on with none or
-    /// with another token.
+    /// The different occurrences that were passed, at the end of the text; before it what stands there
+    /// is refused as `refusal` does.
     pub fn finish(self) -> Result<SmallVec<Occ, 4>, ExprFault>
         ensures reads { left.Finishes self.entry result }
         ensures listed { IfOk result (λ list. list.items ≡ everything self.entry) }

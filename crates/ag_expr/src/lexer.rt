@@ -149,11 +149,25 @@ fn punctuation_in_front(text: &str) -> Option<(Punctuation, &str)>
     }
 }
 
+/// The character that a backslash and this one stand for.
+fn escape(c: char) -> Option<char>
+    ensures { result ≡ tokens_spec.escaped c }
+{
+    match c {
+        '"' => Some('"'),
+        '\\' => Some('\\'),
+        'n' => Some('\n'),
+        't' => Some('\t'),
+        'r' => Some('\r'),
+        _ => None,
+    }
+}
+
 /// Whether a backslash and the character are an escape.
 fn is_escape(c: char) -> bool
     ensures { result ≡ is_some (tokens_spec.escaped c) }
 {
-    matches!(c, '"' | '\\' | 'n' | 't' | 'r')
+    escape(c).is_some()
 }
 
 /// What stands behind an escape whose backslash stood before.
@@ -200,20 +214,6 @@ fn undotted(text: &str) -> Option<&str>
     }
 }
 
-/// The character that a backslash and this one stand for.
-fn escape(c: char) -> Option<char>
-    ensures { result ≡ tokens_spec.escaped c }
-{
-    match c {
-        '"' => Some('"'),
-        '\\' => Some('\\'),
-        'n' => Some('\n'),
-        't' => Some('\t'),
-        'r' => Some('\r'),
-        _ => None,
-    }
-}
-
 /// The character that stands in front between the quotes of a text literal, an escape for what it
 /// stands for, and what stands behind it.
 fn character(text: &str) -> Option<(char, &str)>
@@ -229,7 +229,7 @@ fn character(text: &str) -> Option<(char, &str)>
     }
 }
 
-/// The text that stands between the quotes of a text literal. Takes memory.
+/// The text that a text literal stands for, from what stands between its quotes. Takes memory.
 #[tactic(
     auto,
     using(

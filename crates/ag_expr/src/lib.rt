@@ -4,6 +4,7 @@
 mod cursor;
 mod display;
 mod environment;
+mod expected;
 mod expression;
 mod fault;
 mod grammar;
@@ -22,6 +23,7 @@ mod token;
 
 pub use cursor::Cursor;
 pub use environment::Env;
+pub use expected::{Expected, expected_at};
 pub use expression::{Expr, occurrences, read_expr, read_until};
 pub use fault::ExprFault;
 pub use grammar::{Item, Production, Rule, Symbol, Target, Terminal};

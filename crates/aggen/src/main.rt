@@ -36,14 +36,14 @@ fn run<R: Env + Print + Eprint + AllocGlobal>(rt: &R) -> Result<(), Fault> {
     let alloc = rt.alloc();
     let words = match words_of(rt, alloc) {
         Ok(words) => words,
-        Err(fault) => return tell(rt, fault, ""),
+        Err(fault) => return tell(rt, alloc, fault, ""),
     };
     match request_of(rt, alloc, words.as_slice()) {
         Ok(Request::Nothing) => Ok(()),
         Ok(Request::Value(text)) => print_value(rt, alloc, text),
         // the fault of the command line was told already
         Err(Fault::Usage) => Err(Fault::Usage),
-        Err(fault) => tell(rt, fault, ""),
+        Err(fault) => tell(rt, alloc, fault, ""),
     }
 }
 
@@ -64,16 +64,13 @@ fn print_value<R: Print + Eprint>(rt: &R, alloc: Global, text: &str) -> Result<(
     let mut out = io::writer(rt);
     match show_value(alloc, text, &mut device, &mut out) {
         Ok(()) => Ok(()),
-        Err(fault) => tell(rt, fault, text),
+        Err(fault) => tell(rt, alloc, fault, text),
     }
 }
 
 /// Tells a fault of a text in one line on standard error.
-fn tell<R: Eprint>(rt: &R, fault: Fault, text: &str) -> Result<(), Fault> {
+fn tell<R: Eprint>(rt: &R, alloc: Global, fault: Fault, text: &str) -> Result<(), Fault> {
     // where the line can't be written, the status still tells
-    let _ = rt.eprintln(Message {
-        fault: &fault,
-        text,
-    });
+    let _ = rt.eprintln(Message::new(alloc, &fault, text));
     Err(fault)
 }

@@ -1,25 +1,48 @@
 //! A fault in one line for a reader.
 
 use crate::fault::Fault;
-use ag_expr::ExprFault;
+use ag_expr::{Expected, ExprFault, expected_at};
+use std::alloc::Global;
 use std::fmt;
 
 /// How many characters of a token a message shows.
 const SHOWN: usize = 24;
 
 /// A fault of a text in one line for a reader: the fault's number, where it is, what stands there
-/// and what could.
-#[derive(Clone, Copy)]
+/// and what could. Characters that control a terminal are written by their numbers.
+#[derive(Drop)]
 pub struct Message<'a> {
-    pub fault: &'a Fault,
-    pub text: &'a str,
+    fault: &'a Fault,
+    text: &'a str,
+    expected: Vec<Expected>,
+}
+
+impl<'a> Message<'a> {
+    /// The message of a fault of a text. Takes memory; where that is refused, the message does not
+    /// say what could stand at the fault's place.
+    pub fn new(alloc: Global, fault: &'a Fault, text: &'a str) -> Message<'a> {
+        let expected = match fault {
+            Fault::Expr(ExprFault::Unexpected(at)) => match expected_at(alloc, text, *at) {
+                Ok(expected) => expected,
+                Err(_) => Vec::new(alloc),
+            },
+            _ => Vec::new(alloc),
+        };
+        Message {
+            fault,
+            text,
+            expected,
+        }
+    }
 }
 
 impl fmt::Display for Message<'_> {
     fn fmt<W: fmt::Write>(&self, f: &mut fmt::Formatter<W>) -> fmt::Result {
         write!(f, "{}", self.fault)?;
         match self.fault {
-            Fault::Expr(fault) => tell_expression(f, *fault, self.text),
+            Fault::Expr(fault) => {
+                tell_expression(f, *fault, self.text, self.expected.as_slice())
+            }
             _ => Ok(()),
         }
     }
@@ -29,6 +52,7 @@ fn tell_expression<W: fmt::Write>(
     f: &mut fmt::Formatter<W>,
     fault: ExprFault,
     text: &str,
+    expected: &[Expected],
 ) -> fmt::Result {
     match fault {
         ExprFault::NoToken(at) => {
@@ -41,7 +65,7 @@ fn tell_expression<W: fmt::Write>(
             tell_place(f, text, at)?;
             write!(f, ": found ")?;
             tell_found(f, text, at)?;
-            write!(f, ", where {} can stand", expected_at(text, at))
+            tell_expected(f, text, at, expected)
         }
         ExprFault::NumberTooLarge(at) => {
             tell_place(f, text, at)?;
@@ -56,7 +80,7 @@ fn tell_expression<W: fmt::Write>(
             tell_place(f, text, at)?;
             write!(
                 f,
-                ": parentheses nest more than 64 levels deep, write fewer"
+                ": expressions nest more than 64 levels deep, write fewer"
             )
         }
         ExprFault::NoMemory => Ok(()),
@@ -117,20 +141,62 @@ fn tell_found<W: fmt::Write>(f: &mut fmt::Formatter<W>, text: &str, at: usize) -
             write!(f, "..")?;
             break;
         }
-        write!(f, "{character}")?;
+        tell_character(f, character)?;
         shown = shown.saturating_add(1);
     }
     write!(f, "`")
 }
 
-/// What can stand at an offset where a token was not expected: an operand behind an operator, an
-/// opening parenthesis or nothing, and else an operator.
-fn expected_at(text: &str, at: usize) -> &'static str {
-    let before = text.get(..at).unwrap_or("").trim_end();
-    let operators = ["+", "-", "*", "(", "div", "mod"];
-    if before.is_empty() || operators.iter().any(|operator| before.ends_with(*operator)) {
-        "only a number or `(`"
-    } else {
-        "only one of + - * div mod, `)` or the end"
+/// A character, by its number where it controls a terminal.
+fn tell_character<W: fmt::Write>(f: &mut fmt::Formatter<W>, character: char) -> fmt::Result {
+    if !character.is_control() {
+        return write!(f, "{character}");
+    }
+    for part in character.escape_unicode() {
+        write!(f, "{part}")?;
+    }
+    Ok(())
+}
+
+/// What could stand at an offset, or what is wrong with the name or the occurrence there.
+fn tell_expected<W: fmt::Write>(
+    f: &mut fmt::Formatter<W>,
+    text: &str,
+    at: usize,
+    expected: &[Expected],
+) -> fmt::Result {
+    match expected.first() {
+        Some(Expected::BoundName) => return write!(f, ", a name that no `let` binds here"),
+        Some(Expected::Expression | Expected::Operand) if text.as_bytes().get(at) == Some(&b'$') =>
+            {
+                return write!(f, ", which has a value in a grammar only");
+            }
+        None => return Ok(()),
+        _ => {}
+    }
+    write!(f, ", where only ")?;
+    let mut left = expected.len();
+    for one in expected {
+        tell_one(f, *one)?;
+        left = left.saturating_sub(1);
+        match left {
+            0 => {}
+            1 => write!(f, " or ")?,
+            _ => write!(f, ", ")?,
+        }
+    }
+    write!(f, " can stand")
+}
+
+/// One of the things that could stand at a place.
+fn tell_one<W: fmt::Write>(f: &mut fmt::Formatter<W>, expected: Expected) -> fmt::Result {
+    match expected {
+        Expected::Expression => write!(f, "an expression"),
+        Expected::Operand => write!(f, "an operand"),
+        Expected::BoundName => write!(f, "a bound name"),
+        Expected::NewName => write!(f, "a name to bind"),
+        Expected::Operator => write!(f, "an operator"),
+        Expected::Sign(sign) => write!(f, "`{sign}`"),
+        Expected::End => write!(f, "the end"),
     }
 }

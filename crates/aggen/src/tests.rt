@@ -253,13 +253,32 @@ fn messages(rt: HostRuntime) -> Result<(), Fail> {
         (
             Fault::Expr(ExprFault::Unexpected(3)),
             "1 +",
-            "X2 at 3: found the end of the text, where only a number or `(` can stand",
+            "X2 at 3: found the end of the text, where only an operand can stand",
         ),
         (
             Fault::Expr(ExprFault::Unexpected(6)),
             "1 +\n2 3",
-            "X2 at 6 (line 2, column 3): found `3`, where only one of + - * div mod, `)` or \
-             the end can stand",
+            "X2 at 6 (line 2, column 3): found `3`, where only an operator or the end can stand",
+        ),
+        (
+            Fault::Expr(ExprFault::Unexpected(2)),
+            "(1",
+            "X2 at 2: found the end of the text, where only an operator or `)` can stand",
+        ),
+        (
+            Fault::Expr(ExprFault::Unexpected(13)),
+            "let x = 1 in y",
+            "X2 at 13: found `y`, a name that no `let` binds here",
+        ),
+        (
+            Fault::Expr(ExprFault::Unexpected(0)),
+            "$1.a",
+            "X2 at 0: found `$1.a`, which has a value in a grammar only",
+        ),
+        (
+            Fault::Expr(ExprFault::NoToken(0)),
+            "\u{1b}[1m",
+            "X1 at 0: no token begins with `\\u{1b}[1m`",
         ),
         (
             Fault::Damaged(15),
@@ -272,10 +291,7 @@ fn messages(rt: HostRuntime) -> Result<(), Fail> {
             "NoMemory a request for memory was refused",
         ),
     ] {
-        let message = Message {
-            fault: &fault,
-            text,
-        };
+        let message = Message::new(alloc, &fault, text);
         assert_eq!(rt; message.to_string(alloc)?.as_str(), line);
     }
     Ok(())

@@ -1,0 +1,98 @@
+//! What could stand where a text is refused: what the parser takes there, tried token by token.
+
+use crate::cursor::Cursor;
+use crate::expression::read_expr;
+use crate::fault::ExprFault;
+use crate::names::is_reserved;
+use crate::token::Token;
+use ag_value::NoMemory;
+use std::alloc::Global;
+
+/// What could stand at a place of a text.
+#[derive(Clone, Copy, Debug, PartialEq, Eq)]
+pub enum Expected {
+    /// An expression, a `let` or an `if` too.
+    Expression,
+    /// An expression that is no `let` and no `if`.
+    Operand,
+    /// A name that is bound there: the one that stands there is not.
+    BoundName,
+    /// A name to be bound: one that is not reserved.
+    NewName,
+    /// An operator.
+    Operator,
+    /// This punctuation or reserved name.
+    Sign(&'static str),
+    /// The end of the text.
+    End,
+}
+
+/// The signs that stand neither before an operand nor between two.
+const SIGNS: [&str; 9] = ["=", "(", ")", "]", "}", ",", "in", "then", "else"];
+
+/// What could stand at an offset of a text in place of what stands there, where the text is refused
+/// there by X2: each has been tried behind the text before it. Nothing where the levels of
+/// expressions are used up. Takes memory and time for some readings of the text before the offset.
+pub fn expected_at(alloc: Global, text: &str, at: usize) -> Result<Vec<Expected>, NoMemory> {
+    let mut found = Vec::new(alloc);
+    let Some(before) = text.get(..at) else {
+        return Ok(found);
+    };
+    let operand = can_stand(alloc, before, "1")?;
+    if operand {
+        found.push(operand_at(alloc, text, before)?)?;
+    } else if can_stand(alloc, before, "_")? {
+        found.push(Expected::NewName)?;
+    }
+    if can_stand(alloc, before, "*")? {
+        found.push(Expected::Operator)?;
+    }
+    for sign in SIGNS {
+        if !(operand && sign == "(") && can_stand(alloc, before, sign)? {
+            found.push(Expected::Sign(sign))?;
+        }
+    }
+    if is_read(alloc, before)? {
+        found.push(Expected::End)?;
+    }
+    Ok(found)
+}
+
+/// What is said of a place where an operand can stand.
+fn operand_at(alloc: Global, text: &str, before: &str) -> Result<Expected, NoMemory> {
+    if let Some(rest) = text.get(before.len()..) {
+        if let Some(Token::Name(name)) = Cursor::new(alloc, rest).peek() {
+            if !is_reserved(name) {
+                return Ok(Expected::BoundName);
+            }
+        }
+    }
+    if can_stand(alloc, before, "if")? {
+        return Ok(Expected::Expression);
+    }
+    Ok(Expected::Operand)
+}
+
+/// Whether a token could stand behind a text: whether they are read beyond the token's front.
+fn can_stand(alloc: Global, before: &str, token: &str) -> Result<bool, NoMemory> {
+    let tried = format!(in alloc; "{before} {token}")?;
+    match read_expr(alloc, tried.as_str()) {
+        Ok(_) => Ok(true),
+        Err(ExprFault::NoMemory) => Err(NoMemory::NoMemory),
+        Err(
+            ExprFault::NoToken(at)
+            | ExprFault::Unexpected(at)
+            | ExprFault::NumberTooLarge(at)
+            | ExprFault::TooDeep(at),
+        ) => Ok(at > before.len().saturating_add(1)),
+    }
+}
+
+/// Whether a text reads as an expression.
+fn is_read(alloc: Global, text: &str) -> Result<bool, NoMemory> {
+    match read_expr(alloc, text) {
+        Ok(_) => Ok(true),
+        Err(ExprFault::NoMemory) => Err(NoMemory::NoMemory),
+        Err(_) => Ok(false),
+    }
+}
