@@ -1,13 +1,18 @@
 //! Laws of the expression language, each the contract of a function that does nothing, and examples
 //! worked out by hand.
 
-ghost use Rattle.std.specs.Prelude.{◌≡◌, ◌∷◌, [], codes};
+ghost use Rattle.std.specs.Prelude.{◌≡◌, ◌∷◌, ◌++◌, [], Some, None, true, false, codes};
 ghost use Rattle.ag_expr.specs.language.Expression.{ReadsAsExpr};
 ghost use Rattle.ag_expr.specs.language.Laws.{ReadingAgrees, LongestIsCut, NothingIsCut};
 ghost use Rattle.ag_expr.specs.language.Laws.{OneExpression, OneInput};
 ghost use Rattle.ag_expr.specs.language.Laws.{RefusesAtTheFirst};
 ghost use Rattle.ag_expr.specs.language.Tokens.{AreTokens};
+ghost use Rattle.ag_expr.specs.language.Names.{is_reserved, place_in};
+ghost use Rattle.ag_expr.specs.language.Placed.{tokens};
+ghost use Rattle.ag_expr.specs.language.Syntax.{IsExpr};
+ghost use Rattle.ag_expr.specs.language.Until.{first_semicolon, semicolon};
 ghost use Rattle.ag_expr.specs.language.Worked.{occurrence_and_number, sum_and_product};
+ghost use Rattle.ag_expr.specs.language.Worked.{bound_and_compared, let_and_compare};
 
 /// What is read from tokens, to their end, is what the syntax relates to them, and the other way
 /// round.
@@ -50,4 +55,23 @@ pub fn worked_tokens()
 #[tactic(auto, using(crate::proofs::language::Examples::sum_is_read))]
 pub fn worked_expression()
     ensures { ReadsAsExpr (codes "2 + 3 * 4") (sum_and_product, []) }
+{}
+
+/// What `let x = 1 in x < 2` spells, with two levels.
+#[tactic(auto, using(crate::proofs::language::Examples::let_is_spelled))]
+pub fn worked_scope()
+    ensures { IsExpr [] 2 (tokens let_and_compare) bound_and_compared }
+{}
+
+/// A name means its last place, the innermost binding; calls are reserved, and longer names are not.
+pub fn worked_names()
+    ensures hidden { place_in (codes "x" ∷ codes "y" ∷ codes "x" ∷ []) (codes "x") ≡ Some 2 }
+    ensures unbound { place_in (codes "x" ∷ []) (codes "y") ≡ None }
+    ensures reserved { is_reserved (codes "len") ≡ true }
+    ensures free { is_reserved (codes "lens") ≡ false }
+{}
+
+/// The first semicolon of `let x = 1 in x < 2` and two semicolons is the one at 18.
+pub fn worked_semicolon()
+    ensures { first_semicolon (let_and_compare ++ semicolon 18 ∷ semicolon 20 ∷ []) ≡ Some 18 }
 {}

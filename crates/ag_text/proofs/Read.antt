@@ -4,6 +4,7 @@ use Rattle.std.proofs.lemmas.Bool.{ltb-true}
 use Rattle.std.proofs.lemmas.Str.{IsUtf8-from_is_utf8, is_utf8-from_IsUtf8}
 use Rattle.std.specs.Str.{is_utf8}
 use Rattle.std.specs.Str.Lossy.{utf8_valid_len}
+use Rattle.ag_expr.specs.declared.fault.ExprFault.TheVariants as expr
 use Rattle.ag_expr.specs.language.Ending.{Ending, offset_of}
 use Rattle.ag_expr.specs.language.Ending as ending
 use Rattle.ag_expr.specs.language.Placed.{Placed, Input}
@@ -91,7 +92,11 @@ module _ (text : List ℕ) (utf8 : IsUtf8 text) (short : length text ≤ max_len
 
   stopped_at : (s : Stop) (line at : ℕ) → fault_of text s ≡ fault.Unexpected line at → (s ≡ stop.WrongAt at) × (line ≡ line_of text at)
   stopped_at (stop.WrongAt n) line at h = let there : n ≡ at = cc in let counted : line_of text n ≡ line = cc in (ap stop.WrongAt there, sym counted ∙ ap (line_of text) there)
-  stopped_at (stop.InExpr f) line at h = let bad : ⊥ = cc in absurd bad
+  stopped_at (stop.InExpr expr.NoMemory) line at h = let bad : ⊥ = cc in absurd bad
+  stopped_at (stop.InExpr (expr.NoToken n)) line at h = let bad : ⊥ = cc in absurd bad
+  stopped_at (stop.InExpr (expr.Unexpected n)) line at h = let bad : ⊥ = cc in absurd bad
+  stopped_at (stop.InExpr (expr.NumberTooLarge n)) line at h = let bad : ⊥ = cc in absurd bad
+  stopped_at (stop.InExpr (expr.TooDeep n)) line at h = let bad : ⊥ = cc in absurd bad
   stopped_at stop.NoMemory line at h = let bad : ⊥ = cc in absurd bad
 
   first_wrong : (i : Input) (line at : ℕ) (o : Outcome RawGrammar) → grammar_of i ≡ o → answer_of text o ≡ Err (fault.Unexpected line at) → IsFirstWrong i at × (line ≡ line_of text at)
@@ -105,6 +110,26 @@ module _ (text : List ℕ) (utf8 : IsUtf8 text) (short : length text ≤ max_len
   first_of (Err (fault.Expr f)) is = tt
   first_of (Err fault.TooLong) is = tt
   first_of (Err (fault.Unexpected line at)) is = λ i lexes. first_wrong i line at (grammar_of i) refl (is i lexes (λ e. cc))
+
+  never_told : (s : Stop) → fault_of text s ≡ fault.Expr expr.NoMemory → ⊥
+  never_told (stop.WrongAt n) h = cc
+  never_told (stop.InExpr expr.NoMemory) h = cc
+  never_told (stop.InExpr (expr.NoToken n)) h = cc
+  never_told (stop.InExpr (expr.Unexpected n)) h = cc
+  never_told (stop.InExpr (expr.NumberTooLarge n)) h = cc
+  never_told (stop.InExpr (expr.TooDeep n)) h = cc
+  never_told stop.NoMemory h = cc
+
+  never_answered : (o : Outcome RawGrammar) → answer_of text o ≡ Err (fault.Expr expr.NoMemory) → ⊥
+  never_answered (Ok p) h = cc
+  never_answered (Err s) h = let same : fault_of text s ≡ fault.Expr expr.NoMemory = cc in never_told s same
+
+  pub never_of : (r : Result RawGrammar TextFault) → IsReadText text r → IfErr r (λ e. e ≢ fault.Expr expr.NoMemory)
+  never_of (Ok raw) is = tt
+  never_of (Err f) is = λ e.
+      let input = one_input (chars text) in
+      let same : IsReadText text (Err (fault.Expr expr.NoMemory)) = subst (λ x. IsReadText text (Err x)) e is in
+      never_answered (grammar_of input.0) (same input.0 input.1 (λ q. cc))
 
 -- the same in the words of the code
 pub is_text : (text part : List ℕ) → part ≡ text → (r : Result RawGrammar TextFault) → IsReadText part r → IsReadText text r

@@ -3,6 +3,8 @@ use Rattle.std.specs.Prelude.{◌≡◌, ◌≢◌, ◌+◌, ◌==◌, ℕ, nat_
 use Rattle.std.specs.List.{count_by}
 use Rattle.std.specs.Str.{is_utf8}
 use Rattle.std.specs.Str.Lossy.{utf8_valid_len}
+use Rattle.ag_expr.specs.declared.fault.ExprFault.{ExprFault}
+use Rattle.ag_expr.specs.declared.fault.ExprFault.TheVariants as expr
 use Rattle.ag_expr.specs.language.Placed.{Input}
 use Rattle.ag_expr.specs.language.Tokens.{Lexes}
 use Rattle.ag_text.specs.declared.fault.TextFault.{TextFault}
@@ -21,9 +23,14 @@ line_feeds bytes = count_by (λ c. c == 10) bytes
 abbrev pub line_of : List ℕ → ℕ → ℕ
 line_of text at = 1 + line_feeds (take at text)
 
+-- the fault of an expression, which is never for memory
+abbrev pub expr_fault : ExprFault → TextFault
+expr_fault expr.NoMemory = fault.NoMemory
+expr_fault f = fault.Expr f
+
 abbrev pub fault_of : List ℕ → Stop → TextFault
 fault_of text (stop.WrongAt at) = fault.Unexpected (line_of text at) at
-fault_of text (stop.InExpr f) = fault.Expr f
+fault_of text (stop.InExpr f) = expr_fault f
 fault_of text stop.NoMemory = fault.NoMemory
 
 abbrev pub answer_of : List ℕ → Outcome RawGrammar → Result RawGrammar TextFault

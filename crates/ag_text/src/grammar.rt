@@ -1,15 +1,18 @@
 //! Reading a text as a grammar.
 
-ghost use Rattle.std.specs.Prelude.{◌≡◌, IfErr, IfOk};
+ghost use Rattle.std.specs.Prelude.{◌≡◌, ◌≢◌, IfErr, IfOk};
+ghost use Rattle.ag_expr.specs.declared.fault.ExprFault.TheVariants as expr_fault;
 ghost use Rattle.ag_text.specs.Answers as answers;
 ghost use Rattle.ag_text.specs.Answers.{IsFirstOf, IsRead, IsReadText, IsRefused};
 ghost use Rattle.ag_text.specs.Grammar.{ReadsAsGrammar};
+ghost use Rattle.ag_text.specs.declared.fault.TextFault.TheVariants as fault;
 
 use crate::fault::TextFault;
 use crate::parser::whole_grammar;
 use crate::raw::RawGrammar;
 use crate::reader::Reader;
 use crate::stop::Stop;
+use ag_expr::ExprFault;
 use std::alloc::Global;
 
 /// How many bytes a grammar's text has at most.
@@ -45,6 +48,7 @@ fn told(text: &str, stop: Stop) -> TextFault
 {
     match stop {
         Stop::WrongAt(at) => TextFault::Unexpected(line_of(text, at), at),
+        Stop::InExpr(ExprFault::NoMemory) => TextFault::NoMemory,
         Stop::InExpr(fault) => TextFault::Expr(fault),
         Stop::NoMemory => TextFault::NoMemory,
     }
@@ -72,6 +76,7 @@ pub fn read_grammar(alloc: Global, text: &[u8]) -> Result<RawGrammar, TextFault>
     ensures first { IfErr result (λ e. IsFirstOf text.now e) }
     ensures reads { IfOk result (λ raw. ReadsAsGrammar text.now raw) }
     ensures refuses { IfErr result (λ e. IsRefused text.now e) }
+    ensures never { IfErr result (λ e. e ≢ fault.Expr expr_fault.NoMemory) }
 {
     if text.len() > MAX_LENGTH {
         return Err(TextFault::TooLong);

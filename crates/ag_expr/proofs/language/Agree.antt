@@ -22,7 +22,7 @@ use Rattle.ag_expr.specs.language.Reading as reading
 use Rattle.ag_expr.specs.language.Reading.{expr_of, at_end, pure, is_end, refusal, Parser, is_sign, is_call, is_operand, is_operator_of, begins, begins_atom, other_from, chain_from, ranked_from, none_from, table_from, parenthesized_from, next_from, items_from, some_from, list_from, unary_from, binary_from, put_from, arguments_from, call_from, let_from, if_from, atom_from, whole_from, expr_from, expr_in}
 use Rattle.ag_expr.specs.language.Token.{Token, Sign, mark, word, sign_token}
 use Rattle.ag_expr.specs.language.Token as token
-use Rattle.ag_expr.proofs.language.Exact.{Leads, Starts, Exact, nowhere, Apart, before, then_exact, or_exact, further_exact, further_behind, further_then, token_exact, sign_exact, sign_is, token_starts, then_starts, starts_with, ends_exact, token_then, start_then, or_starts, opened, answered}
+use Rattle.ag_expr.proofs.language.Exact.{Leads, Starts, Exact, nowhere, Apart, before, then_exact, or_exact, further_exact, further_behind, further_then, token_exact, sign_exact, sign_is, token_starts, then_starts, starts_with, ends_exact, token_then, start_then, First, sign_first, or_first, or_exact, opened, answered}
 
 -- ---- precedences
 
@@ -105,30 +105,6 @@ call_apart listed scope (token.Text bytes) h = let bad : ⊥ = cc in absurd bad
 call_apart listed scope (token.Occurrence place attr) h = let bad : ⊥ = cc in absurd bad
 call_apart listed scope (token.Punctuation m) h = let bad : ⊥ = cc in absurd bad
 
--- ---- first tokens
-
-module _ (listed : List Occ) (inner : Names → List Token → Node → Type 0) (scope : Names) where
-  call_starts : Starts is_call (IsCall inner scope)
-  call_starts = then_starts (token_starts call_in)
-
-  table_starts : Starts (λ t. is_sign (mark punctuation.OpenTable) t || (is_call t || is_operand listed scope t)) (IsTable or IsCall inner scope or token_as (operand_of listed scope))
-  table_starts = or_starts (starts_with (mark punctuation.OpenTable)) (or_starts call_starts (token_starts (operand_of listed scope)))
-
-  list_starts : Starts (λ t. is_sign (mark punctuation.OpenList) t || (is_sign (mark punctuation.OpenTable) t || (is_call t || is_operand listed scope t))) (IsList inner scope or IsTable or IsCall inner scope or token_as (operand_of listed scope))
-  list_starts = or_starts (starts_with (mark punctuation.OpenList)) table_starts
-
-  atom_starts : Starts (begins_atom listed scope) (IsAtom inner scope listed)
-  atom_starts = or_starts (starts_with (mark punctuation.Open)) list_starts
-
-  if_starts : Starts (λ t. is_sign (word (codes "if")) t || begins_atom listed scope t) (IsIf inner scope or IsRanked (IsAtom inner scope listed) precedences)
-  if_starts = or_starts (starts_with (word (codes "if"))) (ranked_starts atom_starts precedences)
-
-  whole_starts : Starts (begins listed scope) (IsWhole inner scope listed)
-  whole_starts = or_starts (starts_with (word (codes "let"))) if_starts
-
-  pub next_starts : Starts (is_sign (mark punctuation.Comma)) (IsNext inner scope)
-  next_starts = starts_with (mark punctuation.Comma)
-
 -- ---- expressions
 
 none_exact : Exact nowhere AreNone none_from
@@ -139,7 +115,7 @@ table_exact : Exact nowhere IsTable table_from
 unfolding table_from
 table_exact = token_then (sign_exact (mark punctuation.OpenTable)) (λ u. ends_exact (λ u. node.EmptyTable) (sign_exact (mark punctuation.CloseTable)))
 
-module _ (listed : List Occ) (inner : Names → List Token → Node → Type 0) (read : Names → Parser Node) (x : (scope : Names) → Exact operators (inner scope) (read scope)) (starts : (scope : Names) → Starts (begins listed scope) (inner scope)) (scope : Names) where
+module _ (listed : List Occ) (inner : Names → List Token → Node → Type 0) (read : Names → Parser Node) (x : (scope : Names) → First (begins listed scope) operators (inner scope) (read scope)) (scope : Names) where
   comma : Apart (is_sign (mark punctuation.Comma)) operators
   comma = sign_apart (mark punctuation.Comma) operators refl
 
@@ -150,28 +126,31 @@ module _ (listed : List Occ) (inner : Names → List Token → Node → Type 0) 
 
   parenthesized_exact : Exact nowhere (IsParenthesized inner scope) (parenthesized_from read scope)
   unfolding parenthesized_from
-  parenthesized_exact = token_then (sign_exact (mark punctuation.Open)) (λ u. closed (λ e. e) (x scope))
+  parenthesized_exact = token_then (sign_exact (mark punctuation.Open)) (λ u. closed (λ e. e) (x scope).exact)
+
+  pub next_starts : Starts (is_sign (mark punctuation.Comma)) (IsNext inner scope)
+  next_starts = starts_with (mark punctuation.Comma)
 
   pub next_exact : Exact operators (IsNext inner scope) (next_from read scope)
   unfolding next_from
-  next_exact = token_then (sign_exact (mark punctuation.Comma)) (λ u. x scope)
+  next_exact = token_then (sign_exact (mark punctuation.Comma)) (λ u. (x scope).exact)
 
   some_exact : Exact nowhere (AreSome inner scope) (some_from read scope)
   unfolding some_from items_from
   some_exact =
-      then_exact (x scope) (λ first. start_then (further_exact false (first ∷ []) next_exact (next_starts listed inner scope) comma) (λ items. ends_exact (λ u. node.List items) (sign_exact (mark punctuation.CloseList))) (λ items. starts_with (mark punctuation.CloseList)) (sign_apart (mark punctuation.CloseList) _ refl))
-      (λ first. further_then false (first ∷ []) (is_sign (mark punctuation.Comma)) operators nowhere (next_starts listed inner scope) comma (λ items. starts_with (mark punctuation.CloseList)) (sign_apart (mark punctuation.CloseList) operators refl))
+      then_exact (x scope).exact (λ first. start_then (further_exact false (first ∷ []) next_exact next_starts comma) (λ items. ends_exact (λ u. node.List items) (sign_exact (mark punctuation.CloseList))) (λ items. starts_with (mark punctuation.CloseList)) (sign_apart (mark punctuation.CloseList) _ refl))
+      (λ first. further_then false (first ∷ []) (is_sign (mark punctuation.Comma)) operators nowhere next_starts comma (λ items. starts_with (mark punctuation.CloseList)) (sign_apart (mark punctuation.CloseList) operators refl))
 
   list_exact : Exact nowhere (IsList inner scope) (list_from read scope)
   unfolding list_from
-  list_exact = token_then (sign_exact (mark punctuation.OpenList)) (λ u. or_exact none_exact some_exact (starts_with (mark punctuation.CloseList)) (then_starts (starts scope)) (sign_apart (mark punctuation.CloseList) (begins listed scope) refl))
+  list_exact = token_then (sign_exact (mark punctuation.OpenList)) (λ u. or_exact none_exact some_exact (starts_with (mark punctuation.CloseList)) (then_starts (x scope).starts) (sign_apart (mark punctuation.CloseList) (begins listed scope) refl))
 
   arguments_exact : (c : Call) → Exact nowhere (AreArguments inner scope c) (arguments_from read scope c)
   unfolding unary_from binary_from put_from
-  arguments_exact (call.Unary c) = closed (λ a. node.Unary c a) (x scope)
-  arguments_exact (call.Binary c) = start_then (x scope) (λ a. closed (λ b. node.Binary c a b) next_exact) (λ a. then_starts (next_starts listed inner scope)) comma
+  arguments_exact (call.Unary c) = closed (λ a. node.Unary c a) (x scope).exact
+  arguments_exact (call.Binary c) = start_then (x scope).exact (λ a. closed (λ b. node.Binary c a b) next_exact) (λ a. then_starts next_starts) comma
   arguments_exact call.Put =
-      start_then (x scope) (λ t. start_then next_exact (λ k. closed (λ v. node.Put t k v) next_exact) (λ k. then_starts (next_starts listed inner scope)) comma) (λ t. then_starts (next_starts listed inner scope)) comma
+      start_then (x scope).exact (λ t. start_then next_exact (λ k. closed (λ v. node.Put t k v) next_exact) (λ k. then_starts next_starts) comma) (λ t. then_starts next_starts) comma
 
   call_exact : Exact nowhere (IsCall inner scope) (call_from read scope)
   unfolding call_from
@@ -179,41 +158,40 @@ module _ (listed : List Occ) (inner : Names → List Token → Node → Type 0) 
 
   let_exact : Exact operators (IsLet inner scope) (let_from read scope)
   unfolding let_from
-  let_exact = token_then (sign_exact (word (codes "let"))) (λ u. token_then (token_exact new_name) (λ name. token_then (sign_exact (mark punctuation.Equal)) (λ u. start_then (x scope)
-      (λ e. token_then (sign_exact (word (codes "in"))) (λ u. ends_exact (node.Let e) (x (scope ++ name ∷ []))))
+  let_exact = token_then (sign_exact (word (codes "let"))) (λ u. token_then (token_exact new_name) (λ name. token_then (sign_exact (mark punctuation.Equal)) (λ u. start_then (x scope).exact
+      (λ e. token_then (sign_exact (word (codes "in"))) (λ u. ends_exact (node.Let e) (x (scope ++ name ∷ [])).exact))
       (λ e. starts_with (word (codes "in"))) (sign_apart (word (codes "in")) operators refl))))
 
   if_exact : Exact operators (IsIf inner scope) (if_from read scope)
   unfolding if_from
-  if_exact = token_then (sign_exact (word (codes "if"))) (λ u. start_then (x scope)
-      (λ c. token_then (sign_exact (word (codes "then"))) (λ u. start_then (x scope)
-      (λ e. token_then (sign_exact (word (codes "else"))) (λ u. ends_exact (node.If c e) (x scope)))
+  if_exact = token_then (sign_exact (word (codes "if"))) (λ u. start_then (x scope).exact
+      (λ c. token_then (sign_exact (word (codes "then"))) (λ u. start_then (x scope).exact
+      (λ e. token_then (sign_exact (word (codes "else"))) (λ u. ends_exact (node.If c e) (x scope).exact))
       (λ e. starts_with (word (codes "else"))) (sign_apart (word (codes "else")) operators refl)))
       (λ c. starts_with (word (codes "then"))) (sign_apart (word (codes "then")) operators refl))
 
-  pub atom_exact : Exact nowhere (IsAtom inner scope listed) (atom_from read scope listed)
+  atom_first : First (begins_atom listed scope) nowhere (IsAtom inner scope listed) (atom_from read scope listed)
   unfolding atom_from
-  atom_exact = or_exact parenthesized_exact (or_exact list_exact (or_exact table_exact
-      (or_exact call_exact (token_exact (operand_of listed scope)) (call_starts listed inner scope) (token_starts (operand_of listed scope)) (call_apart listed scope))
-      (starts_with (mark punctuation.OpenTable)) (or_starts (call_starts listed inner scope) (token_starts (operand_of listed scope))) (sign_apart (mark punctuation.OpenTable) _ refl))
-      (starts_with (mark punctuation.OpenList)) (table_starts listed inner scope) (sign_apart (mark punctuation.OpenList) _ refl))
-      (starts_with (mark punctuation.Open)) (list_starts listed inner scope) (sign_apart (mark punctuation.Open) _ refl)
+  atom_first = or_first (sign_first (mark punctuation.Open) parenthesized_exact) (or_first (sign_first (mark punctuation.OpenList) list_exact) (or_first (sign_first (mark punctuation.OpenTable) table_exact)
+      (or_first (record { starts = then_starts (token_starts call_in); exact = call_exact }) (record { starts = token_starts (operand_of listed scope); exact = token_exact (operand_of listed scope) }) (call_apart listed scope))
+      (sign_apart (mark punctuation.OpenTable) _ refl)) (sign_apart (mark punctuation.OpenList) _ refl)) (sign_apart (mark punctuation.Open) _ refl)
 
-  whole_exact : Exact operators (IsWhole inner scope listed) (whole_from read scope listed)
+  pub atom_exact : Exact nowhere (IsAtom inner scope listed) (atom_from read scope listed)
+  atom_exact = atom_first.exact
+
+  whole_first : First (begins listed scope) operators (IsWhole inner scope listed) (whole_from read scope listed)
   unfolding whole_from
-  whole_exact = or_exact let_exact
-      (or_exact if_exact (ranked_exact atom_exact precedences (all_apart precedences refl)) (starts_with (word (codes "if"))) (ranked_starts (atom_starts listed inner scope) precedences) (sign_apart (word (codes "if")) (begins_atom listed scope) refl))
-      (starts_with (word (codes "let"))) (if_starts listed inner scope) (sign_apart (word (codes "let")) _ refl)
+  whole_first = or_first (sign_first (word (codes "let")) let_exact)
+      (or_first (sign_first (word (codes "if")) if_exact) (record { starts = ranked_starts atom_first.starts precedences; exact = ranked_exact atom_first.exact precedences (all_apart precedences refl) }) (sign_apart (word (codes "if")) (begins_atom listed scope) refl))
+      (sign_apart (word (codes "let")) _ refl)
 
-pub expr_starts : (listed : List Occ) (levels : ℕ) (scope : Names) → Starts (begins listed scope) (IsExprIn listed levels scope)
-unfolding IsExprIn
-expr_starts listed zero scope = record { leads = λ ts e h. absurd h }
-expr_starts listed (suc levels) scope = whole_starts listed (IsExprIn listed levels) scope
+pub expr_first : (listed : List Occ) (levels : ℕ) (scope : Names) → First (begins listed scope) operators (IsExprIn listed levels scope) (expr_in listed levels scope)
+unfolding expr_in IsExprIn
+expr_first listed zero scope = record { starts = record { leads = λ ts e h. absurd h }; exact = record { sound = λ i j e h. (let bad : ⊥ = cc in absurd bad); complete = λ us j e h. absurd h } }
+expr_first listed (suc levels) scope = whole_first listed (IsExprIn listed levels) (expr_in listed levels) (expr_first listed levels) scope
 
 pub expr_exact : (listed : List Occ) (levels : ℕ) (scope : Names) → Exact operators (IsExprIn listed levels scope) (expr_in listed levels scope)
-unfolding expr_in IsExprIn
-expr_exact listed zero scope = record { sound = λ i j e h. (let bad : ⊥ = cc in absurd bad); complete = λ us j e h. absurd h }
-expr_exact listed (suc levels) scope = whole_exact listed (IsExprIn listed levels) (expr_in listed levels) (expr_exact listed levels) (expr_starts listed levels) scope
+expr_exact listed levels scope = (expr_first listed levels scope).exact
 
 -- what is left is shorter
 pub shortens : {A : Type 0} {stops test : Token → Bool} {L : List Token → A → Type 0} {r : Parser A} → Exact stops L r → Starts test L → (i j : Input) (a : A) → r i ≡ Ok (a, j) → length j.left < length i.left
@@ -231,11 +209,11 @@ closer_apart precedence.Product = tt
 
 pub other_shortens : (listed : List Occ) (levels : ℕ) (scope : Names) (k : Precedence) (i j : Input) (a : Operator × Node) → other_from k (ranked_from (atom_from (expr_in listed levels) scope listed) (closer k)) i ≡ Ok (a, j) → length j.left < length i.left
 other_shortens listed levels scope k =
-    let atom = atom_exact listed (IsExprIn listed levels) (expr_in listed levels) (expr_exact listed levels) (expr_starts listed levels) scope in
+    let atom = atom_exact listed (IsExprIn listed levels) (expr_in listed levels) (expr_first listed levels) scope in
     shortens (other_exact k (ranked_exact atom (closer k) (closer_apart k))) (other_starts k (IsRanked (IsAtom (IsExprIn listed levels) scope listed) (closer k)))
 
 pub next_shortens : (listed : List Occ) (levels : ℕ) (scope : Names) (i j : Input) (a : Node) → next_from (expr_in listed levels) scope i ≡ Ok (a, j) → length j.left < length i.left
-next_shortens listed levels scope = shortens (next_exact listed (IsExprIn listed levels) (expr_in listed levels) (expr_exact listed levels) (expr_starts listed levels) scope) (next_starts listed (IsExprIn listed levels) scope)
+next_shortens listed levels scope = shortens (next_exact listed (IsExprIn listed levels) (expr_in listed levels) (expr_first listed levels) scope) (next_starts listed (IsExprIn listed levels) (expr_in listed levels) (expr_first listed levels) scope)
 
 end_left : (e : Ending) (ps : List Placed) → is_end e ps ≡ true → (at : ℕ) × (e ≡ ending.EndsAt at) × (ps ≡ [])
 end_left (ending.EndsAt n) [] h = (n, refl, refl)

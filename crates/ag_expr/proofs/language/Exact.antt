@@ -338,3 +338,15 @@ token_then x y = then_exact x y (λ a vs rest b is h. anywhere (vs ++ rest))
 pub start_then : {A B : Type 0} {these inner stops : Token → Bool} {R : List Token → A → Type 0} {S : A → List Token → B → Type 0} {r : Parser A} {s : A → Parser B}
     → Exact inner R r → ((a : A) → Exact stops (S a) (s a)) → ((a : A) → Starts these (S a)) → Apart these inner → Exact stops (syntax.◌>>=◌ R S) (reading.◌>>=◌ r s)
 start_then {these = these} {inner = inner} x y starts apart = then_exact x y (λ a vs rest b is h. led these inner apart (vs ++ rest) (leads-append these vs rest ((starts a).leads vs b is)))
+
+-- ---- a form with its first tokens
+
+pub record First {A : Type 0} (test stops : Token → Bool) (L : List Token → A → Type 0) (r : Parser A) : Type 0 where
+  pub starts : Starts test L
+  pub exact : Exact stops L r
+
+pub sign_first : {B : Type 0} {stops : Token → Bool} {S : Unit {0} → List Token → B → Type 0} {r : Parser B} (s : Sign) → Exact stops (syntax.◌>>=◌ (spelled s) S) r → First (is_sign s) stops (syntax.◌>>=◌ (spelled s) S) r
+sign_first s x = record { starts = starts_with s; exact = x }
+
+pub or_first : {A : Type 0} {test those stops : Token → Bool} {L M : List Token → A → Type 0} {l m : Parser A} → First test stops L l → First those stops M m → Apart test those → First (λ t. test t || those t) stops (syntax.◌or◌ L M) (choose test l m)
+or_first x y apart = record { starts = or_starts x.starts y.starts; exact = or_exact x.exact y.exact x.starts y.starts apart }

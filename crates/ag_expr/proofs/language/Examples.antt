@@ -5,14 +5,15 @@ use Rattle.std.specs.Str.{chars}
 use Rattle.unicode_ident.proofs.IdentLemmas.{is_xid_start-ascii, is_xid_continue-ascii}
 use Rattle.ag_expr.specs.declared.token.Punctuation.TheVariants as punctuation
 use Rattle.ag_expr.specs.language.Ending as ending
-use Rattle.ag_expr.specs.language.Placed.{Placed}
+use Rattle.ag_expr.specs.language.Placed.{Placed, tokens}
 use Rattle.ag_expr.specs.language.Token.{Token}
 use Rattle.ag_expr.specs.language.Token as token
 use Rattle.ag_expr.specs.language.Tokens.{AreTokens, ended, separator}
 use Rattle.ag_expr.specs.language.Lexing.{token_from}
-use Rattle.ag_expr.specs.language.Reading.{expr_of, expr_in, whole_from, ranked_from, chain_from, other_from, atom_from, many_from}
+use Rattle.ag_expr.specs.language.Reading.{expr_of, expr_in, whole_from, let_from, ranked_from, chain_from, other_from, atom_from, many_from}
 use Rattle.ag_expr.specs.language.Expression.{ReadsAsExpr}
-use Rattle.ag_expr.specs.language.Worked.{placed, sum_and_product}
+use Rattle.ag_expr.specs.language.Syntax.{IsExpr}
+use Rattle.ag_expr.specs.language.Worked.{placed, sum_and_product, let_and_compare, bound_and_compared}
 use Rattle.ag_expr.proofs.language.Agree as agree
 use Rattle.ag_expr.proofs.language.Lexed.{one_more}
 use Rattle.ag_expr.proofs.language.TokenLaws.{no_start, punctuation_cut}
@@ -77,3 +78,10 @@ sum_is_read = record {
   listed = refl;
   spells = (agree.exact [] 64 9 sum_tokens sum_and_product).0 sum_is_parsed;
 }
+
+let_is_parsed : expr_of [] 2 (record { left = let_and_compare; ending = ending.EndsAt 18 }) ≡ Ok (bound_and_compared, record { left = []; ending = ending.EndsAt 18 })
+unfolding expr_of expr_in whole_from let_from ranked_from chain_from other_from atom_from many_from
+let_is_parsed = refl
+
+pub let_is_spelled : IsExpr [] 2 (tokens let_and_compare) bound_and_compared
+let_is_spelled = (agree.exact [] 2 18 let_and_compare bound_and_compared).0 let_is_parsed

@@ -26,8 +26,8 @@ use Rattle.ag_expr.specs.language.Syntax as syntax
 use Rattle.ag_expr.specs.language.Syntax.{gives, spelled, token_as, ◌or◌, none, further, IsFew, operator_of, precedences, takes_one, chained, new_name, call_in, operand_of, bound_in, IsOther, IsChain, IsRanked, AreNone, IsTable, IsParenthesized, IsNext, AreSome, IsList, AreArguments, IsCall, IsLet, IsIf, IsAtom, IsWhole, IsExpr, IsExprIn}
 use Rattle.ag_expr.specs.language.Token.{Token, Sign, mark, word, sign_token}
 use Rattle.ag_expr.specs.language.Token as token
-use Rattle.ag_expr.proofs.language.Exact.{tokens-append, answered, before, Exact, Starts, nowhere, neither, sign_is}
-use Rattle.ag_expr.proofs.language.Agree.{AllApart, operators, other_exact, other_starts, ranked_exact, all_apart, next_exact, next_starts, atom_exact, expr_exact, expr_starts, shortens}
+use Rattle.ag_expr.proofs.language.Exact.{tokens-append, answered, before, Exact, First, nowhere, neither, sign_is}
+use Rattle.ag_expr.proofs.language.Agree.{AllApart, operators, other_exact, other_starts, ranked_exact, all_apart, next_exact, next_starts, atom_exact, expr_exact, expr_first, shortens}
 use Rattle.ag_expr.proofs.language.Steady.{Steady, Heads, Refused, Stuck, Deep, then_steady, or_steady, ends_steady, token_steady, sign_steady, further_steady}
 
 -- ---- chains
@@ -63,8 +63,7 @@ table_steady = then_steady (sign_steady (mark punctuation.OpenTable)) (λ u. end
 
 module _ (listed : List Occ)
     (inner outer : Names → List Token → Node → Type 0) (r q : Names → Parser Node)
-    (y : (scope : Names) → Exact operators (inner scope) (r scope)) (ys : (scope : Names) → Starts (begins listed scope) (inner scope))
-    (z : (scope : Names) → Exact operators (outer scope) (q scope)) (zs : (scope : Names) → Starts (begins listed scope) (outer scope))
+    (y : (scope : Names) → First (begins listed scope) operators (inner scope) (r scope)) (z : (scope : Names) → First (begins listed scope) operators (outer scope) (q scope))
     (x : (scope : Names) → Steady (outer scope) (r scope) (q scope)) (scope : Names) where
   closed : {R : List Token → Node → Type 0} {s t : Parser Node} (m : Sign) (f : Node → Node) → Steady R s t
       → Steady (syntax.◌>>=◌ R (λ e. syntax.◌>>◌ (spelled m) (gives (f e)))) (reading.◌>>=◌ s (λ e. reading.◌>>◌ (expect m) (reading.pure (f e)))) (reading.◌>>=◌ t (λ e. reading.◌>>◌ (expect m) (reading.pure (f e))))
@@ -82,7 +81,7 @@ module _ (listed : List Occ)
   unfolding some_from items_from
   some_steady =
       then_steady (x scope) (λ first. then_steady (further_steady false (is_sign (mark punctuation.Comma)) (first ∷ []) next_steady
-      (shortens (next_exact listed inner r y ys scope) (next_starts listed inner scope)) (shortens (next_exact listed outer q z zs scope) (next_starts listed outer scope)))
+      (shortens (next_exact listed inner r y scope) (next_starts listed inner r y scope)) (shortens (next_exact listed outer q z scope) (next_starts listed outer q z scope)))
       (λ items. ends_steady (λ u. node.List items) (sign_steady (mark punctuation.CloseList))))
 
   list_steady : Steady (IsList outer scope) (list_from r scope) (list_from q scope)
@@ -115,7 +114,7 @@ module _ (listed : List Occ)
 
   whole_steady : Steady (IsWhole outer scope listed) (whole_from r scope listed) (whole_from q scope listed)
   unfolding whole_from
-  whole_steady = or_steady let_steady (or_steady if_steady (ranked_steady atom_steady (atom_exact listed inner r y ys scope) (atom_exact listed outer q z zs scope) precedences (all_apart precedences refl)))
+  whole_steady = or_steady let_steady (or_steady if_steady (ranked_steady atom_steady (atom_exact listed inner r y scope) (atom_exact listed outer q z scope) precedences (all_apart precedences refl)))
 
 -- ---- words, and words for each first token
 
@@ -294,7 +293,7 @@ expr_steady listed d zero scope = record { at = λ i. record { ok = λ j a h. (l
             record { us = []; j = record { left = p ∷ ps; ending = e }; cut = refl; rest = p.token ∷ w.0; a = w.1; begins = w.2; how = inr (p, ps, refl, same, begins_one listed scope p.token b, refl, λ k e. (no_level_of listed scope k.ending k.left, refl)) }
         first false b same = stuck (record { left = p ∷ ps; ending = e }) f same b
 expr_steady listed d (suc n) scope =
-    whole_steady listed (IsExprIn listed n) (IsExprIn listed (above d n)) (expr_in listed n) (expr_in listed (above d n)) (expr_exact listed n) (expr_starts listed n) (expr_exact listed (above d n)) (expr_starts listed (above d n)) (expr_steady listed d n) scope
+    whole_steady listed (IsExprIn listed n) (IsExprIn listed (above d n)) (expr_in listed n) (expr_in listed (above d n)) (expr_first listed n) (expr_first listed (above d n)) (expr_steady listed d n) scope
 
 up : (listed : List Occ) (d n : ℕ) (i j : Input) (e : Node) → expr_from listed n i ≡ Ok (e, j) → expr_from listed (above d n) i ≡ Ok (e, j)
 up listed d n i j e h = let one = ((expr_steady listed d n []).at i).ok j e h in ap (expr_from listed (above d n)) one.1 ∙ (one.3 j refl).1

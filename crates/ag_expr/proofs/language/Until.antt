@@ -1,5 +1,5 @@
 -- An expression that is read up to a semicolon: the text before it is read as one that ends there.
-use Rattle.std.proofs.Common.{◌≡◌, ◌≢◌, ℕ, ◌+◌, ◌-◌, Bool, true, false, cond, List, [], ◌∷◌, ◌++◌, length, take, drop, Option, Some, None, Result, Ok, Err, IfOk, IfErr, chars, IsUtf8, encode_utf8_all, refl, ap, sym, ◌∙◌, subst, arith, append_assoc, length-append}
+use Rattle.std.proofs.Common.{◌≡◌, ℕ, ◌+◌, ◌-◌, Bool, true, false, cond, List, [], ◌∷◌, ◌++◌, length, take, drop, Option, Some, None, Result, Ok, Err, IfOk, IfErr, chars, IsUtf8, encode_utf8_all, refl, ap, sym, ◌∙◌, subst, arith, append_assoc, length-append}
 use Rattle.std.proofs.lemmas.Bool.{and_parts}
 use Rattle.std.proofs.lemmas.List.{drop-take, length-take-le}
 use Rattle.std.proofs.lemmas.Str.{IsCharBoundary-at_seam, IsCharBoundary-from_drop, IsCharBoundary-from_rest, IsUtf8-drop, IsUtf8-take, chars-encodes, encodes-append, encodes-chars, scalars-chars}
@@ -22,9 +22,8 @@ use Rattle.ag_expr.specs.language.Syntax.{IsExpr}
 use Rattle.ag_expr.specs.language.Places.{IsReadFrom, read_from}
 use Rattle.ag_expr.specs.language.Reading.{front, front_is, sees, is_sign, ending_fault}
 use Rattle.ag_expr.specs.language.Token.{Token, mark}
-use Rattle.ag_expr.specs.language.Token as token
 use Rattle.ag_expr.specs.language.Tokens.{AreTokens, ended, separator, word, IsLongest, Lexes, all_within, is_within, width}
-use Rattle.ag_expr.specs.language.Until.{Ended, first_semicolon, before_semicolon, with_offset, or_fault, until_by, read_until_from, IsReadUntil, ReadsUntil, IsRefusedUntil}
+use Rattle.ag_expr.specs.language.Until.{Ended, semicolon, first_semicolon, before_semicolon, with_offset, or_fault, until_by, read_until_from, IsReadUntil, ReadsUntil, IsRefusedUntil}
 use Rattle.ag_expr.proofs.language.Exact.{sign_is}
 use Rattle.ag_expr.proofs.language.Lexed.{separator_width, width-append, width-chars, width-encoded}
 use Rattle.ag_expr.proofs.language.Texts.{starts, only, fits_at, ends_wide, spells_of, spelled_back}
@@ -33,9 +32,6 @@ use Rattle.ag_expr.proofs.language.Texts.{starts, only, fits_at, ends_wide, spel
 
 abbrev is_semicolon : Token → Bool
 is_semicolon = is_sign (mark punctuation.Semicolon)
-
-abbrev semicolon : ℕ → Placed
-semicolon at = record { at = at; token = token.Punctuation punctuation.Semicolon }
 
 -- where there is one, the tokens are those before it, it, and others
 split_first : (qs : List Placed) (at : ℕ) → first_semicolon qs ≡ Some at → (ps : List Placed) × (qs ≡ before_semicolon qs ++ semicolon at ∷ ps) × (first_semicolon (before_semicolon qs) ≡ None)
@@ -237,21 +233,14 @@ module _ (text : List ℕ) (from : ℕ) (utf8 : IsUtf8 text) (from_here : IsChar
   reads_until (Ok x) is = reads_by x (first_semicolon j.left) refl (is j lexes (λ q. cc))
   reads_until (Err e) is = tt
 
-  none_until : (e : ExprFault) → e ≢ fault.NoMemory → IsReadUntil text from (Err e) → (x : Ended) → ReadsUntil text from x → ⊥
-  none_until e memory is x reads =
+  pub refuses_until : (r : Result Ended ExprFault) → IsReadUntil text from r → IfErr r (IsRefusedUntil text from)
+  refuses_until (Ok x) is = tt
+  refuses_until (Err e) is = λ memory x reads.
       let found = found_first reads.placed x.1 reads.rest reads.first in
       let k : Input = record { left = reads.placed ++ semicolon x.1 ∷ reads.rest; ending = reads.ending } in
       let back = ap (λ o. until_by o k) found.0 ∙ ap (λ ps. with_offset x.1 (read_from (record { left = ps; ending = ending.EndsAt x.1 }))) found.1 ∙ ap (with_offset x.1) (spelled_back reads.placed x.1 x.0 reads.listed reads.spells) in
       let clash = sym (is k reads.lexes (λ q. memory cc)) ∙ back in
       cc
-
-  pub refuses_until : (r : Result Ended ExprFault) → IsReadUntil text from r → IfErr r (IsRefusedUntil text from)
-  refuses_until (Ok x) is = tt
-  refuses_until (Err fault.NoMemory) is = tt
-  refuses_until (Err (fault.NoToken at)) is = none_until _ (λ e. cc) is
-  refuses_until (Err (fault.Unexpected at)) is = none_until _ (λ e. cc) is
-  refuses_until (Err (fault.NumberTooLarge at)) is = none_until _ (λ e. cc) is
-  refuses_until (Err (fault.TooDeep at)) is = none_until _ (λ e. cc) is
 
 -- a fault that is answered
 pub answered : (text : List ℕ) (from : ℕ) (r : Result Ended ExprFault) (e : ExprFault) → IsErrAnd r (λ x. x ≡ e) → IsReadUntil text from (Err e) → IsReadUntil text from r

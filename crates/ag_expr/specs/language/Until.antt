@@ -21,6 +21,10 @@ use Rattle.ag_expr.specs.language.Tokens.{Lexes}
 abbrev pub Ended : Type 0
 Ended = (Node × List Occ) × ℕ
 
+-- a semicolon at an offset
+abbrev pub semicolon : ℕ → Placed
+semicolon at = record { at = at; token = token.Punctuation punctuation.Semicolon }
+
 -- the offset of the first semicolon among tokens, and the tokens before it
 abbrev pub first_semicolon : List Placed → Option ℕ
 first_semicolon [] = None
@@ -58,12 +62,11 @@ pub record ReadsUntil (text : List ℕ) (from : ℕ) (x : Ended) : Type 0 where
   pub placed : List Placed
   pub rest : List Placed
   pub ending : Ending
-  pub lexes : Lexes from (chars (drop from text)) (record { left = placed ++ record { at = x.1; token = token.Punctuation punctuation.Semicolon } ∷ rest; ending = ending })
+  pub lexes : Lexes from (chars (drop from text)) (record { left = placed ++ semicolon x.1 ∷ rest; ending = ending })
   pub first : first_semicolon placed ≡ None
   pub listed : x.0.1 ≡ different (all_occurrences placed)
   pub spells : IsExpr x.0.1 max_levels (tokens placed) x.0.0
 
 -- what a refusal says of the text: that no expression stands there up to a semicolon, unless memory ran out
 abbrev pub IsRefusedUntil : List ℕ → ℕ → ExprFault → Type 0
-IsRefusedUntil text from fault.NoMemory = Unit {0}
-IsRefusedUntil text from e = (x : Ended) → ReadsUntil text from x → ⊥
+IsRefusedUntil text from e = e ≢ fault.NoMemory → (x : Ended) → ReadsUntil text from x → ⊥

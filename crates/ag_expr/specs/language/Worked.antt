@@ -35,3 +35,12 @@ past_the_greatest = node.Chain (node.Literal (value.Num (pos 9223372036854775807
 -- `1 div 0`
 abbrev pub by_zero : Node
 by_zero = node.Chain (node.Literal (value.Num (pos 1))) ((operator.Divide, node.Literal (value.Num (pos 0))) ∷ [])
+
+-- the tokens of `let x = 1 in x < 2`, with their offsets, and its tree
+abbrev pub let_and_compare : List Placed
+let_and_compare =
+    placed 0 (token.Name (codes "let")) ∷ placed 4 (token.Name (codes "x")) ∷ placed 6 (token.Punctuation punctuation.Equal) ∷ placed 8 (token.Number (pos 1)) ∷ placed 10 (token.Name (codes "in")) ∷ placed 13 (token.Name (codes "x"))
+    ∷ placed 15 (token.Punctuation punctuation.Less) ∷ placed 17 (token.Number (pos 2)) ∷ []
+
+abbrev pub bound_and_compared : Node
+bound_and_compared = node.Let (node.Literal (value.Num (pos 1))) (node.Chain (node.Bound 0) ((operator.Less, node.Literal (value.Num (pos 2))) ∷ []))

@@ -1,7 +1,10 @@
 //! The whole language by hand: what is read, and at which place the rest is refused.
 
 use super::fault_of_text;
-use ag_expr::{ExprFault, occurrences, read_expr, read_until};
+use ag_expr::{
+    Cursor, Expected, ExprFault, Punctuation, Token, expected_at, occurrences, read_expr,
+    read_until, unescaped,
+};
 use std::alloc::{Alloc, Global};
 use std::process::Abort;
 use std::test::Fail;
@@ -134,7 +137,7 @@ fn levels(rt: HostRuntime) -> Result<(), Fail> {
         ("len(", ")", 256),
         ("put({},\"k\",", ")", 697),
         ("if ", " then 1 else 1", 192),
-        ("let x = 1 in ", "", 832),
+        ("let x = 1 in ", "", 827),
         ("let x = ", " in 1", 512),
     ] {
         let most = nested(&rt, 63, front, back)?;
@@ -169,5 +172,69 @@ fn up_to_a_semicolon(rt: HostRuntime) -> Result<(), Fail> {
         return Err(Fail::from("it is read"));
     };
     assert_eq!(rt; found, ExprFault::Unexpected(5));
+    Ok(())
+}
+
+#[test]
+fn tokens_one_by_one(rt: HostRuntime) -> Result<(), Fail> {
+    let mut cursor = Cursor::new(rt.alloc(), "\tlet a = \"b\\n\" ;");
+    assert!(rt; cursor.sees_word("let"));
+    assert_eq!(rt; cursor.new_name(), Err(ExprFault::Unexpected(1)));
+    cursor.expect_word("let")?;
+    assert_eq!(rt; cursor.expect_word("let"), Err(ExprFault::Unexpected(5)));
+    assert_eq!(rt; cursor.new_name()?, "a");
+    assert_eq!(rt;
+        cursor.expect(Punctuation::Comma),
+        Err(ExprFault::Unexpected(7))
+    );
+    cursor.expect(Punctuation::Equal)?;
+    let Some(Token::Text(body)) = cursor.peek() else {
+        return Err(Fail::from("no text"));
+    };
+    assert_eq!(rt; unescaped(rt.alloc(), body)?.as_str(), "b\n");
+    assert_eq!(rt; cursor.offset(), 9);
+    cursor.bump();
+    assert!(rt; cursor.sees(Punctuation::Semicolon));
+    cursor.bump();
+    assert_eq!(rt; cursor.refusal(), ExprFault::Unexpected(16));
+    assert_eq!(rt; cursor.finish()?.len(), 0);
+    Ok(())
+}
+
+#[test]
+fn what_could_stand(rt: HostRuntime) -> Result<(), Fail> {
+    for (text, at, wanted) in [
+        ("", 0, [Expected::Expression].as_slice()),
+        ("1 +", 3, [Expected::Operand].as_slice()),
+        ("let 1", 4, [Expected::NewName].as_slice()),
+        ("let x 1", 6, [Expected::Sign("=")].as_slice()),
+        ("let x = 1 in y", 13, [Expected::BoundName].as_slice()),
+        ("len 1", 4, [Expected::Sign("(")].as_slice()),
+        ("{1}", 1, [Expected::Sign("}")].as_slice()),
+        (
+            "[",
+            1,
+            [Expected::Expression, Expected::Sign("]")].as_slice(),
+        ),
+        ("1 2", 2, [Expected::Operator, Expected::End].as_slice()),
+        (
+            "(1",
+            2,
+            [Expected::Operator, Expected::Sign(")")].as_slice(),
+        ),
+        (
+            "nth(1)",
+            5,
+            [Expected::Operator, Expected::Sign(",")].as_slice(),
+        ),
+        (
+            "if 1",
+            4,
+            [Expected::Operator, Expected::Sign("then")].as_slice(),
+        ),
+    ] {
+        let found = expected_at(rt.alloc(), text, at)?;
+        assert_eq!(rt; found.as_slice(), wanted, "at {text}");
+    }
     Ok(())
 }

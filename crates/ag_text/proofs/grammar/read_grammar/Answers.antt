@@ -1,5 +1,5 @@
 use Rattle.std.proofs.Common.{arith, ◌∙◌}
-use Rattle.ag_text.proofs.Read.{bad_utf8, first_of, is_read, is_text, reads_of, refuses_of}
+use Rattle.ag_text.proofs.Read.{bad_utf8, first_of, is_read, is_text, never_of, reads_of, refuses_of}
 use Rattle.ag_text.proofs.grammar.read_grammar.Goals as goal
 
 pub returns-in-Ok-clause-exact : goal.returns-in-Ok-clause-exact
@@ -24,3 +24,8 @@ returns-in-Ok-clause-refuses c =
 
 pub returns-in-Err-clause-exact : goal.returns-in-Err-clause-exact
 returns-in-Err-clause-exact c = bad_utf8 c.args.text.now _ c.in-Err.ensures.cases.0 (c.valid_up_to.ensures ∙ c.in-Err.ensures.valid_len) (omega (arith, c.if-text-gt-MAX_LENGTH.false))
+
+pub returns-in-Ok-clause-never : goal.returns-in-Ok-clause-never
+returns-in-Ok-clause-never c =
+    let case = c.in-Ok.ensures.cases in
+    never_of c.args.text.now case.1 (omega (arith, c.if-text-gt-MAX_LENGTH.false)) _ (is_text _ _ case.0 _ c.read_characters.ensures)
