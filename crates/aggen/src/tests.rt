@@ -57,7 +57,6 @@ fn refused_texts(rt: HostRuntime) -> Result<(), Fail> {
         ("$2.b + $1.a", ExprFault::Unexpected(0)),
         ("1 + $1.a @", ExprFault::NoToken(9)),
         ("\"abc", ExprFault::NoToken(0)),
-        ("\"abc\"", ExprFault::Unexpected(0)),
         ("0 - 9223372036854775808", ExprFault::NumberTooLarge(4)),
     ] {
         let mut device = MemDevice::new(rt.alloc());
