@@ -230,13 +230,7 @@ fn character(text: &str) -> Option<(char, &str)>
 }
 
 /// The text that a text literal stands for, from what stands between its quotes. Takes memory.
-#[tactic(
-    auto,
-    using(
-        crate::proofs::language::TextTurns::piece_some,
-        crate::proofs::language::TextTurns::piece_none,
-    )
-)]
+#[tactic(auto, using(crate::proofs::language::TextTurns::piece_some, crate::proofs::language::TextTurns::piece_none,))]
 pub fn unescaped(alloc: Global, body: &str) -> Result<Text, NoMemory>
     ensures { IfOk result (λ text. text ≡ lexing.unescaped (chars body.now)) }
 {

@@ -172,15 +172,7 @@ fn called(cursor: &mut Cursor<'_>) -> Result<Call, ExprFault>
 
 /// Passes an expression of at most so many levels, and answers its tree.
 #[cycle(parsing)]
-#[tactic(
-    auto,
-    using(crate::proofs::language::Turns::one_level),
-    unfolding(
-        crate::specs::language::Reading::expr_in,
-        crate::specs::language::Reading::whole_from,
-        crate::specs::language::Reading::ranked_from,
-    )
-)]
+#[tactic(auto, using(crate::proofs::language::Turns::one_level), unfolding(crate::specs::language::Reading::expr_in, crate::specs::language::Reading::whole_from, crate::specs::language::Reading::ranked_from,))]
 fn expression<'t>(
     alloc: Global,
     cursor: &mut Cursor<'t>,
@@ -219,11 +211,7 @@ fn boxed<'t>(
 
 /// Passes a `let`, whose parts have at most so many levels.
 #[cycle(parsing)]
-#[tactic(
-    auto,
-    using(crate::proofs::language::Scopes::outer_end),
-    unfolding(crate::specs::language::Reading::let_from)
-)]
+#[tactic(auto, using(crate::proofs::language::Scopes::outer_end), unfolding(crate::specs::language::Reading::let_from))]
 fn binding<'t>(
     alloc: Global,
     cursor: &mut Cursor<'t>,
@@ -474,13 +462,7 @@ fn table(cursor: &mut Cursor<'_>) -> Result<Node, ExprFault>
 
 /// Passes a list.
 #[cycle(parsing)]
-#[tactic(
-    auto,
-    unfolding(
-        crate::specs::language::Reading::list_from,
-        crate::specs::language::Reading::none_from,
-    )
-)]
+#[tactic(auto, unfolding(crate::specs::language::Reading::list_from, crate::specs::language::Reading::none_from,))]
 fn list<'t>(
     alloc: Global,
     cursor: &mut Cursor<'t>,

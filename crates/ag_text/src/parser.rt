@@ -23,10 +23,7 @@ fn further(alloc: Global, reader: &mut Reader<'_>) -> Result<Named, Stop>
 }
 
 /// Passes names with commas between them.
-#[tactic(auto, using(crate::proofs::Turns::goes_on, crate::proofs::Turns::stopped,
-    crate::proofs::Turns::failed, crate::proofs::Turns::shorter,
-    crate::proofs::Grammars::further_shortens),
-    unfolding(crate::specs::Reading::names_from))]
+#[tactic(auto, using(crate::proofs::Turns::goes_on, crate::proofs::Turns::stopped, crate::proofs::Turns::failed, crate::proofs::Turns::shorter, crate::proofs::Grammars::further_shortens), unfolding(crate::specs::Reading::names_from))]
 fn names(alloc: Global, reader: &mut Reader<'_>) -> Result<Items<Named>, Stop>
     ensures { Reads reading.names_from reader.old result reader.new }
 {
@@ -41,8 +38,7 @@ fn names(alloc: Global, reader: &mut Reader<'_>) -> Result<Items<Named>, Stop>
 }
 
 /// Passes the names behind a reserved name, where that stands in front.
-#[tactic(auto, unfolding(crate::specs::Reading::attributes_from,
-    crate::specs::Reading::section_from))]
+#[tactic(auto, unfolding(crate::specs::Reading::attributes_from, crate::specs::Reading::section_from))]
 fn attributes(alloc: Global, reader: &mut Reader<'_>, word: &str) -> Result<Items<Named>, Stop>
     ensures { Reads (reading.attributes_from word.now) reader.old result reader.new }
 {
@@ -67,9 +63,7 @@ fn symbol(alloc: Global, reader: &mut Reader<'_>) -> Result<RawSymbol, Stop>
 }
 
 /// Passes the declarations of symbols, as many as stand there.
-#[tactic(auto, using(crate::proofs::Turns::goes_on, crate::proofs::Turns::stopped,
-    crate::proofs::Turns::failed, crate::proofs::Turns::shorter,
-    crate::proofs::Grammars::symbol_shortens))]
+#[tactic(auto, using(crate::proofs::Turns::goes_on, crate::proofs::Turns::stopped, crate::proofs::Turns::failed, crate::proofs::Turns::shorter, crate::proofs::Grammars::symbol_shortens))]
 fn symbols(alloc: Global, reader: &mut Reader<'_>) -> Result<Items<RawSymbol>, Stop>
     ensures { Reads reading.symbols_from reader.old result reader.new }
 {
@@ -82,9 +76,7 @@ fn symbols(alloc: Global, reader: &mut Reader<'_>) -> Result<Items<RawSymbol>, S
 }
 
 /// Passes what stands on the right side of a production, up to a `{`.
-#[tactic(auto, using(crate::proofs::Turns::goes_on, crate::proofs::Turns::stopped,
-    crate::proofs::Turns::failed, crate::proofs::Turns::shorter,
-    crate::proofs::Grammars::item_shortens))]
+#[tactic(auto, using(crate::proofs::Turns::goes_on, crate::proofs::Turns::stopped, crate::proofs::Turns::failed, crate::proofs::Turns::shorter, crate::proofs::Grammars::item_shortens))]
 fn items(alloc: Global, reader: &mut Reader<'_>) -> Result<Items<RawItem>, Stop>
     ensures { Reads reading.items_from reader.old result reader.new }
 {
@@ -108,9 +100,7 @@ fn rule(alloc: Global, reader: &mut Reader<'_>) -> Result<RawRule, Stop>
 }
 
 /// Passes the rules of a production, up to a `}`.
-#[tactic(auto, using(crate::proofs::Turns::goes_on, crate::proofs::Turns::stopped,
-    crate::proofs::Turns::failed, crate::proofs::Turns::shorter,
-    crate::proofs::Grammars::rule_shortens))]
+#[tactic(auto, using(crate::proofs::Turns::goes_on, crate::proofs::Turns::stopped, crate::proofs::Turns::failed, crate::proofs::Turns::shorter, crate::proofs::Grammars::rule_shortens))]
 fn rules(alloc: Global, reader: &mut Reader<'_>) -> Result<Items<RawRule>, Stop>
     ensures { Reads reading.rules_from reader.old result reader.new }
 {
@@ -137,9 +127,7 @@ fn production(alloc: Global, reader: &mut Reader<'_>) -> Result<RawProduction, S
 }
 
 /// Passes productions, as long as tokens are left.
-#[tactic(auto, using(crate::proofs::Turns::goes_on, crate::proofs::Turns::stopped,
-    crate::proofs::Turns::failed, crate::proofs::Turns::shorter,
-    crate::proofs::Grammars::production_shortens))]
+#[tactic(auto, using(crate::proofs::Turns::goes_on, crate::proofs::Turns::stopped, crate::proofs::Turns::failed, crate::proofs::Turns::shorter, crate::proofs::Grammars::production_shortens))]
 fn productions(alloc: Global, reader: &mut Reader<'_>) -> Result<Items<RawProduction>, Stop>
     ensures { Reads reading.productions_from reader.old result reader.new }
 {

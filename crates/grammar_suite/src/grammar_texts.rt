@@ -53,7 +53,10 @@ fn fractions(rt: HostRuntime) -> Result<(), Fail> {
     assert_eq!(&rt; productions.len(), 8);
     assert_eq!(&rt; productions[0].rules.as_slice().len(), 2);
     assert_eq!(&rt; productions[0].rules.as_slice()[1].target.place, 1);
-    assert_eq!(&rt; productions[0].rules.as_slice()[1].target.attr.as_str(), "w");
+    assert_eq!(&rt;
+        productions[0].rules.as_slice()[1].target.attr.as_str(),
+        "w"
+    );
     assert_eq!(&rt; productions[3].items.as_slice().len(), 2);
     assert_eq!(&rt; productions[7].left.name.as_str(), "B");
     match &productions[7].items.as_slice()[0] {
@@ -66,7 +69,10 @@ fn fractions(rt: HostRuntime) -> Result<(), Fail> {
 /// A class, a literal with an escape, and the offsets of a rule's occurrences.
 #[test]
 fn parts(rt: HostRuntime) -> Result<(), Fail> {
-    let raw = grammar(&rt, "start S; S = NAME TEXT \"\\\"\" { $0.out = 1 + $2.lex; }")?;
+    let raw = grammar(
+        &rt,
+        "start S; S = NAME TEXT \"\\\"\" { $0.out = 1 + $2.lex; }",
+    )?;
     let production = &raw.productions.as_slice()[0];
     let items = production.items.as_slice();
     assert_eq!(&rt; items.len(), 3);
@@ -106,11 +112,17 @@ fn refusals(rt: HostRuntime) -> Result<(), Fail> {
         ("start S;\r\r\nsymbol 7;", TextFault::Unexpected(2, 18)),
         ("start symbol;", TextFault::Unexpected(1, 6)),
         ("start S; symbol S syn ;", TextFault::Unexpected(1, 22)),
-        ("start S; symbol S inh a syn b;", TextFault::Unexpected(1, 24)),
+        (
+            "start S; symbol S inh a syn b;",
+            TextFault::Unexpected(1, 24),
+        ),
         ("start S; S = \"\" { }", TextFault::Unexpected(1, 13)),
         ("start S; S = \"a b\" { }", TextFault::Unexpected(1, 13)),
         ("start S; S = \"\\n\" { }", TextFault::Unexpected(1, 13)),
-        ("start S; S = { $65536.a = 1; }", TextFault::Unexpected(1, 15)),
+        (
+            "start S; S = { $65536.a = 1; }",
+            TextFault::Unexpected(1, 15),
+        ),
         ("start S; S = { $0.a 1; }", TextFault::Unexpected(1, 20)),
         ("start S; S = { $0.a = 1; ", TextFault::Unexpected(1, 25)),
         ("start S; S = { } ?", TextFault::Unexpected(1, 17)),
@@ -124,11 +136,17 @@ fn refusals(rt: HostRuntime) -> Result<(), Fail> {
 #[test]
 fn wrong_expressions(rt: HostRuntime) -> Result<(), Fail> {
     for (text, fault) in [
-        ("start S; symbol S syn out; S = { $0.out = 1 + ; }", ExprFault::Unexpected(46)),
+        (
+            "start S; symbol S syn out; S = { $0.out = 1 + ; }",
+            ExprFault::Unexpected(46),
+        ),
         ("start S; S = { $0.out = 1 }", ExprFault::Unexpected(26)),
         ("start S; S = { $0.out = 1", ExprFault::Unexpected(25)),
         ("start S; S = { $0.out = 1 ? ; }", ExprFault::NoToken(26)),
-        ("start S; S = { $0.out = $65536.a; }", ExprFault::NumberTooLarge(24)),
+        (
+            "start S; S = { $0.out = $65536.a; }",
+            ExprFault::NumberTooLarge(24),
+        ),
     ] {
         assert_eq!(&rt; refusal(&rt, text.as_bytes())?, TextFault::Expr(fault));
     }
@@ -175,7 +193,10 @@ fn one_token_less(rt: HostRuntime) -> Result<(), Fail> {
         ("start S; symbol S syn out; S = { $0.out 1; }", 40),
         ("start S; symbol S syn out; S = { $0.out = 1; ", 45),
     ] {
-        assert_eq!(&rt; refusal(&rt, text.as_bytes())?, TextFault::Unexpected(1, at));
+        assert_eq!(&rt;
+            refusal(&rt, text.as_bytes())?,
+            TextFault::Unexpected(1, at)
+        );
     }
     for (text, at) in [
         ("start S; symbol S syn out; S = { $0.out = ; }", 42),

@@ -120,7 +120,9 @@ fn swap(alloc: Global, rules: &[(u16, &str, &str)]) -> Result<RawGrammar, Fail> 
 }
 
 const OUT: (u16, &str, &str) = (0, "out", "$1.s");
+
 const FIRST: (u16, &str, &str) = (1, "i", "$2.s");
+
 const SECOND: (u16, &str, &str) = (2, "i", "0");
 
 #[test]

@@ -76,13 +76,33 @@ fn letters(alloc: Global, count: u32) -> Result<String, Fail> {
 #[test]
 fn longest_words(rt: HostRuntime) -> Result<(), Fail> {
     for (words, sentence, wanted) in [
-        (["if", "NAME"].as_slice(), "iffy if", "class 0 [iffy] 0;literal 0 [if] 5;"),
+        (
+            ["if", "NAME"].as_slice(),
+            "iffy if",
+            "class 0 [iffy] 0;literal 0 [if] 5;",
+        ),
         (["if"].as_slice(), "", ""),
         (["if"].as_slice(), " \t\r\n", ""),
-        (["a", "ab", "abc", "x"].as_slice(), "abx", "literal 1 [ab] 0;literal 3 [x] 2;"),
-        (["a", "ab", "abc", "NAME"].as_slice(), "abx\nabc", "class 0 [abx] 0;literal 2 [abc] 4;"),
-        (["NAME", "NUMBER"].as_slice(), "é 12_", "class 0 [é] 0;class 1 [12] 3;class 0 [_] 5;"),
-        (["TEXT", "+"].as_slice(), "\"a b\"+\"\"", "class 2 [a b] 0;literal 0 [+] 5;class 2 [] 6;"),
+        (
+            ["a", "ab", "abc", "x"].as_slice(),
+            "abx",
+            "literal 1 [ab] 0;literal 3 [x] 2;",
+        ),
+        (
+            ["a", "ab", "abc", "NAME"].as_slice(),
+            "abx\nabc",
+            "class 0 [abx] 0;literal 2 [abc] 4;",
+        ),
+        (
+            ["NAME", "NUMBER"].as_slice(),
+            "é 12_",
+            "class 0 [é] 0;class 1 [12] 3;class 0 [_] 5;",
+        ),
+        (
+            ["TEXT", "+"].as_slice(),
+            "\"a b\"+\"\"",
+            "class 2 [a b] 0;literal 0 [+] 5;class 2 [] 6;",
+        ),
     ] {
         let tokens = tokens_of(&rt, words, sentence)?;
         assert_eq!(rt; tokens.as_str(), wanted);
@@ -119,11 +139,13 @@ fn limits(rt: HostRuntime) -> Result<(), Fail> {
     let sentence = letters(alloc, 1_048_577)?;
     let fault = fault_of(alloc, ["NAME"].as_slice(), sentence.as_bytes())?;
     assert_eq!(rt; fault, ScanFault::TooLong);
-    let other = vec![in alloc; Token {
-        kind: Terminal::Class(1),
-        lex: Text::from_string(String::from_str(alloc, "a")?),
-        at: 0,
-    }]?;
+    let other = vec![in alloc;
+        Token {
+            kind: Terminal::Class(1),
+            lex: Text::from_string(String::from_str(alloc, "a")?),
+            at: 0,
+        },
+    ]?;
     assert!(rt; !fits(&grammar, other.as_slice()));
     Ok(())
 }
