@@ -1,6 +1,6 @@
 //! Raw grammars by hand: which are accepted, and the first fault of the others.
 
-use ag_expr::{Item, Occ, Terminal, read_expr};
+use ag_expr::{Item, Occ, Target, Terminal, read_expr};
 use ag_text::{Named, RawGrammar, RawItem, RawProduction, RawRule, RawSymbol};
 use ag_value::{Items, Text};
 use normalform::{Grammar, LimitKind, NormalFault, check, is_readable};
@@ -136,13 +136,17 @@ fn the_swap_grammar(rt: HostRuntime) -> Result<(), Fail> {
     assert_eq!(&rt; checked.literals().len(), 1);
     assert_eq!(&rt; checked.classes().len(), 0);
     assert_eq!(&rt; checked.start(), 0);
-    let first = &checked.productions()[0];
-    assert!(&rt; first.items.as_slice()[1] == Item::Symbol(1));
-    let given = &first.rules.as_slice()[1];
+    let Some(first) = checked.productions().get(0) else {
+        return Err(Fail::from("a production is missing"));
+    };
+    assert!(&rt; first.items.as_slice().get(1).copied() == Some(Item::Symbol(1)));
+    let Some(given) = first.rules.as_slice().get(1) else {
+        return Err(Fail::from("a rule is missing"));
+    };
     assert_eq!(&rt; given.target.place, 1);
     assert_eq!(&rt; given.target.attr, 1);
-    assert_eq!(&rt; given.args.as_slice()[0].place, 2);
-    assert_eq!(&rt; given.args.as_slice()[0].attr, 0);
+    let argument = given.args.as_slice().get(0).copied();
+    assert!(&rt; argument == Some(Target { place: 2, attr: 0 }));
     Ok(())
 }
 
@@ -194,9 +198,14 @@ fn literals_and_classes(rt: HostRuntime) -> Result<(), Fail> {
     assert_eq!(&rt; checked.literals().len(), 2);
     assert!(&rt; checked.literals()[1].as_str() == "x");
     assert_eq!(&rt; checked.classes().len(), 1);
-    let items = checked.productions()[0].items.as_slice();
-    assert!(&rt; items[0] == Item::Terminal(Terminal::Class(0)));
-    assert!(&rt; items[3] == Item::Terminal(Terminal::Literal(0)));
+    let Some(production) = checked.productions().get(0) else {
+        return Err(Fail::from("the production is missing"));
+    };
+    let items = production.items.as_slice();
+    let class = items.get(0).copied();
+    assert!(&rt; class == Some(Item::Terminal(Terminal::Class(0))));
+    let literal = items.get(3).copied();
+    assert!(&rt; literal == Some(Item::Terminal(Terminal::Literal(0))));
     Ok(())
 }
 
@@ -242,23 +251,22 @@ fn numbered_name(alloc: Global, number: u32) -> Result<String, Fail> {
     Ok(name)
 }
 
-/// Each symbol has the next one on its right side, and the last none.
+/// So many symbols, each of which has the next one on its right side, and the last none.
 fn chain(alloc: Global, count: u32) -> Result<RawGrammar, Fail> {
     let mut symbols = Vec::new(alloc);
+    symbols.push(symbol(alloc, 0, "S", "out", "")?)?;
     let mut productions = Vec::new(alloc);
-    for left in 0..count {
-        let name = numbered_name(alloc, left)?;
-        let right = if left + 1 < count {
-            numbered_name(alloc, left + 1)?
-        } else {
-            String::new(alloc)
-        };
-        let syn = if left == 0 { "out" } else { "" };
-        let rules: &[(u16, &str, &str)] = if left == 0 { &[EMPTY] } else { &[] };
-        symbols.push(symbol(alloc, 0, name.as_str(), syn, "")?)?;
-        productions.push(production(alloc, 0, name.as_str(), right.as_str(), rules)?)?;
+    productions.push(production(alloc, 0, "S", "s1", &[EMPTY])?)?;
+    for number in 1..count {
+        let name = numbered_name(alloc, number)?;
+        let mut right = String::new(alloc);
+        if number < count - 1 {
+            right = numbered_name(alloc, number + 1)?;
+        }
+        symbols.push(symbol(alloc, 0, name.as_str(), "", "")?)?;
+        productions.push(production(alloc, 0, name.as_str(), right.as_str(), &[])?)?;
     }
-    grammar(alloc, "s0", symbols, productions)
+    grammar(alloc, "S", symbols, productions)
 }
 
 fn limit_of(
