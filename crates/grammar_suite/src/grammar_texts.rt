@@ -28,6 +28,14 @@ fn grammar(rt: &(impl Abort + Alloc<A = Global>), text: &str) -> Result<RawGramm
     Ok(read_grammar(rt.alloc(), text.as_bytes())?)
 }
 
+/// The member of a list with this index.
+fn at<T>(list: &[T], index: usize) -> Result<&T, Fail> {
+    match list.get(index) {
+        Some(member) => Ok(member),
+        None => Err(Fail::from("the list is shorter")),
+    }
+}
+
 /// The fault with which a text is refused.
 fn refusal(rt: &(impl Abort + Alloc<A = Global>), text: &[u8]) -> Result<TextFault, Fail> {
     match read_grammar(rt.alloc(), text) {
@@ -45,21 +53,27 @@ fn fractions(rt: HostRuntime) -> Result<(), Fail> {
     assert_eq!(&rt; raw.start.at, 6);
     let symbols = raw.symbols.as_slice();
     assert_eq!(&rt; symbols.len(), 5);
-    assert_eq!(&rt; symbols[2].name.name.as_str(), "L");
-    assert_eq!(&rt; symbols[2].syn.as_slice().len(), 2);
-    assert_eq!(&rt; symbols[2].syn.as_slice()[1].name.as_str(), "v");
-    assert_eq!(&rt; symbols[2].inh.as_slice()[0].name.as_str(), "w");
+    assert_eq!(&rt; at(symbols, 2)?.name.name.as_str(), "L");
+    assert_eq!(&rt; at(symbols, 2)?.syn.as_slice().len(), 2);
+    assert_eq!(&rt; at(at(symbols, 2)?.syn.as_slice(), 1)?.name.as_str(), "v");
+    assert_eq!(&rt; at(at(symbols, 2)?.inh.as_slice(), 0)?.name.as_str(), "w");
     let productions = raw.productions.as_slice();
     assert_eq!(&rt; productions.len(), 8);
-    assert_eq!(&rt; productions[0].rules.as_slice().len(), 2);
-    assert_eq!(&rt; productions[0].rules.as_slice()[1].target.place, 1);
+    assert_eq!(&rt; at(productions, 0)?.rules.as_slice().len(), 2);
     assert_eq!(&rt;
-        productions[0].rules.as_slice()[1].target.attr.as_str(),
+        at(at(productions, 0)?.rules.as_slice(), 1)?.target.place,
+        1
+    );
+    assert_eq!(&rt;
+        at(at(productions, 0)?.rules.as_slice(), 1)?
+            .target
+            .attr
+            .as_str(),
         "w"
     );
-    assert_eq!(&rt; productions[3].items.as_slice().len(), 2);
-    assert_eq!(&rt; productions[7].left.name.as_str(), "B");
-    match &productions[7].items.as_slice()[0] {
+    assert_eq!(&rt; at(productions, 3)?.items.as_slice().len(), 2);
+    assert_eq!(&rt; at(productions, 7)?.left.name.as_str(), "B");
+    match at(at(productions, 7)?.items.as_slice(), 0)? {
         RawItem::Literal(text) => assert_eq!(&rt; text.as_str(), "1"),
         _ => panic!(&rt; "no literal"),
     }
@@ -73,20 +87,20 @@ fn parts(rt: HostRuntime) -> Result<(), Fail> {
         &rt,
         "start S; S = NAME TEXT \"\\\"\" { $0.out = 1 + $2.lex; }",
     )?;
-    let production = &raw.productions.as_slice()[0];
+    let production = at(raw.productions.as_slice(), 0)?;
     let items = production.items.as_slice();
     assert_eq!(&rt; items.len(), 3);
-    assert!(&rt; matches!(items[0], RawItem::Class(0)));
-    assert!(&rt; matches!(items[1], RawItem::Class(2)));
-    match &items[2] {
+    assert!(&rt; matches!(at(items, 0)?, RawItem::Class(0)));
+    assert!(&rt; matches!(at(items, 1)?, RawItem::Class(2)));
+    match at(items, 2)? {
         RawItem::Literal(text) => assert_eq!(&rt; text.as_str(), "\""),
         _ => panic!(&rt; "no literal"),
     }
-    let rule = &production.rules.as_slice()[0];
+    let rule = at(production.rules.as_slice(), 0)?;
     assert_eq!(&rt; rule.target.at, 30);
     let occurrences = ag_expr::occurrences(&rule.expr);
     assert_eq!(&rt; occurrences.len(), 1);
-    assert_eq!(&rt; occurrences[0].at, 43);
+    assert_eq!(&rt; at(occurrences, 0)?.at, 43);
     Ok(())
 }
 
@@ -98,7 +112,7 @@ fn bare(rt: HostRuntime) -> Result<(), Fail> {
     assert_eq!(&rt; raw.productions.as_slice().len(), 0);
     let doubled = grammar(&rt, "start S; symbol S syn a, a; symbol S;")?;
     assert_eq!(&rt; doubled.symbols.as_slice().len(), 2);
-    assert_eq!(&rt; doubled.symbols.as_slice()[0].syn.as_slice().len(), 2);
+    assert_eq!(&rt; at(doubled.symbols.as_slice(), 0)?.syn.as_slice().len(), 2);
     Ok(())
 }
 
