@@ -1,6 +1,7 @@
 //! Grammars as they stand in a text: what a text is to be read as, and reading it.
 #![tactic(auto)]
 
+mod expected;
 mod fault;
 mod grammar;
 pub mod laws;
@@ -10,6 +11,7 @@ mod reader;
 mod stop;
 mod tokens;
 
+pub use expected::{Expected, expected_at};
 pub use fault::TextFault;
 pub use grammar::read_grammar;
 pub use raw::{Named, RawGrammar, RawItem, RawProduction, RawRule, RawSymbol};
