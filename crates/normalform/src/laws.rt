@@ -1,6 +1,7 @@
 //! What is true of raw grammars and their faults by the definitions alone, each the contract of a
 //! function that does nothing.
 
+ghost use Rattle.normalform.specs.Examples.{WorkedNames, WorkedRules};
 ghost use Rattle.normalform.specs.Laws.{AcceptedWithoutFault, NoFaultWhereAccepted};
 ghost use Rattle.normalform.specs.Laws.{OneFirstFault, NoFirstFaultWithoutFault, WorkedNumbers};
 
@@ -30,4 +31,14 @@ pub fn no_first_fault_without_fault()
 /// The numbers of a small grammar.
 pub fn worked_numbers()
     ensures { WorkedNumbers }
+{}
+
+/// What is told of wrong names and of a wrong start symbol in small grammars.
+pub fn worked_names()
+    ensures { WorkedNames }
+{}
+
+/// What is told of wrong rules in small grammars.
+pub fn worked_rules()
+    ensures { WorkedRules }
 {}
