@@ -1,0 +1,3 @@
+pub mod Directions
+pub mod Parts
+pub mod Rising
