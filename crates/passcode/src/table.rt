@@ -1,9 +1,9 @@
 //! The rules of a production by what they give a value, each with its pass.
 
-ghost use Rattle.std.specs.Prelude.{ℕ, ◌≡◌, ◌<◌, ◌≤◌, ◌*◌, ◌+◌, IfOk, Some, None, length, slice_get};
+ghost use Rattle.std.specs.Prelude.{ℕ, ◌≡◌, ◌≤◌, ◌*◌, ◌+◌, IfOk, count_by, is_some, length};
 ghost use Rattle.passassign.specs.Dependencies.{places_of};
 ghost use Rattle.passassign.specs.Rows.{passes_of};
-ghost use Rattle.passcode.specs.Tables.{HasPassAt, IsPlanned, IsTable, given_at};
+ghost use Rattle.passcode.specs.Tables.{HasPassAt, IsPlanned, IsTable, given_at, slot_at};
 
 use ag_expr::{Item, Production, Target};
 use ag_value::NoMemory;
@@ -54,8 +54,8 @@ fn pass_at(assignment: &Assignment, places: &[Item], target: Target) -> u16
 fn empty_table(alloc: Global, places: usize) -> Result<Vec<Option<Given>>, NoMemory>
     requires { places ≤ 17 }
     ensures len { IfOk result (λ table. length table.items ≡ places * 16) }
-    ensures none { IfOk result (λ table. (k : ℕ) → k < places * 16
-        → slice_get table.items k ≡ Some None) }
+    ensures count { IfOk result (λ table. count_by is_some table.items ≡ 0) }
+    ensures none { IfOk result (λ table. (k : ℕ) → slot_at table.items k ≡ None) }
 {
     let mut table = Vec::new(alloc);
     for _ in 0..places * SLOTS {
