@@ -1,5 +1,5 @@
 -- A list with rising keys that has what belongs into it keeps the rules of agreement and the order.
-use Rattle.std.proofs.Common.{ℕ, zero, suc, ◌≡◌, ◌+◌, ◌*◌, ◌<◌, ◌≤◌, ◌⊎◌, ◌↔◌, List, [], ◌∷◌, Option, Some, None, slice_get, get_or, length, inl, inr, refl, ap, ◌∙◌, sym, subst, arith}
+use Rattle.std.proofs.Common.{ℕ, zero, suc, ◌≡◌, ◌+◌, ◌<◌, ◌≤◌, ◌↔◌, List, [], ◌∷◌, Option, Some, None, slice_get, get_or, length, inl, inr, refl, ap, ◌∙◌, sym, subst, arith}
 use Rattle.std.proofs.lemmas.Bool.{cases_eq, cases_lt}
 use Rattle.std.proofs.lemmas.Option.{slice_get_within, slice_get-get_or}
 use Rattle.ag_expr.specs.Lists.{Has}
@@ -9,21 +9,19 @@ use Rattle.ag_expr.specs.declared.grammar.Production.{Production}
 use Rattle.ag_expr.specs.declared.grammar.Rule.{Rule}
 use Rattle.ag_expr.specs.declared.grammar.Target.{Target}
 use Rattle.ag_expr.specs.declared.grammar.Terminal.TheVariants.{Literal, Class}
-use Rattle.ag_expr.specs.declared.grammar.Terminal.{Terminal}
-use Rattle.ag_expr.specs.grammars.AttributeGrammar.{item_at, stored_items, IsArgument}
-use Rattle.ag_expr.specs.grammars.Passes.{Passes, HasPass, Direction, MayUse, IsBefore, direction_of, item_passes}
+use Rattle.ag_expr.specs.grammars.AttributeGrammar.{item_at, stored_items}
+use Rattle.ag_expr.specs.grammars.Passes.{Passes, HasPass, Direction, MayUse, direction_of, item_passes}
 use Rattle.passcode.specs.declared.instr.Instr.{Instr}
 use Rattle.passcode.specs.declared.instr.Instr.TheVariants as instr
 use Rattle.passcode.specs.declared.table.Given.{Given}
-use Rattle.passcode.specs.Agreement.{StandsOnceIf, Precedes, StandsBefore, HasPlace, IsChild, IsPlaceOf, giving, instruction_of, IsGiving, IsRuleAt, VisitsPlaces, GivesTargets, IsAtHand, HasArguments, Ends, IsListFor}
+use Rattle.passcode.specs.Agreement.{StandsOnceIf, Precedes, StandsBefore, HasPlace, IsChild, giving, instruction_of, IsGiving, IsRuleAt, VisitsPlaces, GivesTargets, IsAtHand, HasArguments, Ends}
 use Rattle.passcode.specs.Listing.{rank, key_of, first_key, giving_key, AreRising, IsMadeOf, IsPart, IsGenerated}
 use Rattle.passcode.specs.Order.{IsInOrder}
 use Rattle.passcode.specs.Tables.{IsPlanned, IsTable}
 use Rattle.passassign.specs.Dependencies.{places_of}
 use Rattle.passcode.proofs.Directions.{rank_before, rank_few}
-use Rattle.passcode.proofs.Members.{IsOfRule, Belongs, part_belongs, belongs_part, one_pass}
+use Rattle.passcode.proofs.Members.{IsOfRule, Belongs, part_belongs, belongs_part}
 use Rattle.passcode.proofs.Parts.{giving_has}
-use Rattle.passcode.proofs.Passes.{place_is}
 
 module _ (d : Direction) (xs : List Instr) (rising : AreRising d 340 xs) where
   -- the lower key stands before

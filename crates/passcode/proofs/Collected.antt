@@ -1,8 +1,8 @@
 -- The lists of a production, and those of all productions, as they are collected.
-use Rattle.std.proofs.Common.{ℕ, ◌≡◌, ◌+◌, ◌-◌, ◌<◌, ◌≤◌, ◌⊎◌, ◌++◌, List, [], ◌∷◌, Option, Some, slice_get, get_or, length, map, inl, inr, refl, ap, ◌∙◌, sym, subst, arith}
+use Rattle.std.proofs.Common.{ℕ, ◌≡◌, ◌+◌, ◌-◌, ◌≤◌, ◌⊎◌, ◌++◌, List, [], ◌∷◌, Option, Some, slice_get, get_or, length, inl, inr, ap, ◌∙◌, sym, subst, arith}
 use Rattle.std.proofs.lemmas.Bool.{cases_lt}
-use Rattle.std.proofs.lemmas.List.{map_push, length-map, get_or_past, length-append}
-use Rattle.std.proofs.lemmas.Option.{slice_get-get_or, slice_get_cases, slice_get_within}
+use Rattle.std.proofs.lemmas.List.{map_push, length-map, get_or_past}
+use Rattle.std.proofs.lemmas.Option.{slice_get-get_or, slice_get_cases}
 use Rattle.std.specs.Global.{Vec}
 use Rattle.ag_expr.specs.Lists.{Each}
 use Rattle.ag_expr.specs.declared.grammar.Item.{Item}
@@ -11,14 +11,12 @@ use Rattle.ag_expr.specs.grammars.AttributeGrammar.{Grammar}
 use Rattle.ag_expr.specs.grammars.Passes.{Passes, direction_of}
 use Rattle.passassign.proofs.Lists.{get_push_cases}
 use Rattle.passassign.specs.Dependencies.{places_of}
-use Rattle.passassign.specs.Rows.{passes_of, IsGreatest}
 use Rattle.passcode.specs.declared.instr.Instr.{Instr}
 use Rattle.passcode.specs.declared.table.Given.{Given}
 use Rattle.passcode.specs.Agreement.{Agrees}
 use Rattle.passcode.specs.Listing.{IsGenerated, IsMadeOf, IsPart}
 use Rattle.passcode.specs.Order.{AreInOrder}
-use Rattle.passcode.specs.Rows.{Lists, IsListOf, row_of, rows_of, lists_of}
-use Rattle.passcode.specs.Shape.{HasLists}
+use Rattle.passcode.specs.Rows.{Lists, IsListOf, row_of, rows_of}
 use Rattle.passcode.specs.Tables.{IsPlanned, IsTable}
 use Rattle.passcode.proofs.Agreeing.{generated}
 

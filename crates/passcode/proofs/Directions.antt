@@ -1,5 +1,5 @@
 -- The direction of a pass by its parity, and the place that comes at a turn.
-use Rattle.std.proofs.Common.{ℕ, zero, suc, ◌≡◌, ◌+◌, ◌-◌, ◌*◌, ◌%◌, ◌<◌, ◌≤◌, ◌⊎◌, inl, inr, refl, ap, ◌∙◌, sym, arith}
+use Rattle.std.proofs.Common.{ℕ, zero, suc, ◌≡◌, ◌+◌, ◌-◌, ◌%◌, ◌<◌, ◌≤◌, ◌⊎◌, inl, inr, refl, ap, sym, arith}
 use Rattle.ag_expr.specs.grammars.Passes.{Direction, LeftToRight, RightToLeft, other, direction_of, IsBefore}
 use Rattle.passcode.specs.Listing.{rank, first_key, place_at}
 

@@ -1,5 +1,5 @@
 -- A table of a production's rules, as it is filled.
-use Rattle.std.proofs.Common.{ℕ, zero, suc, ◌≡◌, ◌+◌, ◌*◌, ◌<◌, ◌≤◌, Bool, true, false, cond, nat_lt, List, [], ◌∷◌, Option, Some, None, slice_get, get_or, set, length, inl, inr, refl, ap, ◌∙◌, sym, subst, arith}
+use Rattle.std.proofs.Common.{ℕ, ◌≡◌, ◌+◌, ◌*◌, ◌<◌, ◌≤◌, Bool, true, false, cond, nat_lt, List, Option, Some, None, slice_get, get_or, set, length, inl, inr, refl, ap, ◌∙◌, sym, subst, arith}
 use Rattle.std.specs.Prelude.{is_some, count_by}
 use Rattle.std.proofs.lemmas.Bool.{cases_eq, lt-ltb, ltb-true}
 use Rattle.std.proofs.lemmas.List.{get_or-set_other, get_or-set_same}
@@ -10,7 +10,6 @@ use Rattle.ag_expr.specs.declared.grammar.Item.{Item}
 use Rattle.ag_expr.specs.declared.grammar.Production.{Production}
 use Rattle.ag_expr.specs.declared.grammar.Rule.{Rule}
 use Rattle.ag_expr.specs.declared.grammar.Target.{Target}
-use Rattle.ag_expr.specs.grammars.AttributeGrammar.{item_at, stored_items}
 use Rattle.ag_expr.specs.grammars.Passes.{Passes, HasPass, item_passes}
 use Rattle.passassign.specs.Dependencies.{places_of}
 use Rattle.passcode.specs.declared.table.Given.{Given}
@@ -36,9 +35,9 @@ pub table_start : (m : Passes) (q : Production) (table : List (Option Given)) �
 table_start m q table none = record {
   there = λ r u less is. absurd (omega arith);
   only = λ j a e is. absurd (
-    let lt = given_small table j a e is in
-    let bad : Some e ≡ None = sym is ∙ given_in table j a lt ∙ none (slot_of j a) in
-    let worse : ⊥ = cc in worse);
+      let lt = given_small table j a e is in
+      let bad : Some e ≡ None = sym is ∙ given_in table j a lt ∙ none (slot_of j a) in
+      let worse : ⊥ = cc in worse);
 }
 
 -- a table of so many rules as there are, or more, is the table of all

@@ -48,8 +48,8 @@ visit_made d table k zero x ps qs rs ss ts one got given gone put = absurd (omeg
 visit_made d table k (suc j) x ps qs rs ss ts one got given gone put =
     extends_then d (λ i. IsGot i ⊎ GivesAt table k (suc j) i ⊎ IsGoOf x (suc j) i) IsPut (IsVisit table k (suc j) x) key (key + 18) (key + 19) ps ss ts (λ i. four)
     (extends_then d (λ i. IsGot i ⊎ GivesAt table k (suc j) i) (IsGoOf x (suc j)) (λ i. IsGot i ⊎ GivesAt table k (suc j) i ⊎ IsGoOf x (suc j) i) key (key + 17) (key + 18) ps rs ss (λ i. three)
-      (extends_then d IsGot (GivesAt table k (suc j)) (λ i. IsGot i ⊎ GivesAt table k (suc j) i) key (key + 1) (key + 17) ps qs rs (λ i. same_sum) first (subst (λ b. Extends d (GivesAt table k (suc j)) (key + 1) b qs rs) (let e : key + 1 + 16 ≡ key + 17 = omega arith in e) given))
-      gone)
+    (extends_then d IsGot (GivesAt table k (suc j)) (λ i. IsGot i ⊎ GivesAt table k (suc j) i) key (key + 1) (key + 17) ps qs rs (λ i. same_sum) first (subst (λ b. Extends d (GivesAt table k (suc j)) (key + 1) b qs rs) (let e : key + 1 + 16 ≡ key + 17 = omega arith in e) given))
+    gone)
     last
   where
     key : ℕ

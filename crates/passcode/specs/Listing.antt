@@ -1,6 +1,6 @@
 -- How a list of code is put together. Each instruction has a key, and a list is made of instructions with rising keys.
-use Rattle.std.specs.Prelude.{ℕ, zero, suc, ◌≡◌, ◌+◌, ◌-◌, ◌*◌, ◌≤◌, ◌<◌, ◌⊎◌, ◌↔◌, List, [], Option, Some, slice_get, length}
-use Rattle.ag_expr.specs.Lists.{Has, Each}
+use Rattle.std.specs.Prelude.{ℕ, zero, suc, ◌≡◌, ◌+◌, ◌-◌, ◌*◌, ◌≤◌, ◌<◌, ◌⊎◌, ◌↔◌, List, Option, Some, slice_get, length}
+use Rattle.ag_expr.specs.Lists.{Has}
 use Rattle.ag_expr.specs.declared.grammar.Item.TheVariants as item
 use Rattle.ag_expr.specs.declared.grammar.Item.{Item}
 use Rattle.ag_expr.specs.declared.grammar.Production.{Production}

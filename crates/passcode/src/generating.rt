@@ -54,11 +54,7 @@ fn lists_of(
 /// NoMemory where a growth was refused. Takes memory for the code and for the rules of one
 /// production by their targets. The work is linear in the code: at each place each attribute is
 /// looked at once a pass, and there are at most 16.
-pub fn generate(
-    alloc: Global,
-    grammar: &Grammar,
-    assignment: &Assignment,
-) -> Result<Code, NoMemory>
+pub fn generate(alloc: Global, grammar: &Grammar, assignment: &Assignment) -> Result<Code, NoMemory>
     requires { IsLegal grammar.now (passes_of assignment.now) }
     ensures agrees { IfOk result (Agrees grammar.now (passes_of assignment.now)) }
     ensures shape { IfOk result (HasLists grammar.now assignment.now) }

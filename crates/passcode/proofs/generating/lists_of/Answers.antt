@@ -9,6 +9,6 @@ loop-before-preserved c = record {
   len = length_pushed c.loop-before.lists.items c.push.new.self.items c.in_ok-list_of.field-0 c.loop-before.before c.in_ok-push.ensures.items c.loop-before.invariant.len;
   lists = lists_more (passes_of c.args.assignment.now) c.args.production.now c.loop-before.before c.loop-before.lists.items c.push.new.self.items c.in_ok-list_of.field-0 c.in_ok-push.ensures.items c.loop-before.invariant.len
       (list_generated (passes_of c.args.assignment.now) c.args.production.now (c.loop-before.before + 1) c.as_slice-in-loop-before.result.now c.in_ok-table.table.items c.as_slice-in-loop-before-2.result.now c.in_ok-places.places.items c.in_ok-list_of.field-0.items
-          c.requires c.in_ok-table.ensures c.as_slice-in-loop-before.ensures.value c.as_slice-in-loop-before-2.ensures.value c.in_ok-places.ensures (omega arith) c.in_ok-list_of.ensures)
+      c.requires c.in_ok-table.ensures c.as_slice-in-loop-before.ensures.value c.as_slice-in-loop-before-2.ensures.value c.in_ok-places.ensures (omega arith) c.in_ok-list_of.ensures)
       c.loop-before.invariant.lists;
 }

@@ -1,4 +1,4 @@
-use Rattle.std.proofs.Common.{◌<◌, length, get_or, arith}
+use Rattle.std.proofs.Common.{get_or, arith}
 use Rattle.std.proofs.lemmas.Option.{slice_get-get_or}
 use Rattle.ag_expr.specs.declared.grammar.Item.TheVariants as item
 use Rattle.ag_expr.specs.declared.grammar.Item.{Item}

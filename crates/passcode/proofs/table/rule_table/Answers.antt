@@ -13,9 +13,9 @@ pass_at-requires c =
 pub index_mut-requires : goal.index_mut-requires
 index_mut-requires c =
     let within : c.slot.result < length c.loop-index.table.items =
-        slot_within (passes_of c.args.assignment.now) c.args.production.now c.requires.planned c.args.places.now c.requires.places c.loop-index.index c.rule-item.result
-        (read_at c.args.production.now.rules c.as_slice-rule-items.result.now c.loop-index.index c.rule-item.result c.as_slice-rule-items.ensures c.loop-index-test.true c.rule-item.is)
-        c.slot.result (length c.loop-index.table.items) c.slot.ensures c.loop-index.invariant.len in
+    slot_within (passes_of c.args.assignment.now) c.args.production.now c.requires.planned c.args.places.now c.requires.places c.loop-index.index c.rule-item.result
+    (read_at c.args.production.now.rules c.as_slice-rule-items.result.now c.loop-index.index c.rule-item.result c.as_slice-rule-items.ensures c.loop-index-test.true c.rule-item.is)
+    c.slot.result (length c.loop-index.table.items) c.slot.ensures c.loop-index.invariant.len in
     search rules
 
 pub loop-index-preserved : goal.loop-index-preserved
