@@ -7,4 +7,5 @@ pub mod Parts
 pub mod Passes
 pub mod Planned
 pub mod Rising
+pub mod Shaped
 pub mod Slices
