@@ -33,6 +33,7 @@ fn shown(alloc: Global, instruction: Instr) -> Result<String, Fail> {
 }
 
 /// The list of a production and a pass of generated code.
+#[tactic(auto, using(passcode::proofs::Shaped::list_there))]
 fn list(
     alloc: Global,
     grammar: &Grammar,
@@ -76,30 +77,42 @@ fn has_lists(
 
 #[test]
 fn two_passes_of_binary_fractions(rt: HostRuntime) -> Result<(), Fail> {
-    has_lists(&rt, FRACTIONS, &[
-        (0, 1, "get 2, go 2, put 2, get 1, go 1, put 1, end"),
-        (
-            0,
-            2,
-            "get 1, set 1.2 rule 1, go 1, put 1, get 2, go 2, put 2, def 0 rule 0, end",
-        ),
-        (5, 1, "get 2, go 2, put 2, get 1, go 1, put 1, def 0 rule 0, end"),
-        (
-            5,
-            2,
-            "get 1, go 1, put 1, get 2, set 2.2 rule 2, go 2, put 2, def 1 rule 1, end",
-        ),
-    ])
+    has_lists(
+        &rt,
+        FRACTIONS,
+        &[
+            (0, 1, "get 2, go 2, put 2, get 1, go 1, put 1, end"),
+            (
+                0,
+                2,
+                "get 1, set 1.2 rule 1, go 1, put 1, get 2, go 2, put 2, def 0 rule 0, end",
+            ),
+            (
+                5,
+                1,
+                "get 2, go 2, put 2, get 1, go 1, put 1, def 0 rule 0, end",
+            ),
+            (
+                5,
+                2,
+                "get 1, go 1, put 1, get 2, set 2.2 rule 2, go 2, put 2, def 1 rule 1, end",
+            ),
+        ],
+    )
 }
 
 #[test]
 fn no_children(rt: HostRuntime) -> Result<(), Fail> {
-    has_lists(&rt, FRACTIONS, &[
-        (1, 1, "end"),
-        (1, 2, "def 0 rule 0, end"),
-        (4, 1, "def 0 rule 0, end"),
-        (4, 2, "def 1 rule 1, end"),
-    ])
+    has_lists(
+        &rt,
+        FRACTIONS,
+        &[
+            (1, 1, "end"),
+            (1, 2, "def 0 rule 0, end"),
+            (4, 1, "def 0 rule 0, end"),
+            (4, 2, "def 1 rule 1, end"),
+        ],
+    )
 }
 
 #[test]
@@ -133,7 +146,10 @@ X = { $0.b = $0.j; $0.a = $0.i; }",
 #[test]
 fn lists_by_hand(rt: HostRuntime) -> Result<(), Fail> {
     let alloc = rt.alloc();
-    let row = vec![in alloc; vec![in alloc; Instr::Get(1), Instr::End]?, vec![in alloc; Instr::End]?]?;
+    let row = vec![in alloc;
+        vec![in alloc; Instr::Get(1), Instr::End]?,
+        vec![in alloc; Instr::End]?,
+    ]?;
     let code = Code::of_rows(vec![in alloc; row]?);
     assert!(rt; code.list(0, 1) == &[Instr::Get(1), Instr::End][..]);
     assert!(rt; code.list(0, 2) == &[Instr::End][..]);

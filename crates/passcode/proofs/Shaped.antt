@@ -1,5 +1,5 @@
 -- Which lists code has that has the shape of a grammar.
-use Rattle.std.proofs.Common.{ℕ, ◌≡◌, ◌<◌, ◌≤◌, ◌⊎◌, List, [], Some, slice_get, length, inl, inr, sym, subst, arith}
+use Rattle.std.proofs.Common.{ℕ, ◌≡◌, ◌<◌, ◌≤◌, ◌⊎◌, List, [], length, inl, inr, arith}
 use Rattle.std.proofs.lemmas.Option.{slice_get-get_or}
 use Rattle.ag_expr.specs.Lists.{Has}
 use Rattle.ag_expr.specs.grammars.AttributeGrammar.{Grammar}
