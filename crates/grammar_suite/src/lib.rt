@@ -3,6 +3,8 @@
 #![tactic(auto)]
 
 #[cfg(test)]
+mod codes;
+#[cfg(test)]
 mod grammar_texts;
 #[cfg(test)]
 mod normal_forms;

@@ -1,0 +1,6 @@
+pub mod Agreement
+pub mod Listing
+pub mod Order
+pub mod Rows
+pub mod Shape
+pub mod Tables
