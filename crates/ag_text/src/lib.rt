@@ -2,6 +2,7 @@
 #![tactic(auto)]
 
 mod display;
+mod expected;
 mod fault;
 mod grammar;
 pub mod laws;
@@ -11,6 +12,7 @@ mod reader;
 mod stop;
 mod tokens;
 
+pub use expected::{Expected, expected_at};
 pub use fault::TextFault;
 pub use grammar::read_grammar;
 pub use raw::{Named, RawGrammar, RawItem, RawProduction, RawRule, RawSymbol};

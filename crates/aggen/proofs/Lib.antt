@@ -1,3 +1,4 @@
 pub mod Closed
 pub mod Reading
+pub mod Refused
 pub mod Written
