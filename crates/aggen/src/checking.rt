@@ -45,7 +45,10 @@ pub fn grammar_of(alloc: Global, text: &[u8]) -> Result<Grammar, Fault>
 fn counts_of(alloc: Global, grammar: &Grammar) -> Result<String, AllocError>
     ensures { IfOk result (λ line. string_bytes line ≡ line_of grammar.now) }
 {
-    let symbols = grammar.symbols().len();
-    let productions = grammar.productions().len();
-    format!(in alloc; "{symbols} symbols, {productions} productions\n")
+    let mut line = grammar.symbols().len().to_string(alloc)?;
+    line.push_str(" symbols, ")?;
+    let productions = grammar.productions().len().to_string(alloc)?;
+    line.push_str(productions.as_str())?;
+    line.push_str(" productions\n")?;
+    Ok(line)
 }

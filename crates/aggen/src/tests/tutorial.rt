@@ -14,14 +14,11 @@ const FIRST: &str = "S = NUMBER R { $0.out = text($2.sum); $2.before = number($1
 /// Its productions of the rest of a sum: further numbers, and no more.
 const MORE: &str =
     "R = \"+\" NUMBER R { $0.sum = $2.sum; $2.before = $0.before + number($1.lex); }\n";
+
 const LAST: &str = "R = { $0.sum = $0.before; }\n";
 
 /// The line of a text that is made of parts.
-fn told(
-    rt: &(impl Abort + Alloc<A = Global>),
-    parts: &[&str],
-    line: &str,
-) -> Result<(), Fail> {
+fn told(rt: &(impl Abort + Alloc<A = Global>), parts: &[&str], line: &str) -> Result<(), Fail> {
     let mut text = String::new(rt.alloc());
     for part in parts {
         text.push_str(part)?;
@@ -63,7 +60,11 @@ fn first_step(rt: HostRuntime) -> Result<(), Fail> {
 
 #[test]
 fn second_step(rt: HostRuntime) -> Result<(), Fail> {
-    told(&rt, &[SYMBOLS, FIRST, MORE, LAST], "2 symbols, 3 productions\n")?;
+    told(
+        &rt,
+        &[SYMBOLS, FIRST, MORE, LAST],
+        "2 symbols, 3 productions\n",
+    )?;
     told(
         &rt,
         &[SYMBOLS, FIRST, MORE],
@@ -72,7 +73,12 @@ fn second_step(rt: HostRuntime) -> Result<(), Fail> {
     )?;
     told(
         &rt,
-        &[SYMBOLS, "S = NUMBER R { $0.out = text($2.sum); }\n", MORE, LAST],
+        &[
+            SYMBOLS,
+            "S = NUMBER R { $0.out = text($2.sum); }\n",
+            MORE,
+            LAST,
+        ],
         "N6 (line 4, column 1): `$2.before = ..;` is missing in the production of S in line 4",
     )?;
     told(
@@ -99,7 +105,12 @@ fn second_step(rt: HostRuntime) -> Result<(), Fail> {
     )?;
     told(
         &rt,
-        &[SYMBOLS, FIRST, MORE, "R = { $0.sum = $0.before; $0.before = 0; }\n"],
+        &[
+            SYMBOLS,
+            FIRST,
+            MORE,
+            "R = { $0.sum = $0.before; $0.before = 0; }\n",
+        ],
         "N8 at 227 (line 6, column 27): `$0.before` gets its value elsewhere, the rules here are \
          for `$0.sum`",
     )?;
