@@ -2,8 +2,8 @@
 
 use crate::limit_message::{place_of_limit, tell_limit};
 use crate::sites::{
-    Site, Stored, attribute_named, last_place, named_at, site_at, stored_at, symbol_named,
-    symbol_with,
+    Site, Stored, attribute_named, has_production, last_place, named_at, site_at, stored_at,
+    symbol_named, symbol_with,
 };
 use crate::telling::place_of;
 use ag_expr::Occ;
@@ -45,11 +45,7 @@ pub fn tell_normal<W: fmt::Write>(
         NormalFault::UnknownName(at) => tell_unknown(f, raw, *at),
         NormalFault::DoubledName(at) => tell_doubled(f, raw, *at),
         NormalFault::BadStart => tell_start(f, raw),
-        NormalFault::Unproductive(symbol) => write!(
-            f,
-            "`{}` derives no list of tokens, give it a production that ends without it",
-            symbol.name.as_str()
-        ),
+        NormalFault::Unproductive(symbol) => tell_unproductive(f, raw, symbol),
         NormalFault::Unreachable(symbol) => write!(
             f,
             "`{}` does not reach `{}`, use it in a production or take it out",
@@ -190,6 +186,23 @@ fn tell_start<W: fmt::Write>(f: &mut fmt::Formatter<W>, raw: &RawGrammar) -> fmt
             "the start symbol `{name}` has no synthesized attribute `out`, which is the translation"
         ),
     }
+}
+
+/// N4: why a symbol derives no list of tokens.
+fn tell_unproductive<W: fmt::Write>(
+    f: &mut fmt::Formatter<W>,
+    raw: &RawGrammar,
+    symbol: &Named,
+) -> fmt::Result {
+    let name = symbol.name.as_str();
+    if has_production(raw, name) {
+        return write!(
+            f,
+            "`{name}` derives no list of tokens, since each of its productions has a symbol that \
+             derives none; give one of these a production that ends"
+        );
+    }
+    write!(f, "`{name}` has no production, write one")
 }
 
 /// N6: the rule that is missing, as it would be written.

@@ -31,6 +31,16 @@ pub fn symbol_named<'a>(raw: &'a RawGrammar, name: &str) -> Option<&'a RawSymbol
     None
 }
 
+/// Whether a symbol of this name has a production.
+pub fn has_production(raw: &RawGrammar, name: &str) -> bool {
+    for production in raw.productions.as_slice() {
+        if production.left.name.as_str() == name {
+            return true;
+        }
+    }
+    false
+}
+
 /// The declaration that has a name at this offset: the symbol's, or an attribute's.
 pub fn symbol_with(raw: &RawGrammar, at: usize) -> Option<&RawSymbol> {
     for symbol in raw.symbols.as_slice() {

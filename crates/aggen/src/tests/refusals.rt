@@ -174,8 +174,13 @@ fn symbols_that_are_wrong(rt: HostRuntime) -> Result<(), Fail> {
         &[
             (
                 "start S; symbol S syn out;\nS = S { $0.out = \"\"; }",
-                "N4 at 16 (line 1, column 17): `S` derives no list of tokens, give it a production \
-                 that ends without it",
+                "N4 at 16 (line 1, column 17): `S` derives no list of tokens, since each of its \
+                 productions has a symbol that derives none; give one of these a production that \
+                 ends",
+            ),
+            (
+                "start S; symbol S syn out;",
+                "N4 at 16 (line 1, column 17): `S` has no production, write one",
             ),
             (
                 "start S; symbol S syn out;\nsymbol T;\nS = { $0.out = \"\"; }\nT = { }",

@@ -68,8 +68,8 @@ fn second_step(rt: HostRuntime) -> Result<(), Fail> {
     told(
         &rt,
         &[SYMBOLS, FIRST, MORE],
-        "N4 at 34 (line 3, column 8): `R` derives no list of tokens, give it a production that \
-         ends without it",
+        "N4 at 16 (line 2, column 8): `S` derives no list of tokens, since each of its \
+         productions has a symbol that derives none; give one of these a production that ends",
     )?;
     told(
         &rt,
@@ -89,7 +89,7 @@ fn second_step(rt: HostRuntime) -> Result<(), Fail> {
             "R = \"+\" NUMBER R { $0.sum = $3.sum; $2.before = $0.before + number($1.lex); }\n",
             LAST,
         ],
-        "N1 at 151 (line 5, column 28): `$3.sum` is not there, the last place of this production \
+        "N1 at 152 (line 5, column 29): `$3.sum` is not there, the last place of this production \
          of `R` is 2",
     )?;
     told(
@@ -100,7 +100,7 @@ fn second_step(rt: HostRuntime) -> Result<(), Fail> {
             "R = \"+\" NUMBER R { $0.sum = $2.before; $2.before = $0.before + number($1.lex); }\n",
             LAST,
         ],
-        "N9 at 151 (line 5, column 28): `$2.before` may not stand here, since it gets its value \
+        "N9 at 152 (line 5, column 29): `$2.before` may not stand here, since it gets its value \
          here; what may is `$0.before`, `$1.lex`, `$2.sum`",
     )?;
     told(
@@ -111,7 +111,7 @@ fn second_step(rt: HostRuntime) -> Result<(), Fail> {
             MORE,
             "R = { $0.sum = $0.before; $0.before = 0; }\n",
         ],
-        "N8 at 227 (line 6, column 27): `$0.before` gets its value elsewhere, the rules here are \
+        "N8 at 228 (line 6, column 27): `$0.before` gets its value elsewhere, the rules here are \
          for `$0.sum`",
     )?;
     told(
