@@ -126,6 +126,12 @@ fn tell_text<W: fmt::Write>(
         TextFault::Unexpected(_, _) => {
             write!(f, ": found ")?;
             tell_found(f, found)?;
+            if expected.contains(&Expected::Item) && found.starts_with('"') {
+                return write!(
+                    f,
+                    ", where a literal has a character at least and no space, tab or line break"
+                );
+            }
             tell_expected(f, expected)
         }
         TextFault::Expr(fault) => tell_expression(f, fault, found, expected),

@@ -58,9 +58,9 @@ pub fn tell_normal<W: fmt::Write>(
                 None => Ok(()),
             }
         }
-        NormalFault::RuleDoubled(at) => tell_rule_doubled(f, raw, *at),
-        NormalFault::NotDefinedHere(at) => tell_not_given(f, raw, *at),
-        NormalFault::NotNormal(at) => tell_not_found(f, raw, *at),
+        NormalFault::RuleDoubled(at)
+        | NormalFault::NotDefinedHere(at)
+        | NormalFault::NotNormal(at) => tell_misplaced(f, fault, raw, *at),
         NormalFault::Limit(kind) => tell_limit(f, raw, *kind),
         NormalFault::NoMemory => Ok(()),
     }
@@ -239,9 +239,10 @@ fn attribute_of(symbol: &RawSymbol, attr: usize) -> &str {
     }
 }
 
-/// N7: the target that has a rule before.
-fn tell_rule_doubled<W: fmt::Write>(
+/// N7 to N9: why an occurrence may not stand where it does, and what may.
+fn tell_misplaced<W: fmt::Write>(
     f: &mut fmt::Formatter<W>,
+    fault: &NormalFault,
     raw: &RawGrammar,
     at: usize,
 ) -> fmt::Result {
@@ -249,41 +250,25 @@ fn tell_rule_doubled<W: fmt::Write>(
         return Ok(());
     };
     tell_occurrence(f, site.occurrence)?;
-    write!(
-        f,
-        " has a rule before in this production, take one of the two out"
-    )
-}
-
-/// N8: the target that the production does not give, and what it does.
-fn tell_not_given<W: fmt::Write>(
-    f: &mut fmt::Formatter<W>,
-    raw: &RawGrammar,
-    at: usize,
-) -> fmt::Result {
-    let Some(site) = site_at(raw, at) else {
-        return Ok(());
-    };
-    tell_occurrence(f, site.occurrence)?;
-    write!(f, " gets its value elsewhere, the rules here are for ")?;
-    tell_targets(f, raw, site.production, true)
-}
-
-/// N9: the occurrence that may not stand in a rule of the production, and what may.
-fn tell_not_found<W: fmt::Write>(
-    f: &mut fmt::Formatter<W>,
-    raw: &RawGrammar,
-    at: usize,
-) -> fmt::Result {
-    let Some(site) = site_at(raw, at) else {
-        return Ok(());
-    };
-    tell_occurrence(f, site.occurrence)?;
-    write!(
-        f,
-        " may not stand here, since it gets its value here; what may is "
-    )?;
-    tell_targets(f, raw, site.production, false)
+    match fault {
+        NormalFault::RuleDoubled(_) => {
+            write!(
+                f,
+                " has a rule before in this production, take one of the two out"
+            )
+        }
+        NormalFault::NotDefinedHere(_) => {
+            write!(f, " gets its value elsewhere, the rules here are for ")?;
+            tell_targets(f, raw, site.production, true)
+        }
+        _ => {
+            write!(
+                f,
+                " may not stand here, since it gets its value here; what may is "
+            )?;
+            tell_targets(f, raw, site.production, false)
+        }
+    }
 }
 
 /// The occurrences that the rules of a production give, or those that they may use.

@@ -61,8 +61,13 @@ fn texts_that_are_no_grammar(rt: HostRuntime) -> Result<(), Fail> {
             ),
             (
                 "start S; S = \"\" { }",
-                "G2 at 13 (line 1, column 14): found `\"\"`, where only an item (a name, literal \
-                 or class) or `{` can stand",
+                "G2 at 13 (line 1, column 14): found `\"\"`, where a literal has a character at \
+                 least and no space, tab or line break",
+            ),
+            (
+                "start S; S = (",
+                "G2 at 13 (line 1, column 14): found `(`, where only an item (a name, literal or \
+                 class) or `{` can stand",
             ),
             (
                 "start S; S = { 1",
