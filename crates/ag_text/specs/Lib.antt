@@ -3,6 +3,7 @@ pub mod Grammar
 pub mod Laws
 pub mod Passing
 pub mod Places
+pub mod Printed
 pub mod Reading
 pub mod Spelling
 pub mod Syntax

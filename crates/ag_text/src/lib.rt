@@ -1,6 +1,7 @@
 //! Grammars as they stand in a text: what a text is to be read as, and reading it.
 #![tactic(auto)]
 
+mod display;
 mod expected;
 mod fault;
 mod grammar;

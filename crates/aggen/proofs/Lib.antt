@@ -1,3 +1,4 @@
 pub mod Closed
+pub mod Front
 pub mod Reading
 pub mod Written

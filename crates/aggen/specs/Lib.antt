@@ -1,3 +1,4 @@
+pub mod Checking
 pub mod Output
 pub mod Showing
 pub mod Status

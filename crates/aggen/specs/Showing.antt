@@ -124,3 +124,11 @@ abbrev pub IsTextFault : Fault → Type 0
 IsTextFault (fault.Expr e) = Unit {0}
 IsTextFault fault.NoMemory = Unit {0}
 IsTextFault _ = ⊥
+
+-- what comes of showing a value: a fault of its text, of the device, of the file on it, of writing, or of memory
+abbrev pub IsShowFault : Fault → Type 0
+IsShowFault fault.Usage = ⊥
+IsShowFault fault.File = ⊥
+IsShowFault (fault.Text e) = ⊥
+IsShowFault (fault.Normal e) = ⊥
+IsShowFault _ = Unit {0}

@@ -2,6 +2,10 @@
 use Rattle.std.specs.Prelude.{ℕ}
 use Rattle.ag_expr.specs.declared.fault.ExprFault.{ExprFault}
 use Rattle.ag_expr.specs.declared.fault.ExprFault.TheVariants as expr
+use Rattle.ag_text.specs.declared.fault.TextFault.{TextFault}
+use Rattle.ag_text.specs.declared.fault.TextFault.TheVariants as text
+use Rattle.normalform.specs.declared.fault.NormalFault.{NormalFault}
+use Rattle.normalform.specs.declared.fault.NormalFault.TheVariants as normal
 use Rattle.treefile.specs.declared.device.DeviceFault.{DeviceFault}
 use Rattle.treefile.specs.declared.device.DeviceFault.TheVariants as device
 use Rattle.treefile.specs.declared.reading.FrameFault.{FrameFault}
@@ -11,10 +15,13 @@ use Rattle.treefile.specs.declared.writing.WriteFault.TheVariants as writing
 use Rattle.aggen.specs.declared.fault.Fault.{Fault}
 use Rattle.aggen.specs.declared.fault.Fault.TheVariants as fault
 
--- 2 for the command line, 3 for X1 to X4, 5 for B1 and B2, 7 for want of memory, 8 for D1 and O2
+-- 2 for the command line, 3 for X, G and N, 5 for B1 and B2, 7 for want of memory, 8 for F1, D1 and O2
 abbrev pub status_of : Fault → ℕ
 status_of fault.Usage = 2
+status_of fault.File = 8
 status_of (fault.Expr e) = 3
+status_of (fault.Text e) = 3
+status_of (fault.Normal e) = 3
 status_of fault.NotATreeFile = 5
 status_of (fault.Damaged at) = 5
 status_of fault.Device = 8
@@ -25,6 +32,14 @@ status_of fault.NoMemory = 7
 abbrev pub expr_fault_of : ExprFault → Fault
 expr_fault_of expr.NoMemory = fault.NoMemory
 expr_fault_of e = fault.Expr e
+
+abbrev pub text_fault_of : TextFault → Fault
+text_fault_of text.NoMemory = fault.NoMemory
+text_fault_of e = fault.Text e
+
+abbrev pub normal_fault_of : NormalFault → Fault
+normal_fault_of normal.NoMemory = fault.NoMemory
+normal_fault_of e = fault.Normal e
 
 -- the faults of a device, of writing a tree file, and of reading one
 abbrev pub device_fault_of : DeviceFault → Fault
@@ -40,6 +55,12 @@ frame_fault_of frame.NotATreeFile = fault.NotATreeFile
 frame_fault_of (frame.Damaged at) = fault.Damaged at
 frame_fault_of frame.Device = fault.Device
 frame_fault_of frame.NoMemory = fault.NoMemory
+
+-- a file can't be opened or read, or memory is short
+abbrev pub IsSourceFault : Fault → Type 0
+IsSourceFault fault.File = Unit {0}
+IsSourceFault fault.NoMemory = Unit {0}
+IsSourceFault _ = ⊥
 
 -- a fault of the command line, of printing what is wrong with it, or of memory
 abbrev pub IsCommandFault : Fault → Type 0

@@ -14,12 +14,17 @@ const EXAMPLE: &str = "2 + 3 * 4";
 /// The name of the one argument of `value`.
 const EXPRESSION: &str = "EXPR";
 
+/// The name of the one argument of `check`.
+const GRAMMAR: &str = "G";
+
 /// What a command line asks for.
 pub enum Request<'a> {
     /// Nothing more: help or the version was asked for, and was printed.
     Nothing,
     /// The value of an expression.
     Value(&'a str),
+    /// The check of the grammar in the file of this name.
+    Check(&'a str),
 }
 
 /// What the words ask for, the program's name first. Help and the version are printed on standard
@@ -33,15 +38,18 @@ pub fn request_of<'a, R: Print + Eprint>(
     ensures { IfErr result IsCommandFault }
 {
     match command(alloc)?.try_get_matches_from(words) {
-        Ok(matches) => Ok(Request::Value(expression_of(&matches))),
+        Ok(matches) => Ok(request_in(&matches)),
         Err(error) => refuse(rt, error),
     }
 }
 
-fn expression_of<'a>(matches: &ArgMatches<'a>) -> &'a str {
+fn request_in<'a>(matches: &ArgMatches<'a>) -> Request<'a> {
+    if let Some(check) = matches.subcommand_matches("check") {
+        return Request::Check(check.get_str(GRAMMAR).unwrap_or(""));
+    }
     match matches.subcommand_matches("value") {
-        Some(value) => value.get_str(EXPRESSION).unwrap_or(EXAMPLE),
-        None => EXAMPLE,
+        Some(value) => Request::Value(value.get_str(EXPRESSION).unwrap_or(EXAMPLE)),
+        None => Request::Value(EXAMPLE),
     }
 }
 
@@ -66,13 +74,20 @@ fn command<'a>(alloc: Global) -> Result<Command<'a>, AllocError> {
     let expression = Arg::new(alloc, EXPRESSION)
         .required(true)
         .allow_hyphen_values(true)
-        .help("The expression, as one word: numbers, + - * div mod and parentheses");
+        .help("The expression, as one word, without occurrences such as $1.a");
     let value = Command::new(alloc, "value")
         .about("Prints the value of an expression")
         .arg(expression)?;
+    let grammar = Arg::new(alloc, GRAMMAR)
+        .required(true)
+        .help("The name of the grammar's file");
+    let check = Command::new(alloc, "check")
+        .about("Reads and checks a grammar, and prints how many symbols and productions it has")
+        .arg(grammar)?;
     Command::new(alloc, "aggen")
         .version("0.1.0")
         .about("Makes translators from attribute grammars")
         .after_help("With no command it does what `aggen value \"2 + 3 * 4\"` does.")
-        .subcommand(value)
+        .subcommand(value)?
+        .subcommand(check)
 }

@@ -2,25 +2,36 @@
 
 ghost use Rattle.std.specs.Prelude.{◌≡◌};
 ghost use Rattle.aggen.specs.Status.{device_fault_of, expr_fault_of, frame_fault_of, status_of};
-ghost use Rattle.aggen.specs.Status.{write_fault_of};
+ghost use Rattle.aggen.specs.Status.{normal_fault_of, text_fault_of, write_fault_of};
 ghost use Rattle.aggen.specs.declared.fault.Fault.TheVariants as program_fault;
 
 use ag_expr::ExprFault;
+use ag_text::TextFault;
 use ag_value::NoMemory;
+use normalform::NormalFault;
 use std::alloc::AllocError;
 use thiserror::Error;
 use treefile::{DeviceFault, FrameFault, WriteFault};
 
 /// Why the program, or a call of it, did not do what it was asked for. Each has a number, which is
 /// printed first.
-#[derive(Clone, Copy, Debug, PartialEq, Eq, Error)]
+#[derive(Debug, Drop, Error)]
 pub enum Fault {
     /// The words of the command line are not as they should be.
     #[error("usage: the words of the command line can't be read")]
     Usage,
+    /// F1: a file can't be opened or read.
+    #[error("F1 the file can't be opened or read")]
+    File,
     /// X1 to X4: the text is no expression. Want of memory is never in it.
     #[error("{0}")]
     Expr(ExprFault),
+    /// G1 to G4: the text reads as no grammar. Want of memory is never in it.
+    #[error("{0}")]
+    Text(TextFault),
+    /// N1 to N10: the grammar is not accepted. Want of memory is never in it.
+    #[error("{0}")]
+    Normal(NormalFault),
     /// B1: a device holds no tree file.
     #[error("B1 the device holds no tree file")]
     NotATreeFile,
@@ -39,17 +50,17 @@ pub enum Fault {
     NoMemory,
 }
 
-/// The status that the program ends with after a fault: 2 usage; 3 X; 5 B1 and B2; 7 want of
-/// memory; 8 D1 and O2.
+/// The status that the program ends with after a fault: 2 usage; 3 X, G and N; 5 B1 and B2; 7 want
+/// of memory; 8 F1, D1 and O2.
 pub fn status(fault: &Fault) -> u8
     ensures { result ≡ status_of fault.now }
 {
     match fault {
         Fault::Usage => 2,
-        Fault::Expr(_) => 3,
+        Fault::Expr(_) | Fault::Text(_) | Fault::Normal(_) => 3,
         Fault::NotATreeFile | Fault::Damaged(_) => 5,
         Fault::NoMemory => 7,
-        Fault::Device | Fault::Write => 8,
+        Fault::File | Fault::Device | Fault::Write => 8,
     }
 }
 
@@ -60,6 +71,28 @@ impl From<ExprFault> for Fault {
         match fault {
             ExprFault::NoMemory => Fault::NoMemory,
             _ => Fault::Expr(fault),
+        }
+    }
+}
+
+impl From<TextFault> for Fault {
+    ghost from_gives = { λ fault e. e ≡ text_fault_of fault };
+
+    fn from(fault: TextFault) -> Fault {
+        match fault {
+            TextFault::NoMemory => Fault::NoMemory,
+            _ => Fault::Text(fault),
+        }
+    }
+}
+
+impl From<NormalFault> for Fault {
+    ghost from_gives = { λ fault e. e ≡ normal_fault_of fault };
+
+    fn from(fault: NormalFault) -> Fault {
+        match fault {
+            NormalFault::NoMemory => Fault::NoMemory,
+            other => Fault::Normal(other),
         }
     }
 }

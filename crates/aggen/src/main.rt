@@ -1,23 +1,35 @@
 //! `aggen`: translators from attribute grammars.
 //!
-//! The program's one command so far is `value EXPR`: it evaluates an expression, takes its value
-//! through a tree file in memory, and prints what it reads back.
+//! The program has two commands so far. `value EXPR` evaluates an expression, takes its value
+//! through a tree file in memory, and prints what it reads back; `check G` reads and checks the
+//! grammar in a file.
 #![tactic(auto)]
 
+mod checking;
 mod command;
+mod expression_message;
 mod fault;
 mod file;
+mod grammar_message;
+mod limit_message;
 mod message;
+mod normal_message;
 mod output;
+mod sites;
+mod source;
+mod telling;
 mod value;
 
+use checking::print_counts;
 use command::{Request, request_of};
 use fault::{Fault, status};
+use grammar_message::GrammarMessage;
 use message::Message;
+use source::source_of;
 use std::alloc::{AllocError, Global};
 use std::io;
 use std::process::ExitCode;
-use std::rt::Env;
+use std::rt::{Env, Files};
 use treefile::MemDevice;
 use value::show_value;
 
@@ -32,7 +44,7 @@ fn main(rt: HostRuntime) -> ExitCode {
 }
 
 /// Does what the words of the command line ask for. A fault has been told on standard error.
-fn run<R: Env + Print + Eprint + AllocGlobal>(rt: &R) -> Result<(), Fault> {
+fn run<R: Env + Files + Print + Eprint + AllocGlobal>(rt: &R) -> Result<(), Fault> {
     let alloc = rt.alloc();
     let words = match words_of(rt, alloc) {
         Ok(words) => words,
@@ -41,6 +53,7 @@ fn run<R: Env + Print + Eprint + AllocGlobal>(rt: &R) -> Result<(), Fault> {
     match request_of(rt, alloc, words.as_slice()) {
         Ok(Request::Nothing) => Ok(()),
         Ok(Request::Value(text)) => print_value(rt, alloc, text),
+        Ok(Request::Check(path)) => check_file(rt, alloc, path),
         // the fault of the command line was told already
         Err(Fault::Usage) => Err(Fault::Usage),
         Err(fault) => tell(rt, alloc, fault, ""),
@@ -66,6 +79,32 @@ fn print_value<R: Print + Eprint>(rt: &R, alloc: Global, text: &str) -> Result<(
         Ok(()) => Ok(()),
         Err(fault) => tell(rt, alloc, fault, text),
     }
+}
+
+/// Prints how many symbols and productions the grammar in a file has.
+fn check_file<R: Files + Print + Eprint>(rt: &R, alloc: Global, path: &str) -> Result<(), Fault> {
+    let bytes = match source_of(rt, alloc, path) {
+        Ok(bytes) => bytes,
+        Err(fault) => return tell_grammar(rt, alloc, fault, path, &[]),
+    };
+    let mut out = io::writer(rt);
+    match print_counts(alloc, bytes.as_slice(), &mut out) {
+        Ok(()) => Ok(()),
+        Err(fault) => tell_grammar(rt, alloc, fault, path, bytes.as_slice()),
+    }
+}
+
+/// Tells a fault of a grammar's file in one line on standard error.
+fn tell_grammar<R: Eprint>(
+    rt: &R,
+    alloc: Global,
+    fault: Fault,
+    path: &str,
+    bytes: &[u8],
+) -> Result<(), Fault> {
+    // where the line can't be written, the status still tells
+    let _ = rt.eprintln(GrammarMessage::new(alloc, &fault, path, bytes));
+    Err(fault)
 }
 
 /// Tells a fault of a text in one line on standard error.

@@ -5,7 +5,8 @@ ghost use Rattle.ag_expr.specs.language.Expression.{ReadsAsExpr};
 ghost use Rattle.ag_value.specs.Well.{IsWell};
 ghost use Rattle.treefile.specs.Device.{Persists, WhenHonest};
 ghost use Rattle.aggen.specs.Showing.{BeginsLine, HasNone, HasValue, IsDamage, IsExplained};
-ghost use Rattle.aggen.specs.Showing.{IsExprFault, IsTextFault, IsUnexpectedAt, OccursAt, Shows};
+ghost use Rattle.aggen.specs.Showing.{IsExprFault, IsShowFault, IsTextFault, IsUnexpectedAt};
+ghost use Rattle.aggen.specs.Showing.{OccursAt, Shows};
 ghost use Rattle.aggen.specs.Showing.{ShowsBeginning, WritesLine, first_place};
 
 use crate::fault::Fault;
@@ -53,7 +54,7 @@ pub fn show_value<D: Device, W: Write>(
     ensures kept { IfErr result (λ e. e ≢ Fault.Write → out.new ≡ out.old) }
     ensures write { IsErrOf result Fault.Write → WhenHonest (D.is_honest device.old)
         (ShowsBeginning text.now (W.contents out.old) (W.contents out.new)) }
-    ensures usage { ¬ (IsErrOf result Fault.Usage) }
+    ensures kinds { IfErr result IsShowFault }
 
     // whatever the device gives back, the line of some well value is written, or a beginning of it
     ensures line { OnOk result (WritesLine (W.contents out.old) (W.contents out.new)) }

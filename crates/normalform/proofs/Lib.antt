@@ -2,6 +2,7 @@ pub mod Accepting
 pub mod Apart
 pub mod First
 pub mod Founds
+pub mod FromTexts
 pub mod KindAt
 pub mod Listed
 pub mod Marks

@@ -20,7 +20,7 @@ either : (a b : Bool) → (a || b) ≡ true → (a ≡ true) ⊎ (b ≡ true)
 either true b h = inl refl
 either false b h = inr h
 
-separator_is : (b : ℕ) → IsSeparator b → is_separator b ≡ true
+pub separator_is : (b : ℕ) → IsSeparator b → is_separator b ≡ true
 separator_is b (inl e) = rw e refl
 separator_is b (inr (inl e)) = rw e refl
 separator_is b (inr (inr (inl e))) = rw e refl

@@ -6,5 +6,6 @@ pub mod Laws
 pub mod Names
 pub mod Numbers
 pub mod Placed
+pub mod Printed
 pub mod Readable
 pub mod Search

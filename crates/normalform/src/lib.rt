@@ -5,6 +5,7 @@
 mod checking;
 mod clause;
 mod declared;
+mod display;
 mod fault;
 mod grammar;
 pub mod laws;

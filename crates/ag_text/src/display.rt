@@ -1,0 +1,25 @@
+//! How a refusal of a grammar's text is printed.
+
+use crate::fault::TextFault;
+use std::error::Error;
+use std::fmt;
+
+/// The number of the fault, and where it has one its offset: `G2 at 6`, `G3 X2 at 46`, `G4`.
+impl fmt::Display for TextFault {
+    ghost use Rattle.std.specs.Prelude.{Some};
+    ghost use Rattle.ag_text.specs.Printed.{printed};
+
+    ghost output = { λ fault. Some (printed fault) };
+
+    fn fmt<W: fmt::Write>(&self, f: &mut fmt::Formatter<W>) -> fmt::Result {
+        match self {
+            TextFault::BadUtf8(at) => write!(f, "G1 at {at}"),
+            TextFault::Unexpected(_, at) => write!(f, "G2 at {at}"),
+            TextFault::Expr(fault) => write!(f, "G3 {fault}"),
+            TextFault::TooLong => write!(f, "G4"),
+            TextFault::NoMemory => write!(f, "NoMemory"),
+        }
+    }
+}
+
+impl Error for TextFault {}

@@ -1,0 +1,63 @@
+-- What it means to check a grammar's text: the grammar that it is, its first fault, and the line that is written. All of
+-- this is this project's.
+use Rattle.std.specs.Prelude.{◌≡◌, ◌≢◌, ◌++◌, ℕ, List, length, Option, Err, codes, decimal}
+use Rattle.std.specs.Io.KnownBytes.{Appends}
+use Rattle.ag_expr.specs.declared.fault.ExprFault.TheVariants as expr
+use Rattle.ag_expr.specs.grammars.Accepted.{IsAccepted}
+use Rattle.ag_expr.specs.grammars.AttributeGrammar.{Grammar}
+use Rattle.ag_text.specs.Answers.{IsFirstOf, IsRead, IsRefused}
+use Rattle.ag_text.specs.Grammar.{ReadsAsGrammar}
+use Rattle.ag_text.specs.declared.fault.TextFault.{TextFault}
+use Rattle.ag_text.specs.declared.fault.TextFault.TheVariants as text_fault
+use Rattle.ag_text.specs.declared.raw.RawGrammar.{RawGrammar}
+use Rattle.normalform.specs.Faults.{IsFirstFault}
+use Rattle.normalform.specs.Numbers.{numbered}
+use Rattle.normalform.specs.declared.fault.NormalFault.{NormalFault}
+use Rattle.aggen.specs.Output.{AppendsBeginning}
+use Rattle.aggen.specs.declared.fault.Fault.{Fault}
+use Rattle.aggen.specs.declared.fault.Fault.TheVariants as fault
+
+-- the text reads as a raw grammar, which by numbers is this one, and it is accepted
+pub record IsGrammarOf (text : List ℕ) (grammar : Grammar) : Type 0 where
+  pub raw : RawGrammar
+  pub reads : ReadsAsGrammar text raw
+  pub named : grammar ≡ numbered raw
+  pub accepted : IsAccepted grammar
+
+-- G1 to G4 are what reading the text answers: it reads as no grammar, and want of memory is not in them.
+pub record IsTextFaultOf (text : List ℕ) (f : TextFault) : Type 0 where
+  pub read : IsRead text (Err f)
+  pub first : IsFirstOf text f
+  pub refused : IsRefused text f
+  pub of_text : f ≢ text_fault.NoMemory
+  pub of_expression : f ≢ text_fault.Expr expr.NoMemory
+
+-- N1 to N10: the text reads as a raw grammar, whose first fault this is, and which by numbers is not accepted.
+pub record IsNormalFaultOf (text : List ℕ) (f : NormalFault) : Type 0 where
+  pub raw : RawGrammar
+  pub reads : ReadsAsGrammar text raw
+  pub first : IsFirstFault raw f
+  pub refused : IsAccepted (numbered raw) → ⊥
+
+-- what a refusal says of the text; want of memory says nothing, and no other fault comes
+abbrev pub IsCheckFault : List ℕ → Fault → Type 0
+IsCheckFault text (fault.Text f) = IsTextFaultOf text f
+IsCheckFault text (fault.Normal f) = IsNormalFaultOf text f
+IsCheckFault text fault.NoMemory = Unit {0}
+IsCheckFault text _ = ⊥
+
+-- the line that tells how many symbols and productions a grammar has
+abbrev pub counts_of : Grammar → List ℕ
+counts_of g = decimal (length g.symbols) ++ codes " symbols, " ++ decimal (length g.productions) ++ codes " productions\n"
+
+-- the line of the text's grammar was written
+pub record TellsCounts (text : List ℕ) (old new : Option (List ℕ)) : Type 0 where
+  pub grammar : Grammar
+  pub is : IsGrammarOf text grammar
+  pub line : Appends old new (counts_of grammar)
+
+-- a beginning of the line of the text's grammar was written
+pub record BeginsCounts (text : List ℕ) (old new : Option (List ℕ)) : Type 0 where
+  pub grammar : Grammar
+  pub is : IsGrammarOf text grammar
+  pub beginning : AppendsBeginning old new (counts_of grammar)

@@ -1,0 +1,54 @@
+//! Reading and checking a grammar's text, and the line that tells what was read.
+
+ghost use Rattle.std.specs.Prelude.{◌≡◌, ◌≢◌, IfErr, IfOk, IsErrOf, OnOk, string_bytes};
+ghost use Rattle.aggen.specs.Checking.{BeginsCounts, IsCheckFault, IsGrammarOf, TellsCounts};
+ghost use Rattle.aggen.specs.Checking.{counts_of as line_of};
+
+use crate::fault::Fault;
+use crate::output::write_whole;
+use ag_text::read_grammar;
+use normalform::{Grammar, check};
+use std::alloc::{AllocError, Global};
+use std::io::Write;
+
+/// Reads and checks a grammar's text, and writes how many symbols and productions it has:
+/// `5 symbols, 8 productions`, and LF. The words are the same for every number.
+///
+/// G1 to G4 and N1 to N10 where `grammar_of` refuses the text; O2 Write where a write fails or takes
+/// no byte. Nothing is written before all is known.
+pub fn print_counts<W: Write>(alloc: Global, text: &[u8], out: &mut W) -> Result<(), Fault>
+    ensures tells { OnOk result
+        (TellsCounts text.now (W.contents out.old) (W.contents out.new)) }
+    ensures refused { IfErr result (λ e. e ≢ Fault.Write → IsCheckFault text.now e) }
+    ensures kept { IfErr result (λ e. e ≢ Fault.Write → out.new ≡ out.old) }
+    ensures write { IsErrOf result Fault.Write →
+        BeginsCounts text.now (W.contents out.old) (W.contents out.new) }
+{
+    let grammar = grammar_of(alloc, text)?;
+    let line = counts_of(alloc, &grammar)?;
+    write_whole(out, line.as_bytes())?;
+    Ok(())
+}
+
+/// The grammar that a text is, read and checked. G1 to G4 where it reads as none; N1 to N10, the
+/// first fault, where it reads as one that is not accepted.
+#[tactic(auto, using(normalform::proofs::FromTexts::texts_are_readable))]
+pub fn grammar_of(alloc: Global, text: &[u8]) -> Result<Grammar, Fault>
+    ensures grammar { IfOk result (λ g. IsGrammarOf text.now g) }
+    ensures refused { IfErr result (λ e. IsCheckFault text.now e) }
+{
+    let raw = read_grammar(alloc, text)?;
+    Ok(check(alloc, raw)?)
+}
+
+/// The line that tells how many symbols and productions a grammar has.
+fn counts_of(alloc: Global, grammar: &Grammar) -> Result<String, AllocError>
+    ensures { IfOk result (λ line. string_bytes line ≡ line_of grammar.now) }
+{
+    let mut line = grammar.symbols().len().to_string(alloc)?;
+    line.push_str(" symbols, ")?;
+    let productions = grammar.productions().len().to_string(alloc)?;
+    line.push_str(productions.as_str())?;
+    line.push_str(" productions\n")?;
+    Ok(line)
+}

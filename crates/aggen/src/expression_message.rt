@@ -1,0 +1,74 @@
+//! What is wrong with an expression, in words.
+
+use crate::telling::{tell_expected, tell_found};
+use ag_expr::{Expected as Part, ExprFault};
+use ag_text::Expected;
+use std::fmt;
+
+/// The offset at which an expression is refused.
+pub fn place_in(fault: ExprFault) -> Option<usize> {
+    match fault {
+        ExprFault::NoToken(at)
+        | ExprFault::Unexpected(at)
+        | ExprFault::NumberTooLarge(at)
+        | ExprFault::TooDeep(at) => Some(at),
+        ExprFault::NoMemory => None,
+    }
+}
+
+/// What is wrong with an expression, where `found` stands and `expected` could.
+pub fn tell_expression<W: fmt::Write>(
+    f: &mut fmt::Formatter<W>,
+    fault: ExprFault,
+    found: &str,
+    expected: &[Expected],
+) -> fmt::Result {
+    match fault {
+        ExprFault::NoToken(_) => {
+            write!(f, ": no token begins with ")?;
+            tell_found(f, found)?;
+            write!(f, "{}", hint_of(found))
+        }
+        ExprFault::Unexpected(_) => tell_unexpected(f, found, expected),
+        ExprFault::NumberTooLarge(_) => {
+            write!(f, ": the number is too large in ")?;
+            tell_found(f, found)?;
+            write!(
+                f,
+                ", where 9223372036854775807 is the greatest, and 65535 the greatest place behind $"
+            )
+        }
+        ExprFault::TooDeep(_) => write!(
+            f,
+            ": expressions nest more than 64 levels deep, write fewer"
+        ),
+        ExprFault::NoMemory => Ok(()),
+    }
+}
+
+/// What a character that begins no token may have been meant as.
+fn hint_of(found: &str) -> &'static str {
+    match found.as_bytes().first() {
+        Some(b'"') => ", a text ends with a quote and has only the escapes \\\" \\\\ \\n \\t \\r",
+        Some(b'$') => ", an occurrence is `$`, digits, `.` and a name with nothing between",
+        _ => "",
+    }
+}
+
+/// What stands at a place, and what could, or what is wrong with the name or the occurrence there.
+fn tell_unexpected<W: fmt::Write>(
+    f: &mut fmt::Formatter<W>,
+    found: &str,
+    expected: &[Expected],
+) -> fmt::Result {
+    write!(f, ": found ")?;
+    tell_found(f, found)?;
+    match expected.first() {
+        Some(Expected::Part(Part::BoundName)) => write!(f, ", a name that no `let` binds here"),
+        Some(Expected::Part(Part::Expression | Part::Operand))
+            if found.as_bytes().first() == Some(&b'$') => {
+            write!(f, ", which has a value in a grammar only")
+        }
+        _ => tell_expected(f, expected),
+    }
+}

@@ -1,0 +1,47 @@
+//! Reading a file into memory.
+
+ghost use Rattle.std.specs.Prelude.{◌≡◌, IfErr, IfOk, IfSome, take};
+ghost use Rattle.aggen.specs.Status.{IsSourceFault};
+
+use crate::fault::Fault;
+use std::alloc::Global;
+use std::fs;
+use std::io::{Error, ErrorKind, Read};
+use std::rt::Files;
+
+/// How many bytes of a file are read at most: one more than a grammar's text may have.
+const MOST: u64 = 1_048_577;
+
+/// The bytes of a file, at most 1,048,577 of them. F1 File where it can't be opened or read.
+pub fn source_of<R: Files>(rt: &R, alloc: Global, path: &str) -> Result<Vec<u8>, Fault>
+    ensures { IfErr result IsSourceFault }
+{
+    match fs::open(rt, path) {
+        Ok(file) => bytes_of(alloc, file),
+        Err(error) => Err(refusal(&error)),
+    }
+}
+
+/// What a reader gives, at most 1,048,577 bytes of it. F1 File where it can't be read.
+pub fn bytes_of<R: Read + Drop>(alloc: Global, reader: R) -> Result<Vec<u8>, Fault>
+    ensures read { IfOk result (λ bytes. IfSome (R.remaining reader)
+        (λ left. bytes.items ≡ take 1048577 left)) }
+    ensures refused { IfErr result IsSourceFault }
+{
+    let mut bytes = Vec::new(alloc);
+    match reader.take(MOST).read_to_end(&mut bytes) {
+        Ok(_) => Ok(bytes),
+        Err(error) => Err(refusal(&error)),
+    }
+}
+
+/// Why a file is not read.
+fn refusal(error: &Error) -> Fault
+    ensures { IsSourceFault result }
+{
+    if error.kind() == ErrorKind::OutOfMemory {
+        Fault::NoMemory
+    } else {
+        Fault::File
+    }
+}

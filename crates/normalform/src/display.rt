@@ -1,0 +1,32 @@
+//! How a refusal of a raw grammar is printed.
+
+use crate::fault::NormalFault;
+use std::error::Error;
+use std::fmt;
+
+/// The number of the fault, and where it has one its offset: `N9 at 100`, `N6`. That of a symbol is
+/// the offset of its declaration.
+impl fmt::Display for NormalFault {
+    ghost use Rattle.std.specs.Prelude.{Some};
+    ghost use Rattle.normalform.specs.Printed.{printed};
+
+    ghost output = { λ fault. Some (printed fault) };
+
+    fn fmt<W: fmt::Write>(&self, f: &mut fmt::Formatter<W>) -> fmt::Result {
+        match self {
+            NormalFault::UnknownName(at) => write!(f, "N1 at {at}"),
+            NormalFault::DoubledName(at) => write!(f, "N2 at {at}"),
+            NormalFault::BadStart => write!(f, "N3"),
+            NormalFault::Unproductive(symbol) => write!(f, "N4 at {}", symbol.at),
+            NormalFault::Unreachable(symbol) => write!(f, "N5 at {}", symbol.at),
+            NormalFault::RuleMissing(_, _, _) => write!(f, "N6"),
+            NormalFault::RuleDoubled(at) => write!(f, "N7 at {at}"),
+            NormalFault::NotDefinedHere(at) => write!(f, "N8 at {at}"),
+            NormalFault::NotNormal(at) => write!(f, "N9 at {at}"),
+            NormalFault::Limit(_) => write!(f, "N10"),
+            NormalFault::NoMemory => write!(f, "NoMemory"),
+        }
+    }
+}
+
+impl Error for NormalFault {}
