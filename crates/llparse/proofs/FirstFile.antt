@@ -46,7 +46,6 @@ no_values (p ∷ ps) values each = by_test (nat_le p 0) refl (no_values ps (λ a
     by_test true e later = let le : p ≤ 0 = leb-true p 0 e in let some : 1 ≤ p = each 0 p refl in absurd (omega arith)
     by_test false e later = later
 
-
 module _ (g : Grammar) (m : Passes) (from_one : AreFromOne m) where
   left_from_one : (q : Option Production) → Each (λ k. 1 ≤ k) (left_passes m q)
   left_from_one None = λ i x e. absurd (cc)

@@ -1,3 +1,4 @@
+pub mod Answered
 pub mod Begins
 pub mod Choices
 pub mod Closing
@@ -21,4 +22,5 @@ pub mod Sizes
 pub mod Stacks
 pub mod Starts
 pub mod Steps
+pub mod Turning
 pub mod Unique

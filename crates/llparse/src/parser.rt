@@ -145,11 +145,7 @@ impl Parser {
     }
 
     /// Takes a token of a literal, which has no record.
-    pub(crate) fn take_literal(
-        &mut self,
-        tokens: &[Token],
-        literal: u16,
-    ) -> Result<(), ParseFault>
+    fn take_literal(&mut self, tokens: &[Token], literal: u16) -> Result<(), ParseFault>
         ensures takes { OnOk result (Leads (HasTokens tokens.now) tokens.now
             (λ k. Faces k (item.Terminal (terminal.Literal literal)) self.old)
             (λ k. Stands k self.new)) }
@@ -165,7 +161,7 @@ impl Parser {
     }
 
     /// Takes a token of a class, and appends its record.
-    pub(crate) fn take_class<D: Device>(
+    fn take_class<D: Device>(
         &mut self,
         alloc: Global,
         tokens: &[Token],
@@ -195,6 +191,37 @@ impl Parser {
         self.count += 1;
         self.taken += 1;
         Ok(())
+    }
+
+    /// Takes a token of the terminal that comes next.
+    pub(crate) fn take<D: Device>(
+        &mut self,
+        alloc: Global,
+        tokens: &[Token],
+        terminal: Terminal,
+        device: &mut D,
+        writer: &mut Writer,
+    ) -> Result<(), ParseFault>
+        requires fits { (g : AGrammar) × HasTokens tokens.now g }
+        requires written { writer.old.written + length self.old.stack.items ≡ self.old.count }
+        requires fine { writer.old.is_broken ≡ false }
+        ensures takes { OnOk result (Writes (HasTokens tokens.now) tokens.now
+            (D.is_honest device.old) (D.content device.old) (D.content device.new)
+            (λ k. Faces k (item.Terminal terminal) self.old) (λ k. Stands k self.new)) }
+        ensures refuses { IfErr result (Refuses (HasTokens tokens.now)
+            tokens.now (λ k. Faces k (item.Terminal terminal) self.old)) }
+        ensures stack { OnOk result (self.new.stack.items ≡ self.old.stack.items) }
+        ensures count { OnOk result (self.old.count ≤ self.new.count) }
+        ensures written { OnOk result
+            (writer.new.written + length self.new.stack.items ≡ self.new.count) }
+        ensures fine { OnOk result (writer.new.is_broken ≡ false) }
+        ensures persists { Persists (D.is_honest device.old) (D.is_honest device.new)
+            (D.failures device.old) (D.failures device.new) (IsErrOf result ParseFault.Device) }
+    {
+        match terminal {
+            Terminal::Literal(literal) => self.take_literal(tokens, literal),
+            Terminal::Class(class) => self.take_class(alloc, tokens, class, device, writer),
+        }
     }
 }
 

@@ -17,7 +17,7 @@ use crate::lookup::Tables;
 use crate::parse_fault::ParseFault;
 use crate::parser::{Parser, put_node};
 use crate::tokens::unexpected;
-use ag_expr::{Item, Terminal};
+use ag_expr::Item;
 use ag_scan::Token;
 use normalform::Grammar;
 use std::alloc::Global;
@@ -53,13 +53,12 @@ fn run<D: Device>(
     while let Some(node) = parser.stack.pop() {
         match parser.pass(grammar, node)? {
             None => put_node(node.production, device, writer)?,
-            Some(Item::Symbol(symbol)) => parser.open(tables, tokens, symbol)?,
-            Some(Item::Terminal(Terminal::Literal(literal))) => {
-                parser.take_literal(tokens, literal)?
-            }
-            Some(Item::Terminal(Terminal::Class(class))) => {
-                parser.take_class(alloc, tokens, class, device, writer)?
-            }
+            Some(item) => match item {
+                Item::Symbol(symbol) => parser.open(tables, tokens, symbol)?,
+                Item::Terminal(terminal) => {
+                    parser.take(alloc, tokens, terminal, device, writer)?
+                }
+            },
         }
     }
     if parser.taken < tokens.len() {
