@@ -22,5 +22,6 @@ pub mod Sizes
 pub mod Stacks
 pub mod Starts
 pub mod Steps
+pub mod Texts
 pub mod Turning
 pub mod Unique

@@ -26,7 +26,7 @@ pub use building::tables;
 pub use fault::TableFault;
 pub use laws::{
     edges_lead_on, left_recursion_conflicts, left_recursion_is_a_choice, left_recursion_is_least,
-    one_tree, places_are_in_order, sample_is_free, small_tables_are_read,
+    one_tree, places_are_in_order, sample_is_free, small_tables_are_read, texts_are_given,
 };
 pub use lookup::Tables;
 pub use parse_fault::ParseFault;
