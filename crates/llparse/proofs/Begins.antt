@@ -1,5 +1,5 @@
 -- What is open can be completed, where each symbol has a tree.
-use Rattle.std.proofs.Common.{◌≡◌, ℕ, zero, suc, ◌<◌, List, [], ◌∷◌, ◌++◌, length, take, Some, slice_get, refl, sym, ◌∙◌, subst, append_assoc, arith}
+use Rattle.std.proofs.Common.{◌≡◌, ℕ, zero, suc, ◌<◌, List, [], ◌∷◌, ◌++◌, length, Some, slice_get, refl, sym, ◌∙◌, subst, append_assoc, arith}
 use Rattle.std.proofs.lemmas.Str.{is_utf8-from_IsUtf8}
 use Rattle.ag_expr.specs.declared.grammar.Item.TheVariants as item
 use Rattle.ag_expr.specs.declared.grammar.Item.{Item}
@@ -10,7 +10,7 @@ use Rattle.ag_expr.specs.grammars.AttributeGrammar.{Grammar, stored_items, IsPro
 use Rattle.ag_expr.specs.grammars.Tree.{Tree, leaf, node, Forest, none, more, Fits, FitsAll}
 use Rattle.ag_expr.specs.grammars.Yield.{Lexeme, yield_along, yield_of}
 use Rattle.ag_expr.proofs.grammars.Productive.{by_trees}
-use Rattle.llparse.specs.Opened.{joined, Open, open_at, Continues, IsStack}
+use Rattle.llparse.specs.Opened.{joined, Open, Continues, IsStack}
 use Rattle.llparse.specs.Parsing.{Task, After, Reading, Asked}
 use Rattle.llparse.specs.declared.parser.OpenNode.{OpenNode}
 use Rattle.llparse.proofs.Steps as step

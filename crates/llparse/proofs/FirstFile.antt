@@ -1,8 +1,8 @@
 -- What a parser writes of a tree is its file of pass 0.
-use Rattle.std.proofs.Common.{◌≡◌, ℕ, zero, suc, ◌+◌, ◌≤◌, Bool, true, false, cond, List, [], ◌∷◌, ◌++◌, length, Option, Some, None, slice_get, All, refl, ap, sym, ◌∙◌, subst, append-nil, arith}
+use Rattle.std.proofs.Common.{◌≡◌, ℕ, zero, suc, ◌+◌, ◌≤◌, Bool, true, false, cond, List, [], ◌∷◌, ◌++◌, length, Option, Some, None, slice_get, refl, ap, sym, ◌∙◌, subst, append-nil, arith}
 use Rattle.std.specs.Prelude.{nat_le}
 use Rattle.std.specs.List.{flat_map}
-use Rattle.std.proofs.lemmas.Bool.{cases_eq, leb-true}
+use Rattle.std.proofs.lemmas.Bool.{leb-true}
 use Rattle.std.proofs.lemmas.Grind.{flat_map-append}
 use Rattle.ag_value.specs.declared.value.Value.{Value}
 use Rattle.ag_value.specs.declared.value.Value.TheVariants as value
@@ -18,13 +18,13 @@ use Rattle.ag_expr.specs.declared.grammar.Production.{Production}
 use Rattle.ag_expr.specs.declared.grammar.Terminal.TheVariants.{Literal, Class}
 use Rattle.ag_expr.specs.grammars.AttributeGrammar.{Grammar, stored_items}
 use Rattle.ag_expr.specs.grammars.Passes.{Passes, LeftToRight}
-use Rattle.ag_expr.specs.grammars.Solution.{AtEachNode, AtEachNodeOf, IsWellOn, NoRule, Solves, SolvesAll, Valuation, WellAt, children, left_passes, rest}
+use Rattle.ag_expr.specs.grammars.Solution.{AtEachNodeOf, IsWellOn, NoRule, Solves, SolvesAll, Valuation, WellAt, children, left_passes, rest}
 use Rattle.ag_expr.specs.grammars.Tree.{Tree, Forest, leaf, node, none, more, Fits, FitsAll, IsTokenText}
 use Rattle.treefile.specs.Orders.{postfix, postfix_all}
-use Rattle.treefile.specs.Records.{IsFileOfTree, bodies_of, bodies_of_all, node_body, values_up_to}
+use Rattle.treefile.specs.Records.{bodies_of, bodies_of_all, node_body, values_up_to}
 use Rattle.treefile.specs.TreeFile.{body_of, frame, header, version_one}
 use Rattle.treefile.specs.declared.body.Kind.TheVariants.{Node}
-use Rattle.llparse.specs.Parsing.{leaf_frame, node_frame, post, posts}
+use Rattle.llparse.specs.Parsing.{leaf_frame, post, posts}
 use Rattle.llparse.specs.Sentences.{AreFromOne, IsFirstFile}
 
 -- a token's text is a well value

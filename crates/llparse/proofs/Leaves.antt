@@ -1,23 +1,20 @@
 -- What taking a token of a class keeps true.
-use Rattle.std.proofs.Common.{◌≡◌, ℕ, zero, suc, ◌+◌, ◌<◌, ◌≤◌, Bool, true, List, [], ◌∷◌, ◌++◌, length, take, drop, Option, Some, None, slice_get, refl, ap, sym, ◌∙◌, subst, append_assoc, append-nil, arith}
+use Rattle.std.proofs.Common.{◌≡◌, ℕ, suc, ◌+◌, ◌<◌, ◌≤◌, List, [], ◌∷◌, ◌++◌, length, drop, refl, ap, sym, ◌∙◌, subst, append_assoc, append-nil, arith}
 use Rattle.ag_expr.specs.declared.grammar.Item.TheVariants as item
 use Rattle.ag_expr.specs.declared.grammar.Item.{Item}
-use Rattle.ag_expr.specs.declared.grammar.Production.{Production}
-use Rattle.ag_expr.specs.declared.grammar.Terminal.TheVariants.{Literal, Class}
+use Rattle.ag_expr.specs.declared.grammar.Terminal.TheVariants.{Class}
 use Rattle.ag_expr.specs.grammars.Accepted.{IsAccepted}
-use Rattle.ag_expr.specs.grammars.AttributeGrammar.{Grammar, IsProduction, literal_text}
-use Rattle.ag_expr.specs.grammars.Tree.{IsTokenText, Tree, leaf, node, Forest, none, more, Fits, depth_of, node_count}
-use Rattle.ag_expr.specs.grammars.Yield as yields
-use Rattle.ag_expr.specs.grammars.Yield.{Lexeme, yield_of}
+use Rattle.ag_expr.specs.grammars.AttributeGrammar.{Grammar}
+use Rattle.ag_expr.specs.grammars.Tree.{IsTokenText, leaf, none, more}
+use Rattle.ag_expr.specs.grammars.Yield.{Lexeme}
 use Rattle.treefile.specs.Device.{WhenHonest}
 use Rattle.llparse.specs.Ahead.{ahead_of}
-use Rattle.llparse.specs.Opened.{joined, Open, open_at, Completes, IsStack, Stands}
-use Rattle.llparse.specs.Parsing.{Task, After, Shows, written, Held, Reading, Asked, Between, Whole, IsTooDeep, IsTooLarge, right_side, leaf_frame, node_frame, post, posts}
+use Rattle.llparse.specs.Opened.{joined, open_at}
+use Rattle.llparse.specs.Parsing.{Task, written, Reading, IsTooDeep, IsTooLarge, leaf_frame, posts}
 use Rattle.llparse.specs.Sentences.{IsTreeWith, IsStuckAt}
-use Rattle.llparse.specs.Tables.{Choices, FitsGrammar, choice_of}
 use Rattle.llparse.specs.declared.ahead.Ahead.TheVariants as ahead
 use Rattle.llparse.specs.declared.parser.OpenNode.{OpenNode}
-use Rattle.llparse.proofs.Begins.{begins_reading, begins_asked}
+use Rattle.llparse.proofs.Begins.{begins_reading}
 use Rattle.llparse.proofs.Fronts.{behind, one_more}
 use Rattle.llparse.proofs.Shown.{length-shows, whole}
 use Rattle.llparse.proofs.Sizes as size

@@ -1,6 +1,5 @@
 -- The words that are left, as the tokens have them.
-use Rattle.std.proofs.Common.{◌≡◌, ℕ, zero, suc, ◌+◌, ◌≤◌, ◌<◌, List, [], ◌∷◌, drop, map, length, slice_get, Some, None, refl, ap, sym, ◌∙◌, add-one, arith}
-use Rattle.ag_expr.specs.grammars.Yield.{Lexeme}
+use Rattle.std.proofs.Common.{◌≡◌, ℕ, zero, suc, ◌+◌, ◌≤◌, List, [], ◌∷◌, drop, length, slice_get, Some, None, refl, ap, sym, ◌∙◌, add-one, arith}
 use Rattle.ag_scan.specs.declared.token.Token.{Token}
 use Rattle.ag_expr.specs.declared.grammar.Terminal.{Terminal}
 use Rattle.llparse.specs.Ahead.{ahead_of}

@@ -1,6 +1,5 @@
 -- What a parser keeps true while it runs (this project's).
-use Rattle.std.specs.Prelude.{◌≡◌, ℕ, Bool, suc, ◌+◌, ◌-◌, ◌*◌, ◌<◌, ◌≤◌, List, [], ◌∷◌, ◌++◌, length, take, drop, reverse, slice_get}
-use Rattle.ag_value.specs.declared.value.Value.{Text}
+use Rattle.std.specs.Prelude.{◌≡◌, ℕ, Bool, suc, ◌+◌, ◌-◌, ◌*◌, ◌<◌, ◌≤◌, List, [], ◌∷◌, ◌++◌, length, take, drop, slice_get}
 use Rattle.ag_expr.specs.declared.grammar.Item.{Item}
 use Rattle.ag_expr.specs.declared.grammar.Production.{Production}
 use Rattle.ag_expr.specs.grammars.AttributeGrammar.{Grammar}
@@ -13,12 +12,11 @@ use Rattle.treefile.specs.Records.{token_body}
 use Rattle.treefile.specs.TreeFile.{body_of, frame}
 use Rattle.treefile.specs.declared.body.Kind.TheVariants.{Node}
 use Rattle.llparse.specs.Ahead.{ahead_of}
-use Rattle.llparse.specs.Opened.{Open, open_at, Continues, Completes, Wants, IsStack, Stands}
-use Rattle.llparse.specs.Sentences.{IsTreeWith, IsStuckAt, IsUnexpectedAt, offset_at, words_of}
+use Rattle.llparse.specs.Opened.{Open, open_at, Completes, Wants, IsStack, Stands}
+use Rattle.llparse.specs.Sentences.{IsTreeWith, IsStuckAt, words_of}
 use Rattle.llparse.specs.declared.parse_fault.ParseFault.{ParseFault}
 use Rattle.llparse.specs.declared.parse_fault.ParseFault.TheVariants as fault
 use Rattle.llparse.specs.declared.parser.OpenNode.{OpenNode}
-use Rattle.llparse.specs.declared.parser.Parser.{Parser}
 
 -- what is parsed, within which limits, whether the device is honest, and what it had before
 pub record Task : Type 0 where

@@ -1,5 +1,5 @@
 -- What parsing a sentence answers: the tree that its tokens have and the file of it, or why it has none.
-use Rattle.std.specs.Prelude.{ℕ, ◌≡◌, ◌≤◌, ◌++◌, Bool, List, [], ◌∷◌, length, map, take, drop, slice_get, Some, None}
+use Rattle.std.specs.Prelude.{ℕ, ◌≡◌, ◌≤◌, ◌++◌, List, [], ◌∷◌, length, map, take, drop, slice_get, Some, None}
 use Rattle.ag_expr.specs.Lists.{Each}
 use Rattle.ag_expr.specs.grammars.AttributeGrammar.{Grammar}
 use Rattle.ag_expr.specs.grammars.Passes.{Passes}

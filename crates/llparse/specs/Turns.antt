@@ -1,5 +1,5 @@
 -- What each step of a parser does (this project's).
-use Rattle.std.specs.Prelude.{◌≡◌, ℕ, ◌+◌, ◌<◌, ◌≤◌, Bool, List, [], ◌∷◌, ◌++◌, length, reverse, drop, slice_get, Option, Some, None}
+use Rattle.std.specs.Prelude.{◌≡◌, ℕ, ◌+◌, ◌≤◌, Bool, List, [], ◌∷◌, ◌++◌, length, reverse, slice_get, Option, Some, None}
 use Rattle.ag_expr.specs.declared.grammar.Item.{Item}
 use Rattle.ag_expr.specs.grammars.Accepted.{IsAccepted}
 use Rattle.ag_expr.specs.grammars.AttributeGrammar.{Grammar}
@@ -7,7 +7,7 @@ use Rattle.ag_expr.specs.grammars.Tree.{most_depth, most_nodes}
 use Rattle.ag_scan.specs.Tokens.{FitAll}
 use Rattle.ag_scan.specs.Words.{vocabulary_of}
 use Rattle.ag_scan.specs.declared.token.Token.{Token}
-use Rattle.llparse.specs.Parsing.{Task, task_of, right_side, Reading, Asked, Between, Before, IsRefused, steps_left}
+use Rattle.llparse.specs.Parsing.{Task, task_of, right_side, Asked, Between, Before, IsRefused, steps_left}
 use Rattle.llparse.specs.Sentences.{offset_at}
 use Rattle.llparse.specs.Tables.{Choices, FitsGrammar}
 use Rattle.llparse.specs.declared.parse_fault.ParseFault.{ParseFault}
@@ -26,14 +26,6 @@ Asks k s p bytes = Asked k s (reverse p.stack.items) p.taken p.count bytes
 -- the innermost open node has an item next, which its place has passed
 abbrev pub Faces : Task → Item → Parser → List ℕ → Type 0
 Faces k x p bytes = Before k x (reverse p.stack.items) p.taken p.count bytes
-
--- an open node of a production, which is taken off the stack, is at its end
-abbrev pub Ends : Task → ℕ → Parser → List ℕ → Type 0
-Ends k production p bytes = Reading k production [] (reverse p.stack.items) p.taken p.count bytes
-
--- a node is taken off the stack
-abbrev pub Holds : Task → OpenNode → Parser → List ℕ → Type 0
-Holds k node p bytes = Between k (node ∷ reverse p.stack.items) p.taken p.count bytes
 
 -- an accepted grammar that tables fit
 abbrev pub HasTables : Choices → Grammar → Type 0

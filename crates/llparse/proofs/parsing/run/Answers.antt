@@ -1,10 +1,9 @@
-use Rattle.std.proofs.Common.{◌≡◌, ◌+◌, ◌≤◌, false, length, List, [], Some, None, refl, ap, sym, ◌∙◌, subst, arith}
+use Rattle.std.proofs.Common.{◌≡◌, length, Some, refl, ap, ◌∙◌, subst, arith}
 use Rattle.std.proofs.lemmas.Result.{err_from_is_err_and}
 use Rattle.ag_expr.specs.declared.grammar.Item.TheVariants as item
-use Rattle.ag_expr.specs.declared.grammar.Terminal.TheVariants as terminal
 use Rattle.treefile.specs.Device.{WhenHonest}
 use Rattle.treefile.specs.Writing.{Progress}
-use Rattle.llparse.specs.Parsing.{task_of, node_frame}
+use Rattle.llparse.specs.Parsing.{task_of}
 use Rattle.llparse.specs.Turns.{Faces, HasTokens, Stands, Writes}
 use Rattle.llparse.proofs.Stacks.{asks}
 use Rattle.llparse.proofs.Turning as turn

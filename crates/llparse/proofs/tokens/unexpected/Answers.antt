@@ -1,4 +1,4 @@
-use Rattle.std.proofs.Common.{◌≡◌, suc, ◌-◌, length, refl, ap, sym, ◌∙◌, None, slice_get, arith}
+use Rattle.std.proofs.Common.{◌≡◌, suc, ◌-◌, length, refl, ap, sym, ◌∙◌, arith}
 use Rattle.std.proofs.lemmas.Option.{slice_get_read}
 use Rattle.llparse.specs.declared.parse_fault.ParseFault.TheVariants.{Unexpected}
 use Rattle.llparse.proofs.Nexts.{last_is, no_more, offset_past, offset_there}
