@@ -9,6 +9,8 @@ mod grammar_texts;
 #[cfg(test)]
 mod normal_forms;
 #[cfg(test)]
+mod parsing;
+#[cfg(test)]
 mod passes;
 #[cfg(test)]
 mod sentences;
