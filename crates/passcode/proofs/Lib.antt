@@ -7,5 +7,6 @@ pub mod Parts
 pub mod Passes
 pub mod Planned
 pub mod Rising
+pub mod SampleList
 pub mod Shaped
 pub mod Slices

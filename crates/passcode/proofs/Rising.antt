@@ -8,7 +8,7 @@ use Rattle.passassign.proofs.Lists.{get_push_cases}
 use Rattle.passcode.specs.declared.instr.Instr.{Instr}
 use Rattle.passcode.specs.Listing.{key_of, AreRising, Extends, OfFirst, IsMadeOf}
 
-rising_push : (d : Direction) (a b : ℕ) (xs : List Instr) (i : Instr) → a ≤ key_of d i → key_of d i < b → AreRising d a xs → AreRising d b (xs ++ i ∷ [])
+pub rising_push : (d : Direction) (a b : ℕ) (xs : List Instr) (i : Instr) → a ≤ key_of d i → key_of d i < b → AreRising d a xs → AreRising d b (xs ++ i ∷ [])
 rising_push d a b xs i low high h = record { rise = rise; below = below }
   where
     rise : (m n : ℕ) (x y : Instr) → slice_get (xs ++ i ∷ []) m ≡ Some x → slice_get (xs ++ i ∷ []) n ≡ Some y → m < n → key_of d x < key_of d y

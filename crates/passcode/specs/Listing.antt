@@ -1,4 +1,5 @@
--- How a list of code is put together. Each instruction has a key, and a list is made of instructions with rising keys.
+-- How `generate` puts a list together: its instructions have rising keys. A place has 19 keys, for its `Get`, the 16 attributes
+-- that it may have, its `Go` and its `Put`. Since there are at most 16 places, what stands behind them begins at key 323.
 use Rattle.std.specs.Prelude.{ℕ, zero, suc, ◌≡◌, ◌+◌, ◌-◌, ◌*◌, ◌≤◌, ◌<◌, ◌⊎◌, ◌↔◌, List, Option, Some, slice_get, length}
 use Rattle.ag_expr.specs.Lists.{Has}
 use Rattle.ag_expr.specs.declared.grammar.Item.TheVariants as item
@@ -22,7 +23,7 @@ rank RightToLeft j = 16 - j
 abbrev pub first_key : Direction → ℕ → ℕ
 first_key d j = rank d j * 19
 
--- the key of what is behind all places
+-- the key of the first instruction behind all places
 abbrev pub last_key : ℕ
 last_key = 323
 

@@ -8,7 +8,7 @@ ghost use Rattle.passcode.specs.Agreement.{Agrees};
 ghost use Rattle.passcode.specs.Listing.{IsGenerated};
 ghost use Rattle.passcode.specs.Order.{AreInOrder};
 ghost use Rattle.passcode.specs.Rows.{row_of, rows_of};
-ghost use Rattle.passcode.specs.Shape.{HasLists};
+ghost use Rattle.passcode.specs.Shape.{HasLists, HasNumbers, HasShape};
 ghost use Rattle.passcode.specs.Tables.{IsPlanned};
 ghost use Rattle.passcode.specs.declared.instr.Instr.{Instr as TheInstr};
 
@@ -57,7 +57,9 @@ fn lists_of(
 pub fn generate(alloc: Global, grammar: &Grammar, assignment: &Assignment) -> Result<Code, NoMemory>
     requires { IsLegal grammar.now (passes_of assignment.now) }
     ensures agrees { IfOk result (Agrees grammar.now (passes_of assignment.now)) }
-    ensures shape { IfOk result (HasLists grammar.now assignment.now) }
+    ensures lists { IfOk result (HasLists grammar.now assignment.now) }
+    ensures shape { IfOk result (λ code. HasNumbers grammar.now assignment.now
+        → HasShape grammar.now assignment.now code) }
     ensures order { IfOk result AreInOrder }
 {
     let passes = assignment.passes();

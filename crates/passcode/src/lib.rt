@@ -5,6 +5,7 @@ mod code;
 mod generating;
 mod instr;
 mod listing;
+pub mod samples;
 mod table;
 
 pub use code::Code;
