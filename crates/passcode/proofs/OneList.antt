@@ -1,5 +1,5 @@
 -- A list that keeps the rules of agreement and the order has rising keys, and there is one such list.
-use Rattle.std.proofs.Common.{ℕ, zero, suc, ◌≡◌, ◌+◌, ◌*◌, ◌<◌, ◌≤◌, ◌⊎◌, ◌↔◌, List, [], ◌∷◌, Some, slice_get, length, inl, inr, refl, ap, ◌∙◌, sym, subst, arith}
+use Rattle.std.proofs.Common.{ℕ, zero, suc, ◌≡◌, ◌+◌, ◌<◌, ◌≤◌, ◌⊎◌, ◌↔◌, List, [], ◌∷◌, Some, slice_get, inl, inr, refl, ap, ◌∙◌, sym, subst, arith}
 use Rattle.std.proofs.lemmas.Bool.{cases_eq, cases_lt}
 use Rattle.std.proofs.lemmas.Option.{slice_get_within}
 use Rattle.ag_expr.specs.Lists.{Has}
@@ -7,7 +7,7 @@ use Rattle.ag_expr.specs.declared.grammar.Item.TheVariants as item
 use Rattle.ag_expr.specs.declared.grammar.Production.{Production}
 use Rattle.ag_expr.specs.declared.grammar.Rule.{Rule}
 use Rattle.ag_expr.specs.declared.grammar.Target.{Target}
-use Rattle.ag_expr.specs.grammars.AttributeGrammar.{item_at, stored_items}
+use Rattle.ag_expr.specs.grammars.AttributeGrammar.{item_at}
 use Rattle.ag_expr.specs.grammars.Passes.{Passes, Direction, LeftToRight, RightToLeft, IsBefore, direction_of}
 use Rattle.passcode.specs.declared.instr.Instr.{Instr}
 use Rattle.passcode.specs.declared.instr.Instr.TheVariants as instr
@@ -17,7 +17,8 @@ use Rattle.passcode.specs.Listing.{rank, key_of, first_key, AreRising}
 use Rattle.passcode.specs.Order.{IsInOrder}
 use Rattle.passcode.specs.Tables.{IsPlanned}
 use Rattle.passcode.proofs.Directions.{rank_before, rank_few}
-use Rattle.passcode.proofs.Members.{IsOfRule, Belongs}
+use Rattle.passcode.proofs.Filling.{same_parts}
+use Rattle.passcode.proofs.Members.{IsOfRule, Belongs, few, small, set_is}
 use Rattle.passcode.proofs.Planned.{planned}
 
 rising_tail : (d : Direction) (b : ℕ) (x : Instr) (xs : List Instr) → AreRising d b (x ∷ xs) → AreRising d b xs
@@ -57,7 +58,7 @@ same_lists d b (x ∷ xs) [] g h same = absurd (nothing x ((same x).0 (0, refl))
 same_lists d b (x ∷ xs) (y ∷ ys) g h same =
     let head = same_head d b x y xs ys g h same in
     let tail = same_lists d b xs ys (rising_tail d b x xs g) (rising_tail d b y ys h)
-        (λ i. (in_tail d b x y xs ys g head (λ j. (same j).0) i, in_tail d b y x ys xs h (sym head) (λ j. (same j).1) i)) in
+    (λ i. (in_tail d b x y xs ys g head (λ j. (same j).0) i, in_tail d b y x ys xs h (sym head) (λ j. (same j).1) i)) in
     ap (λ z. z ∷ xs) head ∙ ap (λ zs. y ∷ zs) tail
 
 either_way : (d : Direction) (i j : ℕ) → (i ≡ j) ⊎ IsBefore d i j ⊎ IsBefore d j i
@@ -72,13 +73,6 @@ def_parts : (a r p b s : ℕ) → instr.Def a r ≡ giving p b s → (p ≡ 0) �
 def_parts a r zero b s e = (refl, cc, cc)
 def_parts a r (suc p) b s e = absurd (let bad : ⊥ = cc in bad)
 
-set_is : (j a r : ℕ) → 1 ≤ j → giving j a r ≡ instr.Set j a r
-set_is zero a r one = absurd (omega arith)
-set_is (suc j) a r one = refl
-
-target_is : (o : Target) (j a : ℕ) → o.place ≡ j → o.attr ≡ a → o ≡ record { place = j; attr = a }
-target_is o j a e f = ap (λ p. record { place = p; attr = o.attr }) e ∙ ap (λ b. record { place = j; attr = b }) f
-
 module _ (m : Passes) (q : Production) (planned : IsPlanned m q) (k : ℕ) (xs : List Instr) (list : IsListFor m q k xs) (order : IsInOrder xs) where
   abbrev d : Direction
   d = direction_of k
@@ -87,7 +81,7 @@ module _ (m : Passes) (q : Production) (planned : IsPlanned m q) (k : ℕ) (xs :
   of_giving i j a r h r' u is e place attr number = record {
     rule = u;
     numbered = subst (λ n. slice_get q.rules n ≡ Some u) number is;
-    target = target_is u.target j a place attr;
+    target = same_parts u.target (record { place = j; attr = a }) place attr;
     passed = (list.gives.given r' u is).only (subst (Has xs) e h);
   }
 
@@ -121,13 +115,6 @@ module _ (m : Passes) (q : Production) (planned : IsPlanned m q) (k : ℕ) (xs :
 
   pub members : (i : Instr) → Has xs i ↔ Belongs m q k i
   members i = (belongs i, there i)
-
-  small : (j a r : ℕ) → IsOfRule m q k j a r → a < 16
-  small j a r h = subst (λ n. n < 16) (ap (λ (o : Target). o.attr) h.target) (planned.rules r h.rule h.numbered).within
-
-  few : (j : ℕ) → HasPlace q j → j ≤ 16
-  few zero h = omega arith
-  few (suc j) h = let w = slice_get_within (stored_items q.items) j h.0 h.1.1 in let s = planned.stored in omega arith
 
   -- two rules with one target are one, whose instruction stands once
   one_giving : (j a r s x y : ℕ) → IsOfRule m q k j a r → IsOfRule m q k j a s → slice_get xs x ≡ Some (giving j a r) → slice_get xs y ≡ Some (giving j a s) → x ≡ y
@@ -187,7 +174,7 @@ module _ (m : Passes) (q : Production) (planned : IsPlanned m q) (k : ℕ) (xs :
       let put = inside.put in
       let before = put.1 in
       let next = gone.1 in
-      let s = small j a r b.1 in
+      let s = small m q k planned j a r b.1 in
       record { place = inside.place; got = (got.0, omega arith, got.1); put = (put.0, omega arith, put.2); low = omega arith; high = omega arith }
 
   -- instructions of two places stand in the direction of the pass
@@ -195,14 +182,14 @@ module _ (m : Passes) (q : Production) (planned : IsPlanned m q) (k : ℕ) (xs :
   apart i j x y u w less g h same = elim (either_way (direction_of k) i j) [
     | inl e ↦ same e
     | inr r ↦ elim r [
-      | inl b ↦ (let up : rank (direction_of k) i < rank (direction_of k) j = rank_before (direction_of k) i j (few i g.place) b in let a = g.high in let c = h.low in omega arith)
+      | inl b ↦ (let up : rank (direction_of k) i < rank (direction_of k) j = rank_before (direction_of k) i j (few m q planned i g.place) b in let a = g.high in let c = h.low in omega arith)
       | inr b ↦ absurd (let back = list.visits.in_direction j i b h.put.0 g.got.0 h.put.2 g.got.2 in let a = h.put.1 in let c = g.got.1 in omega arith)
     ]
   ]
 
   -- what stands behind all places
   behind : (i x : ℕ) (u : Instr) → InPlace i x u → key_of (direction_of k) u < 323
-  behind i x u g = let most : rank (direction_of k) i ≤ 16 = rank_few (direction_of k) i (few i g.place) in let a = g.high in omega arith
+  behind i x u g = let most : rank (direction_of k) i ≤ 16 = rank_few (direction_of k) i (few m q planned i g.place) in let a = g.high in omega arith
 
   def_last : (j x y a r : ℕ) (w : Instr) → x < y → slice_get xs x ≡ Some (instr.Def a r) → InPlace j y w → ⊥
   def_last j x y a r w less e h = let before = order.defs_last j a r h.put.0 x h.put.2 e in let c = h.put.1 in omega arith
@@ -235,8 +222,8 @@ module _ (m : Passes) (q : Production) (planned : IsPlanned m q) (k : ℕ) (xs :
             omega arith)
         | inr other ↦ (let back = order.sets i b a s r (omega arith) y x (at (λ n. instr.Set n b s) i j y p f) e in omega arith)
       ])
-  rise x y (instr.Set i a r) (instr.Go j) e f less = apart i j x y (instr.Set i a r) (instr.Go j) less (set_in i a r x e) (go_in j y f) (λ s. let t = same_key i j s in let b = belongs (instr.Set i a r) (x, e) in let l = small i a r b.1 in omega arith)
-  rise x y (instr.Set i a r) (instr.Put j) e f less = apart i j x y (instr.Set i a r) (instr.Put j) less (set_in i a r x e) (put_in j y f) (λ s. let t = same_key i j s in let b = belongs (instr.Set i a r) (x, e) in let l = small i a r b.1 in omega arith)
+  rise x y (instr.Set i a r) (instr.Go j) e f less = apart i j x y (instr.Set i a r) (instr.Go j) less (set_in i a r x e) (go_in j y f) (λ s. let t = same_key i j s in let b = belongs (instr.Set i a r) (x, e) in let l = small m q k planned i a r b.1 in omega arith)
+  rise x y (instr.Set i a r) (instr.Put j) e f less = apart i j x y (instr.Set i a r) (instr.Put j) less (set_in i a r x e) (put_in j y f) (λ s. let t = same_key i j s in let b = belongs (instr.Set i a r) (x, e) in let l = small m q k planned i a r b.1 in omega arith)
   rise x y (instr.Set i a r) (instr.Def b s) e f less = let c = behind i x (instr.Set i a r) (set_in i a r x e) in omega arith
   rise x y (instr.Set i a r) instr.End e f less = let c = behind i x (instr.Set i a r) (set_in i a r x e) in omega arith
   rise x y (instr.Go i) (instr.Get j) e f less = apart i j x y (instr.Go i) (instr.Get j) less (go_in i x e) (get_in j y f) (λ s. absurd (let back = list.visits.go_behind_get i y x (at instr.Get i j y s f) e in omega arith))
@@ -270,7 +257,7 @@ module _ (m : Passes) (q : Production) (planned : IsPlanned m q) (k : ℕ) (xs :
             omega arith)
         | inr other ↦ (let back = order.defs b a s r (omega arith) y x f e in omega arith)
       ])
-  rise x y (instr.Def a r) instr.End e f less = let l = small 0 a r (belongs (instr.Def a r) (x, e)) in omega arith
+  rise x y (instr.Def a r) instr.End e f less = let l = small m q k planned 0 a r (belongs (instr.Def a r) (x, e)) in omega arith
   rise x y instr.End w e f less = absurd (let last = list.ends.last x e in let within = slice_get_within xs y w f in omega arith)
 
   below : (n : ℕ) (u : Instr) → slice_get xs n ≡ Some u → key_of (direction_of k) u < 340
@@ -278,7 +265,7 @@ module _ (m : Passes) (q : Production) (planned : IsPlanned m q) (k : ℕ) (xs :
   below n (instr.Set j a r) e = let b = behind j n (instr.Set j a r) (set_in j a r n e) in omega arith
   below n (instr.Go j) e = let b = behind j n (instr.Go j) (go_in j n e) in omega arith
   below n (instr.Put j) e = let b = behind j n (instr.Put j) (put_in j n e) in omega arith
-  below n (instr.Def a r) e = let l = small 0 a r (belongs (instr.Def a r) (n, e)) in omega arith
+  below n (instr.Def a r) e = let l = small m q k planned 0 a r (belongs (instr.Def a r) (n, e)) in omega arith
   below n instr.End e = omega arith
 
   pub is_rising : AreRising (direction_of k) 340 xs
