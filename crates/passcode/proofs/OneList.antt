@@ -74,9 +74,6 @@ def_parts a r zero b s e = (refl, cc, cc)
 def_parts a r (suc p) b s e = absurd (let bad : ⊥ = cc in bad)
 
 module _ (m : Passes) (q : Production) (planned : IsPlanned m q) (k : ℕ) (xs : List Instr) (list : IsListFor m q k xs) (order : IsInOrder xs) where
-  abbrev d : Direction
-  d = direction_of k
-
   of_giving : (i : Instr) (j a r : ℕ) → Has xs i → (r' : ℕ) (u : Rule) → slice_get q.rules r' ≡ Some u → i ≡ instruction_of u r' → u.target.place ≡ j → u.target.attr ≡ a → r' ≡ r → IsOfRule m q k j a r
   of_giving i j a r h r' u is e place attr number = record {
     rule = u;
