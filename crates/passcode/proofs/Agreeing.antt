@@ -9,7 +9,7 @@ use Rattle.ag_expr.specs.declared.grammar.Production.{Production}
 use Rattle.ag_expr.specs.declared.grammar.Rule.{Rule}
 use Rattle.ag_expr.specs.declared.grammar.Target.{Target}
 use Rattle.ag_expr.specs.declared.grammar.Terminal.TheVariants.{Literal, Class}
-use Rattle.ag_expr.specs.grammars.AttributeGrammar.{item_at, stored_items}
+use Rattle.ag_expr.specs.grammars.AttributeGrammar.{item_at}
 use Rattle.ag_expr.specs.grammars.Passes.{Passes, HasPass, Direction, MayUse, direction_of, item_passes}
 use Rattle.passcode.specs.declared.instr.Instr.{Instr}
 use Rattle.passcode.specs.declared.instr.Instr.TheVariants as instr
@@ -20,7 +20,7 @@ use Rattle.passcode.specs.Order.{IsInOrder}
 use Rattle.passcode.specs.Tables.{IsPlanned, IsTable}
 use Rattle.passassign.specs.Dependencies.{places_of}
 use Rattle.passcode.proofs.Directions.{rank_before, rank_few}
-use Rattle.passcode.proofs.Members.{IsOfRule, Belongs, part_belongs, belongs_part}
+use Rattle.passcode.proofs.Members.{IsOfRule, Belongs, belongs_rule, few, small, set_is, part_belongs, belongs_part}
 use Rattle.passcode.proofs.Parts.{giving_has}
 
 module _ (d : Direction) (xs : List Instr) (rising : AreRising d 340 xs) where
@@ -77,24 +77,11 @@ module _ (m : Passes) (q : Production) (planned : IsPlanned m q) (k : ℕ) (pass
   abbrev d : Direction
   d = direction_of k
 
-  -- places are few
-  few : (j : ℕ) → HasPlace q j → j ≤ 16
-  few zero h = omega arith
-  few (suc j) h = let w = slice_get_within (stored_items q.items) j h.0 h.1.1 in let s = planned.stored in omega arith
-
   stands : (P : Type 0) (i : Instr) → (P → Belongs m q k i) → (Belongs m q k i → P) → StandsOnceIf P xs i
   stands P i there only = record { there = λ p. (members i).1 (there p); only = λ h. only ((members i).0 h); once = once_by_key d xs rising i }
 
   precedes : (i j : Instr) → (Belongs m q k i → Belongs m q k j → key_of d i < key_of d j) → Precedes xs i j
   precedes i j less x y e f = before_by_key d xs rising x y i j e f (less ((members i).0 (x, e)) ((members j).0 (y, f)))
-
-  -- a rule's attribute is one of 16
-  small : (j a r : ℕ) → IsOfRule m q k j a r → a < 16
-  small j a r h = subst (λ n. n < 16) (ap (λ (o : Target). o.attr) h.target) (planned.rules r h.rule h.numbered).within
-
-  of_rule : (j a r : ℕ) → IsOfRule m q k j a r → Belongs m q k (giving j a r)
-  of_rule zero a r h = h
-  of_rule (suc j) a r h = (omega arith, h)
 
   from_rule : (j a r : ℕ) → Belongs m q k (giving j a r) → IsOfRule m q k j a r
   from_rule zero a r h = h
@@ -116,24 +103,20 @@ module _ (m : Passes) (q : Production) (planned : IsPlanned m q) (k : ℕ) (pass
     go_behind_get = λ j. precedes (instr.Get j) (instr.Go j) (λ g h. omega arith);
     put_behind_go = λ j. precedes (instr.Go j) (instr.Put j) (λ g h. omega arith);
     put_behind_get = λ j. precedes (instr.Get j) (instr.Put j) (λ g h. omega arith);
-    in_direction = λ i j b. precedes (instr.Put i) (instr.Get j) (λ g h. let r : rank (direction_of k) i < rank (direction_of k) j = rank_before d i j (few i g) b in omega arith);
+    in_direction = λ i j b. precedes (instr.Put i) (instr.Get j) (λ g h. let r : rank (direction_of k) i < rank (direction_of k) j = rank_before d i j (few m q planned i g) b in omega arith);
   }
 
   own : (i : Instr) → IsGiving i → Has xs i → (r : ℕ) × (u : Rule) × IsRuleAt q r u × (i ≡ instruction_of u r)
-  own i (j, a, r, inl e) h = let b : Belongs m q k (instr.Set j a r) = subst (Belongs m q k) e ((members i).0 h) in (r, b.1.rule, b.1.numbered, e ∙ sym (set_of j b.0) ∙ ap (λ (o : Target). giving o.place o.attr r) (sym b.1.target))
-    where
-      set_of : (j : ℕ) → 1 ≤ j → giving j a r ≡ instr.Set j a r
-      set_of zero one = absurd (omega arith)
-      set_of (suc j) one = refl
+  own i (j, a, r, inl e) h = let b : Belongs m q k (instr.Set j a r) = subst (Belongs m q k) e ((members i).0 h) in (r, b.1.rule, b.1.numbered, e ∙ sym (set_is j a r b.0) ∙ ap (λ (o : Target). giving o.place o.attr r) (sym b.1.target))
   own i (j, a, r, inr e) h = let b : Belongs m q k (instr.Def a r) = subst (Belongs m q k) e ((members i).0 h) in (r, b.rule, b.numbered, e ∙ ap (λ (o : Target). giving o.place o.attr r) (sym b.target))
 
   gives : GivesTargets m q k xs
   gives = record {
     given = λ r u is. stands (HasPass m q u.target k) (instruction_of u r)
-        (λ h. of_rule u.target.place u.target.attr r (record { rule = u; numbered = is; target = refl; passed = h })) (rule_passed r u is);
+        (λ h. belongs_rule m q k u.target.place u.target.attr r (record { rule = u; numbered = is; target = refl; passed = h })) (rule_passed r u is);
     own = own;
     behind_get = λ j a r. precedes (instr.Get j) (instr.Set j a r) (λ g h. omega arith);
-    before_go = λ j a r. precedes (instr.Set j a r) (instr.Go j) (λ g h. let s = small j a r g.1 in omega arith);
+    before_go = λ j a r. precedes (instr.Set j a r) (instr.Go j) (λ g h. let s = small m q k planned j a r g.1 in omega arith);
   }
 
   -- an instruction with a lower key than the one at an index stands before it
@@ -157,7 +140,7 @@ module _ (m : Passes) (q : Production) (planned : IsPlanned m q) (k : ℕ) (pass
           let found = has_item m q o allowed.0 allowed.1 in
           let place : HasPlace q o.place = (found.0, (one, found.1)) in
           let own_key : key_of d (instruction_of u r) ≡ giving_key d u.target.place + u.target.attr = key in
-          let near = reach k u.target.place o.place allowed.0 (few o.place place) one allowed.2 in
+          let near = reach k u.target.place o.place allowed.0 (few m q planned o.place place) one allowed.2 in
           let most = near.0 in
           let got : first_key d o.place < giving_key d u.target.place = near.1 in
           elim (cases_eq allowed.0 k) [
@@ -187,7 +170,7 @@ module _ (m : Passes) (q : Production) (planned : IsPlanned m q) (k : ℕ) (pass
   order = record {
     sets = λ j a b r s less. precedes (instr.Set j a r) (instr.Set j b s) (λ g h. omega arith);
     defs = λ a b r s less. precedes (instr.Def a r) (instr.Def b s) (λ g h. omega arith);
-    defs_last = λ j a r. precedes (instr.Put j) (instr.Def a r) (λ g h. let most : rank (direction_of k) j ≤ 16 = rank_few d j (few j g) in omega arith);
+    defs_last = λ j a r. precedes (instr.Put j) (instr.Def a r) (λ g h. let most : rank (direction_of k) j ≤ 16 = rank_few d j (few m q planned j g) in omega arith);
   }
 
   pub keeps_rules : IsGenerated m q k xs

@@ -17,7 +17,7 @@ use Rattle.passcode.specs.Agreement.{IsRuleAt}
 use Rattle.passcode.specs.Tables.{slot_of, slot_at, given_at, HasPassAt, IsPlanned, IsTableBelow}
 use Rattle.passcode.proofs.Passes.{passes_at, passes_from, place_is}
 
-same_parts : (o t : Target) → o.place ≡ t.place → o.attr ≡ t.attr → o ≡ t
+pub same_parts : (o t : Target) → o.place ≡ t.place → o.attr ≡ t.attr → o ≡ t
 same_parts o t e f = ap (λ j. record { place = j; attr = o.attr }) e ∙ ap (λ a. record { place = t.place; attr = a }) f
 
 pub given_in : (table : List (Option Given)) (j a : ℕ) → a < 16 → given_at table j a ≡ slot_at table (slot_of j a)

@@ -3,6 +3,7 @@ pub mod Collected
 pub mod Directions
 pub mod Filling
 pub mod Members
+pub mod OneList
 pub mod Parts
 pub mod Passes
 pub mod Planned

@@ -6,7 +6,7 @@ use Rattle.ag_expr.specs.declared.grammar.Item.{Item}
 use Rattle.ag_expr.specs.declared.grammar.Production.{Production}
 use Rattle.ag_expr.specs.declared.grammar.Rule.{Rule}
 use Rattle.ag_expr.specs.declared.grammar.Target.{Target}
-use Rattle.ag_expr.specs.grammars.AttributeGrammar.{item_at}
+use Rattle.ag_expr.specs.grammars.AttributeGrammar.{item_at, stored_items}
 use Rattle.ag_expr.specs.grammars.Passes.{Passes, HasPass, Direction, LeftToRight, RightToLeft}
 use Rattle.passassign.specs.Dependencies.{places_of}
 use Rattle.passcode.specs.declared.instr.Instr.{Instr}
@@ -36,6 +36,23 @@ Belongs m q k instr.End = Unit {0}
 pub one_pass : (m : Passes) (q : Production) (o : Target) (p k : ℕ) → HasPass m q o p → HasPass m q o k → p ≡ k
 one_pass m q o p k e f = let both : Some p ≡ Some k = sym e ∙ f in cc
 
+pub belongs_rule : (m : Passes) (q : Production) (k j a r : ℕ) → IsOfRule m q k j a r → Belongs m q k (giving j a r)
+belongs_rule m q k zero a r h = h
+belongs_rule m q k (suc j) a r h = (omega arith, h)
+
+-- places are few,
+pub few : (m : Passes) (q : Production) → IsPlanned m q → (j : ℕ) → HasPlace q j → j ≤ 16
+few m q planned zero h = omega arith
+few m q planned (suc j) h = let w = slice_get_within (stored_items q.items) j h.0 h.1.1 in let s = planned.stored in omega arith
+
+-- and so are attributes
+pub small : (m : Passes) (q : Production) (k : ℕ) → IsPlanned m q → (j a r : ℕ) → IsOfRule m q k j a r → a < 16
+small m q k planned j a r h = subst (λ n. n < 16) (ap (λ (o : Target). o.attr) h.target) (planned.rules r h.rule h.numbered).within
+
+pub set_is : (j a r : ℕ) → 1 ≤ j → giving j a r ≡ instr.Set j a r
+set_is zero a r one = absurd (omega arith)
+set_is (suc j) a r one = refl
+
 first_place : (d : Direction) (count t : ℕ) → 1 ≤ t → t < count → 1 ≤ place_at d count t
 first_place LeftToRight count t one less = one
 first_place RightToLeft count t one less = omega arith
@@ -49,16 +66,12 @@ module _ (m : Passes) (q : Production) (planned : IsPlanned m q) (d : Direction)
   abbrev places : List Item
   places = places_of q
 
-  belongs_rule : (j a r : ℕ) → IsOfRule m q k j a r → Belongs m q k (giving j a r)
-  belongs_rule zero a r h = h
-  belongs_rule (suc j) a r h = (omega arith, h)
-
   given_belongs : (j : ℕ) (i : Instr) → GivesAt table k j i → Belongs m q k i
   given_belongs j i h =
       let e : Given = h.2.0 in
       let found = t.only j h.0 e h.2.1 in
       subst (Belongs m q k) (sym h.2.3)
-      (belongs_rule j h.0 e.rule (record { rule = found.0; numbered = found.2; target = found.3; passed = subst (HasPass m q found.0.target) h.2.2 found.4 }))
+      (belongs_rule m q k j h.0 e.rule (record { rule = found.0; numbered = found.2; target = found.3; passed = subst (HasPass m q found.0.target) h.2.2 found.4 }))
 
   visit_belongs : (j : ℕ) (x : Item) (i : Instr) → 1 ≤ j → item_at q j ≡ Some x → IsVisit table k j x i → Belongs m q k i
   visit_belongs j x i one is (inl e) = subst (Belongs m q k) (sym e) (x, (one, is))

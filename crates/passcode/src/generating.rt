@@ -1,13 +1,12 @@
 //! The code of a grammar under an assignment.
 
 ghost use Rattle.std.specs.Prelude.{ℕ, ◌≡◌, ◌+◌, IfOk, Some, List, length, slice_get};
-ghost use Rattle.ag_expr.specs.grammars.AttributeGrammar.{Grammar as Plain, IsProduction};
 ghost use Rattle.ag_expr.specs.grammars.Passes.{IsLegal};
 ghost use Rattle.passassign.specs.Rows.{passes_of};
 ghost use Rattle.passcode.specs.Agreement.{Agrees};
 ghost use Rattle.passcode.specs.Listing.{IsGenerated};
 ghost use Rattle.passcode.specs.Order.{AreInOrder};
-ghost use Rattle.passcode.specs.Rows.{row_of, rows_of};
+ghost use Rattle.passcode.specs.Rows.{row_of};
 ghost use Rattle.passcode.specs.Shape.{HasLists, HasNumbers, HasShape};
 ghost use Rattle.passcode.specs.Tables.{IsPlanned};
 ghost use Rattle.passcode.specs.declared.instr.Instr.{Instr as TheInstr};

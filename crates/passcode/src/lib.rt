@@ -4,6 +4,7 @@
 mod code;
 mod generating;
 mod instr;
+pub mod laws;
 mod listing;
 pub mod samples;
 mod table;

@@ -1,6 +1,6 @@
 //! The list of instructions of one production in one pass.
 
-ghost use Rattle.std.specs.Prelude.{◌≡◌, ◌+◌, ◌*◌, ◌<◌, ◌≤◌, IfOk, OnOk, length};
+ghost use Rattle.std.specs.Prelude.{◌≡◌, ◌+◌, ◌<◌, ◌≤◌, IfOk, OnOk, length};
 ghost use Rattle.ag_expr.specs.grammars.Passes.{Direction, direction_of};
 ghost use Rattle.passcode.specs.Agreement.{giving};
 ghost use Rattle.passcode.specs.Listing.{Extends, IsGivenBy, GivesAt, IsGoOf, IsVisit};
