@@ -1,8 +1,9 @@
 //! What a part of an expression gives, lent where it can be.
 
-ghost use Rattle.std.specs.Prelude.{◌≡◌, IfOk, IfSome};
+ghost use Rattle.std.specs.Prelude.{◌≡◌, IfOk, IfSome, is_some};
 ghost use Rattle.ag_value.specs.Well.{IsWell};
-ghost use Rattle.ag_expr.specs.language.Operands.{IsIn, held_value, operand_value};
+ghost use Rattle.ag_expr.specs.declared.operand.Held.{Held as HeldValue};
+ghost use Rattle.ag_expr.specs.language.Operands.{IsIn, held_value, is_lent, operand_value};
 
 use crate::measured::Measured;
 use crate::scope::Scope;
@@ -70,6 +71,7 @@ impl<'e> Held<'e> {
 
     /// The value where it is lent, for as long as it is.
     pub fn lent(&self) -> Option<&'e Value>
+        ensures lends { is_some result ≡ is_lent self.now }
         ensures value { IfSome result (λ v. v.now ≡ held_value self.now) }
         ensures well { IfSome result (λ v. IsWell v.now) }
     {
@@ -128,6 +130,7 @@ impl<'e> Operand<'e> {
     /// The value where the environment or the expression lends it, for as long as they do.
     pub fn from_outside(&self, scope: &Scope<'e>) -> Option<&'e Value>
         requires { IsIn scope.now self.now }
+        ensures lends { (held : HeldValue) → self.now ≡ Operand.Held held → is_some result ≡ is_lent held }
         ensures value { IfSome result (λ v. v.now ≡ operand_value scope.now self.now) }
         ensures well { IfSome result (λ v. IsWell v.now) }
     {

@@ -108,8 +108,9 @@ fn can_stand(alloc: Global, before: &str, token: &str) -> Result<bool, NoMemory>
     let tried = format!(in alloc; "{before} {token}")?;
     match read_grammar(alloc, tried.as_str().as_bytes()) {
         Ok(_) => Ok(true),
-        Err(TextFault::NoMemory) | Err(TextFault::Expr(ExprFault::NoMemory)) =>
-            Err(NoMemory::NoMemory),
+        Err(TextFault::NoMemory) | Err(TextFault::Expr(ExprFault::NoMemory)) => Err(
+            NoMemory::NoMemory,
+        ),
         Err(TextFault::Unexpected(_, at)) => Ok(at > before.len().saturating_add(1)),
         Err(_) => Ok(false),
     }

@@ -7,7 +7,7 @@ use std::process::Abort;
 use std::test::Fail;
 
 /// The grammar of binary fractions.
-const FRACTIONS: &str = "start N;
+pub(crate) const FRACTIONS: &str = "start N;
 symbol N syn out;
 symbol Q syn v;
 symbol L syn p, v inh w;

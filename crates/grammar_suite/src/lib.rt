@@ -3,9 +3,13 @@
 #![tactic(auto)]
 
 #[cfg(test)]
+mod codes;
+#[cfg(test)]
 mod grammar_texts;
 #[cfg(test)]
 mod normal_forms;
+#[cfg(test)]
+mod parsing;
 #[cfg(test)]
 mod passes;
 #[cfg(test)]

@@ -5,7 +5,12 @@ pub mod Edges
 pub mod Laws
 pub mod Nodes
 pub mod Nullable
+pub mod Opened
+pub mod Parsing
 pub mod Predicted
 pub mod Reach
+pub mod Refusals
+pub mod Sentences
 pub mod Tables
+pub mod Turns
 pub mod Worked

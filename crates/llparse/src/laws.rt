@@ -1,11 +1,11 @@
-//! What is true of look-ahead by the definitions alone, each the contract of a function that does
+//! What is true of look-ahead and of trees by the definitions alone, each the contract of a function that does
 //! nothing.
 
 ghost use Rattle.std.specs.Prelude.{◌≡◌, ◌∷◌, [], Some, None};
 ghost use Rattle.ag_expr.specs.declared.grammar.Terminal.TheVariants.{Class, Literal};
 ghost use Rattle.ag_expr.specs.grammars.Sample.{sample};
 ghost use Rattle.llparse.specs.Ahead.{HasNoConflict, IsConflict};
-ghost use Rattle.llparse.specs.Laws.{OneTree};
+ghost use Rattle.llparse.specs.Laws.{OneTree, TextsAreGiven};
 ghost use Rattle.llparse.specs.Nodes.{place_of};
 ghost use Rattle.llparse.specs.Reach.{InReach};
 ghost use Rattle.llparse.specs.Tables.{choice_of, IsChoice, IsLeastConflict};
@@ -15,6 +15,11 @@ ghost use Rattle.llparse.specs.declared.ahead.Ahead.TheVariants as ahead;
 /// A grammar without a conflict has at most one tree of a yield.
 pub fn one_tree()
     ensures { OneTree }
+{}
+
+/// Each tree has values that give each of its leaves its text.
+pub fn texts_are_given()
+    ensures { TextsAreGiven }
 {}
 
 /// Two productions `L = L "x"` and `L = "x"` conflict at `x`.

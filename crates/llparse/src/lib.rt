@@ -1,6 +1,6 @@
 //! Parsing sentences with one token of look-ahead: the sets that tell which production comes next,
-//! the tables that are made of them, and why a grammar whose sets don't conflict has one tree of a
-//! sentence at most. What parses by the tables is to come.
+//! the tables that are made of them, why a grammar whose sets don't conflict has one tree of a
+//! sentence at most, and the parser, which writes that tree's file.
 #![tactic(auto)]
 
 mod ahead;
@@ -14,14 +14,20 @@ mod laws;
 mod lookup;
 mod nodes;
 mod nullable;
+mod parse_fault;
+mod parser;
+mod parsing;
 mod predict;
 mod reach;
+mod tokens;
 
 pub use ahead::Ahead;
 pub use building::tables;
 pub use fault::TableFault;
 pub use laws::{
     edges_lead_on, left_recursion_conflicts, left_recursion_is_a_choice, left_recursion_is_least,
-    one_tree, places_are_in_order, sample_is_free, small_tables_are_read,
+    one_tree, places_are_in_order, sample_is_free, small_tables_are_read, texts_are_given,
 };
 pub use lookup::Tables;
+pub use parse_fault::ParseFault;
+pub use parsing::parse;

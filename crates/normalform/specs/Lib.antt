@@ -1,4 +1,5 @@
 pub mod Clauses
+pub mod Examples
 pub mod Faults
 pub mod Found
 pub mod Laws

@@ -1,6 +1,7 @@
 //! What is true of raw grammars and their faults by the definitions alone, each the contract of a
 //! function that does nothing.
 
+ghost use Rattle.normalform.specs.Examples.{WorkedNames, WorkedRules};
 ghost use Rattle.normalform.specs.Laws.{AcceptedWithoutFault, NoFaultWhereAccepted};
 ghost use Rattle.normalform.specs.Laws.{OneFirstFault, NoFirstFaultWithoutFault};
 ghost use Rattle.normalform.specs.Laws.{TextsAreReadable, WorkedNumbers};
@@ -37,4 +38,14 @@ pub fn texts_are_readable()
 /// The numbers of a small grammar.
 pub fn worked_numbers()
     ensures { WorkedNumbers }
+{}
+
+/// What is told of wrong names and of a wrong start symbol in small grammars.
+pub fn worked_names()
+    ensures { WorkedNames }
+{}
+
+/// What is told of wrong rules in small grammars.
+pub fn worked_rules()
+    ensures { WorkedRules }
 {}

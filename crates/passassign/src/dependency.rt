@@ -51,8 +51,9 @@ fn put_place(places: &mut Vec<Item>, item: Item) -> Result<(), NoMemory>
     Ok(())
 }
 
-/// What stands at the places of a production, from its left side on.
-fn all_places(alloc: Global, production: &Production) -> Result<Vec<Item>, NoMemory>
+/// What stands at the places of a production, from its left side on. NoMemory where a growth was
+/// refused.
+pub fn all_places(alloc: Global, production: &Production) -> Result<Vec<Item>, NoMemory>
     ensures { IfOk result (λ places. places.items ≡ places_of production.now) }
 {
     let mut places = Vec::new(alloc);

@@ -13,4 +13,5 @@ mod table;
 
 pub use assigning::{AssignFault, assign};
 pub use assignment::Assignment;
+pub use dependency::all_places;
 pub use stuck::{Strike, Stuck};

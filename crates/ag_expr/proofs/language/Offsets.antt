@@ -5,7 +5,7 @@ use Rattle.ag_expr.specs.declared.fault.TokenFault.{TokenFault}
 use Rattle.ag_expr.specs.declared.fault.TokenFault.TheVariants as token_fault
 use Rattle.ag_expr.specs.declared.token.Token as lent
 use Rattle.ag_expr.specs.language.Ending.{offset_of}
-use Rattle.ag_expr.specs.language.Left.{State, ending_at, ending_by, offset, input}
+use Rattle.ag_expr.specs.language.Left.{State, ending_by, offset, input}
 use Rattle.ag_expr.specs.language.Lexing.{token_from, token_of, GivesToken}
 use Rattle.ag_expr.specs.language.Placed.{Input}
 use Rattle.ag_expr.specs.language.Reading.{is_end}

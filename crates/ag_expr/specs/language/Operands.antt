@@ -1,6 +1,6 @@
 -- What stands for the values of operands while an expression is evaluated. All of this is this project's.
 use Rattle.std.specs.Borrow.{Bor}
-use Rattle.std.specs.Prelude.{ℕ, ◌<◌, Bool, List, length, map, slice_get, Result, Ok, Err}
+use Rattle.std.specs.Prelude.{ℕ, ◌<◌, Bool, true, false, List, length, map, slice_get, Result, Ok, Err}
 use Rattle.ag_value.specs.declared.value.ErrorCode.{ErrorCode}
 use Rattle.ag_value.specs.declared.value.Value.TheVariants as value
 use Rattle.ag_value.specs.declared.value.Value.{Value}
@@ -16,6 +16,11 @@ use Rattle.ag_expr.specs.language.Trees.{each_passes, is_within}
 abbrev pub held_value : Held → Value
 held_value (held.Lent v) = v
 held_value (held.Owned v) = v
+
+-- whether the value is lent
+abbrev pub is_lent : Held → Bool
+is_lent (held.Lent v) = true
+is_lent (held.Owned v) = false
 
 -- the value of an operand where the values of the bindings are these
 abbrev pub operand_value : List Value → Operand → Value

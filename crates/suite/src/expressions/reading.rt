@@ -2,7 +2,7 @@
 
 use super::fault_of_text;
 use ag_expr::{
-    Cursor, Expected, ExprFault, Punctuation, Token, expected_at, occurrences, read_expr,
+    Cursor, Expected, Expr, ExprFault, Punctuation, Token, expected_at, occurrences, read_expr,
     read_until, unescaped,
 };
 use std::alloc::{Alloc, Global};
@@ -149,15 +149,40 @@ fn levels(rt: HostRuntime) -> Result<(), Fail> {
     Ok(())
 }
 
+/// What `read_until` gives from an offset on, which is to be a character's front.
+fn until(rt: &impl Alloc<A = Global>, text: &str, from: usize) -> Result<(Expr, usize), ExprFault> {
+    if text.is_char_boundary(from) {
+        return read_until(rt.alloc(), text, from);
+    }
+    Err(ExprFault::NoToken(from))
+}
+
+/// The expression of a text ends at the first `;` behind its front that stands in no text literal.
 #[test]
 fn up_to_a_semicolon(rt: HostRuntime) -> Result<(), Fail> {
-    let (expr, at) = read_until(rt.alloc(), "$1.x + 1; b", 0)?;
+    let (expr, at) = until(&rt, "$1.x + 1; b", 0)?;
     assert_eq!(rt; at, 8);
     assert_eq!(rt; occurrences(&expr).len(), 1);
-    let Err(found) = read_until(rt.alloc(), "1 + 1", 0) else {
-        return Err(Fail::from("it is read"));
-    };
-    assert_eq!(rt; found, ExprFault::Unexpected(5));
+    let (expr, at) = until(&rt, "é = \";\" ++ $2.x ; c", 5)?;
+    assert_eq!(rt; at, 17);
+    assert_eq!(rt; occurrences(&expr).len(), 1);
+    Ok(())
+}
+
+/// Where no expression stands from an offset on up to a `;`.
+#[test]
+fn not_up_to_a_semicolon(rt: HostRuntime) -> Result<(), Fail> {
+    for (text, from, at) in [
+        ("1 + 1", 0, 5),
+        ("a = 1 + 1", 4, 9),
+        ("a = ", 4, 4),
+        ("1; 2 3; 4", 2, 5),
+    ] {
+        match until(&rt, text, from) {
+            Err(ExprFault::Unexpected(found)) => assert_eq!(rt; found, at, "at {text}"),
+            _ => return Err(Fail::from("another answer")),
+        }
+    }
     Ok(())
 }
 

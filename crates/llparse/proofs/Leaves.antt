@@ -1,0 +1,79 @@
+-- What taking a token of a class keeps true.
+use Rattle.std.proofs.Common.{◌≡◌, ℕ, suc, ◌+◌, ◌<◌, ◌≤◌, List, [], ◌∷◌, ◌++◌, length, drop, refl, ap, sym, ◌∙◌, subst, append_assoc, append-nil, arith}
+use Rattle.ag_expr.specs.declared.grammar.Item.TheVariants as item
+use Rattle.ag_expr.specs.declared.grammar.Item.{Item}
+use Rattle.ag_expr.specs.declared.grammar.Terminal.TheVariants.{Class}
+use Rattle.ag_expr.specs.grammars.Accepted.{IsAccepted}
+use Rattle.ag_expr.specs.grammars.AttributeGrammar.{Grammar}
+use Rattle.ag_expr.specs.grammars.Tree.{IsTokenText, leaf, none, more}
+use Rattle.ag_expr.specs.grammars.Yield.{Lexeme}
+use Rattle.treefile.specs.Device.{WhenHonest}
+use Rattle.llparse.specs.Ahead.{ahead_of}
+use Rattle.llparse.specs.Opened.{joined, open_at}
+use Rattle.llparse.specs.Parsing.{Task, written, Reading, IsTooDeep, IsTooLarge, leaf_frame, posts}
+use Rattle.llparse.specs.Sentences.{IsTreeWith, IsStuckAt}
+use Rattle.llparse.specs.declared.ahead.Ahead.TheVariants as ahead
+use Rattle.llparse.specs.declared.parser.OpenNode.{OpenNode}
+use Rattle.llparse.proofs.Begins.{begins_reading}
+use Rattle.llparse.proofs.Fronts.{behind, one_more}
+use Rattle.llparse.proofs.Shown.{length-shows, whole}
+use Rattle.llparse.proofs.Sizes as size
+use Rattle.llparse.proofs.Steps as step
+
+module _ (k : Task) where
+  abbrev g : Grammar
+  g = k.grammar
+
+  pub on_class : (p c : ℕ) (x : List ℕ) (ys : List Item) (fs : List OpenNode) (i n : ℕ) (rs out : List ℕ) (rest : List Lexeme) → drop i k.words ≡ (Class c, x) ∷ rest → IsTokenText x
+      → WhenHonest k.honest (out ≡ rs ++ leaf_frame c x) → n < k.nodes → suc (length fs) < k.depth
+      → Reading k p (item.Terminal (Class c) ∷ ys) fs i n rs → Reading k p ys fs (i + 1) (n + 1) out
+  on_class p c x ys fs i n rs out rest next text put more_nodes more_levels r =
+      let after = behind k.words i (Class c, x) rest next in
+      let s = r.stands in
+      let same = length-shows g r.under fs r.shows in
+      let counted = r.held.counted in
+      let shallow = r.held.shallow.0 in
+      let counts = size.node_counts-joined r.done (more (leaf c x) none) in
+      let levels = size.deepest-joined r.done (more (leaf c x) none) in
+      let content : WhenHonest k.honest (out ≡ k.front ++ (written r.under ++ posts (joined r.done (more (leaf c x) none)))) = λ h.
+      put h ∙ ap (λ z. z ++ leaf_frame c x) (r.held.content h) ∙ append_assoc k.front (written r.under ++ posts r.done) (leaf_frame c x)
+      ∙ ap (λ z. k.front ++ z) (append_assoc (written r.under) (posts r.done) (leaf_frame c x) ∙ ap (λ z. written r.under ++ (posts r.done ++ z)) (sym (append-nil (leaf_frame c x)))
+      ∙ ap (λ z. written r.under ++ z) (sym (size.posts-joined r.done (more (leaf c x) none)))) in
+      record {
+        done = joined r.done (more (leaf c x) none);
+        under = r.under;
+        shows = r.shows;
+        held = record { within = after.1; content = content; counted = omega arith; few = omega arith; shallow = (omega arith, r.held.shallow.1) };
+        stands = (s.0, s.1 ++ item.Terminal (Class c) ∷ [], s.2, s.3 ∙ sym (append_assoc s.1 (item.Terminal (Class c) ∷ []) ys), s.4);
+        sound = λ others t w. subst (λ ws. IsTreeWith k.grammar ws t) (sym (one_more k.words i (Class c, x) rest others next))
+            (r.sound ((Class c, x) ∷ others) t ((step.class k.grammar p r.done c x ys r.under others t text).1 w));
+        complete = λ others t e w. (step.class k.grammar p r.done c x ys r.under others t text).0
+            (r.complete ((Class c, x) ∷ others) t (sym (ap ahead_of next))
+            (subst (λ ws. IsTreeWith k.grammar ws t) (one_more k.words i (Class c, x) rest others next) w));
+      }
+
+  pub no_class : IsAccepted k.grammar → (p c : ℕ) (ys : List Item) (fs : List OpenNode) (i n : ℕ) (rs : List ℕ) → (ahead_of (drop i k.words) ≡ ahead.Terminal (Class c) → ⊥)
+      → Reading k p (item.Terminal (Class c) ∷ ys) fs i n rs → IsStuckAt k.grammar k.words i
+  no_class accepted p c ys fs i n rs other r = record {
+    within = r.held.within;
+    begins = begins_reading k accepted p (item.Terminal (Class c) ∷ ys) fs i n rs r;
+    ends = λ rest t e h.
+        let w = step.class_next k.grammar p r.done c ys r.under rest t (r.complete rest t e h) in
+        other (sym e ∙ ap ahead_of w.2);
+  }
+
+  pub deep_leaf : (p c : ℕ) (ys : List Item) (fs : List OpenNode) (i n : ℕ) (rs : List ℕ) → k.depth ≤ suc (length fs) → Reading k p (item.Terminal (Class c) ∷ ys) fs i n rs → IsTooDeep k
+  deep_leaf p c ys fs i n rs full r t h =
+      let w = step.class_next k.grammar p r.done c ys r.under (drop i k.words) t (r.complete (drop i k.words) t refl (whole k i t h)) in
+      let same = length-shows g r.under fs r.shows in
+      let d = size.depth_open k.grammar (open_at p (joined r.done (more (leaf c w.0) none)) ys) r.under w.1 t w.3 in
+      let levels = size.deepest-joined r.done (more (leaf c w.0) none) in
+      omega arith
+
+  pub large_leaf : (p c : ℕ) (ys : List Item) (fs : List OpenNode) (i n : ℕ) (rs : List ℕ) → k.nodes ≤ n → Reading k p (item.Terminal (Class c) ∷ ys) fs i n rs → IsTooLarge k
+  large_leaf p c ys fs i n rs full r t h =
+      let w = step.class_next k.grammar p r.done c ys r.under (drop i k.words) t (r.complete (drop i k.words) t refl (whole k i t h)) in
+      let counted = r.held.counted in
+      let d = size.count_open k.grammar (open_at p (joined r.done (more (leaf c w.0) none)) ys) r.under w.1 t w.3 in
+      let counts = size.node_counts-joined r.done (more (leaf c w.0) none) in
+      omega arith

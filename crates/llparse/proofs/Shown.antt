@@ -1,0 +1,19 @@
+-- What a stack shows, and what is known of all words from those so far.
+use Rattle.std.proofs.Common.{◌≡◌, ℕ, suc, List, [], ◌∷◌, length, drop, refl, ap, sym, subst}
+use Rattle.std.proofs.lemmas.List.{take-append-drop}
+use Rattle.ag_expr.specs.grammars.AttributeGrammar.{Grammar}
+use Rattle.ag_expr.specs.grammars.Tree.{Tree}
+use Rattle.llparse.specs.Opened.{Open}
+use Rattle.llparse.specs.Parsing.{Task, After, Shows}
+use Rattle.llparse.specs.Sentences.{IsTreeWith}
+use Rattle.llparse.specs.declared.parser.OpenNode.{OpenNode}
+
+pub length-shows : (g : Grammar) (os : List Open) (fs : List OpenNode) → Shows g os fs → length os ≡ length fs
+length-shows g [] [] h = refl
+length-shows g [] (f ∷ fs) h = absurd h
+length-shows g (o ∷ os) [] h = absurd h
+length-shows g (o ∷ os) (f ∷ fs) h = ap suc (length-shows g os fs h.2)
+
+-- the words so far and those left are all words
+pub whole : (k : Task) (i : ℕ) (t : Tree) → IsTreeWith k.grammar k.words t → After k i (drop i k.words) t
+whole k i t p = subst (λ ws. IsTreeWith k.grammar ws t) (sym (take-append-drop i k.words)) p

@@ -1,0 +1,107 @@
+-- What each step keeps true, over the stack of open nodes from its top.
+use Rattle.std.proofs.Common.{◌≡◌, ℕ, zero, suc, ◌+◌, ◌-◌, ◌*◌, ◌<◌, ◌≤◌, List, [], ◌∷◌, ◌++◌, length, drop, reverse, slice_get, Some, None, refl, ap, ◌∙◌, subst, arith}
+use Rattle.std.proofs.Math.Nat.{mul-suc, mul-le-mul_left}
+use Rattle.ag_expr.specs.declared.grammar.Item.TheVariants as item
+use Rattle.ag_expr.specs.declared.grammar.Item.{Item}
+use Rattle.ag_expr.specs.declared.grammar.Production.{Production}
+use Rattle.ag_expr.specs.declared.grammar.Terminal.TheVariants.{Literal, Class}
+use Rattle.ag_expr.specs.grammars.Accepted.{IsAccepted}
+use Rattle.ag_expr.specs.grammars.AttributeGrammar.{Grammar, literal_text}
+use Rattle.ag_expr.specs.grammars.Tree.{IsTokenText}
+use Rattle.ag_expr.specs.grammars.Yield as yields
+use Rattle.ag_expr.specs.grammars.Yield.{Lexeme}
+use Rattle.treefile.specs.Device.{WhenHonest}
+use Rattle.llparse.specs.Ahead.{ahead_of}
+use Rattle.llparse.specs.Parsing.{Task, Reading, Asked, Between, Before, IsTooDeep, IsTooLarge, right_side, leaf_frame, node_frame, most, weight, steps_left}
+use Rattle.llparse.specs.Sentences.{IsStuckAt}
+use Rattle.llparse.specs.Turns.{passed}
+use Rattle.llparse.specs.declared.ahead.Ahead.TheVariants as ahead
+use Rattle.llparse.specs.declared.parser.OpenNode.{OpenNode}
+use Rattle.llparse.proofs.Closing as closing
+use Rattle.llparse.proofs.Fronts.{on_top, rest_at, rest_none}
+use Rattle.llparse.proofs.Leaves as leaves
+use Rattle.llparse.proofs.Literals as literals
+use Rattle.llparse.proofs.Starts as starts
+
+module _ (k : Task) where
+  -- an open node that has an item next, before which its place passes it
+  pub faces : (node : OpenNode) (x : Item) (fs : List OpenNode) (i n : ℕ) (rs : List ℕ) → slice_get (right_side k.grammar node.production) node.place ≡ Some x
+      → Between k (node ∷ fs) i n rs → Before k x (passed node ∷ fs) i n rs
+  faces node x fs i n rs next = subst (λ ys. Reading k node.production ys fs i n rs) (rest_at (right_side k.grammar node.production) node.place x next)
+
+  -- an open node that has none next
+  pub ends : (node : OpenNode) (fs : List OpenNode) (i n : ℕ) (rs : List ℕ) → slice_get (right_side k.grammar node.production) node.place ≡ None
+      → Between k (node ∷ fs) i n rs → Reading k node.production [] fs i n rs
+  ends node fs i n rs over = subst (λ ys. Reading k node.production ys fs i n rs) (rest_none (right_side k.grammar node.production) node.place over)
+
+  pub closed : (p : ℕ) (fs : List OpenNode) (i n : ℕ) (rs out : List ℕ) → WhenHonest k.honest (out ≡ rs ++ node_frame p) → Reading k p [] fs i n rs → Between k fs i n out
+  closed p [] i n rs out put r = closing.on_root k p i n rs out put r
+  closed p (f ∷ fs) i n rs out put r = closing.on_close k p f fs i n rs out put r
+
+  pub asks : (s : ℕ) (fs : List OpenNode) (i n : ℕ) (rs : List ℕ) → Before k (item.Symbol s) fs i n rs → Asked k s fs i n rs
+  asks s [] i n rs b = absurd b
+  asks s (f ∷ fs) i n rs b = starts.on_symbol k f s (drop f.place (right_side k.grammar f.production)) fs i n rs refl b
+
+  pub literal : (l : ℕ) (fs : List OpenNode) (i n : ℕ) (rs : List ℕ) (rest : List Lexeme) → drop i k.words ≡ (Literal l, literal_text k.grammar l) ∷ rest
+      → Before k (item.Terminal (Literal l)) fs i n rs → Between k fs (i + 1) n rs
+  literal l [] i n rs rest next b = absurd b
+  literal l (f ∷ fs) i n rs rest next b = literals.on_literal k f.production l (drop f.place (right_side k.grammar f.production)) fs i n rs rest next b
+
+  pub no_literal : IsAccepted k.grammar → (l : ℕ) (fs : List OpenNode) (i n : ℕ) (rs : List ℕ) → (ahead_of (drop i k.words) ≡ ahead.Terminal (Literal l) → ⊥)
+      → Before k (item.Terminal (Literal l)) fs i n rs → IsStuckAt k.grammar k.words i
+  no_literal accepted l [] i n rs other b = absurd b
+  no_literal accepted l (f ∷ fs) i n rs other b = literals.no_literal k accepted f.production l (drop f.place (right_side k.grammar f.production)) fs i n rs other b
+
+  pub class : (c : ℕ) (x : List ℕ) (fs : List OpenNode) (i n : ℕ) (rs out : List ℕ) (rest : List Lexeme) → drop i k.words ≡ (Class c, x) ∷ rest → IsTokenText x
+      → WhenHonest k.honest (out ≡ rs ++ leaf_frame c x) → n < k.nodes → length fs < k.depth
+      → Before k (item.Terminal (Class c)) fs i n rs → Between k fs (i + 1) (n + 1) out
+  class c x [] i n rs out rest next text put more_nodes more_levels b = absurd b
+  class c x (f ∷ fs) i n rs out rest next text put more_nodes more_levels b =
+      leaves.on_class k f.production c x (drop f.place (right_side k.grammar f.production)) fs i n rs out rest next text put more_nodes more_levels b
+
+  pub no_class : IsAccepted k.grammar → (c : ℕ) (fs : List OpenNode) (i n : ℕ) (rs : List ℕ) → (ahead_of (drop i k.words) ≡ ahead.Terminal (Class c) → ⊥)
+      → Before k (item.Terminal (Class c)) fs i n rs → IsStuckAt k.grammar k.words i
+  no_class accepted c [] i n rs other b = absurd b
+  no_class accepted c (f ∷ fs) i n rs other b = leaves.no_class k accepted f.production c (drop f.place (right_side k.grammar f.production)) fs i n rs other b
+
+  pub deep_leaf : (c : ℕ) (fs : List OpenNode) (i n : ℕ) (rs : List ℕ) → k.depth ≤ length fs → Before k (item.Terminal (Class c)) fs i n rs → IsTooDeep k
+  deep_leaf c [] i n rs deep b = absurd b
+  deep_leaf c (f ∷ fs) i n rs deep b = leaves.deep_leaf k f.production c (drop f.place (right_side k.grammar f.production)) fs i n rs deep b
+
+  pub large_leaf : (c : ℕ) (fs : List OpenNode) (i n : ℕ) (rs : List ℕ) → k.nodes ≤ n → Before k (item.Terminal (Class c)) fs i n rs → IsTooLarge k
+  large_leaf c [] i n rs large b = absurd b
+  large_leaf c (f ∷ fs) i n rs large b = leaves.large_leaf k f.production c (drop f.place (right_side k.grammar f.production)) fs i n rs large b
+
+-- ---- fewer steps are left
+
+most_is : (ps : List Production) (p : ℕ) → length (yields.right_side (slice_get ps p)) ≤ most ps
+most_is [] p = omega arith
+most_is (q ∷ qs) zero = omega arith
+most_is (q ∷ qs) (suc p) = let e = most_is qs p in omega arith
+
+module _ (g : Grammar) (nodes : ℕ) where
+  pub fewer_taken : (old less : List OpenNode) (node : OpenNode) (n : ℕ) → old ≡ less ++ node ∷ [] → steps_left g nodes (reverse less) n < steps_left g nodes (reverse old) n
+  fewer_taken old less node n was = let a = ap (weight g) (on_top less old node was) in omega arith
+
+  pub fewer_passed : (old less full : List OpenNode) (node : OpenNode) (x : Item) (n : ℕ) → old ≡ less ++ node ∷ [] → full ≡ less ++ passed node ∷ []
+      → slice_get (right_side g node.production) node.place ≡ Some x → steps_left g nodes (reverse full) n < steps_left g nodes (reverse old) n
+  fewer_passed old less full node x n was now next =
+      let a = ap (weight g) (on_top less old node was) in
+      let b = ap (weight g) (on_top less full (passed node) now) in
+      let c = ap length (rest_at (right_side g node.production) node.place x next) in
+      omega arith
+
+  pub fewer_counted : (fs : List OpenNode) (n m : ℕ) → n ≤ m → steps_left g nodes fs m ≤ steps_left g nodes fs n
+  fewer_counted fs n m le =
+      let smaller : nodes - m ≤ nodes - n = omega arith in
+      let times = mul-le-mul_left {m = nodes - m} {n = nodes - n} (most g.productions + 2) smaller in
+      omega arith
+
+  pub fewer_opened : (old full : List OpenNode) (p n : ℕ) → full ≡ old ++ record { production = p; place = 0 } ∷ [] → n < nodes
+      → steps_left g nodes (reverse full) (n + 1) < steps_left g nodes (reverse old) n
+  fewer_opened old full p n now le =
+      let v = ap (weight g) (on_top old full (record { production = p; place = 0 }) now) in
+      let longest = most_is g.productions p in
+      let one : nodes - n ≡ suc (nodes - (n + 1)) = omega arith in
+      let times : (most g.productions + 2) * (nodes - n) ≡ (most g.productions + 2) * (nodes - (n + 1)) + (most g.productions + 2) = ap (λ z. (most g.productions + 2) * z) one ∙ mul-suc (most g.productions + 2) (nodes - (n + 1)) in
+      omega arith

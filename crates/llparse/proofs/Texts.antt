@@ -1,0 +1,35 @@
+-- Values that give each leaf of a tree its text.
+use Rattle.std.proofs.Common.{ℕ, zero, suc, [], ◌∷◌, Option, Some, None, slice_get, refl}
+use Rattle.ag_value.specs.declared.value.Value.{Value, Text}
+use Rattle.ag_expr.specs.declared.grammar.Production.{Production}
+use Rattle.ag_expr.specs.grammars.AttributeGrammar.{Grammar}
+use Rattle.ag_expr.specs.grammars.Solution.{NoRule, RulesHold, Solves, SolvesAll, Valuation, at}
+use Rattle.ag_expr.specs.grammars.Tree.{Tree, Forest, leaf, node, none, more}
+
+abbrev mutual
+  texts : Tree → Valuation
+  texts (leaf c x) path a = Text x
+  texts (node p ts) [] a = Text []
+  texts (node p ts) (i ∷ path) a = texts_of_all ts i path a
+
+  texts_of_all : Forest → ℕ → Valuation
+  texts_of_all none i path a = Text []
+  texts_of_all (more t ts) zero path a = texts t path a
+  texts_of_all (more t ts) (suc i) path a = texts_of_all ts i path a
+
+no_rules : (q : Option Production) (e : ℕ → ℕ → Value) → RulesHold NoRule q e
+no_rules None e = tt
+no_rules (Some q) e = λ r is no. absurd no
+
+module _ (g : Grammar) where
+  mutual
+    solved : (t : Tree) → Solves NoRule g t (texts t)
+    solved (leaf c x) = refl
+    solved (node p ts) = (no_rules (slice_get g.productions p) (at (texts (node p ts))), all_solved ts)
+
+    all_solved : (ts : Forest) → SolvesAll NoRule g ts (texts_of_all ts)
+    all_solved none = tt
+    all_solved (more t ts) = (solved t, all_solved ts)
+
+pub texts_are_given : (g : Grammar) (t : Tree) → (v : Valuation) × Solves NoRule g t v
+texts_are_given g t = (texts t, solved g t)

@@ -1,0 +1,5 @@
+use Rattle.llparse.proofs.Texts.{texts_are_given}
+use Rattle.llparse.proofs.laws.texts_are_given.Goals as goal
+
+pub returns : goal.returns
+returns c = texts_are_given

@@ -1,0 +1,52 @@
+-- What a parser has open, and which trees complete it (this project's).
+use Rattle.std.specs.Prelude.{◌≡◌, ℕ, List, [], ◌∷◌, ◌++◌}
+use Rattle.ag_expr.specs.declared.grammar.Item.TheVariants as item
+use Rattle.ag_expr.specs.declared.grammar.Item.{Item}
+use Rattle.ag_expr.specs.declared.grammar.Production.{Production}
+use Rattle.ag_expr.specs.grammars.AttributeGrammar.{Grammar, stored_items, IsProduction}
+use Rattle.ag_expr.specs.grammars.Tree.{Tree, node, Forest, none, more, Fits, FitsAll}
+use Rattle.ag_expr.specs.grammars.Yield.{Lexeme, yield_along, yield_of}
+
+-- trees, and then others
+abbrev pub joined : Forest → Forest → Forest
+joined none us = us
+joined (more t ts) us = more t (joined ts us)
+
+-- a node whose right side is read up to `rest`, with the trees of what was read
+pub record Open : Type 0 where
+  pub production : ℕ
+  pub done : Forest
+  pub rest : List Item
+
+-- a node open at `rest`
+abbrev pub open_at : ℕ → Forest → List Item → Open
+open_at p done rest = record { production = p; done = done; rest = rest }
+
+module _ (g : Grammar) where
+  -- t is a whole tree in which c is the next child of the innermost open node, and the words are what follows c
+  abbrev pub Continues : List Open → Tree → List Lexeme → Tree → Type 0
+  Continues [] c ws t = (ws ≡ []) × (t ≡ c)
+  Continues (o ∷ os) c ws t =
+      (fs : Forest) × (vs : List Lexeme) × FitsAll g (stored_items o.rest) fs × (ws ≡ yield_along g o.rest fs ++ vs)
+      × Continues os (node o.production (joined o.done (more c fs))) vs t
+
+  -- t is a whole tree that completes what is open, and the words are those still to come
+  abbrev pub Completes : Open → List Open → List Lexeme → Tree → Type 0
+  Completes o os ws t =
+      (fs : Forest) × (vs : List Lexeme) × FitsAll g (stored_items o.rest) fs × (ws ≡ yield_along g o.rest fs ++ vs)
+      × Continues os (node o.production (joined o.done fs)) vs t
+
+  -- t is a whole tree in which a tree of s comes next below the innermost open node, and the words are those from it on
+  abbrev pub Wants : List Open → ℕ → List Lexeme → Tree → Type 0
+  Wants os s ws t =
+      (c : Tree) × (vs : List Lexeme) × Fits g (item.Symbol s) c × (ws ≡ yield_of g c ++ vs)
+      × Continues os c vs t
+
+  -- each open node stands where its symbol is asked
+  abbrev pub IsStack : List Open → ℕ → Type 0
+  IsStack [] s = s ≡ g.start
+  IsStack (o ∷ os) s = (q : Production) × (before : List Item) × IsProduction g o.production q × (q.items ≡ before ++ item.Symbol s ∷ o.rest) × IsStack os q.left
+
+  -- the innermost open node stands where the one around it asks for it, and has read a beginning of its right side
+  abbrev pub Stands : Open → List Open → Type 0
+  Stands o os = (q : Production) × (before : List Item) × IsProduction g o.production q × (q.items ≡ before ++ o.rest) × IsStack os q.left

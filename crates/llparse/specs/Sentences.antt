@@ -1,0 +1,51 @@
+-- What parsing a sentence answers: the tree that its tokens have and the file of it, or why it has none.
+use Rattle.std.specs.Prelude.{ℕ, ◌≡◌, ◌≤◌, ◌++◌, List, [], ◌∷◌, length, map, take, drop, slice_get, Some, None}
+use Rattle.ag_expr.specs.Lists.{Each}
+use Rattle.ag_expr.specs.grammars.AttributeGrammar.{Grammar}
+use Rattle.ag_expr.specs.grammars.Passes.{Passes}
+use Rattle.ag_expr.specs.grammars.Solution.{Valuation, NoRule, Solves}
+use Rattle.ag_expr.specs.grammars.Tree.{Tree, IsTreeOf}
+use Rattle.ag_expr.specs.grammars.Yield.{Lexeme, yield_of}
+use Rattle.ag_scan.specs.declared.token.Token.{Token}
+use Rattle.treefile.specs.Records.{IsFileOfTree}
+use Rattle.treefile.specs.TreeFile.{version_one}
+use Rattle.llparse.specs.Ahead.{ahead_of}
+
+-- the terminals of tokens with their texts
+abbrev pub words_of : List Token → List Lexeme
+words_of ts = map (λ t. (t.kind, t.lex)) ts
+
+-- a tree of the grammar that yields these words (the textbook)
+pub record IsTreeWith (g : Grammar) (words : List Lexeme) (t : Tree) : Type 0 where
+  pub tree : IsTreeOf g t
+  pub yields : yield_of g t ≡ words
+
+-- each pass is at least 1, so that no attribute has a value before the first pass
+abbrev pub AreFromOne : Passes → Type 0
+AreFromOne m = (s : ℕ) → Each (λ k. 1 ≤ k) (m s)
+
+-- The content is the file of pass 0 of a tree: of whichever passes from 1 on and whichever values, as long as these give each
+-- leaf its text.
+abbrev pub IsFirstFile : Grammar → Tree → List ℕ → Type 0
+IsFirstFile g t content = (m : Passes) (v : Valuation) → AreFromOne m → Solves NoRule g t v → IsFileOfTree version_one g m 0 t v content
+
+-- the offset of the last token, 0 where there is none
+abbrev pub last_offset : List Token → ℕ
+last_offset [] = 0
+last_offset (t ∷ []) = t.at
+last_offset (t ∷ u ∷ ts) = last_offset (u ∷ ts)
+
+-- the offset of the token of an index, and from the end on that of the last one
+abbrev pub offset_at : List Token → ℕ → ℕ
+offset_at ts i = elim (slice_get ts i) [ Some t ↦ t.at | None ↦ last_offset ts ]
+
+-- The token of an index can't be taken, or where it is the length, the sentence can't end: the words before it are the
+-- beginning of some sentence, and with a word of its terminal behind them, or ended there, they are of none.
+pub record IsStuckAt (g : Grammar) (words : List Lexeme) (index : ℕ) : Type 0 where
+  pub within : index ≤ length words
+  pub begins : (rest : List Lexeme) × (t : Tree) × IsTreeWith g (take index words ++ rest) t
+  pub ends : (rest : List Lexeme) (t : Tree) → ahead_of rest ≡ ahead_of (drop index words) → IsTreeWith g (take index words ++ rest) t → ⊥
+
+-- an offset is that of the token that can't be taken, or of the last one where the sentence can't end
+abbrev pub IsUnexpectedAt : Grammar → List Token → ℕ → Type 0
+IsUnexpectedAt g ts at = (i : ℕ) × IsStuckAt g (words_of ts) i × (at ≡ offset_at ts i)

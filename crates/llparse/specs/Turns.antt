@@ -1,0 +1,68 @@
+-- What each step of a parser does (this project's).
+use Rattle.std.specs.Prelude.{◌≡◌, ℕ, ◌+◌, ◌≤◌, Bool, List, [], ◌∷◌, ◌++◌, length, reverse, slice_get, Option, Some, None}
+use Rattle.ag_expr.specs.declared.grammar.Item.{Item}
+use Rattle.ag_expr.specs.grammars.Accepted.{IsAccepted}
+use Rattle.ag_expr.specs.grammars.AttributeGrammar.{Grammar}
+use Rattle.ag_expr.specs.grammars.Tree.{most_depth, most_nodes}
+use Rattle.ag_scan.specs.Tokens.{FitAll}
+use Rattle.ag_scan.specs.Words.{vocabulary_of}
+use Rattle.ag_scan.specs.declared.token.Token.{Token}
+use Rattle.llparse.specs.Parsing.{Task, task_of, right_side, Asked, Between, Before, IsRefused, steps_left}
+use Rattle.llparse.specs.Sentences.{offset_at}
+use Rattle.llparse.specs.Tables.{Choices, FitsGrammar}
+use Rattle.llparse.specs.declared.parse_fault.ParseFault.{ParseFault}
+use Rattle.llparse.specs.declared.parse_fault.ParseFault.TheVariants as fault
+use Rattle.llparse.specs.declared.parser.OpenNode.{OpenNode}
+use Rattle.llparse.specs.declared.parser.Parser.{Parser}
+
+-- a parser is between two steps
+abbrev pub Stands : Task → Parser → List ℕ → Type 0
+Stands k p bytes = Between k (reverse p.stack.items) p.taken p.count bytes
+
+-- a tree of a symbol comes next
+abbrev pub Asks : Task → ℕ → Parser → List ℕ → Type 0
+Asks k s p bytes = Asked k s (reverse p.stack.items) p.taken p.count bytes
+
+-- the innermost open node has an item next, which its place has passed
+abbrev pub Faces : Task → Item → Parser → List ℕ → Type 0
+Faces k x p bytes = Before k x (reverse p.stack.items) p.taken p.count bytes
+
+-- an accepted grammar that tables fit
+abbrev pub HasTables : Choices → Grammar → Type 0
+HasTables tables g = IsAccepted g × FitsGrammar g tables
+
+-- an accepted grammar that tokens fit
+abbrev pub HasTokens : List Token → Grammar → Type 0
+HasTokens tokens g = IsAccepted g × FitAll (vocabulary_of g) tokens
+
+-- For each grammar that is so and has these tokens, what holds before leads to what holds then.
+abbrev pub Leads : (Grammar → Type 0) → List Token → (Task → List ℕ → Type 0) → (Task → List ℕ → Type 0) → Type 0
+Leads P tokens A B = (g : Grammar) (honest : Bool) (front bytes : List ℕ) → P g → A (task_of g tokens honest front) bytes → B (task_of g tokens honest front) bytes
+
+-- the same where a device's content changes
+abbrev pub Writes : (Grammar → Type 0) → List Token → Bool → List ℕ → List ℕ → (Task → List ℕ → Type 0) → (Task → List ℕ → Type 0) → Type 0
+Writes P tokens honest old new A B = (g : Grammar) (front : List ℕ) → P g → A (task_of g tokens honest front) old → B (task_of g tokens honest front) new
+
+-- where what holds before leads to a refusal that is true
+abbrev pub Refuses : (Grammar → Type 0) → List Token → (Task → List ℕ → Type 0) → ParseFault → Type 0
+Refuses P tokens A e = Leads P tokens A (λ k bytes. IsRefused k (offset_at tokens) e)
+
+-- which limit a parser has reached
+abbrev pub IsFull : Parser → ParseFault → Type 0
+IsFull p fault.TooDeep = most_depth ≤ length p.stack.items
+IsFull p fault.TooManyNodes = most_nodes ≤ p.count
+IsFull p fault = ⊥
+
+-- how many steps are left at most
+abbrev pub left_of : Grammar → Parser → ℕ
+left_of g p = steps_left g most_nodes (reverse p.stack.items) p.count
+
+-- an open node with its item passed
+abbrev pub passed : OpenNode → OpenNode
+passed node = record node { place = node.place + 1 }
+
+-- A node that was taken off the stack has this item next, and is put back behind it; or it is at its end.
+abbrev pub Passes : Grammar → OpenNode → Option Item → Parser → Parser → Type 0
+Passes g node None old new = (slice_get (right_side g node.production) node.place ≡ None) × (new ≡ old)
+Passes g node (Some x) old new =
+    (slice_get (right_side g node.production) node.place ≡ Some x) × (new.stack.items ≡ old.stack.items ++ passed node ∷ []) × (new.taken ≡ old.taken) × (new.count ≡ old.count)

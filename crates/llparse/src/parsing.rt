@@ -1,0 +1,124 @@
+//! Parsing a sentence: the records of the one tree of its tokens are written as it goes, by one
+//! token of look-ahead and with a stack of its own.
+ghost use Rattle.std.specs.Prelude.{◌≡◌, ◌<◌, ◌+◌, ℕ, false, Err, IfErr, IfOk, IsErrOf, OnOk};
+ghost use Rattle.ag_expr.specs.grammars.Tree.{depth_of, node_count, IsWithinLimits, Tree};
+ghost use Rattle.ag_expr.specs.grammars.Tree.{most_depth, most_nodes};
+ghost use Rattle.ag_scan.specs.Tokens.{FitAll};
+ghost use Rattle.ag_scan.specs.Words.{vocabulary_of};
+ghost use Rattle.treefile.specs.Device.{Persists, WhenHonest};
+ghost use Rattle.treefile.specs.TreeFile.{header, version_one};
+ghost use Rattle.treefile.specs.Writing.{Progress};
+ghost use Rattle.llparse.specs.Parsing.{task_of, IsParsed, IsRefused};
+ghost use Rattle.llparse.specs.Sentences.{offset_at, words_of, IsFirstFile, IsTreeWith};
+ghost use Rattle.llparse.specs.Sentences.{IsUnexpectedAt};
+ghost use Rattle.llparse.specs.Tables.{FitsGrammar};
+
+use crate::lookup::Tables;
+use crate::parse_fault::ParseFault;
+use crate::parser::{Parser, put_node};
+use crate::tokens::unexpected;
+use ag_expr::Item;
+use ag_scan::Token;
+use normalform::Grammar;
+use std::alloc::Global;
+use treefile::{Device, Writer};
+
+/// Writes the records of the one tree of the tokens behind what the device has.
+fn run<D: Device>(
+    alloc: Global,
+    grammar: &Grammar,
+    tables: &Tables,
+    tokens: &[Token],
+    device: &mut D,
+    writer: &mut Writer,
+) -> Result<u32, ParseFault>
+    requires tables { FitsGrammar grammar.now tables.now }
+    requires tokens { FitAll (vocabulary_of grammar.now) tokens.now }
+    requires begun { writer.old ≡ record { written = 0; is_broken = false } }
+    ensures parsed { IfOk result (λ count. IsParsed (task_of grammar.now tokens.now
+        (D.is_honest device.old) (D.content device.old)) count (D.content device.new)) }
+    ensures written { IfOk result (λ count. writer.new
+        ≡ record { written = count; is_broken = false }) }
+    ensures refused { IfErr result (IsRefused (task_of grammar.now tokens.now
+        (D.is_honest device.old) (D.content device.old)) (offset_at tokens.now)) }
+    ensures persists { Persists (D.is_honest device.old) (D.is_honest device.new)
+        (D.failures device.old) (D.failures device.new) (IsErrOf result ParseFault.Device) }
+{
+    let mut parser = Parser {
+        stack: Vec::new(alloc),
+        taken: 0,
+        count: 0,
+    };
+    parser.open(tables, tokens, grammar.start())?;
+    while let Some(node) = parser.stack.pop() {
+        match parser.pass(grammar, node)? {
+            None => put_node(node.production, device, writer)?,
+            Some(item) => match item {
+                Item::Symbol(symbol) => parser.open(tables, tokens, symbol)?,
+                Item::Terminal(terminal) => {
+                    parser.take(alloc, tokens, terminal, device, writer)?
+                }
+            },
+        }
+    }
+    if parser.taken < tokens.len() {
+        return Err(unexpected(tokens, parser.taken));
+    }
+    Ok(parser.count)
+}
+
+/// Writes the file of pass 0 of the one tree of a sentence's tokens, as it goes, and gives its
+/// number of stored nodes: one frame for each node, behind those of its children, which go from
+/// left to right, and for each token of a class; a literal has none.
+///
+/// Asks for tables of the grammar, tokens that fit it, and a writer that was just begun on the
+/// device with pass 0. Takes memory for a stack of four bytes an open node, for the text of one
+/// token and for one frame.
+///
+/// P1 Unexpected where no tree has these tokens; P2 TooDeep and P3 TooManyNodes where each that has
+/// them is beyond the limit; D1 Device where the device failed. A beginning of the file may have
+/// been written then.
+pub fn parse<D: Device>(
+    alloc: Global,
+    grammar: &Grammar,
+    tables: &Tables,
+    tokens: &[Token],
+    device: &mut D,
+    writer: &mut Writer,
+) -> Result<u32, ParseFault>
+    requires tables { FitsGrammar grammar.now tables.now }
+    requires tokens { FitAll (vocabulary_of grammar.now) tokens.now }
+    requires begun { writer.old ≡ record { written = 0; is_broken = false } }
+    requires header { WhenHonest (D.is_honest device.old)
+        (D.content device.old ≡ header version_one 0) }
+
+    // an answer: there is one tree, it is within the limits, and its file is written
+    ensures tree { IfOk result (λ _. (t : Tree)
+        × IsTreeWith grammar.now (words_of tokens.now) t) }
+    ensures one { (t u : Tree) → IsTreeWith grammar.now (words_of tokens.now) t
+        → IsTreeWith grammar.now (words_of tokens.now) u → t ≡ u }
+    ensures limits { (t : Tree) → IsTreeWith grammar.now (words_of tokens.now) t
+        → OnOk result (IsWithinLimits most_depth most_nodes t) }
+    ensures count { (t : Tree) → IsTreeWith grammar.now (words_of tokens.now) t
+        → IfOk result (λ count. count ≡ node_count t) }
+    ensures file { (t : Tree) → IsTreeWith grammar.now (words_of tokens.now) t
+        → OnOk result (WhenHonest (D.is_honest device.old)
+        (IsFirstFile grammar.now t (D.content device.new))) }
+    ensures written { IfOk result (λ count. writer.new
+        ≡ record { written = count; is_broken = false }) }
+
+    // a refusal: no tree has the tokens, or each is beyond the limit
+    ensures unexpected { (at : ℕ) → result ≡ Err (ParseFault.Unexpected at)
+        → IsUnexpectedAt grammar.now tokens.now at }
+    ensures none { (at : ℕ) (t : Tree) → result ≡ Err (ParseFault.Unexpected at)
+        → IsTreeWith grammar.now (words_of tokens.now) t → ⊥ }
+    ensures deep { (t : Tree) → IsTreeWith grammar.now (words_of tokens.now) t
+        → IsErrOf result ParseFault.TooDeep → most_depth < depth_of t }
+    ensures large { (t : Tree) → IsTreeWith grammar.now (words_of tokens.now) t
+        → IsErrOf result ParseFault.TooManyNodes → most_nodes < node_count t }
+
+    ensures persists { Persists (D.is_honest device.old) (D.is_honest device.new)
+        (D.failures device.old) (D.failures device.new) (IsErrOf result ParseFault.Device) }
+{
+    run(alloc, grammar, tables, tokens, device, writer)
+}

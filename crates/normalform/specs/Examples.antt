@@ -1,0 +1,69 @@
+-- Small raw grammars, and the fault that is told of each: the symbols are S with the synthesized attribute `out`, from the
+-- offset 16 on, and A with the inherited attribute i, from 34 on.
+use Rattle.std.specs.Prelude.{ℕ, ◌≡◌, Option, Some, None, List, [], ◌∷◌}
+use Rattle.ag_expr.specs.declared.node.Node.{Node}
+use Rattle.ag_expr.specs.declared.occurrence.Occ.{Occ}
+use Rattle.ag_expr.specs.grammars.Accepted.{out_name}
+use Rattle.ag_text.specs.declared.raw.Named.{Named}
+use Rattle.ag_text.specs.declared.raw.RawGrammar.{RawGrammar}
+use Rattle.ag_text.specs.declared.raw.RawItem.{RawItem}
+use Rattle.ag_text.specs.declared.raw.RawItem.TheVariants as raw_item
+use Rattle.ag_text.specs.declared.raw.RawRule.{RawRule}
+use Rattle.ag_text.specs.declared.raw.RawSymbol.{RawSymbol}
+use Rattle.normalform.specs.declared.fault.NormalFault.{NormalFault}
+use Rattle.normalform.specs.declared.fault.NormalFault.TheVariants as fault
+use Rattle.normalform.specs.Faults.{first_wrong, naming_places, further_places}
+
+abbrev name_at : ℕ → ℕ → Named
+name_at c at = record { name = c ∷ []; at = at }
+
+abbrev first_symbol : RawSymbol
+first_symbol = record { name = name_at 83 16; syn = record { name = out_name; at = 22 } ∷ []; inh = [] }
+
+abbrev second_symbol : RawSymbol
+second_symbol = record { name = name_at 65 34; syn = []; inh = name_at 105 40 ∷ [] }
+
+abbrev the_symbols : List RawSymbol
+the_symbols = first_symbol ∷ second_symbol ∷ []
+
+-- the start symbol stands at 6
+abbrev with_symbols : ℕ → List RawSymbol → RawGrammar
+with_symbols start symbols = record { start = name_at start 6; symbols = symbols; productions = [] }
+
+abbrev with_production : ℕ → List RawItem → List RawRule → RawGrammar
+with_production left items rules = record {
+  start = name_at 83 6;
+  symbols = the_symbols;
+  productions = record { left = name_at left 46; items = items; rules = rules } ∷ [];
+}
+
+-- the occurrence of an attribute at the left side
+abbrev here : List ℕ → ℕ → Occ
+here attr at = record { place = 0; attr = attr; at = at }
+
+-- a rule for an attribute of the left side, whose expression has these occurrences
+abbrev rule_at : Node → List ℕ → ℕ → List Occ → RawRule
+rule_at e attr at occurrences = record { target = here attr at; expr = (e, occurrences) }
+
+-- What is told is told of the names, and else of the rules and limits.
+abbrev names_fault : RawGrammar → Option NormalFault
+names_fault raw = first_wrong (naming_places raw)
+
+abbrev rules_fault : RawGrammar → Option NormalFault
+rules_fault raw = first_wrong (further_places raw)
+
+-- N1: S = T {}, where no T is declared. N2: S is declared again. N3: the start symbol A has no `out`.
+abbrev pub WorkedNames : Type 0
+WorkedNames = (names_fault (with_production 83 (raw_item.Name (name_at 84 50) ∷ []) []) ≡ Some (fault.UnknownName 50))
+    × (names_fault (with_symbols 83 (first_symbol ∷ record { name = name_at 83 34; syn = []; inh = [] } ∷ [])) ≡ Some (fault.DoubledName 34))
+    × (names_fault (with_symbols 65 the_symbols) ≡ Some fault.BadStart)
+
+-- N6: S = {}. N7: S = { $0.out = e; $0.out = e; }. N8: A = { $0.i = e; }. N9: S = { $0.out = e; }, where `$0.out` stands in e.
+-- No fault: S = { $0.out = e; }.
+abbrev pub WorkedRules : Type 0
+WorkedRules = (e : Node) →
+    (rules_fault (with_production 83 [] []) ≡ Some (fault.RuleMissing 0 0 0))
+    × (rules_fault (with_production 83 [] (rule_at e out_name 52 [] ∷ rule_at e out_name 64 [] ∷ [])) ≡ Some (fault.RuleDoubled 64))
+    × (rules_fault (with_production 65 [] (rule_at e (105 ∷ []) 52 [] ∷ [])) ≡ Some (fault.NotDefinedHere 52))
+    × (rules_fault (with_production 83 [] (rule_at e out_name 52 (here out_name 60 ∷ []) ∷ [])) ≡ Some (fault.NotNormal 60))
+    × (rules_fault (with_production 83 [] (rule_at e out_name 52 [] ∷ [])) ≡ None)

@@ -1,0 +1,12 @@
+pub mod Agreeing
+pub mod Collected
+pub mod Directions
+pub mod Filling
+pub mod Members
+pub mod Parts
+pub mod Passes
+pub mod Planned
+pub mod Rising
+pub mod SampleList
+pub mod Shaped
+pub mod Slices

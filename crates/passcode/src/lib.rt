@@ -1,0 +1,13 @@
+//! Instructions for the passes of a grammar, which agree with an assignment.
+#![tactic(auto)]
+
+mod code;
+mod generating;
+mod instr;
+mod listing;
+pub mod samples;
+mod table;
+
+pub use code::Code;
+pub use generating::generate;
+pub use instr::Instr;

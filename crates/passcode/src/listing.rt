@@ -1,0 +1,148 @@
+//! The list of instructions of one production in one pass.
+
+ghost use Rattle.std.specs.Prelude.{◌≡◌, ◌+◌, ◌*◌, ◌<◌, ◌≤◌, IfOk, OnOk, length};
+ghost use Rattle.ag_expr.specs.grammars.Passes.{Direction, direction_of};
+ghost use Rattle.passcode.specs.Agreement.{giving};
+ghost use Rattle.passcode.specs.Listing.{Extends, IsGivenBy, GivesAt, IsGoOf, IsVisit};
+ghost use Rattle.passcode.specs.Listing.{IsVisitBefore, IsPart, IsMadeOf, place_at, first_key};
+ghost use Rattle.passcode.specs.Listing.{giving_key, last_key};
+
+use crate::instr::Instr;
+use crate::table::{Given, look_up};
+use ag_expr::Item;
+use ag_value::NoMemory;
+use std::alloc::Global;
+
+/// The instruction that gives an attribute at a place its value.
+fn instruction(place: u16, attr: u16, rule: u16) -> Instr
+    ensures { result ≡ giving place attr rule }
+{
+    if place == 0 {
+        Instr::Def { attr, rule }
+    } else {
+        Instr::Set { place, attr, rule }
+    }
+}
+
+/// Puts the instruction that gives an attribute at a place at the end of a list, where the
+/// attribute is given and of the pass.
+fn put_given(
+    list: &mut Vec<Instr>,
+    table: &[Option<Given>],
+    pass: u16,
+    place: u16,
+    attr: u16,
+) -> Result<(), NoMemory>
+    ensures { OnOk result (Extends (direction_of pass) (IsGivenBy table.now pass place attr)
+        (giving_key (direction_of pass) place + attr)
+        (giving_key (direction_of pass) place + (attr + 1)) list.old.items list.new.items) }
+{
+    match look_up(table, place, attr) {
+        Some(given) => if given.pass == pass {
+            list.push(instruction(place, attr, given.rule))?;
+        },
+        None => {}
+    }
+    Ok(())
+}
+
+/// Puts the instructions that give attributes at a place at the end of a list, in the order of the
+/// attributes.
+fn put_all_given(
+    list: &mut Vec<Instr>,
+    table: &[Option<Given>],
+    pass: u16,
+    place: u16,
+) -> Result<(), NoMemory>
+    ensures { OnOk result (Extends (direction_of pass) (GivesAt table.now pass place)
+        (giving_key (direction_of pass) place)
+        (giving_key (direction_of pass) place + 16) list.old.items list.new.items) }
+{
+    for attr in 0..16 {
+        put_given(list, table, pass, place, attr)?;
+    }
+    Ok(())
+}
+
+/// Puts the `Go` of a place at the end of a list, where a declared symbol stands there.
+fn put_go(list: &mut Vec<Instr>, place: u16, item: Item) -> Result<(), NoMemory>
+    ensures { OnOk result ((d : Direction) → Extends d (IsGoOf item place)
+        (first_key d place + 17) (first_key d place + 18) list.old.items list.new.items) }
+{
+    match item {
+        Item::Symbol(_) => list.push(Instr::Go(place))?,
+        Item::Terminal(_) => {}
+    }
+    Ok(())
+}
+
+/// Puts the instructions of a place of the right side at the end of a list.
+fn put_visit(
+    list: &mut Vec<Instr>,
+    table: &[Option<Given>],
+    pass: u16,
+    place: u16,
+    item: Item,
+) -> Result<(), NoMemory>
+    requires { 1 ≤ place }
+    ensures { OnOk result (Extends (direction_of pass) (IsVisit table.now pass place item)
+        (first_key (direction_of pass) place) (first_key (direction_of pass) place + 19)
+        list.old.items list.new.items) }
+{
+    list.push(Instr::Get(place))?;
+    put_all_given(list, table, pass, place)?;
+    put_go(list, place, item)?;
+    list.push(Instr::Put(place))?;
+    Ok(())
+}
+
+/// The place that comes at a turn of a pass, the first at turn 1, where there are places below a
+/// number.
+fn place_of(pass: u16, count: usize, turn: usize) -> usize
+    requires first { 1 ≤ turn }
+    requires last { turn < count }
+    ensures place { result ≡ place_at (direction_of pass) count turn }
+    ensures least { 1 ≤ result }
+    ensures most { result < count }
+{
+    if pass % 2 == 0 { turn } else { count - turn }
+}
+
+/// The instructions of all places of the right side.
+fn visits(
+    alloc: Global,
+    table: &[Option<Given>],
+    pass: u16,
+    places: &[Item],
+) -> Result<Vec<Instr>, NoMemory>
+    requires some { 1 ≤ length places.now }
+    requires few { length places.now ≤ 17 }
+    ensures { IfOk result (λ list. IsMadeOf (direction_of pass)
+        (IsVisitBefore (direction_of pass) table.now pass places.now (length places.now))
+        last_key list.items) }
+{
+    let mut list = Vec::new(alloc);
+    for turn in 1..places.len() {
+        let place = place_of(pass, places.len(), turn);
+        put_visit(&mut list, table, pass, place as u16, places[place])?;
+    }
+    Ok(list)
+}
+
+/// The list of a production in a pass.
+pub(crate) fn list_of(
+    alloc: Global,
+    table: &[Option<Given>],
+    pass: u16,
+    places: &[Item],
+) -> Result<Vec<Instr>, NoMemory>
+    requires some { 1 ≤ length places.now }
+    requires few { length places.now ≤ 17 }
+    ensures { IfOk result (λ list. IsMadeOf (direction_of pass)
+        (IsPart (direction_of pass) table.now pass places.now) (last_key + 17) list.items) }
+{
+    let mut list = visits(alloc, table, pass, places)?;
+    put_all_given(&mut list, table, pass, 0)?;
+    list.push(Instr::End)?;
+    Ok(list)
+}
