@@ -1,5 +1,5 @@
 -- What a text reads as has readable literals and known classes.
-use Rattle.std.proofs.Common.{ℕ, zero, suc, ◌≡◌, ◌≤◌, ◌<◌, ◌⊎◌, ◌==◌, Bool, true, false, not, cond, ◌&&◌, ◌||◌, List, [], ◌∷◌, length, Option, Some, None, slice_get, refl, sym, subst, arith}
+use Rattle.std.proofs.Common.{ℕ, zero, suc, ◌≡◌, ◌≤◌, ◌<◌, ◌==◌, Bool, true, false, not, cond, ◌||◌, List, [], ◌∷◌, length, Option, Some, None, slice_get, refl, sym, subst, arith}
 use Rattle.std.proofs.lemmas.Bool.{and_parts}
 use Rattle.std.specs.List.{list_any}
 use Rattle.ag_expr.specs.Lists.{Each}
@@ -13,7 +13,6 @@ use Rattle.ag_text.specs.declared.raw.RawGrammar.{RawGrammar}
 use Rattle.ag_text.specs.declared.raw.RawItem.{RawItem}
 use Rattle.ag_text.specs.declared.raw.RawItem.TheVariants as raw_item
 use Rattle.ag_text.specs.declared.raw.RawProduction.{RawProduction}
-use Rattle.ag_text.specs.Grammar.{ReadsAsGrammar}
 use Rattle.ag_text.specs.Spelling.{Many, none, more, one}
 use Rattle.ag_text.specs.Syntax.{IsProduction, IsGrammar}
 use Rattle.ag_text.specs.Words.{class_of, class_or_name, is_literal, item_in, named, some_where}

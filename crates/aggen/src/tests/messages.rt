@@ -40,6 +40,17 @@ fn messages(rt: HostRuntime) -> Result<(), Fail> {
             "X1 at 0: no token begins with `\\u{1b}[1m`",
         ),
         (
+            Fault::Expr(ExprFault::NumberTooLarge(4)),
+            "1 + $65536.a",
+            "X3 at 4: the number is too large in `$65536.a`, where 9223372036854775807 is the \
+             greatest, and 65535 the greatest place behind $",
+        ),
+        (
+            Fault::Expr(ExprFault::TooDeep(1)),
+            "(1)",
+            "X4 at 1: expressions nest more than 64 levels deep, write fewer",
+        ),
+        (
             Fault::Damaged(15),
             "1",
             "B2 at 15: the tree file is damaged here",
