@@ -97,12 +97,11 @@ fn files_are_written(rt: HostRuntime) -> Result<(), Fail> {
         b"AGT1\0\0\x01\0\0\x01\0\0\0\x04iffy\0\0\0\x0C\0\0\0\0\0\0\x03".as_slice()
     );
     let mut device = MemDevice::new(alloc);
-    let count = parse_onto(alloc, GROUPS, "x,;", &mut device)?;
-    assert_eq!(rt; count, Ok(6));
+    let count = parse_onto(alloc, GROUPS, ";", &mut device)?;
+    assert_eq!(rt; count, Ok(3));
     assert_eq!(rt;
         device.bytes(),
-        b"AGT1\0\0\0\0\x05\0\0\0\x03\0\0\x04\0\0\0\x03\0\0\x03\0\0\0\x03\0\0\x02\0\0\0\x03\0\0\x01\0\0\0\x03\0\0\0\0\0\0\x03"
-            .as_slice()
+        b"AGT1\0\0\0\0\x03\0\0\0\x03\0\0\x01\0\0\0\x03\0\0\0\0\0\0\x03".as_slice()
     );
     let mut device = MemDevice::new(alloc);
     let count = parse_onto(alloc, GROUPS, "", &mut device)?;
