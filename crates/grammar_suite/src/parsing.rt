@@ -70,13 +70,11 @@ fn one_item(alloc: Global, letters: u32) -> Result<String, Fail> {
 /// 64 groups of 31 items of 31 letters `x`, but for the first ones.
 fn many_items(alloc: Global, without: u32) -> Result<String, Fail> {
     let mut sentence = String::new(alloc);
-    let mut letters = 0;
     for item in 1..1985 {
-        for _ in 0..31 {
-            if letters >= without {
+        for letter in 0..31 {
+            if (item - 1) * 31 + letter >= without {
                 sentence.push_str("x ")?;
             }
-            letters += 1;
         }
         sentence.push(',')?;
         if item % 31 == 0 {
