@@ -70,13 +70,11 @@ fn one_item(alloc: Global, letters: u32) -> Result<String, Fail> {
 /// 64 groups of 31 items of 31 letters `x`, but for the first ones.
 fn many_items(alloc: Global, without: u32) -> Result<String, Fail> {
     let mut sentence = String::new(alloc);
-    let mut letters = 0;
     for item in 1..1985 {
-        for _ in 0..31 {
-            if letters >= without {
+        for letter in 0..31 {
+            if (item - 1) * 31 + letter >= without {
                 sentence.push_str("x ")?;
             }
-            letters += 1;
         }
         sentence.push(',')?;
         if item % 31 == 0 {
@@ -97,11 +95,11 @@ fn files_are_written(rt: HostRuntime) -> Result<(), Fail> {
         b"AGT1\0\0\x01\0\0\x01\0\0\0\x04iffy\0\0\0\x0C\0\0\0\0\0\0\x03".as_slice()
     );
     let mut device = MemDevice::new(alloc);
-    let count = parse_onto(alloc, GROUPS, "x,;", &mut device)?;
-    assert_eq!(rt; count, Ok(6));
+    let count = parse_onto(alloc, GROUPS, ";", &mut device)?;
+    assert_eq!(rt; count, Ok(3));
     assert_eq!(rt;
         device.bytes(),
-        b"AGT1\0\0\0\0\x05\0\0\0\x03\0\0\x04\0\0\0\x03\0\0\x03\0\0\0\x03\0\0\x02\0\0\0\x03\0\0\x01\0\0\0\x03\0\0\0\0\0\0\x03".as_slice()
+        b"AGT1\0\0\0\0\x03\0\0\0\x03\0\0\x01\0\0\0\x03\0\0\0\0\0\0\x03".as_slice()
     );
     let mut device = MemDevice::new(alloc);
     let count = parse_onto(alloc, GROUPS, "", &mut device)?;

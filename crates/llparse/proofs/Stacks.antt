@@ -14,7 +14,7 @@ use Rattle.treefile.specs.Device.{WhenHonest}
 use Rattle.llparse.specs.Ahead.{ahead_of}
 use Rattle.llparse.specs.Parsing.{Task, Reading, Asked, Between, Before, IsTooDeep, IsTooLarge, right_side, leaf_frame, node_frame, most, weight, steps_left}
 use Rattle.llparse.specs.Sentences.{IsStuckAt}
-use Rattle.llparse.specs.Turns.{passed}
+use Rattle.llparse.specs.Turns.{advanced}
 use Rattle.llparse.specs.declared.ahead.Ahead.TheVariants as ahead
 use Rattle.llparse.specs.declared.parser.OpenNode.{OpenNode}
 use Rattle.llparse.proofs.Closing as closing
@@ -24,9 +24,9 @@ use Rattle.llparse.proofs.Literals as literals
 use Rattle.llparse.proofs.Starts as starts
 
 module _ (k : Task) where
-  -- an open node that has an item next, before which its place passes it
+  -- an open node that has an item next, which its place goes behind
   pub faces : (node : OpenNode) (x : Item) (fs : List OpenNode) (i n : ℕ) (rs : List ℕ) → slice_get (right_side k.grammar node.production) node.place ≡ Some x
-      → Between k (node ∷ fs) i n rs → Before k x (passed node ∷ fs) i n rs
+      → Between k (node ∷ fs) i n rs → Before k x (advanced node ∷ fs) i n rs
   faces node x fs i n rs next = subst (λ ys. Reading k node.production ys fs i n rs) (rest_at (right_side k.grammar node.production) node.place x next)
 
   -- an open node that has none next
@@ -83,11 +83,11 @@ module _ (g : Grammar) (nodes : ℕ) where
   pub fewer_taken : (old less : List OpenNode) (node : OpenNode) (n : ℕ) → old ≡ less ++ node ∷ [] → steps_left g nodes (reverse less) n < steps_left g nodes (reverse old) n
   fewer_taken old less node n was = let a = ap (weight g) (on_top less old node was) in omega arith
 
-  pub fewer_passed : (old less full : List OpenNode) (node : OpenNode) (x : Item) (n : ℕ) → old ≡ less ++ node ∷ [] → full ≡ less ++ passed node ∷ []
+  pub fewer_passed : (old less full : List OpenNode) (node : OpenNode) (x : Item) (n : ℕ) → old ≡ less ++ node ∷ [] → full ≡ less ++ advanced node ∷ []
       → slice_get (right_side g node.production) node.place ≡ Some x → steps_left g nodes (reverse full) n < steps_left g nodes (reverse old) n
   fewer_passed old less full node x n was now next =
       let a = ap (weight g) (on_top less old node was) in
-      let b = ap (weight g) (on_top less full (passed node) now) in
+      let b = ap (weight g) (on_top less full (advanced node) now) in
       let c = ap length (rest_at (right_side g node.production) node.place x next) in
       omega arith
 

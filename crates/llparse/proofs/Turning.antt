@@ -10,7 +10,7 @@ use Rattle.ag_scan.specs.declared.token.Token.{Token}
 use Rattle.treefile.specs.Device.{Persists, WhenHonest}
 use Rattle.llparse.specs.Parsing.{Task, task_of, Between, Before, IsParsed, node_frame, right_side}
 use Rattle.llparse.specs.Sentences.{IsStuckAt, words_of}
-use Rattle.llparse.specs.Turns.{left_of, passed, Asks, Faces, Passes, Stands}
+use Rattle.llparse.specs.Turns.{left_of, advanced, Asks, Faces, Advances, IsBetween}
 use Rattle.llparse.specs.declared.parser.OpenNode.{OpenNode}
 use Rattle.llparse.specs.declared.parser.Parser.{Parser}
 use Rattle.llparse.proofs.Closing.{no_end, on_end}
@@ -34,12 +34,12 @@ module _ (p : Parser) (less : Vec OpenNode) (node : OpenNode) (was : p.stack.ite
   abbrev popped : Parser
   popped = record p { stack = less }
 
-  module _ (g : Grammar) (o : Option Item) (q : Parser) (passes : Passes g node o popped q) where
+  module _ (g : Grammar) (o : Option Item) (q : Parser) (advances : Advances g node o popped q) where
     at_end : o ≡ None → (slice_get (right_side g node.production) node.place ≡ None) × (q ≡ popped)
-    at_end e = subst (λ x. Passes g node x popped q) e passes
+    at_end e = subst (λ x. Advances g node x popped q) e advances
 
-    at_item : (x : Item) → o ≡ Some x → (slice_get (right_side g node.production) node.place ≡ Some x) × (q.stack.items ≡ less.items ++ passed node ∷ []) × (q.taken ≡ p.taken) × (q.count ≡ p.count)
-    at_item x e = subst (λ x. Passes g node x popped q) e passes
+    at_item : (x : Item) → o ≡ Some x → (slice_get (right_side g node.production) node.place ≡ Some x) × (q.stack.items ≡ less.items ++ advanced node ∷ []) × (q.taken ≡ p.taken) × (q.count ≡ p.count)
+    at_item x e = subst (λ x. Advances g node x popped q) e advances
 
     -- one frame more for the node that is closed
     pub written_end : o ≡ None → (w v : ℕ) → w + length p.stack.items ≡ p.count → v ≡ w + 1 → v + length q.stack.items ≡ q.count
@@ -54,7 +54,7 @@ module _ (p : Parser) (less : Vec OpenNode) (node : OpenNode) (was : p.stack.ite
     written_item x e w sum =
         let h = at_item x e in
         let sizes = ap length was ∙ length-append less.items (node ∷ []) in
-        let again = ap length h.1 ∙ length-append less.items (passed node ∷ []) in
+        let again = ap length h.1 ∙ length-append less.items (advanced node ∷ []) in
         let count = h.3 in
         omega arith
 
@@ -67,27 +67,27 @@ module _ (p : Parser) (less : Vec OpenNode) (node : OpenNode) (was : p.stack.ite
         let counted = fewer_counted g most_nodes (reverse r.stack.items) p.count r.count count in
         omega arith
 
-  module _ (k : Task) (o : Option Item) (q : Parser) (passes : Passes k.grammar node o popped q) (bytes : List ℕ) (stands : Stands k p bytes) where
+  module _ (k : Task) (o : Option Item) (q : Parser) (advances : Advances k.grammar node o popped q) (bytes : List ℕ) (stands : IsBetween k p bytes) where
     holds : Between k (node ∷ reverse less.items) p.taken p.count bytes
     holds = subst (λ fs. Between k fs p.taken p.count bytes) (on_top less.items p.stack.items node was) stands
 
     -- a node at its end is closed
-    pub ended : o ≡ None → (out : List ℕ) → WhenHonest k.honest (out ≡ bytes ++ node_frame node.production) → Stands k q out
+    pub ended : o ≡ None → (out : List ℕ) → WhenHonest k.honest (out ≡ bytes ++ node_frame node.production) → IsBetween k q out
     ended e out put =
-        let h = at_end k.grammar o q passes e in
-        subst (λ z. Stands k z out) (sym h.1) (closed k node.production (reverse less.items) p.taken p.count bytes out put (ends k node (reverse less.items) p.taken p.count bytes h.0 holds))
+        let h = at_end k.grammar o q advances e in
+        subst (λ z. IsBetween k z out) (sym h.1) (closed k node.production (reverse less.items) p.taken p.count bytes out put (ends k node (reverse less.items) p.taken p.count bytes h.0 holds))
 
     -- and else its next item is read
     pub faced : (x : Item) → o ≡ Some x → Faces k x q bytes
     faced x e =
-        let h = at_item k.grammar o q passes x e in
+        let h = at_item k.grammar o q advances x e in
         let before = faces k node x (reverse less.items) p.taken p.count bytes h.0 holds in
-        let counted = subst (λ n. Before k x (passed node ∷ reverse less.items) p.taken n bytes) (sym h.3) before in
-        let taken = subst (λ i. Before k x (passed node ∷ reverse less.items) i q.count bytes) (sym h.2) counted in
-        subst (λ fs. Before k x fs q.taken q.count bytes) (sym (on_top less.items q.stack.items (passed node) h.1)) taken
+        let counted = subst (λ n. Before k x (advanced node ∷ reverse less.items) p.taken n bytes) (sym h.3) before in
+        let taken = subst (λ i. Before k x (advanced node ∷ reverse less.items) i q.count bytes) (sym h.2) counted in
+        subst (λ fs. Before k x fs q.taken q.count bytes) (sym (on_top less.items q.stack.items (advanced node) h.1)) taken
 
 -- the end of a parse
-module _ (g : Grammar) (tokens : List Token) (honest : Bool) (front : List ℕ) (p : Parser) (bytes : List ℕ) (none_open : length p.stack.items ≡ 0) (stands : Stands (task_of g tokens honest front) p bytes) where
+module _ (g : Grammar) (tokens : List Token) (honest : Bool) (front : List ℕ) (p : Parser) (bytes : List ℕ) (none_open : length p.stack.items ≡ 0) (stands : IsBetween (task_of g tokens honest front) p bytes) where
   nothing : (xs : List OpenNode) → length xs ≡ 0 → reverse xs ≡ []
   nothing [] e = refl
   nothing (x ∷ xs) e = absurd (omega arith)

@@ -16,14 +16,14 @@ use Rattle.llparse.specs.declared.parser.OpenNode.{OpenNode}
 use Rattle.llparse.specs.declared.parser.Parser.{Parser}
 
 -- a parser is between two steps
-abbrev pub Stands : Task → Parser → List ℕ → Type 0
-Stands k p bytes = Between k (reverse p.stack.items) p.taken p.count bytes
+abbrev pub IsBetween : Task → Parser → List ℕ → Type 0
+IsBetween k p bytes = Between k (reverse p.stack.items) p.taken p.count bytes
 
 -- a tree of a symbol comes next
 abbrev pub Asks : Task → ℕ → Parser → List ℕ → Type 0
 Asks k s p bytes = Asked k s (reverse p.stack.items) p.taken p.count bytes
 
--- the innermost open node has an item next, which its place has passed
+-- the innermost open node has an item next, which its place is behind
 abbrev pub Faces : Task → Item → Parser → List ℕ → Type 0
 Faces k x p bytes = Before k x (reverse p.stack.items) p.taken p.count bytes
 
@@ -57,12 +57,12 @@ IsFull p fault = ⊥
 abbrev pub left_of : Grammar → Parser → ℕ
 left_of g p = steps_left g most_nodes (reverse p.stack.items) p.count
 
--- an open node with its item passed
-abbrev pub passed : OpenNode → OpenNode
-passed node = record node { place = node.place + 1 }
+-- an open node behind its item
+abbrev pub advanced : OpenNode → OpenNode
+advanced node = record node { place = node.place + 1 }
 
 -- A node that was taken off the stack has this item next, and is put back behind it; or it is at its end.
-abbrev pub Passes : Grammar → OpenNode → Option Item → Parser → Parser → Type 0
-Passes g node None old new = (slice_get (right_side g node.production) node.place ≡ None) × (new ≡ old)
-Passes g node (Some x) old new =
-    (slice_get (right_side g node.production) node.place ≡ Some x) × (new.stack.items ≡ old.stack.items ++ passed node ∷ []) × (new.taken ≡ old.taken) × (new.count ≡ old.count)
+abbrev pub Advances : Grammar → OpenNode → Option Item → Parser → Parser → Type 0
+Advances g node None old new = (slice_get (right_side g node.production) node.place ≡ None) × (new ≡ old)
+Advances g node (Some x) old new =
+    (slice_get (right_side g node.production) node.place ≡ Some x) × (new.stack.items ≡ old.stack.items ++ advanced node ∷ []) × (new.taken ≡ old.taken) × (new.count ≡ old.count)

@@ -9,7 +9,7 @@ ghost use Rattle.ag_expr.specs.grammars.Tree.{IsTokenText, most_depth, most_node
 ghost use Rattle.treefile.specs.Device.{Persists, WhenHonest};
 ghost use Rattle.llparse.specs.Parsing.{leaf_frame, node_frame, right_side};
 ghost use Rattle.llparse.specs.Refusals.{IsWant};
-ghost use Rattle.llparse.specs.Turns.{left_of, Asks, Faces, IsFull, Leads, Passes, Stands};
+ghost use Rattle.llparse.specs.Turns.{left_of, Asks, Faces, IsFull, Leads, Advances, IsBetween};
 ghost use Rattle.llparse.specs.Turns.{HasTables, HasTokens, Refuses, Writes};
 
 use crate::lookup::Tables;
@@ -28,7 +28,7 @@ const MOST_DEPTH: usize = 256;
 /// How many stored nodes a tree has at most.
 const MOST_NODES: u32 = 65_536;
 
-/// An open node: its production, and how many items of its right side are passed.
+/// An open node: its production, and how many items of its right side it is behind.
 #[derive(Clone, Copy, Debug, PartialEq, Eq)]
 pub(crate) struct OpenNode {
     pub(crate) production: u16,
@@ -73,6 +73,26 @@ fn put_leaf<D: Device>(
     Ok(())
 }
 
+/// Appends the record of a node.
+pub(crate) fn put_node<D: Device>(
+    production: u16,
+    device: &mut D,
+    writer: &mut Writer,
+) -> Result<(), ParseFault>
+    requires room { writer.old.written < 65536 }
+    requires fine { writer.old.is_broken ≡ false }
+    ensures frame { OnOk result (WhenHonest (D.is_honest device.old)
+        (D.content device.new ≡ D.content device.old ++ node_frame production)) }
+    ensures counted { OnOk result
+        (writer.new ≡ record writer.old { written = writer.old.written + 1 }) }
+    ensures refuses { IfErr result IsWant }
+    ensures persists { Persists (D.is_honest device.old) (D.is_honest device.new)
+        (D.failures device.old) (D.failures device.new) (IsErrOf result ParseFault.Device) }
+{
+    writer.put(device, Kind::Node, production, &[])?;
+    Ok(())
+}
+
 /// How far a sentence is parsed: the open nodes, the innermost last, how many tokens are taken, and
 /// how many nodes are opened, leaves among them. It takes four bytes for an open node.
 #[derive(Drop)]
@@ -98,13 +118,14 @@ impl Parser {
         Ok(())
     }
 
-    /// The item that an open node has next, behind which it is put back; none at its end.
-    pub(crate) fn pass(
+    /// The item that a node has next which was taken off the stack, and which is put back behind it;
+    /// none where the node is at its end.
+    pub(crate) fn advance(
         &mut self,
         grammar: &Grammar,
         node: OpenNode,
     ) -> Result<Option<Item>, NoMemory>
-        ensures passes { IfOk result (λ item. Passes grammar.now node item self.old self.new) }
+        ensures advances { IfOk result (λ item. Advances grammar.now node item self.old self.new) }
     {
         let Some(item) = item_at(grammar, node) else {
             return Ok(None);
@@ -124,7 +145,7 @@ impl Parser {
         symbol: u16,
     ) -> Result<(), ParseFault>
         ensures opens { OnOk result (Leads (HasTables tables.now) tokens.now
-            (λ k. Asks k symbol self.old) (λ k. Stands k self.new)) }
+            (λ k. Asks k symbol self.old) (λ k. IsBetween k self.new)) }
         ensures refuses { IfErr result (Refuses (HasTables tables.now) tokens.now
             (λ k. Asks k symbol self.old)) }
         ensures steps { OnOk result ((g : AGrammar) → left_of g self.new < left_of g self.old) }
@@ -148,7 +169,7 @@ impl Parser {
     fn take_literal(&mut self, tokens: &[Token], literal: u16) -> Result<(), ParseFault>
         ensures takes { OnOk result (Leads (HasTokens tokens.now) tokens.now
             (λ k. Faces k (item.Terminal (terminal.Literal literal)) self.old)
-            (λ k. Stands k self.new)) }
+            (λ k. IsBetween k self.new)) }
         ensures refuses { IfErr result (Refuses (HasTokens tokens.now)
             tokens.now (λ k. Faces k (item.Terminal (terminal.Literal literal)) self.old)) }
         ensures stack { OnOk result (self.new.stack.items ≡ self.old.stack.items) }
@@ -175,7 +196,7 @@ impl Parser {
         ensures takes { OnOk result (Writes (HasTokens tokens.now) tokens.now
             (D.is_honest device.old) (D.content device.old) (D.content device.new)
             (λ k. Faces k (item.Terminal (terminal.Class class)) self.old)
-            (λ k. Stands k self.new)) }
+            (λ k. IsBetween k self.new)) }
         ensures refuses { IfErr result (Refuses (HasTokens tokens.now)
             tokens.now (λ k. Faces k (item.Terminal (terminal.Class class)) self.old)) }
         ensures stack { OnOk result (self.new.stack.items ≡ self.old.stack.items) }
@@ -207,7 +228,7 @@ impl Parser {
         requires fine { writer.old.is_broken ≡ false }
         ensures takes { OnOk result (Writes (HasTokens tokens.now) tokens.now
             (D.is_honest device.old) (D.content device.old) (D.content device.new)
-            (λ k. Faces k (item.Terminal terminal) self.old) (λ k. Stands k self.new)) }
+            (λ k. Faces k (item.Terminal terminal) self.old) (λ k. IsBetween k self.new)) }
         ensures refuses { IfErr result (Refuses (HasTokens tokens.now)
             tokens.now (λ k. Faces k (item.Terminal terminal) self.old)) }
         ensures stack { OnOk result (self.new.stack.items ≡ self.old.stack.items) }
@@ -223,24 +244,4 @@ impl Parser {
             Terminal::Class(class) => self.take_class(alloc, tokens, class, device, writer),
         }
     }
-}
-
-/// Appends the record of a node.
-pub(crate) fn put_node<D: Device>(
-    production: u16,
-    device: &mut D,
-    writer: &mut Writer,
-) -> Result<(), ParseFault>
-    requires room { writer.old.written < 65536 }
-    requires fine { writer.old.is_broken ≡ false }
-    ensures frame { OnOk result (WhenHonest (D.is_honest device.old)
-        (D.content device.new ≡ D.content device.old ++ node_frame production)) }
-    ensures counted { OnOk result
-        (writer.new ≡ record writer.old { written = writer.old.written + 1 }) }
-    ensures refuses { IfErr result IsWant }
-    ensures persists { Persists (D.is_honest device.old) (D.is_honest device.new)
-        (D.failures device.old) (D.failures device.new) (IsErrOf result ParseFault.Device) }
-{
-    writer.put(device, Kind::Node, production, &[])?;
-    Ok(())
 }

@@ -51,7 +51,7 @@ fn run<D: Device>(
     };
     parser.open(tables, tokens, grammar.start())?;
     while let Some(node) = parser.stack.pop() {
-        match parser.pass(grammar, node)? {
+        match parser.advance(grammar, node)? {
             None => put_node(node.production, device, writer)?,
             Some(item) => match item {
                 Item::Symbol(symbol) => parser.open(tables, tokens, symbol)?,

@@ -4,7 +4,7 @@ use Rattle.ag_expr.specs.declared.grammar.Item.TheVariants as item
 use Rattle.treefile.specs.Device.{WhenHonest}
 use Rattle.treefile.specs.Writing.{Progress}
 use Rattle.llparse.specs.Parsing.{task_of}
-use Rattle.llparse.specs.Turns.{Faces, HasTokens, Stands, Writes}
+use Rattle.llparse.specs.Turns.{Faces, HasTokens, IsBetween, Writes}
 use Rattle.llparse.proofs.Stacks.{asks}
 use Rattle.llparse.proofs.Turning as turn
 use Rattle.llparse.proofs.parsing.run.Goals as goal
@@ -36,8 +36,8 @@ loop-node-preserved-in-Continue-branch-4 g c =
     let inv = c.loop-node.invariant in
     let put : WhenHonest k.honest (g.D.Device.content c.put_node.new.device ≡ _) = λ h. c.in_ok-put_node-in-None.ensures.frame (inv.persists.honest ∙ h) in
     record {
-      stands = turn.ended c.loop-node.parser c.pop.new.self c.in-Some.node c.in-Some.ensures.items k c.in_ok-pass.field-0 c.pass.new.self c.in_ok-pass.ensures.passes (g.D.Device.content c.loop-node.device) inv.stands c.in-None.is (g.D.Device.content c.put_node.new.device) put;
-      written = turn.written_end c.loop-node.parser c.pop.new.self c.in-Some.node c.in-Some.ensures.items c.args.grammar.now c.in_ok-pass.field-0 c.pass.new.self c.in_ok-pass.ensures.passes c.in-None.is c.loop-node.writer.written c.put_node.new.writer.written inv.written (ap (λ (w : Progress). w.written) c.in_ok-put_node-in-None.ensures.counted);
+      stands = turn.ended c.loop-node.parser c.pop.new.self c.in-Some.node c.in-Some.ensures.items k c.in_ok-advance.field-0 c.advance.new.self c.in_ok-advance.ensures.advances (g.D.Device.content c.loop-node.device) inv.stands c.in-None.is (g.D.Device.content c.put_node.new.device) put;
+      written = turn.written_end c.loop-node.parser c.pop.new.self c.in-Some.node c.in-Some.ensures.items c.args.grammar.now c.in_ok-advance.field-0 c.advance.new.self c.in_ok-advance.ensures.advances c.in-None.is c.loop-node.writer.written c.put_node.new.writer.written inv.written (ap (λ (w : Progress). w.written) c.in_ok-put_node-in-None.ensures.counted);
       fine = ap (λ (w : Progress). w.is_broken) c.in_ok-put_node-in-None.ensures.counted ∙ inv.fine;
       persists = turn.persists_on _ _ _ _ _ _ inv.persists c.in_ok-put_node-in-None.ensures.persists;
     }
@@ -46,8 +46,8 @@ pub loop-node-preserved-in-Continue-branch-5 : goal.loop-node-preserved-in-Conti
 loop-node-preserved-in-Continue-branch-5 g c =
     let k = task_of c.args.grammar.now c.args.tokens.now (g.D.Device.is_honest c.args.device.now) (g.D.Device.content c.args.device.now) in
     let inv = c.loop-node.invariant in
-    let faced = turn.faced c.loop-node.parser c.pop.new.self c.in-Some.node c.in-Some.ensures.items k c.in_ok-pass.field-0 c.pass.new.self c.in_ok-pass.ensures.passes (g.D.Device.content c.loop-node.device) c.loop-node.invariant.stands (item.Symbol c.in-Symbol.symbol) (c.in-Some-2.is ∙ ap Some c.in-Symbol.is) in
-    let written = turn.written_item c.loop-node.parser c.pop.new.self c.in-Some.node c.in-Some.ensures.items c.args.grammar.now c.in_ok-pass.field-0 c.pass.new.self c.in_ok-pass.ensures.passes (item.Symbol c.in-Symbol.symbol) (c.in-Some-2.is ∙ ap Some c.in-Symbol.is) c.loop-node.writer.written c.loop-node.invariant.written in
+    let faced = turn.faced c.loop-node.parser c.pop.new.self c.in-Some.node c.in-Some.ensures.items k c.in_ok-advance.field-0 c.advance.new.self c.in_ok-advance.ensures.advances (g.D.Device.content c.loop-node.device) c.loop-node.invariant.stands (item.Symbol c.in-Symbol.symbol) (c.in-Some-2.is ∙ ap Some c.in-Symbol.is) in
+    let written = turn.written_item c.loop-node.parser c.pop.new.self c.in-Some.node c.in-Some.ensures.items c.args.grammar.now c.in_ok-advance.field-0 c.advance.new.self c.in_ok-advance.ensures.advances (item.Symbol c.in-Symbol.symbol) (c.in-Some-2.is ∙ ap Some c.in-Symbol.is) c.loop-node.writer.written c.loop-node.invariant.written in
     let counted = c.in_ok-open-in-Symbol.ensures.counted in
     record {
       stands = c.in_ok-open-in-Symbol.ensures.opens c.args.grammar.now k.honest k.front (g.D.Device.content c.loop-node.device) (c.start.ensures.accepted, c.requires.tables) (asks k c.in-Symbol.symbol _ _ _ _ faced);
@@ -60,21 +60,21 @@ pub returns-in_err-open-in-Symbol-clause-refused : goal.returns-in_err-open-in-S
 returns-in_err-open-in-Symbol-clause-refused g c =
     let k = task_of c.args.grammar.now c.args.tokens.now (g.D.Device.is_honest c.args.device.now) (g.D.Device.content c.args.device.now) in
     let p = err_from_is_err_and c.from_residual-in_err-open-in-Symbol.result c.from_residual-in_err-open-in-Symbol.ensures.1 in
-    let faced = turn.faced c.loop-node.parser c.pop.new.self c.in-Some.node c.in-Some.ensures.items k c.in_ok-pass.field-0 c.pass.new.self c.in_ok-pass.ensures.passes (g.D.Device.content c.loop-node.device) c.loop-node.invariant.stands (item.Symbol c.in-Symbol.symbol) (c.in-Some-2.is ∙ ap Some c.in-Symbol.is) in
+    let faced = turn.faced c.loop-node.parser c.pop.new.self c.in-Some.node c.in-Some.ensures.items k c.in_ok-advance.field-0 c.advance.new.self c.in_ok-advance.ensures.advances (g.D.Device.content c.loop-node.device) c.loop-node.invariant.stands (item.Symbol c.in-Symbol.symbol) (c.in-Some-2.is ∙ ap Some c.in-Symbol.is) in
     rw (p.1, p.2) (c.in_err-open-in-Symbol.ensures.refuses c.args.grammar.now k.honest k.front (g.D.Device.content c.loop-node.device) (c.start.ensures.accepted, c.requires.tables) (asks k c.in-Symbol.symbol _ _ _ _ faced))
 
 pub loop-node-smaller : goal.loop-node-smaller
 loop-node-smaller g c =
-    turn.smaller c.loop-node.parser c.pop.new.self c.in-Some.node c.in-Some.ensures.items c.args.grammar.now c.in_ok-pass.field-0 c.pass.new.self c.in_ok-pass.ensures.passes (item.Terminal c.in-Terminal.terminal) (c.in-Some-2.is ∙ ap Some c.in-Terminal.is) c.take.new.self c.in_ok-take-in-Terminal.ensures.stack c.in_ok-take-in-Terminal.ensures.count
+    turn.smaller c.loop-node.parser c.pop.new.self c.in-Some.node c.in-Some.ensures.items c.args.grammar.now c.in_ok-advance.field-0 c.advance.new.self c.in_ok-advance.ensures.advances (item.Terminal c.in-Terminal.terminal) (c.in-Some-2.is ∙ ap Some c.in-Terminal.is) c.take.new.self c.in_ok-take-in-Terminal.ensures.stack c.in_ok-take-in-Terminal.ensures.count
 
 pub loop-node-preserved : goal.loop-node-preserved
 loop-node-preserved g c =
     let k = task_of c.args.grammar.now c.args.tokens.now (g.D.Device.is_honest c.args.device.now) (g.D.Device.content c.args.device.now) in
     let inv = c.loop-node.invariant in
     let x = item.Terminal c.in-Terminal.terminal in
-    let faced = turn.faced c.loop-node.parser c.pop.new.self c.in-Some.node c.in-Some.ensures.items k c.in_ok-pass.field-0 c.pass.new.self c.in_ok-pass.ensures.passes (g.D.Device.content c.loop-node.device) c.loop-node.invariant.stands (x) (c.in-Some-2.is ∙ ap Some c.in-Terminal.is) in
+    let faced = turn.faced c.loop-node.parser c.pop.new.self c.in-Some.node c.in-Some.ensures.items k c.in_ok-advance.field-0 c.advance.new.self c.in_ok-advance.ensures.advances (g.D.Device.content c.loop-node.device) c.loop-node.invariant.stands (x) (c.in-Some-2.is ∙ ap Some c.in-Terminal.is) in
     let done = c.in_ok-take-in-Terminal.ensures in
-    let takes = subst (λ h. Writes (HasTokens c.args.tokens.now) c.args.tokens.now h (g.D.Device.content c.loop-node.device) (g.D.Device.content c.take.new.device) (λ k. Faces k x c.pass.new.self) (λ k. Stands k c.take.new.self)) inv.persists.honest done.takes in
+    let takes = subst (λ h. Writes (HasTokens c.args.tokens.now) c.args.tokens.now h (g.D.Device.content c.loop-node.device) (g.D.Device.content c.take.new.device) (λ k. Faces k x c.advance.new.self) (λ k. IsBetween k c.take.new.self)) inv.persists.honest done.takes in
     record {
       stands = takes c.args.grammar.now k.front (c.start.ensures.accepted, c.requires.tokens) faced;
       written = done.written;
@@ -86,7 +86,7 @@ pub returns-in_err-take-in-Terminal-clause-refused : goal.returns-in_err-take-in
 returns-in_err-take-in-Terminal-clause-refused g c =
     let k = task_of c.args.grammar.now c.args.tokens.now (g.D.Device.is_honest c.args.device.now) (g.D.Device.content c.args.device.now) in
     let p = err_from_is_err_and c.from_residual-in_err-take-in-Terminal.result c.from_residual-in_err-take-in-Terminal.ensures.1 in
-    let faced = turn.faced c.loop-node.parser c.pop.new.self c.in-Some.node c.in-Some.ensures.items k c.in_ok-pass.field-0 c.pass.new.self c.in_ok-pass.ensures.passes (g.D.Device.content c.loop-node.device) c.loop-node.invariant.stands (item.Terminal c.in-Terminal.terminal) (c.in-Some-2.is ∙ ap Some c.in-Terminal.is) in
+    let faced = turn.faced c.loop-node.parser c.pop.new.self c.in-Some.node c.in-Some.ensures.items k c.in_ok-advance.field-0 c.advance.new.self c.in_ok-advance.ensures.advances (g.D.Device.content c.loop-node.device) c.loop-node.invariant.stands (item.Terminal c.in-Terminal.terminal) (c.in-Some-2.is ∙ ap Some c.in-Terminal.is) in
     rw (p.1, p.2) (c.in_err-take-in-Terminal.ensures.refuses c.args.grammar.now k.honest k.front (g.D.Device.content c.loop-node.device) (c.start.ensures.accepted, c.requires.tokens) faced)
 
 pub returns-clause-parsed : goal.returns-clause-parsed

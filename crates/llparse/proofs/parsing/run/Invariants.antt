@@ -1,12 +1,12 @@
 use Rattle.std.proofs.Common.{◌≡◌, ◌+◌, false, length}
 use Rattle.treefile.specs.Device.{Persists}
 use Rattle.llparse.specs.Parsing.{task_of}
-use Rattle.llparse.specs.Turns.{left_of, Stands}
+use Rattle.llparse.specs.Turns.{left_of, IsBetween}
 use Rattle.llparse.proofs.parsing.run.Given as goal
 
 abbrev pub invariant-loop-node : goal.invariant-loop-node
 invariant-loop-node g l = record {
-  stands : Stands (task_of l.grammar l.tokens (g.D.Device.is_honest l.initial.device) (g.D.Device.content l.initial.device)) l.parser (g.D.Device.content l.device);
+  stands : IsBetween (task_of l.grammar l.tokens (g.D.Device.is_honest l.initial.device) (g.D.Device.content l.initial.device)) l.parser (g.D.Device.content l.device);
   written : l.writer.written + length l.parser.stack.items ≡ l.parser.count;
   fine : l.writer.is_broken ≡ false;
   persists : Persists (g.D.Device.is_honest l.initial.device) (g.D.Device.is_honest l.device) (g.D.Device.failures l.initial.device) (g.D.Device.failures l.device) ⊥;
