@@ -1,6 +1,6 @@
 //! What the operators and calls give for operands, lent where they can be.
 
-ghost use Rattle.std.specs.Prelude.{◌≡◌, ◌≢◌, IfOk, None};
+ghost use Rattle.std.specs.Prelude.{◌≡◌, ◌≢◌, IfOk, IfSome, None};
 ghost use Rattle.ag_value.specs.Well.{IsWell};
 ghost use Rattle.ag_value.specs.declared.value.Value.TheVariants as value;
 ghost use Rattle.ag_expr.specs.declared.operand.Held.{Held};
@@ -82,6 +82,27 @@ fn calculate(operator: Operator, left: &Value, right: &Value) -> Value
         Operator::Multiply => product(left, right),
         Operator::Divide => quotient(left, right),
         Operator::Remainder => remainder(left, right),
+    }
+}
+
+/// The number that `+`, `-` or `*` gives for two numbers: None where it gives an error, for another
+/// operator, and for other values.
+#[tactic(auto, unfolding(crate::specs::values::Arguments::leftmost))]
+pub fn reckoned(operator: Operator, left: &Value, right: &Value) -> Option<i64>
+    ensures { IfSome result (λ n. value.Num n ≡ applied operator left.now right.now) }
+{
+    let (Value::Num(_), Value::Num(_)) = (left, right) else {
+        return None;
+    };
+    let value = match operator {
+        Operator::Add => sum(left, right),
+        Operator::Subtract => difference(left, right),
+        Operator::Multiply => product(left, right),
+        _ => return None,
+    };
+    match value {
+        Value::Num(number) => Some(number),
+        _ => None,
     }
 }
 

@@ -1,7 +1,7 @@
 //! The value of an expression.
 
 ghost use Rattle.std.specs.Prelude.{◌≡◌, ◌+◌, ◌-◌, ◌^◌, ◌<◌, ◌≤◌, length, map, suc, true, IfOk};
-ghost use Rattle.std.specs.Prelude.{IsTrue, MatchOption, MatchResult, OnOk, List, [], ◌∷◌, ◌++◌};
+ghost use Rattle.std.specs.Prelude.{IfSome, IsTrue, MatchOption, MatchResult, OnOk, List, [], ◌∷◌, ◌++◌};
 ghost use Rattle.std.specs.Prelude.{cond};
 ghost use Rattle.ag_value.specs.Well.{IsWell, is_item};
 ghost use Rattle.ag_value.specs.declared.value.Value.{Value as AttributeValue};
@@ -14,9 +14,10 @@ ghost use Rattle.ag_expr.specs.language.Trees.{all_below, is_within};
 ghost use Rattle.ag_expr.specs.values.Calls.{called_with, chosen, put};
 ghost use Rattle.ag_expr.specs.values.Fitting.{fit};
 ghost use Rattle.ag_expr.specs.values.Lists.{listed};
+ghost use Rattle.ag_expr.specs.values.Operators.{applied};
 
 use crate::builtins::faults::fault_of;
-use crate::calls::{apply, call_binary, call_put, call_unary, fault};
+use crate::calls::{apply, call_binary, call_put, call_unary, fault, reckoned};
 use crate::environment::Env;
 use crate::expression::Expr;
 use crate::gathering::Gathering;
@@ -125,10 +126,69 @@ fn chain_of<'e, V: Env>(
 {
     let mut value = so_far;
     for other in others {
-        let right = operand_of(alloc, expr, &other.1, env, scope)?;
-        value = apply(alloc, other.0, value, right, &*scope)?;
+        if let Some(next) = number_behind(expr, &value, other, env, &*scope) {
+            value = value.replaced(next);
+        } else {
+            let right = operand_of(alloc, expr, &other.1, env, scope)?;
+            value = apply(alloc, other.0, value, right, &*scope)?;
+        }
     }
     Ok(value)
+}
+
+/// The number that an operator gives for the value so far and the operand behind it, where it gives
+/// one and the operand is at hand: no operand is made of that one.
+fn number_behind<'e, V: Env>(
+    expr: &Expr,
+    so_far: &Operand<'e>,
+    other: &(Operator, Node),
+    env: &V,
+    scope: &Scope<'e>,
+) -> Option<Operand<'e>>
+    requires first { IsIn scope.now so_far.now }
+    requires below { is_within (length expr.now.1) other.now.1 (length scope.now) ≡ true }
+    requires lends { length expr.now.1 ≤ V.count env.now }
+    requires well { AreWell (length expr.now.1) (V.lent env.now) }
+    ensures value { IfSome result (λ o. operand_value scope.now o
+        ≡ applied other.now.0 (operand_value scope.now so_far.now)
+        (value_in other.now.1 (V.lent env.now) scope.now)) }
+    ensures within { IfSome result (λ o. IsIn scope.now o) }
+{
+    let right = at_hand(expr, &other.1, env, scope)?;
+    let number = reckoned(other.0, so_far.get(scope), right)?;
+    Some(Operand::number(number))
+}
+
+/// The value of an operand that is a literal, an occurrence or a bound name: lent as it is.
+fn at_hand<'a, V: Env>(
+    expr: &Expr,
+    node: &'a Node,
+    env: &'a V,
+    scope: &'a Scope<'_>,
+) -> Option<&'a Value>
+    requires below { is_within (length expr.now.1) node.now (length scope.now) ≡ true }
+    requires lends { length expr.now.1 ≤ V.count env.now }
+    requires well { AreWell (length expr.now.1) (V.lent env.now) }
+    ensures value { IfSome result (λ v. v.now ≡ value_in node.now (V.lent env.now) scope.now) }
+    ensures well { IfSome result (λ v. IsWell v.now) }
+{
+    match node {
+        Node::Literal(literal) => within_limits(literal.value()),
+        Node::Occurrence(k) => Some(env.lend(*k)),
+        Node::Bound(k) => Some(scope.get(*k).get()),
+        _ => None,
+    }
+}
+
+/// A value that is within the limits.
+fn within_limits(item: &Value) -> Option<&Value>
+    requires { is_item item.now ≡ true }
+    ensures { IfSome result (λ v. (v.now ≡ fit item.now) × IsWell v.now) }
+{
+    match excess(item) {
+        None => Some(item),
+        Some(_) => None,
+    }
 }
 
 /// `[a, ..]`: the list of the items, or the leftmost of them that is an error.
@@ -176,6 +236,9 @@ fn excess(item: &Value) -> Option<ErrorCode>
     ensures { MatchOption result (IsWell item.now × (fit item.now ≡ item.now))
         (λ code. fit item.now ≡ value.Fault code) }
 {
+    if let Value::Num(_) = item {
+        return None;
+    }
     if depth(item) > MAX_DEPTH {
         return Some(ErrorCode::Deep);
     }

@@ -1,6 +1,7 @@
 //! Cutting the token at the front of a text.
 
-ghost use Rattle.std.specs.Prelude.{◌≡◌, ◌++◌, ◌∷◌, [], pos, length, chars, is_some, option_map};
+ghost use Rattle.std.specs.Prelude.{◌≡◌, ◌++◌, ◌∷◌, [], None, pos, false, length, chars, is_some};
+ghost use Rattle.std.specs.Prelude.{option_map};
 ghost use Rattle.std.specs.Prelude.{IfOk, IfSome, MatchOption, encode_utf8, encode_utf8_all};
 ghost use Rattle.std.specs.Str.Parse.{digits_value};
 ghost use Rattle.ag_expr.specs.language.Left.{unspaced};
@@ -107,8 +108,10 @@ fn name_in_front(text: &str) -> Option<(&str, &str)>
 }
 
 /// The punctuation that is one character.
+#[tactic(auto, using(crate::proofs::language::TokenLaws::no_start))]
 fn single_punctuation(c: char) -> Option<Punctuation>
-    ensures { result ≡ lexing.single_punctuation c }
+    ensures value { result ≡ lexing.single_punctuation c }
+    ensures unnamed { IfSome result (λ _. tokens_spec.starts_name c ≡ false) }
 {
     match c {
         '-' => Some(Punctuation::Minus),
@@ -137,10 +140,12 @@ fn doubled(twice: char, two: Punctuation, one: Punctuation, text: &str) -> (Punc
     }
 }
 
-/// The punctuation in front, and what stands behind it.
+/// The punctuation in front, where no name begins, and what stands behind it.
+#[tactic(auto, using(crate::proofs::language::TokenLaws::no_start))]
 fn punctuation_in_front(text: &str) -> Option<(Punctuation, &str)>
-    ensures { option_map (λ x. (x.0, chars x.1.now)) result
+    ensures value { option_map (λ x. (x.0, chars x.1.now)) result
         ≡ lexing.punctuation_from (chars text.now) }
+    ensures unnamed { IfSome result (λ _. lexing.name_from (chars text.now) ≡ None) }
 {
     match first(text)? {
         ('+', rest) => Some(doubled('+', Punctuation::Join, Punctuation::Plus, rest)),
@@ -305,11 +310,11 @@ fn plain_token(text: &str) -> Result<(Token<'_>, &str), TokenFault>
     if let Some((digits, rest)) = digits_in_front(text) {
         return number_literal(digits, rest);
     }
-    if let Some((name, rest)) = name_in_front(text) {
-        return Ok((Token::Name(name), rest));
+    if let Some((mark, rest)) = punctuation_in_front(text) {
+        return Ok((Token::Punctuation(mark), rest));
     }
-    match punctuation_in_front(text) {
-        Some((mark, rest)) => Ok((Token::Punctuation(mark), rest)),
+    match name_in_front(text) {
+        Some((name, rest)) => Ok((Token::Name(name), rest)),
         None => Err(TokenFault::Nothing),
     }
 }

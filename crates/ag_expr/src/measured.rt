@@ -8,6 +8,9 @@ ghost use Rattle.ag_expr.specs.values.Fitting.{fit};
 use ag_value::{ErrorCode, MAX_DEPTH, MAX_WEIGHT, Value, depth, weight};
 use std::marker::Model;
 
+/// The weight of a number.
+const NUMBER_WEIGHT: u64 = 9;
+
 /// A well value, beside its weight and its depth.
 #[derive(Debug, Drop)]
 pub struct Measured {
@@ -37,6 +40,13 @@ impl Measured {
         requires { IsWell value }
         ensures { result ≡ value }
     {
+        if let Value::Num(_) = value {
+            return Measured {
+                value,
+                weight: NUMBER_WEIGHT,
+                depth: 0,
+            };
+        }
         let weight = weight(&value);
         let depth = depth(&value);
         Measured {

@@ -2,6 +2,7 @@
 
 ghost use Rattle.std.specs.Prelude.{◌≡◌, IfOk, IfSome, is_some};
 ghost use Rattle.ag_value.specs.Well.{IsWell};
+ghost use Rattle.ag_value.specs.declared.value.Value.TheVariants as value;
 ghost use Rattle.ag_expr.specs.declared.operand.Held.{Held as HeldValue};
 ghost use Rattle.ag_expr.specs.language.Operands.{IsIn, held_value, is_lent, operand_value};
 
@@ -105,6 +106,20 @@ impl<'e> Operand<'e> {
         ensures { result ≡ Operand.Held (Held.Owned value) }
     {
         Operand::Held(Held::Owned(value))
+    }
+
+    /// An operand that is a number.
+    pub fn number(number: i64) -> Operand<'e>
+        ensures { result ≡ Operand.Held (Held.Owned (value.Num number)) }
+    {
+        Operand::owned(Measured::new(Value::Num(number)))
+    }
+
+    /// Another in its place.
+    pub fn replaced(self, other: Operand<'e>) -> Operand<'e>
+        ensures { result ≡ other.entry }
+    {
+        other
     }
 
     /// An operand that is lent.

@@ -257,7 +257,7 @@ fn conditional<'t>(
 
 /// Passes a chain of a precedence, whose atoms have parts of at most so many levels.
 #[cycle(parsing)]
-#[tactic(auto, unfolding(crate::specs::language::Reading::chain_from))]
+#[tactic(auto, using(crate::proofs::language::Turns::alone), unfolding(crate::specs::language::Reading::chain_from))]
 fn chain<'t>(
     alloc: Global,
     cursor: &mut Cursor<'t>,
@@ -271,6 +271,9 @@ fn chain<'t>(
     ensures names { OnOk result (scope.new ≡ scope.old) }
 {
     let first = operand(alloc, cursor, scope, levels, precedence)?;
+    if !goes_on(cursor, precedence) {
+        return Ok(first);
+    }
     let others = others(alloc, cursor, scope, levels, precedence)?;
     Ok(chained(alloc, first, others)?)
 }

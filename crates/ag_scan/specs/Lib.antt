@@ -1,5 +1,6 @@
 pub mod Cutting
 pub mod Laws
+pub mod Printed
 pub mod Table
 pub mod Tokens
 pub mod Words

@@ -1,6 +1,7 @@
 //! The tokens of a sentence, by longest match over a grammar's literals and the classes it uses.
 #![tactic(auto)]
 
+mod display;
 mod fault;
 mod front;
 pub mod laws;

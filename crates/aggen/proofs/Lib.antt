@@ -1,4 +1,5 @@
 pub mod Closed
 pub mod Front
 pub mod Reading
+pub mod Sentences
 pub mod Written

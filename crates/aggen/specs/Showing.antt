@@ -131,4 +131,7 @@ IsShowFault fault.Usage = ⊥
 IsShowFault fault.File = ⊥
 IsShowFault (fault.Text e) = ⊥
 IsShowFault (fault.Normal e) = ⊥
+IsShowFault (fault.Table e) = ⊥
+IsShowFault (fault.Scan e) = ⊥
+IsShowFault (fault.Parse e) = ⊥
 IsShowFault _ = Unit {0}

@@ -2,26 +2,31 @@
 use Rattle.std.specs.Prelude.{ℕ}
 use Rattle.ag_expr.specs.declared.fault.ExprFault.{ExprFault}
 use Rattle.ag_expr.specs.declared.fault.ExprFault.TheVariants as expr
-use Rattle.ag_text.specs.declared.fault.TextFault.{TextFault}
-use Rattle.ag_text.specs.declared.fault.TextFault.TheVariants as text
-use Rattle.normalform.specs.declared.fault.NormalFault.{NormalFault}
-use Rattle.normalform.specs.declared.fault.NormalFault.TheVariants as normal
+use Rattle.ag_scan.specs.declared.fault.ScanFault.{ScanFault}
+use Rattle.ag_scan.specs.declared.fault.ScanFault.TheVariants as scan
+use Rattle.llparse.specs.declared.parse_fault.ParseFault.{ParseFault}
+use Rattle.llparse.specs.declared.parse_fault.ParseFault.TheVariants as parse
 use Rattle.treefile.specs.declared.device.DeviceFault.{DeviceFault}
 use Rattle.treefile.specs.declared.device.DeviceFault.TheVariants as device
 use Rattle.treefile.specs.declared.reading.FrameFault.{FrameFault}
 use Rattle.treefile.specs.declared.reading.FrameFault.TheVariants as frame
 use Rattle.treefile.specs.declared.writing.WriteFault.{WriteFault}
 use Rattle.treefile.specs.declared.writing.WriteFault.TheVariants as writing
+use Rattle.aggen.specs.declared.build_fault.BuildFault.{BuildFault}
+use Rattle.aggen.specs.declared.build_fault.BuildFault.TheVariants as build
 use Rattle.aggen.specs.declared.fault.Fault.{Fault}
 use Rattle.aggen.specs.declared.fault.Fault.TheVariants as fault
 
--- 2 for the command line, 3 for X, G and N, 5 for B1 and B2, 7 for want of memory, 8 for F1, D1 and O2
+-- 2 for the command line, 3 for X, G, N and L, 4 for S and P, 5 for B1 and B2, 7 for want of memory, 8 for F1, D1 and O2
 abbrev pub status_of : Fault → ℕ
 status_of fault.Usage = 2
 status_of fault.File = 8
 status_of (fault.Expr e) = 3
 status_of (fault.Text e) = 3
 status_of (fault.Normal e) = 3
+status_of (fault.Table e) = 3
+status_of (fault.Scan e) = 4
+status_of (fault.Parse e) = 4
 status_of fault.NotATreeFile = 5
 status_of (fault.Damaged at) = 5
 status_of fault.Device = 8
@@ -33,13 +38,22 @@ abbrev pub expr_fault_of : ExprFault → Fault
 expr_fault_of expr.NoMemory = fault.NoMemory
 expr_fault_of e = fault.Expr e
 
-abbrev pub text_fault_of : TextFault → Fault
-text_fault_of text.NoMemory = fault.NoMemory
-text_fault_of e = fault.Text e
+abbrev pub scan_fault_of : ScanFault → Fault
+scan_fault_of scan.NoMemory = fault.NoMemory
+scan_fault_of e = fault.Scan e
 
-abbrev pub normal_fault_of : NormalFault → Fault
-normal_fault_of normal.NoMemory = fault.NoMemory
-normal_fault_of e = fault.Normal e
+-- so is a failed device
+abbrev pub parse_fault_of : ParseFault → Fault
+parse_fault_of parse.Device = fault.Device
+parse_fault_of parse.NoMemory = fault.NoMemory
+parse_fault_of e = fault.Parse e
+
+-- the faults of making a translator
+abbrev pub build_fault_of : BuildFault → Fault
+build_fault_of (build.Text e) = fault.Text e
+build_fault_of (build.Normal e) = fault.Normal e
+build_fault_of (build.Table e) = fault.Table e
+build_fault_of build.NoMemory = fault.NoMemory
 
 -- the faults of a device, of writing a tree file, and of reading one
 abbrev pub device_fault_of : DeviceFault → Fault

@@ -1,9 +1,11 @@
 //! Reading and checking a grammar's text, and the line that tells what was read.
 
 ghost use Rattle.std.specs.Prelude.{◌≡◌, ◌≢◌, IfErr, IfOk, IsErrOf, OnOk, string_bytes};
+ghost use Rattle.aggen.specs.Building.{IsGrammarFault};
 ghost use Rattle.aggen.specs.Checking.{BeginsCounts, IsCheckFault, IsGrammarOf, TellsCounts};
 ghost use Rattle.aggen.specs.Checking.{counts_of as line_of};
 
+use crate::build_fault::BuildFault;
 use crate::fault::Fault;
 use crate::output::write_whole;
 use ag_text::read_grammar;
@@ -33,9 +35,9 @@ pub fn print_counts<W: Write>(alloc: Global, text: &[u8], out: &mut W) -> Result
 /// The grammar that a text is, read and checked. G1 to G4 where it reads as none; N1 to N10, the
 /// first fault, where it reads as one that is not accepted.
 #[tactic(auto, using(normalform::proofs::FromTexts::texts_are_readable))]
-pub fn grammar_of(alloc: Global, text: &[u8]) -> Result<Grammar, Fault>
+pub fn grammar_of(alloc: Global, text: &[u8]) -> Result<Grammar, BuildFault>
     ensures grammar { IfOk result (λ g. IsGrammarOf text.now g) }
-    ensures refused { IfErr result (λ e. IsCheckFault text.now e) }
+    ensures refused { IfErr result (λ e. IsGrammarFault text.now e) }
 {
     let raw = read_grammar(alloc, text)?;
     Ok(check(alloc, raw)?)

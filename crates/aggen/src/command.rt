@@ -14,8 +14,13 @@ const EXAMPLE: &str = "2 + 3 * 4";
 /// The name of the one argument of `value`.
 const EXPRESSION: &str = "EXPR";
 
-/// The name of the one argument of `check`.
+/// The name of the one argument of `check`, and of the first one of `parse`.
 const GRAMMAR: &str = "G";
+
+/// The names of the others of `parse`.
+const SENTENCE: &str = "S";
+
+const TREE: &str = "TREE";
 
 /// What a command line asks for.
 pub enum Request<'a> {
@@ -25,6 +30,19 @@ pub enum Request<'a> {
     Value(&'a str),
     /// The check of the grammar in the file of this name.
     Check(&'a str),
+    /// The tree file of a sentence.
+    Parse(Paths<'a>),
+}
+
+/// The names of the files that `parse` takes.
+#[derive(Clone, Copy)]
+pub struct Paths<'a> {
+    /// Of the grammar's.
+    pub grammar: &'a str,
+    /// Of the sentence's.
+    pub sentence: &'a str,
+    /// Of the tree file that is made.
+    pub tree: &'a str,
 }
 
 /// What the words ask for, the program's name first. Help and the version are printed on standard
@@ -46,6 +64,13 @@ pub fn request_of<'a, R: Print + Eprint>(
 fn request_in<'a>(matches: &ArgMatches<'a>) -> Request<'a> {
     if let Some(check) = matches.subcommand_matches("check") {
         return Request::Check(check.get_str(GRAMMAR).unwrap_or(""));
+    }
+    if let Some(parse) = matches.subcommand_matches("parse") {
+        return Request::Parse(Paths {
+            grammar: parse.get_str(GRAMMAR).unwrap_or(""),
+            sentence: parse.get_str(SENTENCE).unwrap_or(""),
+            tree: parse.get_str(TREE).unwrap_or(""),
+        });
     }
     match matches.subcommand_matches("value") {
         Some(value) => Request::Value(value.get_str(EXPRESSION).unwrap_or(EXAMPLE)),
@@ -78,16 +103,28 @@ fn command<'a>(alloc: Global) -> Result<Command<'a>, AllocError> {
     let value = Command::new(alloc, "value")
         .about("Prints the value of an expression")
         .arg(expression)?;
-    let grammar = Arg::new(alloc, GRAMMAR)
-        .required(true)
-        .help("The name of the grammar's file");
     let check = Command::new(alloc, "check")
         .about("Reads and checks a grammar, and prints how many symbols and productions it has")
-        .arg(grammar)?;
+        .arg(file(alloc, GRAMMAR, "The name of the grammar's file"))?;
+    let parse = Command::new(alloc, "parse")
+        .about("Parses a sentence, writes the file of its tree, and prints how many nodes it has")
+        .arg(file(alloc, GRAMMAR, "The name of the grammar's file"))?
+        .arg(file(alloc, SENTENCE, "The name of the sentence's file"))?
+        .arg(file(
+            alloc,
+            TREE,
+            "The name of the tree file, which is made or made anew",
+        ))?;
     Command::new(alloc, "aggen")
         .version("0.1.0")
         .about("Makes translators from attribute grammars")
         .after_help("With no command it does what `aggen value \"2 + 3 * 4\"` does.")
         .subcommand(value)?
-        .subcommand(check)
+        .subcommand(check)?
+        .subcommand(parse)
+}
+
+/// An argument that names a file.
+fn file<'a>(alloc: Global, name: &'a str, help: &'a str) -> Arg<'a> {
+    Arg::new(alloc, name).required(true).help(help)
 }

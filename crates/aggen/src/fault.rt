@@ -1,17 +1,21 @@
 //! The program's faults: their messages, their statuses, and the faults of the crates below.
 
 ghost use Rattle.std.specs.Prelude.{◌≡◌};
-ghost use Rattle.aggen.specs.Status.{device_fault_of, expr_fault_of, frame_fault_of, status_of};
-ghost use Rattle.aggen.specs.Status.{normal_fault_of, text_fault_of, write_fault_of};
+ghost use Rattle.aggen.specs.Status.{build_fault_of, device_fault_of, expr_fault_of};
+ghost use Rattle.aggen.specs.Status.{frame_fault_of, parse_fault_of, scan_fault_of, status_of};
+ghost use Rattle.aggen.specs.Status.{write_fault_of};
 ghost use Rattle.aggen.specs.declared.fault.Fault.TheVariants as program_fault;
 
+use crate::build_fault::BuildFault;
 use ag_expr::ExprFault;
+use ag_scan::ScanFault;
 use ag_text::TextFault;
 use ag_value::NoMemory;
+use llparse::{ParseFault, TableFault};
 use normalform::NormalFault;
 use std::alloc::AllocError;
 use thiserror::Error;
-use treefile::{DeviceFault, FrameFault, WriteFault};
+use treefile::{DeviceFault, FileFault, FrameFault, WriteFault};
 
 /// Why the program, or a call of it, did not do what it was asked for. Each has a number, which is
 /// printed first.
@@ -20,8 +24,8 @@ pub enum Fault {
     /// The words of the command line are not as they should be.
     #[error("usage: the words of the command line can't be read")]
     Usage,
-    /// F1: a file can't be opened or read.
-    #[error("F1 the file can't be opened or read")]
+    /// F1: a file can't be opened, read or made.
+    #[error("F1 the file can't be opened, read or made")]
     File,
     /// X1 to X4: the text is no expression. Want of memory is never in it.
     #[error("{0}")]
@@ -32,6 +36,17 @@ pub enum Fault {
     /// N1 to N10: the grammar is not accepted. Want of memory is never in it.
     #[error("{0}")]
     Normal(NormalFault),
+    /// L1: one token of look-ahead doesn't tell which production comes next. Want of memory is
+    /// never in it.
+    #[error("{0}")]
+    Table(TableFault),
+    /// S1 to S4: the sentence has no tokens. Want of memory is never in it.
+    #[error("{0}")]
+    Scan(ScanFault),
+    /// P1 to P3: the sentence has no tree within the limits. A failed device and want of memory are
+    /// never in it.
+    #[error("{0}")]
+    Parse(ParseFault),
     /// B1: a device holds no tree file.
     #[error("B1 the device holds no tree file")]
     NotATreeFile,
@@ -50,14 +65,15 @@ pub enum Fault {
     NoMemory,
 }
 
-/// The status that the program ends with after a fault: 2 usage; 3 X, G and N; 5 B1 and B2; 7 want
-/// of memory; 8 F1, D1 and O2.
+/// The status that the program ends with after a fault: 2 usage; 3 X, G, N and L; 4 S and P; 5 B1
+/// and B2; 7 want of memory; 8 F1, D1 and O2.
 pub fn status(fault: &Fault) -> u8
     ensures { result ≡ status_of fault.now }
 {
     match fault {
         Fault::Usage => 2,
-        Fault::Expr(_) | Fault::Text(_) | Fault::Normal(_) => 3,
+        Fault::Expr(_) | Fault::Text(_) | Fault::Normal(_) | Fault::Table(_) => 3,
+        Fault::Scan(_) | Fault::Parse(_) => 4,
         Fault::NotATreeFile | Fault::Damaged(_) => 5,
         Fault::NoMemory => 7,
         Fault::File | Fault::Device | Fault::Write => 8,
@@ -75,25 +91,47 @@ impl From<ExprFault> for Fault {
     }
 }
 
-impl From<TextFault> for Fault {
-    ghost from_gives = { λ fault e. e ≡ text_fault_of fault };
+impl From<BuildFault> for Fault {
+    ghost from_gives = { λ fault e. e ≡ build_fault_of fault };
 
-    fn from(fault: TextFault) -> Fault {
+    fn from(fault: BuildFault) -> Fault {
         match fault {
-            TextFault::NoMemory => Fault::NoMemory,
-            _ => Fault::Text(fault),
+            BuildFault::Text(fault) => Fault::Text(fault),
+            BuildFault::Normal(fault) => Fault::Normal(fault),
+            BuildFault::Table(fault) => Fault::Table(fault),
+            BuildFault::NoMemory => Fault::NoMemory,
         }
     }
 }
 
-impl From<NormalFault> for Fault {
-    ghost from_gives = { λ fault e. e ≡ normal_fault_of fault };
+impl From<ScanFault> for Fault {
+    ghost from_gives = { λ fault e. e ≡ scan_fault_of fault };
 
-    fn from(fault: NormalFault) -> Fault {
+    fn from(fault: ScanFault) -> Fault {
         match fault {
-            NormalFault::NoMemory => Fault::NoMemory,
-            other => Fault::Normal(other),
+            ScanFault::NoMemory => Fault::NoMemory,
+            _ => Fault::Scan(fault),
         }
+    }
+}
+
+impl From<ParseFault> for Fault {
+    ghost from_gives = { λ fault e. e ≡ parse_fault_of fault };
+
+    fn from(fault: ParseFault) -> Fault {
+        match fault {
+            ParseFault::Device => Fault::Device,
+            ParseFault::NoMemory => Fault::NoMemory,
+            _ => Fault::Parse(fault),
+        }
+    }
+}
+
+impl From<FileFault> for Fault {
+    ghost from_gives = { λ _ e. e ≡ program_fault.File };
+
+    fn from(_fault: FileFault) -> Fault {
+        Fault::File
     }
 }
 

@@ -1,10 +1,13 @@
 //! A fault of a grammar's file in one line for a reader.
 
+use crate::checking::grammar_of;
+use crate::conflict_message::{place_of_conflict, tell_conflict};
 use crate::expression_message::{place_in, tell_expression};
 use crate::fault::Fault;
 use crate::normal_message::{place_of_fault, tell_normal};
-use crate::telling::{found_at, tell_expected, tell_found, tell_place, tell_word};
+use crate::telling::{found_at, front_of, tell_expected, tell_found, tell_path, tell_place};
 use ag_text::{Expected, RawGrammar, TextFault, expected_at, read_grammar};
+use normalform::Grammar;
 use std::alloc::Global;
 use std::fmt;
 
@@ -19,6 +22,7 @@ pub struct GrammarMessage<'a> {
     found: &'a str,
     expected: Vec<Expected>,
     raw: Option<RawGrammar>,
+    grammar: Option<Grammar>,
 }
 
 impl<'a> GrammarMessage<'a> {
@@ -43,19 +47,8 @@ impl<'a> GrammarMessage<'a> {
             found,
             expected: could_stand(alloc, fault, text),
             raw: raw_of(alloc, fault, bytes),
+            grammar: accepted_of(alloc, fault, bytes),
         }
-    }
-}
-
-/// The longest front of bytes that is UTF-8.
-fn front_of(bytes: &[u8]) -> &str {
-    let fault = match str::from_utf8(bytes) {
-        Ok(text) => return text,
-        Err(fault) => fault,
-    };
-    match bytes.get(..fault.valid_up_to()) {
-        Some(front) => str::from_utf8(front).unwrap_or(""),
-        None => "",
     }
 }
 
@@ -81,7 +74,15 @@ fn could_stand(alloc: Global, fault: &Fault, text: &str) -> Vec<Expected> {
 /// The grammar as it stands in the text, for a fault that speaks of its names.
 fn raw_of(alloc: Global, fault: &Fault, bytes: &[u8]) -> Option<RawGrammar> {
     match fault {
-        Fault::Normal(_) => read_grammar(alloc, bytes).ok(),
+        Fault::Normal(_) | Fault::Table(_) => read_grammar(alloc, bytes).ok(),
+        _ => None,
+    }
+}
+
+/// The grammar with its numbers, for a fault that speaks of its terminals.
+fn accepted_of(alloc: Global, fault: &Fault, bytes: &[u8]) -> Option<Grammar> {
+    match fault {
+        Fault::Table(_) => grammar_of(alloc, bytes).ok(),
         _ => None,
     }
 }
@@ -90,10 +91,7 @@ impl fmt::Display for GrammarMessage<'_> {
     fn fmt<W: fmt::Write>(&self, f: &mut fmt::Formatter<W>) -> fmt::Result {
         write!(f, "{}", self.fault)?;
         match (self.fault, &self.raw) {
-            (Fault::File, _) => {
-                write!(f, ": ")?;
-                tell_word(f, self.path)
-            }
+            (Fault::File, _) => tell_path(f, self.path),
             (Fault::Text(fault), _) => {
                 if let Some(at) = place_of(self.fault) {
                     tell_place(f, self.text, at)?;
@@ -106,6 +104,16 @@ impl fmt::Display for GrammarMessage<'_> {
                 }
                 write!(f, ": ")?;
                 tell_normal(f, fault, self.text, raw)
+            }
+            (Fault::Table(fault), Some(raw)) => {
+                if let Some(at) = place_of_conflict(fault, raw) {
+                    tell_place(f, self.text, at)?;
+                }
+                let Some(grammar) = &self.grammar else {
+                    return Ok(());
+                };
+                write!(f, ": ")?;
+                tell_conflict(f, fault, self.text, raw, grammar)
             }
             _ => Ok(()),
         }

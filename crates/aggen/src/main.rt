@@ -1,12 +1,14 @@
 //! `aggen`: translators from attribute grammars.
 //!
-//! The program has two commands so far. `value EXPR` evaluates an expression, takes its value
+//! The program has three commands so far. `value EXPR` evaluates an expression, takes its value
 //! through a tree file in memory, and prints what it reads back; `check G` reads and checks the
-//! grammar in a file.
+//! grammar in a file; `parse G S TREE` parses the sentence in a file, and writes its tree's file.
 #![tactic(auto)]
 
+mod build_fault;
 mod checking;
 mod command;
+mod conflict_message;
 mod expression_message;
 mod fault;
 mod file;
@@ -15,22 +17,28 @@ mod limit_message;
 mod message;
 mod normal_message;
 mod output;
+mod sentence_message;
 mod sites;
 mod source;
 mod telling;
+mod terminals;
+mod translator;
 mod value;
 
 use checking::print_counts;
-use command::{Request, request_of};
+use command::{Paths, Request, request_of};
 use fault::{Fault, status};
 use grammar_message::GrammarMessage;
 use message::Message;
+use output::write_whole;
+use sentence_message::SentenceMessage;
 use source::source_of;
 use std::alloc::{AllocError, Global};
 use std::io;
 use std::process::ExitCode;
 use std::rt::{Env, Files};
-use treefile::MemDevice;
+use translator::{Translator, nodes_line};
+use treefile::{FileDevice, MemDevice};
 use value::show_value;
 
 #[cfg(test)]
@@ -48,15 +56,16 @@ fn run<R: Env + Files + Print + Eprint + AllocGlobal>(rt: &R) -> Result<(), Faul
     let alloc = rt.alloc();
     let words = match words_of(rt, alloc) {
         Ok(words) => words,
-        Err(fault) => return tell(rt, alloc, fault, ""),
+        Err(fault) => return Err(tell(rt, alloc, fault, "")),
     };
     match request_of(rt, alloc, words.as_slice()) {
         Ok(Request::Nothing) => Ok(()),
         Ok(Request::Value(text)) => print_value(rt, alloc, text),
         Ok(Request::Check(path)) => check_file(rt, alloc, path),
+        Ok(Request::Parse(paths)) => parse_file(rt, alloc, &paths),
         // the fault of the command line was told already
         Err(Fault::Usage) => Err(Fault::Usage),
-        Err(fault) => tell(rt, alloc, fault, ""),
+        Err(fault) => Err(tell(rt, alloc, fault, "")),
     }
 }
 
@@ -77,7 +86,7 @@ fn print_value<R: Print + Eprint>(rt: &R, alloc: Global, text: &str) -> Result<(
     let mut out = io::writer(rt);
     match show_value(alloc, text, &mut device, &mut out) {
         Ok(()) => Ok(()),
-        Err(fault) => tell(rt, alloc, fault, text),
+        Err(fault) => Err(tell(rt, alloc, fault, text)),
     }
 }
 
@@ -85,31 +94,97 @@ fn print_value<R: Print + Eprint>(rt: &R, alloc: Global, text: &str) -> Result<(
 fn check_file<R: Files + Print + Eprint>(rt: &R, alloc: Global, path: &str) -> Result<(), Fault> {
     let bytes = match source_of(rt, alloc, path) {
         Ok(bytes) => bytes,
-        Err(fault) => return tell_grammar(rt, alloc, fault, path, &[]),
+        Err(fault) => return Err(tell_grammar(rt, alloc, fault, path, &[])),
     };
     let mut out = io::writer(rt);
     match print_counts(alloc, bytes.as_slice(), &mut out) {
         Ok(()) => Ok(()),
-        Err(fault) => tell_grammar(rt, alloc, fault, path, bytes.as_slice()),
+        Err(fault) => Err(tell_grammar(rt, alloc, fault, path, bytes.as_slice())),
     }
 }
 
-/// Tells a fault of a grammar's file in one line on standard error.
-fn tell_grammar<R: Eprint>(
+/// Makes the tree file of the sentence in a file, and prints how many nodes its tree has. The
+/// grammar is read first, then the sentence, and only then is the tree file made.
+fn parse_file<R: Files + Print + Eprint>(
+    rt: &R,
+    alloc: Global,
+    paths: &Paths<'_>,
+) -> Result<(), Fault> {
+    let translator = translator_in(rt, alloc, paths.grammar)?;
+    let sentence = match source_of(rt, alloc, paths.sentence) {
+        Ok(sentence) => sentence,
+        Err(fault) => {
+            let path = paths.sentence;
+            return Err(tell_sentence(rt, alloc, fault, path, &translator, &[]));
+        }
+    };
+    let sentence = sentence.as_slice();
+    match write_tree(rt, alloc, &translator, sentence, paths.tree) {
+        Ok(()) => Ok(()),
+        Err(fault) => Err(tell_sentence(rt, alloc, fault, paths.tree, &translator, sentence)),
+    }
+}
+
+/// The translator of the grammar in a file. A fault has been told on standard error.
+fn translator_in<R: Files + Eprint>(
+    rt: &R,
+    alloc: Global,
+    path: &str,
+) -> Result<Translator, Fault> {
+    let bytes = match source_of(rt, alloc, path) {
+        Ok(bytes) => bytes,
+        Err(fault) => return Err(tell_grammar(rt, alloc, fault, path, &[])),
+    };
+    match Translator::build(alloc, bytes.as_slice()) {
+        Ok(translator) => Ok(translator),
+        Err(fault) => {
+            let fault = Fault::from(fault);
+            Err(tell_grammar(rt, alloc, fault, path, bytes.as_slice()))
+        }
+    }
+}
+
+/// Makes the tree file of a sentence, and prints how many nodes its tree has.
+fn write_tree<R: Files + Print>(
+    rt: &R,
+    alloc: Global,
+    translator: &Translator,
+    sentence: &[u8],
+    path: &str,
+) -> Result<(), Fault> {
+    let mut device = FileDevice::create(rt, alloc, path)?;
+    let count = translator.parse_tree(sentence, &mut device)?;
+    device.finish()?;
+    let line = nodes_line(alloc, count)?;
+    let mut out = io::writer(rt);
+    write_whole(&mut out, line.as_bytes())
+}
+
+/// Tells a fault of a sentence, or of a file beside it, in one line on standard error.
+fn tell_sentence<R: Eprint>(
     rt: &R,
     alloc: Global,
     fault: Fault,
     path: &str,
-    bytes: &[u8],
-) -> Result<(), Fault> {
+    translator: &Translator,
+    sentence: &[u8],
+) -> Fault {
+    let message = SentenceMessage::new(alloc, &fault, path, translator, sentence);
+    // where the line can't be written, the status still tells
+    let _ = rt.eprintln(message);
+    fault
+}
+
+/// Tells a fault of a grammar's file in one line on standard error.
+fn tell_grammar<R: Eprint>(rt: &R, alloc: Global, fault: Fault, path: &str, bytes: &[u8]) -> Fault {
     // where the line can't be written, the status still tells
     let _ = rt.eprintln(GrammarMessage::new(alloc, &fault, path, bytes));
-    Err(fault)
+    fault
 }
 
 /// Tells a fault of a text in one line on standard error.
-fn tell<R: Eprint>(rt: &R, alloc: Global, fault: Fault, text: &str) -> Result<(), Fault> {
+fn tell<R: Eprint>(rt: &R, alloc: Global, fault: Fault, text: &str) -> Fault {
     // where the line can't be written, the status still tells
     let _ = rt.eprintln(Message::new(alloc, &fault, text));
-    Err(fault)
+    fault
 }

@@ -32,6 +32,18 @@ pub fn place_of(text: &str, at: usize) -> (usize, usize) {
     (line, column)
 }
 
+/// The longest front of bytes that is UTF-8.
+pub fn front_of(bytes: &[u8]) -> &str {
+    let fault = match str::from_utf8(bytes) {
+        Ok(text) => return text,
+        Err(fault) => fault,
+    };
+    match bytes.get(..fault.valid_up_to()) {
+        Some(front) => str::from_utf8(front).unwrap_or(""),
+        None => "",
+    }
+}
+
 /// What stands at an offset: the token there, or else the characters up to the next separator;
 /// nothing at the text's end.
 pub fn found_at(alloc: Global, text: &str, at: usize) -> &str {
@@ -65,6 +77,12 @@ pub fn tell_found<W: fmt::Write>(f: &mut fmt::Formatter<W>, found: &str) -> fmt:
         shown = shown.saturating_add(1);
     }
     write!(f, "`")
+}
+
+/// The name of the file that a fault is of.
+pub fn tell_path<W: fmt::Write>(f: &mut fmt::Formatter<W>, path: &str) -> fmt::Result {
+    write!(f, ": ")?;
+    tell_word(f, path)
 }
 
 /// A word, each character by its number where it controls a terminal.

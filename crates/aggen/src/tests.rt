@@ -8,6 +8,7 @@ mod checks;
 mod devices;
 mod messages;
 mod refusals;
+mod translators;
 mod tutorial;
 mod values;
 mod words;

@@ -12,7 +12,7 @@ use std::process::Abort;
 use std::test::Fail;
 
 /// The grammar of a text.
-fn grammar(alloc: Global, text: &str) -> Result<Grammar, Fail> {
+pub(crate) fn grammar(alloc: Global, text: &str) -> Result<Grammar, Fail> {
     let raw = read_grammar(alloc, text.as_bytes())?;
     if !is_readable(&raw) {
         return Err(Fail::from("an item is none"));

@@ -1,5 +1,5 @@
-//! The tests of the crates that read grammars, check them and prepare them for sentences, over
-//! their public calls. It has no other code.
+//! The tests of the crates that read grammars, check them and plan their passes, over their public
+//! calls. It has no other code.
 #![tactic(auto)]
 
 #[cfg(test)]
@@ -9,10 +9,6 @@ mod grammar_texts;
 #[cfg(test)]
 mod normal_forms;
 #[cfg(test)]
-mod parsing;
-#[cfg(test)]
 mod passes;
 #[cfg(test)]
-mod sentences;
-#[cfg(test)]
-mod tables;
+mod plans;

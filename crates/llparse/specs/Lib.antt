@@ -8,6 +8,7 @@ pub mod Nullable
 pub mod Opened
 pub mod Parsing
 pub mod Predicted
+pub mod Printed
 pub mod Reach
 pub mod Refusals
 pub mod Sentences

@@ -6,6 +6,8 @@
 mod ahead;
 mod building;
 mod choosing;
+mod display;
+mod expected;
 mod fault;
 mod filling;
 mod first;
@@ -23,6 +25,7 @@ mod tokens;
 
 pub use ahead::Ahead;
 pub use building::tables;
+pub use expected::{Stuck, expected_at};
 pub use fault::TableFault;
 pub use laws::{
     edges_lead_on, left_recursion_conflicts, left_recursion_is_a_choice, left_recursion_is_least,

@@ -104,7 +104,7 @@ pub(crate) struct Parser {
 
 impl Parser {
     /// Whether one node more is within the limits.
-    fn has_room(&self) -> Result<(), ParseFault>
+    pub(crate) fn has_room(&self) -> Result<(), ParseFault>
         ensures room { OnOk result ((length self.now.stack.items < most_depth)
             × (self.now.count < most_nodes)) }
         ensures full { IfErr result (IsFull self.now) }

@@ -1,5 +1,5 @@
 -- The table at first and in the end.
-use Rattle.std.proofs.Common.{ℕ, ◌≡◌, ◌<◌, ◌≤◌, Bool, true, false, cond, nat_lt, List, [], ◌∷◌, Some, None, zero, suc, ◌⊎◌, slice_get, get_or, length, unwrap_or, inl, inr, refl, ap, ◌∙◌, sym, subst, arith}
+use Rattle.std.proofs.Common.{ℕ, ◌≡◌, ◌+◌, ◌<◌, ◌≤◌, Bool, true, false, cond, nat_lt, List, [], ◌∷◌, Some, None, zero, suc, ◌⊎◌, slice_get, get_or, length, unwrap_or, inl, inr, refl, ap, ◌∙◌, sym, subst, arith}
 use Rattle.std.proofs.lemmas.Bool.{cases_lt, lt-ltb, ltb-true}
 use Rattle.std.proofs.lemmas.Option.{slice_get_within, slice_get_past, slice_get-get_or}
 use Rattle.std.proofs.Math.ListN.{get_or-eq_default}
@@ -10,7 +10,7 @@ use Rattle.passassign.specs.Dependencies.{AreDependencies}
 use Rattle.passassign.specs.Least.{partial_of, IsLeast}
 use Rattle.passassign.specs.Making.{IsMade, start}
 use Rattle.passassign.specs.Progress.{IsWith, IsProgress, open_count}
-use Rattle.passassign.specs.Rows.{passes_of}
+use Rattle.passassign.specs.Rows.{most_passes, passes_of, AreFew}
 use Rattle.passassign.specs.Searching.{AreOf}
 use Rattle.passassign.specs.Tables.{slot_of, state_at, state_of, given, first_state, attribute_count, table_passes, IsFirstTable, IsTable, IsDeclared, AreRowsOfTable}
 use Rattle.passassign.specs.declared.assigning.Progress.{Progress}
@@ -18,6 +18,7 @@ use Rattle.passassign.specs.declared.dependency.Dependency.{Dependency}
 use Rattle.passassign.specs.declared.table.State.{State}
 use Rattle.passassign.specs.declared.table.State.TheVariants.{Absent, Open, Given}
 use Rattle.passassign.proofs.Linked.{kinds_names, attribute_within, state_in}
+use Rattle.passassign.proofs.Made.{made_before}
 use Rattle.passassign.proofs.Refusing.{open_step}
 use Rattle.passassign.proofs.Whole.{whole_least}
 
@@ -112,28 +113,31 @@ given_pass Absent there o = absurd (there refl)
 given_pass Open there o = absurd (o refl)
 given_pass (Given p) there o = refl
 
-pub least : (g : Grammar) (all : List Dependency) (p : Progress) (symbols : List Symbol) (productions : List Production) (rows : List (List ℕ)) → IsWith symbols productions g → IsProgress g all p → open_count p.states.items ≡ 0 → AreRowsOfTable symbols p.states.items rows → IsLeast g (passes_of rows)
-least g all p symbols productions rows w progress none rows_are = whole_least g p.next (table_passes p.states.items) (passes_of rows) w.accepted.complete w.accepted.normal progress.made whole is
-  where
-    are : AreRowsOfTable g.symbols p.states.items rows
-    are = subst (λ symbols. AreRowsOfTable symbols p.states.items rows) (sym w.symbols_are) rows_are
+-- the rows of a table without open attributes tell what the table tells
+module _ (g : Grammar) (all : List Dependency) (p : Progress) (symbols : List Symbol) (productions : List Production) (rows : List (List ℕ)) (w : IsWith symbols productions g) (progress : IsProgress g all p) (none : open_count p.states.items ≡ 0)
+    (rows_are : AreRowsOfTable symbols p.states.items rows) where
+  are : AreRowsOfTable g.symbols p.states.items rows
+  are = subst (λ symbols. AreRowsOfTable symbols p.states.items rows) (sym w.symbols_are) rows_are
 
-    whole : (s : ℕ) → length (passes_of rows s) ≡ length (symbol_kinds (slice_get g.symbols s))
-    whole s = are.len s ∙ sym (kinds_names (slice_get g.symbols s))
+  none_there : (s a : ℕ) → attribute_count (slice_get g.symbols s) ≤ a → (x : State) → state_of p.states.items s a ≡ x → given x ≡ None
+  none_there s a le Absent e = refl
+  none_there s a le Open e = refl
+  none_there s a le (Given q) e =
+      let is = (progress.of.table.there s a).0 (λ f. let bad : Given q ≡ Absent = sym e ∙ f in cc) in
+      let l = declared_within g.symbols s a is in absurd (omega arith)
 
-    none_there : (s a : ℕ) → attribute_count (slice_get g.symbols s) ≤ a → (x : State) → state_of p.states.items s a ≡ x → given x ≡ None
-    none_there s a le Absent e = refl
-    none_there s a le Open e = refl
-    none_there s a le (Given q) e =
-        let is = (progress.of.table.there s a).0 (λ f. let bad : Given q ≡ Absent = sym e ∙ f in cc) in
-        let l = declared_within g.symbols s a is in absurd (omega arith)
+  is_table : (s a : ℕ) → partial_of (passes_of rows) s a ≡ table_passes p.states.items s a
+  is_table s a = elim (cases_lt a (attribute_count (slice_get g.symbols s))) [
+    | inl lt ↦ (
+        let d = declared_at g.symbols s a lt in
+        let l = (attribute_within g s a w.accepted d).0 in
+        let e = state_in p.states.items s a l in
+        are.passes s a lt ∙ given_pass (state_at p.states.items (slot_of s a)) (λ f. (progress.of.table.there s a).1 d (e ∙ f)) (none_open p.states.items none (slot_of s a)) ∙ ap given (sym e))
+    | inr le ↦ slice_get_past (passes_of rows s) a (let n = are.len s in omega arith) ∙ sym (none_there s a le (state_of p.states.items s a) refl)
+  ]
 
-    is : (s a : ℕ) → partial_of (passes_of rows) s a ≡ table_passes p.states.items s a
-    is s a = elim (cases_lt a (attribute_count (slice_get g.symbols s))) [
-      | inl lt ↦ (
-          let d = declared_at g.symbols s a lt in
-          let l = (attribute_within g s a w.accepted d).0 in
-          let e = state_in p.states.items s a l in
-          are.passes s a lt ∙ given_pass (state_at p.states.items (slot_of s a)) (λ f. (progress.of.table.there s a).1 d (e ∙ f)) (none_open p.states.items none (slot_of s a)) ∙ ap given (sym e))
-      | inr le ↦ slice_get_past (passes_of rows s) a (let n = are.len s in omega arith) ∙ sym (none_there s a le (state_of p.states.items s a) refl)
-    ]
+  pub least : IsLeast g (passes_of rows)
+  least = whole_least g p.next (table_passes p.states.items) (passes_of rows) w.accepted.complete w.accepted.normal progress.made (λ s. are.len s ∙ sym (kinds_names (slice_get g.symbols s))) is_table
+
+  pub few : p.next ≤ most_passes + 1 → AreFew rows
+  few next s a k e = let lt : k < p.next = made_before progress.made s a k (sym (is_table s a) ∙ e) in omega (arith, lt, next)

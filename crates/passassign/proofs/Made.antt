@@ -1,5 +1,5 @@
--- What the passes make is at most every legal partial assignment.
-use Rattle.std.proofs.Common.{ℕ, suc, ◌≡◌, ◌≤◌, [], Option, Some, None, refl, arith}
+-- What the passes make is at most every legal partial assignment, and none of it is of a pass that isn't made yet.
+use Rattle.std.proofs.Common.{ℕ, suc, ◌≡◌, ◌<◌, ◌≤◌, [], Option, Some, None, refl, arith}
 use Rattle.ag_expr.specs.grammars.AttributeGrammar.{Grammar}
 use Rattle.passassign.specs.Least.{Partial, IsLegalPartial}
 use Rattle.passassign.specs.Making.{IsOpen, IsMade, start, passed}
@@ -30,3 +30,11 @@ made_at_most g k m n made legal s a p q e f = not_above g n legal made s a q p f
 
 pub left_later : (g : Grammar) (k : ℕ) (m n : Partial) → IsMade g k m → IsLegalPartial g n → (s a q : ℕ) → m s a ≡ None → n s a ≡ Some q → k ≤ q
 left_later g k m n made legal s a q gap f = not_before g n legal made s a q f gap
+
+pub made_before : {g : Grammar} {k : ℕ} {m : Partial} → IsMade g k m → (s a p : ℕ) → m s a ≡ Some p → p < k
+made_before (start m none) s a p e = some_none (m s a) p e (none s a)
+made_before (passed k m after strikes made pass) s a p e = go (m s a) refl (λ i h. made_before made s a i h)
+  where
+    go : (x : Option ℕ) → m s a ≡ x → ((i : ℕ) → m s a ≡ Some i → i < k) → p < suc k
+    go (Some i) f before = let same : i ≡ p = one_pass (after s a) i p (pass.kept s a i f) e in let lt : i < k = before i f in omega arith
+    go None f before = let new : p ≡ k = (pass.given s a p f e).1 in omega arith

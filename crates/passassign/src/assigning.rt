@@ -8,7 +8,7 @@ ghost use Rattle.passassign.specs.Certificate.{stuck_of};
 ghost use Rattle.passassign.specs.Least.{IsLeast};
 ghost use Rattle.passassign.specs.Progress.{AreOpenIn, AreReady, IsLeft, IsNext, IsProgress};
 ghost use Rattle.passassign.specs.Progress.{IsWith, open_count};
-ghost use Rattle.passassign.specs.Rows.{passes_of};
+ghost use Rattle.passassign.specs.Rows.{passes_of, AreFew};
 ghost use Rattle.passassign.specs.Searching.{way};
 ghost use Rattle.passassign.specs.Tables.{slot_of, state_at};
 ghost use Rattle.passassign.specs.declared.assigning.AssignFault.TheVariants as fault;
@@ -158,6 +158,8 @@ pub(crate) fn assign_all(
     requires attributes { Each (λ s. length (attribute_names s) ≤ 16) symbols.now }
     ensures least { IfOk result (λ m. (g : Plain)
         → IsWith symbols.now productions.now g → IsLeast g (passes_of m)) }
+    ensures few { IfOk result (λ m. (g : Plain)
+        → IsWith symbols.now productions.now g → AreFew m) }
     ensures refused { IfErr result (λ e. (g : Plain)
         → IsWith symbols.now productions.now g → IsFault g e) }
 {
@@ -177,7 +179,8 @@ pub(crate) fn assign_all(
 }
 
 /// The least legal assignment of passes to the attributes of a grammar: it gives no attribute a
-/// later pass than any legal one does.
+/// later pass than any legal one does. No pass is above 8,192, which is two for each attribute that
+/// a grammar may have.
 ///
 /// A1 where there is no legal one, with any number of passes. It tells all attributes that no legal
 /// assignment of some of the attributes gives a pass, in declared order, and why they can have
@@ -186,6 +189,7 @@ pub(crate) fn assign_all(
 /// Takes memory for the dependencies of the rules and for the strikes of a pass.
 pub fn assign(alloc: Global, grammar: &Grammar) -> Result<Assignment, AssignFault>
     ensures least { IfOk result (λ m. IsLeast grammar.now (passes_of m)) }
+    ensures few { IfOk result AreFew }
     ensures refused { IfErr result (IsFault grammar.now) }
 {
     assign_all(alloc, grammar.symbols(), grammar.productions())

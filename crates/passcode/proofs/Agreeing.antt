@@ -44,7 +44,7 @@ module _ (d : Direction) (xs : List Instr) (rising : AreRising d 340 xs) where
   ]
 
 -- what a rule may use of the right side has lower keys than the rule's own instruction
-reach : (k j i p : ℕ) → i ≤ 16 → 1 ≤ i → MayUse k j i p → (p ≤ k) × (first_key (direction_of k) i < giving_key (direction_of k) j) × (p ≡ k → first_key (direction_of k) i + 17 < giving_key (direction_of k) j)
+pub reach : (k j i p : ℕ) → i ≤ 16 → 1 ≤ i → MayUse k j i p → (p ≤ k) × (first_key (direction_of k) i < giving_key (direction_of k) j) × (p ≡ k → first_key (direction_of k) i + 17 < giving_key (direction_of k) j)
 reach k zero i p few one le = let r = rank_few (direction_of k) i few in (le, omega arith, λ e. omega arith)
 reach k (suc j) i p few one (inl u) = absurd (let z = u.0 in omega arith)
 reach k (suc j) i p few one (inr (inl u)) = let r = rank_before (direction_of k) i (suc j) few u.0 in (u.1, omega arith, λ e. omega arith)
@@ -54,14 +54,14 @@ reach k (suc j) i p few one (inr (inr u)) =
     (omega arith, omega arith, λ e. absurd (omega arith))
 
 -- what has a pass stands somewhere, and what has one of the passes made over a tree is no token
-has_item : (m : Passes) (q : Production) (o : Target) (p : ℕ) → HasPass m q o p → (x : Item) × (item_at q o.place ≡ Some x) × (slice_get (item_passes m (Some x)) o.attr ≡ Some p)
+pub has_item : (m : Passes) (q : Production) (o : Target) (p : ℕ) → HasPass m q o p → (x : Item) × (item_at q o.place ≡ Some x) × (slice_get (item_passes m (Some x)) o.attr ≡ Some p)
 has_item m q o p h = go (item_at q o.place) refl
   where
     go : (x : Option Item) → item_at q o.place ≡ x → (x : Item) × (item_at q o.place ≡ Some x) × (slice_get (item_passes m (Some x)) o.attr ≡ Some p)
     go None e = absurd (let bad : slice_get {X = ℕ} [] o.attr ≡ Some p = subst (λ x. slice_get (item_passes m x) o.attr ≡ Some p) e h in let worse : ⊥ = cc in worse)
     go (Some x) e = (x, e, subst (λ x. slice_get (item_passes m x) o.attr ≡ Some p) e h)
 
-has_symbol : (m : Passes) (q : Production) (o : Target) (p : ℕ) → 1 ≤ p → HasPass m q o p → (s : ℕ) × (item_at q o.place ≡ Some (item.Symbol s))
+pub has_symbol : (m : Passes) (q : Production) (o : Target) (p : ℕ) → 1 ≤ p → HasPass m q o p → (s : ℕ) × (item_at q o.place ≡ Some (item.Symbol s))
 has_symbol m q o p one h = let found = has_item m q o p h in go found.0 found.1 found.2
   where
     go : (x : Item) → item_at q o.place ≡ Some x → slice_get (item_passes m (Some x)) o.attr ≡ Some p → (s : ℕ) × (item_at q o.place ≡ Some (item.Symbol s))

@@ -3,7 +3,7 @@ use Rattle.std.proofs.Common.{ℕ, zero, suc, ◌≡◌, ◌+◌, ◌-◌, ◌%�
 use Rattle.ag_expr.specs.grammars.Passes.{Direction, LeftToRight, RightToLeft, other, direction_of, IsBefore}
 use Rattle.passcode.specs.Listing.{rank, first_key, place_at}
 
-parity : (k : ℕ) → ((k % 2 ≡ 0) × (direction_of k ≡ LeftToRight)) ⊎ ((k % 2 ≡ 1) × (direction_of k ≡ RightToLeft))
+pub parity : (k : ℕ) → ((k % 2 ≡ 0) × (direction_of k ≡ LeftToRight)) ⊎ ((k % 2 ≡ 1) × (direction_of k ≡ RightToLeft))
 parity zero = inl (refl, refl)
 parity (suc k) = elim (parity k) [
   | inl h ↦ (let e = h.0 in inr (omega arith, ap other h.1))

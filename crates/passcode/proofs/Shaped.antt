@@ -7,7 +7,7 @@ use Rattle.passassign.specs.Rows.{IsGreatest}
 use Rattle.passcode.specs.Rows.{Lists, lists_of}
 use Rattle.passcode.specs.Shape.{HasLists}
 
-greatest_most : (rows : List (List ℕ)) (a b : ℕ) → IsGreatest a rows → IsGreatest b rows → a ≤ b
+pub greatest_most : (rows : List (List ℕ)) (a b : ℕ) → IsGreatest a rows → IsGreatest b rows → a ≤ b
 greatest_most rows a b h g = go h.there
   where
     go : (a ≡ 0) ⊎ ((row : List ℕ) × Has rows row × Has row a) → a ≤ b

@@ -12,3 +12,4 @@ mod table;
 pub use code::Code;
 pub use generating::generate;
 pub use instr::Instr;
+pub use listing::instruction;

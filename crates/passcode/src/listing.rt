@@ -13,8 +13,9 @@ use ag_expr::Item;
 use ag_value::NoMemory;
 use std::alloc::Global;
 
-/// The instruction that gives an attribute at a place its value.
-fn instruction(place: u16, attr: u16, rule: u16) -> Instr
+/// The instruction that gives an attribute at a place its value, by a rule's number. Takes no
+/// memory.
+pub fn instruction(place: u16, attr: u16, rule: u16) -> Instr
     ensures { result ≡ giving place attr rule }
 {
     if place == 0 {

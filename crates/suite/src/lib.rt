@@ -7,6 +7,8 @@ mod all_values;
 #[cfg(test)]
 mod expressions;
 #[cfg(test)]
+mod files;
+#[cfg(test)]
 mod reading_back;
 #[cfg(test)]
 mod tree_files;

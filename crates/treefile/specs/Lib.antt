@@ -2,6 +2,7 @@ pub mod Backward
 pub mod Device
 pub mod Ending
 pub mod Faults
+pub mod Files
 pub mod Fuse
 pub mod Orders
 pub mod Records

@@ -4,6 +4,7 @@
 
 mod body;
 mod device;
+mod file;
 mod fuse;
 mod laws;
 mod layout;
@@ -14,6 +15,7 @@ mod writing;
 
 pub use body::{Kind, split_body};
 pub use device::{Device, DeviceFault};
+pub use file::{FileDevice, FileFault};
 pub use fuse::FuseDevice;
 pub use laws::{files_are_read_back, frames_are_read, headers_are_told, last_is_read, records_fit};
 pub use layout::{HEADER_BYTES, LENGTH_BYTES};

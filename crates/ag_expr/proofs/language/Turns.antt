@@ -5,10 +5,12 @@ use Rattle.ag_expr.specs.declared.fault.ExprFault.{ExprFault}
 use Rattle.ag_expr.specs.declared.fault.ExprFault.TheVariants as fault
 use Rattle.ag_expr.specs.declared.node.Node.{Node}
 use Rattle.ag_expr.specs.declared.occurrence.Occ.{Occ}
+use Rattle.ag_expr.specs.declared.parser.Precedence.{Precedence}
 use Rattle.ag_expr.specs.language.Left.{State, Reads, ReadsAs, everything, input}
 use Rattle.ag_expr.specs.language.Names.{Names}
 use Rattle.ag_expr.specs.language.Placed.{Input}
-use Rattle.ag_expr.specs.language.Reading.{Outcome, Parser, sees, many_from, further, whole_from, expr_in}
+use Rattle.ag_expr.specs.language.Reading.{Outcome, Parser, sees, many_from, further, whole_from, expr_in, chain_from, is_operator_of, other_from}
+use Rattle.ag_expr.specs.language.Syntax.{takes_one}
 use Rattle.ag_expr.specs.language.Token.{Token}
 use Rattle.ag_expr.proofs.language.Steady.{Shortens, many_turn}
 
@@ -40,6 +42,11 @@ module _ {A : Type 0} (begins : Token → Bool) (item : Parser A) (found : List 
     unfolding many_from
     failed true so_far e is = sym so_far.same ∙ rw (leads, is) refl
     failed false so_far e is = sym so_far.same ∙ many_turn begins item short found i ∙ rw (leads, is) refl
+
+-- an operand behind which no operator of its precedence stands is all of its chain
+pub alone : (k : Precedence) (operand : Parser Node) (i j : Input) (first : Node) → operand i ≡ Ok (first, j) → sees (is_operator_of k) j ≡ false → chain_from k operand i ≡ Ok (first, j)
+unfolding chain_from
+alone k operand i j first is none = rw (is, stopped (is_operator_of k) (other_from k operand) [] j _ (takes_one k) (record { same = refl }) none) refl
 
 -- a fault that is answered
 pub answered : {X Y : Type 0} (view : X → Y) (read : List Occ → Parser Y) (old new : State) (r : Result X ExprFault) (e : ExprFault) → IsErrAnd r (λ x. x ≡ e) → (e ≢ fault.NoMemory → read (everything old) (input old) ≡ Err e) → ReadsAs view read old r new

@@ -342,7 +342,7 @@ fn files_in_messages(rt: HostRuntime) -> Result<(), Fail> {
     let message = GrammarMessage::new(rt.alloc(), &Fault::File, "a\u{1b}.ag", &[]);
     assert_eq!(&rt;
         message.to_string(rt.alloc())?.as_str(),
-        "F1 the file can't be opened or read: a\\u{1b}.ag"
+        "F1 the file can't be opened, read or made: a\\u{1b}.ag"
     );
     let write = GrammarMessage::new(rt.alloc(), &Fault::Write, "G", FRACTIONS.as_bytes());
     assert_eq!(&rt;

@@ -2,7 +2,7 @@
 
 use super::*;
 
-/// The expression or the file that the words behind the program's name ask for, or nothing where
+/// The expression or the files that the words behind the program's name ask for, or nothing where
 /// they ask for help.
 fn asked(rt: &HostRuntime, words: &[&str]) -> Result<Result<Option<String>, Fault>, Fail> {
     let alloc = rt.alloc();
@@ -13,6 +13,15 @@ fn asked(rt: &HostRuntime, words: &[&str]) -> Result<Result<Option<String>, Faul
     match request_of(rt, alloc, line.as_slice()) {
         Ok(Request::Value(text)) => Ok(Ok(Some(String::from_str(alloc, text)?))),
         Ok(Request::Check(path)) => Ok(Ok(Some(format!(in alloc; "check: {path}")?))),
+        Ok(
+            Request::Parse(
+                Paths {
+                    grammar,
+                    sentence,
+                    tree,
+                },
+            ),
+        ) => Ok(Ok(Some(format!(in alloc; "parse: {grammar} {sentence} {tree}")?))),
         Ok(Request::Nothing) => Ok(Ok(None)),
         Err(fault) => Ok(Err(fault)),
     }
@@ -28,6 +37,7 @@ fn what_words_ask_for(rt: HostRuntime) -> Result<(), Fail> {
         (["value", "--", "--help"].as_slice(), "--help"),
         (["check", "a.ag"].as_slice(), "check: a.ag"),
         (["check", ""].as_slice(), "check: "),
+        (["parse", "g", "s", "t"].as_slice(), "parse: g s t"),
     ] {
         let Ok(Some(asked)) = asked(&rt, words)? else {
             return Err("no expression")?;
@@ -40,6 +50,7 @@ fn what_words_ask_for(rt: HostRuntime) -> Result<(), Fail> {
         ["value", "1", "2"].as_slice(),
         ["check"].as_slice(),
         ["check", "a.ag", "b.ag"].as_slice(),
+        ["parse", "g", "s"].as_slice(),
         ["--no-such-option"].as_slice(),
     ] {
         let refused = matches!(asked(&rt, words)?, Err(Fault::Usage));

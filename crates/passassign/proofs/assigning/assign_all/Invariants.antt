@@ -1,6 +1,7 @@
 use Rattle.std.proofs.Common.{◌≡◌, ◌+◌, ◌*◌, ◌≤◌, length}
 use Rattle.ag_expr.specs.grammars.AttributeGrammar.{Grammar}
 use Rattle.passassign.specs.Progress.{AreReady, IsProgress, IsWith, open_count}
+use Rattle.passassign.specs.Rows.{most_passes}
 use Rattle.passassign.proofs.assigning.assign_all.Given as goal
 
 abbrev pub invariant-loop-open_now : goal.invariant-loop-open_now
@@ -8,7 +9,7 @@ invariant-loop-open_now l = record {
   ready : AreReady l.dependencies (length l.progress.states.items);
   len : length l.progress.states.items ≤ 4096;
   count : l.open_now ≡ open_count l.progress.states.items;
-  next : l.progress.next + 2 * l.open_now ≤ 8193;
+  next : l.progress.next + 2 * l.open_now ≤ most_passes + 1;
   made : (g : Grammar) → IsWith l.symbols l.productions g → IsProgress g l.dependencies.all.items l.progress;
 }
 

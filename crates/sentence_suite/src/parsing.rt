@@ -2,7 +2,7 @@
 
 use ag_scan::scan;
 use ag_text::read_grammar;
-use llparse::{ParseFault, parse, tables};
+use llparse::{ParseFault, expected_at, parse, tables};
 use normalform::{Grammar, check, is_readable};
 use std::alloc::{Alloc, Global};
 use std::process::Abort;
@@ -13,11 +13,21 @@ use treefile::{Device, FuseDevice, MemDevice, WriteFault, Writer};
 /// A name, and then the word `if`.
 const WORD: &str = "start S; symbol S syn out; S = NAME \"if\" { $0.out = $1.lex; }";
 
+/// Binary numbers with a point, without their values.
+const FRACTIONS: &str = "start N; symbol N syn out; symbol Q; symbol L; symbol T; symbol B;
+N = L Q { $0.out = 0; } Q = {} Q = \".\" L {}
+L = B T {} T = {} T = B T {} B = \"0\" {} B = \"1\" {}";
+
 /// Groups that each end with `;`, of items that each end with `,`, of letters `x`.
 const GROUPS: &str = "start S; symbol S syn out; symbol T; symbol V;
 S = T \";\" S { $0.out = 0; } S = { $0.out = 0; }
 T = V \",\" T {} T = {}
 V = \"x\" V {} V = {}";
+
+/// Two right sides with the same symbol in the middle, which may stand for nothing.
+const MIDDLES: &str = "start S; symbol S syn out; symbol M;
+S = \"a\" M \"b\" { $0.out = 0; } S = \"c\" M \"d\" { $0.out = 0; }
+M = \"x\" {} M = {}";
 
 fn grammar(alloc: Global, text: &str) -> Result<Grammar, Fail> {
     let raw = read_grammar(alloc, text.as_bytes())?;
@@ -124,6 +134,53 @@ fn unexpected_tokens(rt: HostRuntime) -> Result<(), Fail> {
         assert_eq!(rt;
             told(alloc, text, sentence)?,
             Err(ParseFault::Unexpected(at)),
+            "{sentence}"
+        );
+    }
+    Ok(())
+}
+
+/// Behind how many tokens a sentence is refused, and what could stand there.
+fn expected(alloc: Global, text: &str, sentence: &str) -> Result<String, Fail> {
+    let grammar = grammar(alloc, text)?;
+    let tables = tables(alloc, &grammar)?;
+    let tokens = scan(alloc, &grammar, sentence.as_bytes())?;
+    let stuck = expected_at(alloc, &grammar, &tables, tokens.as_slice())?;
+    Ok(format!(in alloc; "{} {:?}", stuck.index, stuck.expected)?)
+}
+
+#[test]
+fn what_could_stand(rt: HostRuntime) -> Result<(), Fail> {
+    let alloc = rt.alloc();
+    for (text, sentence, wanted) in [
+        (
+            FRACTIONS,
+            "1.",
+            "2 [Terminal(Literal(1)), Terminal(Literal(2))]",
+        ),
+        (
+            FRACTIONS,
+            "1.0.",
+            "3 [Terminal(Literal(1)), Terminal(Literal(2)), End]",
+        ),
+        (WORD, "if iffy", "0 [Terminal(Class(0))]"),
+        (WORD, "a b", "1 [Terminal(Literal(0))]"),
+        (WORD, "a if if", "2 [End]"),
+        (
+            GROUPS,
+            "x ,x;",
+            "3 [Terminal(Literal(1)), Terminal(Literal(2))]",
+        ),
+        (
+            MIDDLES,
+            "a d",
+            "1 [Terminal(Literal(1)), Terminal(Literal(4))]",
+        ),
+        (MIDDLES, "a b", "2 []"),
+    ] {
+        assert_eq!(rt;
+            expected(alloc, text, sentence)?.as_str(),
+            wanted,
             "{sentence}"
         );
     }

@@ -1,0 +1,56 @@
+-- What a refusal of tokens, and of a tree of tokens, says of the sentence.
+use Rattle.std.proofs.Common.{◌≡◌, ◌≢◌, ◌<◌, ℕ, List, Result, Ok, Err, refl, subst, sym}
+use Rattle.std.specs.Prelude.{IsErrOf}
+use Rattle.ag_expr.specs.grammars.Accepted.{IsAccepted}
+use Rattle.ag_expr.specs.grammars.AttributeGrammar.{Grammar}
+use Rattle.ag_expr.specs.grammars.Tree.{Tree, depth_of, node_count, most_depth, most_nodes}
+use Rattle.ag_scan.specs.Laws.{IsAnswer}
+use Rattle.ag_scan.specs.Tokens.{AreTokensOf, IsRefused}
+use Rattle.ag_scan.specs.Words.{vocabulary_of}
+use Rattle.ag_scan.specs.declared.fault.ScanFault.{ScanFault}
+use Rattle.ag_scan.specs.declared.fault.ScanFault.TheVariants as scan
+use Rattle.ag_scan.specs.declared.token.Token.{Token}
+use Rattle.ag_scan.proofs.OneAnswer.{at_most_one}
+use Rattle.llparse.specs.Sentences.{IsTreeWith, IsUnexpectedAt, words_of}
+use Rattle.llparse.specs.Tables.{Choices, FitsGrammar}
+use Rattle.llparse.specs.declared.parse_fault.ParseFault.{ParseFault}
+use Rattle.llparse.specs.declared.parse_fault.ParseFault.TheVariants as parse
+use Rattle.llparse.proofs.Steps.{one_parse}
+use Rattle.aggen.specs.Sentences.{HasNoTree, IsTreeOfSentence, IsSentenceFault}
+use Rattle.aggen.specs.Status.{parse_fault_of, scan_fault_of}
+
+same_tokens : (g : Grammar) → IsAccepted g → (sentence : List ℕ) (ts us : List Token) → AreTokensOf (vocabulary_of g) sentence ts → AreTokensOf (vocabulary_of g) sentence us → us ≡ ts
+same_tokens g ok sentence ts us a b = let same : Ok us ≡ Ok ts = at_most_one g ok sentence (Ok us) (Ok ts) b a in cc
+
+-- the tree of a sentence is one of its tokens
+pub with_tokens : (g : Grammar) → IsAccepted g → (sentence : List ℕ) (ts : List Token) → AreTokensOf (vocabulary_of g) sentence ts → (t : Tree) → IsTreeOfSentence g sentence t → IsTreeWith g (words_of ts) t
+with_tokens g ok sentence ts cut t is = subst (λ us. IsTreeWith g (words_of us) t) (same_tokens g ok sentence ts is.tokens cut is.cut) is.tree
+
+-- a sentence that has a refusal has no tokens, and so no tree
+none_of : (g : Grammar) → IsAccepted g → (sentence : List ℕ) (f : ScanFault) → (IsAnswer (vocabulary_of g) sentence (Err f)) → HasNoTree g sentence
+none_of g ok sentence f is t of_sentence = let same : Ok of_sentence.tokens ≡ Err f = at_most_one g ok sentence (Ok of_sentence.tokens) (Err f) of_sentence.cut is in absurd cc
+
+pub scan_told : (g : Grammar) → IsAccepted g → (sentence : List ℕ) (f : ScanFault) → IsRefused (vocabulary_of g) sentence f → IsSentenceFault g sentence (scan_fault_of f)
+scan_told g ok sentence scan.TooLong is = record { reason = is; of_sentence = λ e. absurd cc; none = none_of g ok sentence scan.TooLong is }
+scan_told g ok sentence (scan.BadUtf8 at) is = record { reason = is; of_sentence = λ e. absurd cc; none = none_of g ok sentence (scan.BadUtf8 at) is }
+scan_told g ok sentence (scan.NoToken at) is = record { reason = is; of_sentence = λ e. absurd cc; none = none_of g ok sentence (scan.NoToken at) is }
+scan_told g ok sentence (scan.LongToken at) is = record { reason = is; of_sentence = λ e. absurd cc; none = none_of g ok sentence (scan.LongToken at) is }
+scan_told g ok sentence scan.NoMemory is = tt
+
+-- a sentence has one tree at most
+pub one_of : (g : Grammar) → IsAccepted g → (tables : Choices) → FitsGrammar g tables → (sentence : List ℕ) (t u : Tree) → IsTreeOfSentence g sentence t → IsTreeOfSentence g sentence u → t ≡ u
+one_of g ok tables fits sentence t u a b = one_parse g tables fits (words_of a.tokens) t u a.tree (with_tokens g ok sentence a.tokens a.cut u b)
+
+-- what a refusal of the tokens tells of the sentence
+pub parse_told : (g : Grammar) → IsAccepted g → (sentence : List ℕ) (ts : List Token) → AreTokensOf (vocabulary_of g) sentence ts → (r : Result ℕ ParseFault) (f : ParseFault) → r ≡ Err f
+    → ((at : ℕ) → r ≡ Err (parse.Unexpected at) → IsUnexpectedAt g ts at)
+    → ((at : ℕ) (t : Tree) → r ≡ Err (parse.Unexpected at) → IsTreeWith g (words_of ts) t → ⊥)
+    → ((t : Tree) → IsTreeWith g (words_of ts) t → IsErrOf r parse.TooDeep → most_depth < depth_of t)
+    → ((t : Tree) → IsTreeWith g (words_of ts) t → IsErrOf r parse.TooManyNodes → most_nodes < node_count t)
+    → IsSentenceFault g sentence (parse_fault_of f)
+parse_told g ok sentence ts cut r (parse.Unexpected at) e unexpected none deep large =
+    record { tokens = ts; cut = cut; place = unexpected at e; none = λ t is. none at t e (with_tokens g ok sentence ts cut t is) }
+parse_told g ok sentence ts cut r parse.TooDeep e unexpected none deep large = λ t is. deep t (with_tokens g ok sentence ts cut t is) (subst (λ z. IsErrOf z parse.TooDeep) (sym e) refl)
+parse_told g ok sentence ts cut r parse.TooManyNodes e unexpected none deep large = λ t is. large t (with_tokens g ok sentence ts cut t is) (subst (λ z. IsErrOf z parse.TooManyNodes) (sym e) refl)
+parse_told g ok sentence ts cut r parse.Device e unexpected none deep large = tt
+parse_told g ok sentence ts cut r parse.NoMemory e unexpected none deep large = tt

@@ -1,0 +1,54 @@
+use Rattle.std.proofs.Common.{Err, refl, sym, ◌∙◌}
+use Rattle.std.proofs.lemmas.Result.{err_from_is_err_and}
+use Rattle.ag_scan.specs.Tokens.{AreTokensOf}
+use Rattle.ag_scan.specs.Words.{vocabulary_of}
+use Rattle.aggen.specs.Sentences.{IsTreeOfSentence}
+use Rattle.aggen.proofs.Sentences.{one_of, parse_told, scan_told, with_tokens}
+use Rattle.aggen.proofs.translator.Translator.parse_tree.Goals as goal
+
+-- a sentence has one tree at most, whatever is answered
+pub returns-in_err-tokens-clause-one : goal.returns-in_err-tokens-clause-one
+returns-in_err-tokens-clause-one g c = rw (sym c.self.view_is) (one_of _ c.self.invariant.0 _ c.self.invariant.1 c.args.sentence.now)
+
+pub returns-in_err-writer-clause-one : goal.returns-in_err-writer-clause-one
+returns-in_err-writer-clause-one g c = rw (sym c.self.view_is) (one_of _ c.self.invariant.0 _ c.self.invariant.1 c.args.sentence.now)
+
+pub returns-in_err-count-clause-one : goal.returns-in_err-count-clause-one
+returns-in_err-count-clause-one g c = rw (sym c.self.view_is) (one_of _ c.self.invariant.0 _ c.self.invariant.1 c.args.sentence.now)
+
+pub returns-clause-one : goal.returns-clause-one
+returns-clause-one g c = rw (sym c.self.view_is) (one_of _ c.self.invariant.0 _ c.self.invariant.1 c.args.sentence.now)
+
+-- the tree of the sentence is one of its tokens
+pub returns-clause-limits : goal.returns-clause-limits
+returns-clause-limits g c = λ t is.
+    let i : IsTreeOfSentence c.self.inside.grammar c.args.sentence.now t = rw c.self.view_is is in
+    let cut : AreTokensOf (vocabulary_of c.self.inside.grammar) c.args.sentence.now c.as_slice.result.now = rw c.as_slice.ensures.value c.in_ok-tokens.ensures.tokens in
+    c.in_ok-count.ensures.limits t (with_tokens _ c.self.invariant.0 c.args.sentence.now _ cut t i)
+
+pub returns-clause-count : goal.returns-clause-count
+returns-clause-count g c = λ t is.
+    let i : IsTreeOfSentence c.self.inside.grammar c.args.sentence.now t = rw c.self.view_is is in
+    let cut : AreTokensOf (vocabulary_of c.self.inside.grammar) c.args.sentence.now c.as_slice.result.now = rw c.as_slice.ensures.value c.in_ok-tokens.ensures.tokens in
+    c.in_ok-count.ensures.count t (with_tokens _ c.self.invariant.0 c.args.sentence.now _ cut t i)
+
+pub returns-clause-file : goal.returns-clause-file
+returns-clause-file g c = λ t is.
+    let i : IsTreeOfSentence c.self.inside.grammar c.args.sentence.now t = rw c.self.view_is is in
+    let cut : AreTokensOf (vocabulary_of c.self.inside.grammar) c.args.sentence.now c.as_slice.result.now = rw c.as_slice.ensures.value c.in_ok-tokens.ensures.tokens in
+    let h = c.in_ok-count.ensures.file t (with_tokens _ c.self.invariant.0 c.args.sentence.now _ cut t i) in
+    let b = c.begin.ensures.persists in
+    rw (sym c.self.view_is) (λ honest. h (b.honest ∙ honest))
+
+-- what a refusal of the tokens, and of their tree, tells of the sentence
+pub returns-in_err-tokens-clause-refused : goal.returns-in_err-tokens-clause-refused
+returns-in_err-tokens-clause-refused g c =
+    let p = err_from_is_err_and c.from_residual.result c.from_residual.ensures.1 in
+    rw (p.1, p.2, sym c.self.view_is) (scan_told _ c.self.invariant.0 c.args.sentence.now _ c.in_err-tokens.ensures.refused)
+
+pub returns-in_err-count-clause-refused : goal.returns-in_err-count-clause-refused
+returns-in_err-count-clause-refused g c =
+    let p = err_from_is_err_and c.from_residual-in_err-count.result c.from_residual-in_err-count.ensures.1 in
+    let cut : AreTokensOf (vocabulary_of c.self.inside.grammar) c.args.sentence.now c.as_slice.result.now = rw c.as_slice.ensures.value c.in_ok-tokens.ensures.tokens in
+    let e = c.in_err-count.ensures in
+    rw (p.1, p.2, sym c.self.view_is) (parse_told _ c.self.invariant.0 c.args.sentence.now _ cut (Err c.in_err-count.field-0.0) c.in_err-count.field-0.0 refl e.unexpected e.none e.deep e.large)

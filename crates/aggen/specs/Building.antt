@@ -1,0 +1,45 @@
+-- What it means that a text makes a translator: the grammar that it is, or its first fault. All of this is this project's.
+use Rattle.std.specs.Prelude.{ℕ, List}
+use Rattle.ag_expr.specs.grammars.AttributeGrammar.{Grammar}
+use Rattle.ag_text.specs.declared.fault.TextFault.{TextFault}
+use Rattle.ag_text.specs.declared.fault.TextFault.TheVariants as text
+use Rattle.llparse.specs.Tables.{IsLeastConflict}
+use Rattle.llparse.specs.declared.fault.TableFault.{TableFault}
+use Rattle.llparse.specs.declared.fault.TableFault.TheVariants as table
+use Rattle.normalform.specs.declared.fault.NormalFault.{NormalFault}
+use Rattle.normalform.specs.declared.fault.NormalFault.TheVariants as normal
+use Rattle.aggen.specs.Checking.{IsGrammarOf, IsNormalFaultOf, IsTextFaultOf}
+use Rattle.aggen.specs.declared.build_fault.BuildFault.{BuildFault}
+use Rattle.aggen.specs.declared.build_fault.BuildFault.TheVariants as build
+
+-- want of memory is a fault of its own, and never inside another
+abbrev pub build_fault_of_text : TextFault → BuildFault
+build_fault_of_text text.NoMemory = build.NoMemory
+build_fault_of_text e = build.Text e
+
+abbrev pub build_fault_of_normal : NormalFault → BuildFault
+build_fault_of_normal normal.NoMemory = build.NoMemory
+build_fault_of_normal e = build.Normal e
+
+abbrev pub build_fault_of_table : TableFault → BuildFault
+build_fault_of_table table.NoMemory = build.NoMemory
+build_fault_of_table e = build.Table e
+
+-- L1: the text is an accepted grammar, whose least conflict this is; want of memory is no L1
+abbrev pub IsConflictOf : List ℕ → TableFault → Type 0
+IsConflictOf t (table.Conflict symbol first second ahead) = (g : Grammar) × IsGrammarOf t g × IsLeastConflict g symbol first second ahead
+IsConflictOf t table.NoMemory = ⊥
+
+-- G and N: what the refusal of a text as an accepted grammar says; want of memory says nothing
+abbrev pub IsGrammarFault : List ℕ → BuildFault → Type 0
+IsGrammarFault t (build.Text f) = IsTextFaultOf t f
+IsGrammarFault t (build.Normal f) = IsNormalFaultOf t f
+IsGrammarFault t (build.Table f) = ⊥
+IsGrammarFault t build.NoMemory = Unit {0}
+
+-- G, N and L: what the refusal of a text says
+abbrev pub IsBuildFault : List ℕ → BuildFault → Type 0
+IsBuildFault t (build.Text f) = IsTextFaultOf t f
+IsBuildFault t (build.Normal f) = IsNormalFaultOf t f
+IsBuildFault t (build.Table f) = IsConflictOf t f
+IsBuildFault t build.NoMemory = Unit {0}

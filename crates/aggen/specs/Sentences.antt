@@ -1,0 +1,61 @@
+-- What it means to parse a sentence: the tree that it has, and what a refusal tells of it. All of this is this project's.
+use Rattle.std.specs.Prelude.{◌≡◌, ◌≢◌, ◌<◌, ◌++◌, ℕ, List, codes, decimal}
+use Rattle.ag_expr.specs.grammars.AttributeGrammar.{Grammar}
+use Rattle.ag_expr.specs.grammars.Tree.{Tree, depth_of, node_count, most_depth, most_nodes}
+use Rattle.ag_scan.specs.Tokens.{AreTokensOf, IsRefused}
+use Rattle.ag_scan.specs.Words.{vocabulary_of}
+use Rattle.ag_scan.specs.declared.fault.ScanFault.{ScanFault}
+use Rattle.ag_scan.specs.declared.fault.ScanFault.TheVariants as scan
+use Rattle.ag_scan.specs.declared.token.Token.{Token}
+use Rattle.llparse.specs.Sentences.{IsTreeWith, IsUnexpectedAt, words_of}
+use Rattle.llparse.specs.declared.parse_fault.ParseFault.{ParseFault}
+use Rattle.llparse.specs.declared.parse_fault.ParseFault.TheVariants as parse
+use Rattle.aggen.specs.declared.fault.Fault.{Fault}
+use Rattle.aggen.specs.declared.fault.Fault.TheVariants as fault
+
+-- a derivation tree of a sentence: its yield is the sentence's tokens, each the longest that begins where it stands
+pub record IsTreeOfSentence (g : Grammar) (sentence : List ℕ) (t : Tree) : Type 0 where
+  pub tokens : List Token
+  pub cut : AreTokensOf (vocabulary_of g) sentence tokens
+  pub tree : IsTreeWith g (words_of tokens) t
+
+abbrev pub HasNoTree : Grammar → List ℕ → Type 0
+HasNoTree g sentence = (t : Tree) → IsTreeOfSentence g sentence t → ⊥
+
+-- S1 to S4: the sentence has no tokens, for this reason, and so no tree; want of memory is no S
+pub record IsScanFaultOf (g : Grammar) (sentence : List ℕ) (f : ScanFault) : Type 0 where
+  pub reason : IsRefused (vocabulary_of g) sentence f
+  pub of_sentence : f ≢ scan.NoMemory
+  pub none : HasNoTree g sentence
+
+-- P1: the sentence has tokens, but no tree, and the offset is where that shows
+pub record HasNoTreeFrom (g : Grammar) (sentence : List ℕ) (at : ℕ) : Type 0 where
+  pub tokens : List Token
+  pub cut : AreTokensOf (vocabulary_of g) sentence tokens
+  pub place : IsUnexpectedAt g tokens at
+  pub none : HasNoTree g sentence
+
+-- P1 to P3: no tree, or each beyond a limit; a failed device and want of memory are no P
+abbrev pub IsParseFaultOf : Grammar → List ℕ → ParseFault → Type 0
+IsParseFaultOf g sentence (parse.Unexpected at) = HasNoTreeFrom g sentence at
+IsParseFaultOf g sentence parse.TooDeep = (t : Tree) → IsTreeOfSentence g sentence t → most_depth < depth_of t
+IsParseFaultOf g sentence parse.TooManyNodes = (t : Tree) → IsTreeOfSentence g sentence t → most_nodes < node_count t
+IsParseFaultOf g sentence parse.Device = ⊥
+IsParseFaultOf g sentence parse.NoMemory = ⊥
+
+-- what a refusal says of the sentence; a failed device and want of memory say nothing, and no other fault comes
+abbrev pub IsSentenceFault : Grammar → List ℕ → Fault → Type 0
+IsSentenceFault g sentence (fault.Scan f) = IsScanFaultOf g sentence f
+IsSentenceFault g sentence (fault.Parse f) = IsParseFaultOf g sentence f
+IsSentenceFault g sentence fault.Device = Unit {0}
+IsSentenceFault g sentence fault.NoMemory = Unit {0}
+IsSentenceFault g sentence _ = ⊥
+
+-- S1 to S4
+abbrev pub IsScanFault : Fault → Type 0
+IsScanFault (fault.Scan f) = Unit {0}
+IsScanFault _ = ⊥
+
+-- the line that tells how many nodes a tree has
+abbrev pub nodes_line : ℕ → List ℕ
+nodes_line count = decimal count ++ codes " nodes\n"

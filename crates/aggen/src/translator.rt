@@ -1,0 +1,129 @@
+//! Translators: made once of a grammar's text, and then used for any number of sentences.
+
+ghost use Rattle.std.specs.Prelude.{◌≡◌, IfErr, IfOk, IsErrOf, OnOk, string_bytes};
+ghost use Rattle.ag_expr.specs.grammars.Tree.{node_count, IsWithinLimits, Tree};
+ghost use Rattle.ag_expr.specs.grammars.Tree.{most_depth, most_nodes};
+ghost use Rattle.llparse.specs.Ahead.{HasNoConflict};
+ghost use Rattle.llparse.specs.Sentences.{IsFirstFile};
+ghost use Rattle.llparse.specs.Tables.{FitsGrammar};
+ghost use Rattle.treefile.specs.Device.{Persists, WhenHonest};
+ghost use Rattle.aggen.specs.Building.{IsBuildFault};
+ghost use Rattle.aggen.specs.Checking.{IsGrammarOf};
+ghost use Rattle.aggen.specs.Sentences.{IsScanFault, IsSentenceFault, IsTreeOfSentence};
+ghost use Rattle.aggen.specs.Sentences.{nodes_line as line_of};
+
+use crate::build_fault::BuildFault;
+use crate::checking::grammar_of;
+use crate::fault::Fault;
+use ag_scan::scan;
+use llparse::{Tables, parse, tables};
+use normalform::Grammar;
+use std::alloc::{AllocError, Global};
+use std::marker::Model;
+use treefile::{Device, Writer};
+
+/// A grammar with the tables of its productions, which it keeps fitting. Contracts see it as its
+/// grammar. It keeps the allocator that it was made by.
+#[derive(Drop)]
+pub struct Translator {
+    grammar: Grammar,
+    tables: Tables,
+    alloc: Global,
+}
+
+impl Model for Translator {
+    ghost use Rattle.std.specs.Coded.{codes};
+    ghost use Rattle.ag_expr.specs.contracts.node.Node as node_row;
+    ghost use Rattle.ag_expr.specs.grammars.Accepted.{IsAccepted};
+    ghost use Rattle.ag_expr.specs.grammars.AttributeGrammar.{Grammar as Plain};
+    ghost use Rattle.llparse.specs.Tables.{FitsGrammar};
+
+    ghost Value = { Plain };
+
+    ghost coded = { Prim.hlevel (codes, node_row.the_row.coded) };
+
+    ghost view = { λ t. t.grammar };
+
+    ghost invariant = { λ t. IsAccepted t.grammar × FitsGrammar t.grammar t.tables };
+}
+
+impl Translator {
+    /// The translator of a grammar's text.
+    ///
+    /// G1 to G4 where the text reads as no grammar; then N1 to N10, the first fault of the grammar
+    /// that it reads as; then L1, the least conflict of an accepted grammar.
+    pub fn build(alloc: Global, text: &[u8]) -> Result<Translator, BuildFault>
+        ensures grammar { IfOk result (λ t. IsGrammarOf text.now t) }
+        ensures free { IfOk result (λ t. HasNoConflict t) }
+        ensures refused { IfErr result (λ e. IsBuildFault text.now e) }
+    {
+        let grammar = grammar_of(alloc, text)?;
+        let tables = tables(alloc, &grammar)?;
+        Ok(Translator {
+            grammar,
+            tables,
+            alloc,
+        })
+    }
+
+    /// Lends the grammar. Takes no memory.
+    pub fn grammar(&self) -> &Grammar
+        ensures { result.now ≡ self.now }
+    {
+        &self.grammar
+    }
+
+    /// Lends the tables. Takes no memory.
+    pub fn tables(&self) -> &Tables
+        ensures { FitsGrammar self.now result.now }
+    {
+        &self.tables
+    }
+
+    /// Takes away what the device has, and leaves there the file of pass 0 of the sentence's one
+    /// tree; answers the number of its stored nodes.
+    ///
+    /// S1 to S4 where the sentence has no tokens, before the device is touched; P1 where it has
+    /// tokens and no tree; P2 and P3 where its tree is beyond the limits; D1 where the device
+    /// failed. On P and D1 a beginning of a file may be there.
+    pub fn parse_tree<D: Device>(&self, sentence: &[u8], device: &mut D) -> Result<u32, Fault>
+        // an answer: there is one tree, it is within the limits, and its file is left
+        ensures tree { IfOk result (λ _. (t : Tree) × IsTreeOfSentence self.now sentence.now t) }
+        ensures one { (t u : Tree) → IsTreeOfSentence self.now sentence.now t
+            → IsTreeOfSentence self.now sentence.now u → t ≡ u }
+        ensures limits { (t : Tree) → IsTreeOfSentence self.now sentence.now t
+            → OnOk result (IsWithinLimits most_depth most_nodes t) }
+        ensures count { (t : Tree) → IsTreeOfSentence self.now sentence.now t
+            → IfOk result (λ count. count ≡ node_count t) }
+        ensures file { (t : Tree) → IsTreeOfSentence self.now sentence.now t
+            → OnOk result (WhenHonest (D.is_honest device.old)
+            (IsFirstFile self.now t (D.content device.new))) }
+
+        // a refusal: what it says of the sentence is true
+        ensures refused { IfErr result (λ e. IsSentenceFault self.now sentence.now e) }
+        ensures untouched { IfErr result (λ e. IsScanFault e → device.new ≡ device.old) }
+        ensures persists { Persists (D.is_honest device.old) (D.is_honest device.new)
+            (D.failures device.old) (D.failures device.new) (IsErrOf result Fault.Device) }
+    {
+        let tokens = scan(self.alloc, &self.grammar, sentence)?;
+        let mut writer = Writer::begin(self.alloc, device, 0)?;
+        let count = parse(
+            self.alloc,
+            &self.grammar,
+            &self.tables,
+            tokens.as_slice(),
+            device,
+            &mut writer,
+        )?;
+        Ok(count)
+    }
+}
+
+/// The line that tells how many nodes a tree has.
+pub fn nodes_line(alloc: Global, count: u32) -> Result<String, AllocError>
+    ensures { IfOk result (λ line. string_bytes line ≡ line_of count) }
+{
+    let mut line = count.to_string(alloc)?;
+    line.push_str(" nodes\n")?;
+    Ok(line)
+}

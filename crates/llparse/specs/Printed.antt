@@ -1,0 +1,19 @@
+-- How faults are printed: this project's.
+use Rattle.std.specs.Prelude.{ℕ, List, ◌++◌, codes, decimal}
+use Rattle.llparse.specs.declared.fault.TableFault.{TableFault}
+use Rattle.llparse.specs.declared.fault.TableFault.TheVariants as table_fault
+use Rattle.llparse.specs.declared.parse_fault.ParseFault.{ParseFault}
+use Rattle.llparse.specs.declared.parse_fault.ParseFault.TheVariants as fault
+
+-- how a fault of a grammar is printed: its number
+abbrev pub printed_table : TableFault → List ℕ
+printed_table (table_fault.Conflict symbol first second ahead) = codes "L1"
+printed_table table_fault.NoMemory = codes "NoMemory"
+
+-- how a fault of a sentence is printed: its number, and the offset in decimal
+abbrev pub printed : ParseFault → List ℕ
+printed (fault.Unexpected at) = codes "P1 at " ++ decimal at
+printed fault.TooDeep = codes "P2"
+printed fault.TooManyNodes = codes "P3"
+printed fault.Device = codes "D1"
+printed fault.NoMemory = codes "NoMemory"

@@ -1,0 +1,195 @@
+//! What could stand where a sentence is refused: each look-ahead is tried behind the tokens before
+//! that place.
+ghost use Rattle.std.specs.Prelude.{◌≡◌, ◌≤◌, true, length, All, IfOk, OnOk};
+ghost use Rattle.llparse.specs.Tables.{is_known};
+
+use crate::ahead::Ahead;
+use crate::lookup::Tables;
+use crate::nodes::Sizes;
+use crate::parse_fault::ParseFault;
+use crate::parser::Parser;
+use crate::tokens::expect;
+use ag_expr::{Item, Terminal};
+use ag_scan::Token;
+use ag_value::{NoMemory, Text};
+use normalform::Grammar;
+use std::alloc::Global;
+
+/// Takes a token of the terminal that comes next, and writes nothing.
+fn pass(parser: &mut Parser, tokens: &[Token], terminal: Terminal) -> Result<(), ParseFault>
+    ensures stack { OnOk result (parser.new.stack.items ≡ parser.old.stack.items) }
+    ensures count { OnOk result (parser.old.count ≤ parser.new.count) }
+{
+    expect(tokens, parser.taken, terminal)?;
+    if matches!(terminal, Terminal::Class(_)) {
+        parser.has_room()?;
+        parser.count += 1;
+    }
+    parser.taken += 1;
+    Ok(())
+}
+
+/// Goes on with the open nodes until so many tokens are taken or nothing is open, and writes
+/// nothing. A refusal leaves the parser at the token that it can't take.
+fn go_on(
+    parser: &mut Parser,
+    grammar: &Grammar,
+    tables: &Tables,
+    tokens: &[Token],
+    until: usize,
+) -> Result<(), ParseFault> {
+    while let Some(node) = parser.stack.pop() {
+        match parser.advance(grammar, node)? {
+            None => {}
+            Some(item) => match item {
+                Item::Symbol(symbol) => parser.open(tables, tokens, symbol)?,
+                Item::Terminal(terminal) => {
+                    pass(parser, tokens, terminal)?;
+                    if until <= parser.taken {
+                        return Ok(());
+                    }
+                }
+            },
+        }
+    }
+    Ok(())
+}
+
+/// The start symbol is opened and then gone on with, until so many tokens are taken.
+fn begin(
+    parser: &mut Parser,
+    grammar: &Grammar,
+    tables: &Tables,
+    tokens: &[Token],
+    until: usize,
+) -> Result<(), ParseFault> {
+    parser.open(tables, tokens, grammar.start())?;
+    go_on(parser, grammar, tables, tokens, until)
+}
+
+/// A parser that has taken no token.
+fn at_front(alloc: Global) -> Parser {
+    Parser {
+        stack: Vec::new(alloc),
+        taken: 0,
+        count: 0,
+    }
+}
+
+/// Whether a look-ahead could stand behind what a parser has taken.
+fn could_stand(
+    alloc: Global,
+    grammar: &Grammar,
+    tables: &Tables,
+    before: &Parser,
+    ahead: Ahead,
+) -> Result<bool, NoMemory> {
+    let tokens = tokens_of(alloc, ahead)?;
+    let mut trial = Parser {
+        stack: before.stack.clone()?,
+        taken: 0,
+        count: before.count,
+    };
+    let tried = if before.taken == 0 {
+        begin(&mut trial, grammar, tables, tokens.as_slice(), 1)
+    } else {
+        go_on(&mut trial, grammar, tables, tokens.as_slice(), 1)
+    };
+    match tried {
+        Ok(()) => Ok(trial.taken == tokens.len()),
+        Err(ParseFault::NoMemory) => Err(NoMemory::NoMemory),
+        Err(_) => Ok(false),
+    }
+}
+
+/// A token of a look-ahead, without a text; none for the end.
+fn tokens_of(alloc: Global, ahead: Ahead) -> Result<Vec<Token>, NoMemory> {
+    let mut tokens = Vec::new(alloc);
+    if let Ahead::Terminal(kind) = ahead {
+        tokens.push(Token {
+            kind,
+            lex: Text::from_string(String::new(alloc)),
+            at: 0,
+        })?;
+    }
+    Ok(tokens)
+}
+
+/// Where `parse` refuses tokens by P1.
+#[derive(Debug, Drop)]
+pub struct Stuck {
+    /// How many tokens stand before the one that can't be taken; all of them, where the sentence
+    /// can't end.
+    pub index: usize,
+    /// What could stand in its place: the literals in the grammar's order, the classes, and then the
+    /// end of the sentence.
+    pub expected: Vec<Ahead>,
+}
+
+/// How many tokens are taken, and whether the one behind them can't be, or the end can't come there.
+fn taken_of(
+    alloc: Global,
+    grammar: &Grammar,
+    tables: &Tables,
+    tokens: &[Token],
+) -> Result<(usize, bool), NoMemory> {
+    let mut parser = at_front(alloc);
+    let refused = match begin(&mut parser, grammar, tables, tokens, usize::MAX) {
+        Ok(()) => parser.taken < tokens.len(),
+        Err(ParseFault::Unexpected(_)) => true,
+        Err(ParseFault::NoMemory) => return Err(NoMemory::NoMemory),
+        Err(_) => false,
+    };
+    Ok((parser.taken, refused))
+}
+
+/// A parser that has taken so many tokens, and has not looked at the next one.
+fn parser_behind(
+    alloc: Global,
+    grammar: &Grammar,
+    tables: &Tables,
+    tokens: &[Token],
+    count: usize,
+) -> Result<Parser, ParseFault> {
+    let mut parser = at_front(alloc);
+    if 0 < count {
+        begin(&mut parser, grammar, tables, tokens, count)?;
+    }
+    Ok(parser)
+}
+
+/// The place where `parse` refuses these tokens by P1, and what could stand there. Each look-ahead
+/// has been tried behind the tokens before that place, with all that is open there, so one that the
+/// tables allow in other places alone is not told. Where `parse` doesn't refuse them by P1, there
+/// is nothing that could stand.
+///
+/// Asks for tables of the grammar. Reads the tokens twice, and takes memory for two stacks as
+/// `parse` has one, and for the answer.
+pub fn expected_at(
+    alloc: Global,
+    grammar: &Grammar,
+    tables: &Tables,
+    tokens: &[Token],
+) -> Result<Stuck, NoMemory>
+    ensures known { IfOk result (λ stuck. All
+        (λ ahead. is_known (length grammar.now.literals) ahead ≡ true) stuck.expected.items) }
+{
+    let mut expected = Vec::new(alloc);
+    let (index, refused) = taken_of(alloc, grammar, tables, tokens)?;
+    if !refused {
+        return Ok(Stuck { index, expected });
+    }
+    let before = match parser_behind(alloc, grammar, tables, tokens, index) {
+        Ok(parser) => parser,
+        Err(ParseFault::NoMemory) => return Err(NoMemory::NoMemory),
+        Err(_) => return Ok(Stuck { index, expected }),
+    };
+    let sizes = Sizes::of(grammar);
+    for place in 0..sizes.aheads() {
+        let ahead = sizes.ahead(place);
+        if could_stand(alloc, grammar, tables, &before, ahead)? {
+            expected.push(ahead)?;
+        }
+    }
+    Ok(Stuck { index, expected })
+}

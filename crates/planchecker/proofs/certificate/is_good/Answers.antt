@@ -1,0 +1,29 @@
+use Rattle.std.proofs.Common.{◌≡◌, Some, slice_get, refl, sym, ap, ◌∙◌}
+use Rattle.std.proofs.lemmas.Option.{slice_get_read}
+use Rattle.ag_expr.specs.grammars.Passes.{direction_of}
+use Rattle.passassign.specs.Certificate.{Members}
+use Rattle.planchecker.proofs.Loops.{is_yes}
+use Rattle.planchecker.proofs.Strikes.{reason_of}
+use Rattle.planchecker.proofs.certificate.is_good.Goals as goal
+
+pub returns : goal.returns
+returns c =
+    let q = c.in-Some.production.now in
+    let u = c.in-Some-get.rule.now in
+    let o = c.in-Some-get-2.argument.now in
+    let production : slice_get c.args.grammar.now.productions c.args.strike.production ≡ Some q = ap (λ xs. slice_get xs c.args.strike.production) (sym c.productions.ensures.lent) ∙ slice_get_read c.productions.result.now _ c.args.strike.production q refl c.in-Some.ensures.lookup.3.0 c.in-Some.ensures.lookup.1 in
+    let rule : slice_get q.rules c.args.strike.rule ≡ Some u = ap (λ xs. slice_get xs c.args.strike.rule) (sym c.as_slice.ensures) ∙ slice_get_read c.as_slice.result.now _ c.args.strike.rule u refl c.in-Some-get.ensures.lookup.3.0 c.in-Some-get.ensures.lookup.1 in
+    let argument : slice_get u.args c.args.strike.arg ≡ Some o = ap (λ xs. slice_get xs c.args.strike.arg) (sym c.as_slice-2.ensures) ∙ slice_get_read c.as_slice-2.result.now _ c.args.strike.arg o refl c.in-Some-get-2.ensures.lookup.3.0 c.in-Some-get-2.ensures.lookup.1 in (
+      (λ t. record {
+        production = q;
+        rule = u;
+        argument = o;
+        is_production = production;
+        is_rule = rule;
+        is_argument = argument;
+        symbol = is_yes c.if-not-is_symbol.ensures;
+        attr = c.if-target-strike.false;
+        reason = c.is_reason.ensures.0 t;
+      }),
+      (λ h. c.is_reason.ensures.1 (reason_of c.args.grammar.now (direction_of c.args.pass) (Members c.args.set.now) c.args.struck.now c.args.strike q u o production rule argument h)),
+    )
