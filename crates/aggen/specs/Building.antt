@@ -3,14 +3,22 @@ use Rattle.std.specs.Prelude.{ℕ, List}
 use Rattle.ag_expr.specs.grammars.AttributeGrammar.{Grammar}
 use Rattle.ag_text.specs.declared.fault.TextFault.{TextFault}
 use Rattle.ag_text.specs.declared.fault.TextFault.TheVariants as text
+use Rattle.llparse.specs.Ahead.{HasNoConflict}
 use Rattle.llparse.specs.Tables.{IsLeastConflict}
 use Rattle.llparse.specs.declared.fault.TableFault.{TableFault}
 use Rattle.llparse.specs.declared.fault.TableFault.TheVariants as table
 use Rattle.normalform.specs.declared.fault.NormalFault.{NormalFault}
 use Rattle.normalform.specs.declared.fault.NormalFault.TheVariants as normal
+use Rattle.passassign.specs.Answer.{IsRefused}
+use Rattle.passassign.specs.Least.{IsLeast}
+use Rattle.passassign.specs.Rows.{passes_of}
+use Rattle.passcode.specs.Order.{AreInOrder}
+use Rattle.passcode.specs.Rows.{Lists}
+use Rattle.planchecker.specs.Plans.{IsPlan}
 use Rattle.aggen.specs.Checking.{IsGrammarOf, IsNormalFaultOf, IsTextFaultOf}
 use Rattle.aggen.specs.declared.build_fault.BuildFault.{BuildFault}
 use Rattle.aggen.specs.declared.build_fault.BuildFault.TheVariants as build
+use Rattle.aggen.specs.declared.stuck_grammar.StuckGrammar.{StuckGrammar}
 
 -- want of memory is a fault of its own, and never inside another
 abbrev pub build_fault_of_text : TextFault → BuildFault
@@ -30,16 +38,31 @@ abbrev pub IsConflictOf : List ℕ → TableFault → Type 0
 IsConflictOf t (table.Conflict symbol first second ahead) = (g : Grammar) × IsGrammarOf t g × IsLeastConflict g symbol first second ahead
 IsConflictOf t table.NoMemory = ⊥
 
+-- A1: the text is an accepted grammar without a conflict. It has no legal assignment, which the certificate shows.
+pub record IsStuckOf (t : List ℕ) (s : StuckGrammar) : Type 0 where
+  pub grammar : IsGrammarOf t s.grammar
+  pub free : HasNoConflict s.grammar
+  pub refused : IsRefused s.grammar s.stuck
+
+-- The least plan of a grammar: an assignment that is legal and gives no attribute a later pass than another legal one does, and
+-- the code that agrees with it in the one order that `passcode` keeps.
+pub record IsLeastPlan (g : Grammar) (rows : List (List ℕ)) (code : Lists) : Type 0 where
+  pub plan : IsPlan g rows code
+  pub least : IsLeast g (passes_of rows)
+  pub order : AreInOrder code
+
 -- G and N: what the refusal of a text as an accepted grammar says; want of memory says nothing
 abbrev pub IsGrammarFault : List ℕ → BuildFault → Type 0
 IsGrammarFault t (build.Text f) = IsTextFaultOf t f
 IsGrammarFault t (build.Normal f) = IsNormalFaultOf t f
 IsGrammarFault t (build.Table f) = ⊥
+IsGrammarFault t (build.Assign f) = ⊥
 IsGrammarFault t build.NoMemory = Unit {0}
 
--- G, N and L: what the refusal of a text says
+-- G, N, L and A: what the refusal of a text says
 abbrev pub IsBuildFault : List ℕ → BuildFault → Type 0
 IsBuildFault t (build.Text f) = IsTextFaultOf t f
 IsBuildFault t (build.Normal f) = IsNormalFaultOf t f
 IsBuildFault t (build.Table f) = IsConflictOf t f
+IsBuildFault t (build.Assign f) = IsStuckOf t f
 IsBuildFault t build.NoMemory = Unit {0}

@@ -17,7 +17,7 @@ use Rattle.aggen.specs.declared.build_fault.BuildFault.TheVariants as build
 use Rattle.aggen.specs.declared.fault.Fault.{Fault}
 use Rattle.aggen.specs.declared.fault.Fault.TheVariants as fault
 
--- 2 for the command line, 3 for X, G, N and L, 4 for S and P, 5 for B1 and B2, 7 for want of memory, 8 for F1, D1 and O2
+-- 2 for the command line, 3 for X, G, N, L and A, 4 for S and P, 5 for B1 and B2, 7 for want of memory, 8 for F1, D1 and O2
 abbrev pub status_of : Fault → ℕ
 status_of fault.Usage = 2
 status_of fault.File = 8
@@ -25,6 +25,7 @@ status_of (fault.Expr e) = 3
 status_of (fault.Text e) = 3
 status_of (fault.Normal e) = 3
 status_of (fault.Table e) = 3
+status_of (fault.Assign e) = 3
 status_of (fault.Scan e) = 4
 status_of (fault.Parse e) = 4
 status_of fault.NotATreeFile = 5
@@ -53,6 +54,7 @@ abbrev pub build_fault_of : BuildFault → Fault
 build_fault_of (build.Text e) = fault.Text e
 build_fault_of (build.Normal e) = fault.Normal e
 build_fault_of (build.Table e) = fault.Table e
+build_fault_of (build.Assign e) = fault.Assign e
 build_fault_of build.NoMemory = fault.NoMemory
 
 -- the faults of a device, of writing a tree file, and of reading one

@@ -3,8 +3,11 @@
 ghost use Rattle.std.specs.Prelude.{◌≡◌};
 ghost use Rattle.aggen.specs.Building.{build_fault_of_normal, build_fault_of_table};
 ghost use Rattle.aggen.specs.Building.{build_fault_of_text};
+ghost use Rattle.aggen.specs.declared.build_fault.BuildFault.TheVariants as build_fault;
 
+use crate::stuck_grammar::StuckGrammar;
 use ag_text::TextFault;
+use ag_value::NoMemory;
 use llparse::TableFault;
 use normalform::NormalFault;
 
@@ -17,6 +20,8 @@ pub enum BuildFault {
     Normal(NormalFault),
     /// L1: one token of look-ahead doesn't tell which production comes next.
     Table(TableFault),
+    /// A1: no assignment of passes to the grammar's attributes is legal.
+    Assign(StuckGrammar),
     /// A growth was refused.
     NoMemory,
 }
@@ -51,5 +56,13 @@ impl From<TableFault> for BuildFault {
             TableFault::NoMemory => BuildFault::NoMemory,
             _ => BuildFault::Table(fault),
         }
+    }
+}
+
+impl From<NoMemory> for BuildFault {
+    ghost from_gives = { λ _ e. e ≡ build_fault.NoMemory };
+
+    fn from(_error: NoMemory) -> BuildFault {
+        BuildFault::NoMemory
     }
 }

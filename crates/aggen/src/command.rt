@@ -14,7 +14,7 @@ const EXAMPLE: &str = "2 + 3 * 4";
 /// The name of the one argument of `value`.
 const EXPRESSION: &str = "EXPR";
 
-/// The name of the one argument of `check`, and of the first one of `parse`.
+/// The name of the one argument of `check`, `plan` and `code`, and of the first one of `parse`.
 const GRAMMAR: &str = "G";
 
 /// The names of the others of `parse`.
@@ -30,6 +30,10 @@ pub enum Request<'a> {
     Value(&'a str),
     /// The check of the grammar in the file of this name.
     Check(&'a str),
+    /// The passes of the grammar in the file of this name.
+    Plan(&'a str),
+    /// The code of these passes.
+    Code(&'a str),
     /// The tree file of a sentence.
     Parse(Paths<'a>),
 }
@@ -64,6 +68,12 @@ pub fn request_of<'a, R: Print + Eprint>(
 fn request_in<'a>(matches: &ArgMatches<'a>) -> Request<'a> {
     if let Some(check) = matches.subcommand_matches("check") {
         return Request::Check(check.get_str(GRAMMAR).unwrap_or(""));
+    }
+    if let Some(plan) = matches.subcommand_matches("plan") {
+        return Request::Plan(plan.get_str(GRAMMAR).unwrap_or(""));
+    }
+    if let Some(code) = matches.subcommand_matches("code") {
+        return Request::Code(code.get_str(GRAMMAR).unwrap_or(""));
     }
     if let Some(parse) = matches.subcommand_matches("parse") {
         return Request::Parse(Paths {
@@ -106,6 +116,12 @@ fn command<'a>(alloc: Global) -> Result<Command<'a>, AllocError> {
     let check = Command::new(alloc, "check")
         .about("Reads and checks a grammar, and prints how many symbols and productions it has")
         .arg(file(alloc, GRAMMAR, "The name of the grammar's file"))?;
+    let plan = Command::new(alloc, "plan")
+        .about("Prints which attributes of a grammar each pass over a tree computes")
+        .arg(file(alloc, GRAMMAR, "The name of the grammar's file"))?;
+    let code = Command::new(alloc, "code")
+        .about("Prints what each pass does at a node of each production")
+        .arg(file(alloc, GRAMMAR, "The name of the grammar's file"))?;
     let parse = Command::new(alloc, "parse")
         .about("Parses a sentence, writes the file of its tree, and prints how many nodes it has")
         .arg(file(alloc, GRAMMAR, "The name of the grammar's file"))?
@@ -121,6 +137,8 @@ fn command<'a>(alloc: Global) -> Result<Command<'a>, AllocError> {
         .after_help("With no command it does what `aggen value \"2 + 3 * 4\"` does.")
         .subcommand(value)?
         .subcommand(check)?
+        .subcommand(plan)?
+        .subcommand(code)?
         .subcommand(parse)
 }
 

@@ -7,6 +7,7 @@ ghost use Rattle.aggen.specs.Status.{write_fault_of};
 ghost use Rattle.aggen.specs.declared.fault.Fault.TheVariants as program_fault;
 
 use crate::build_fault::BuildFault;
+use crate::stuck_grammar::StuckGrammar;
 use ag_expr::ExprFault;
 use ag_scan::ScanFault;
 use ag_text::TextFault;
@@ -40,6 +41,9 @@ pub enum Fault {
     /// never in it.
     #[error("{0}")]
     Table(TableFault),
+    /// A1: no assignment of passes to the grammar's attributes is legal.
+    #[error("{0}")]
+    Assign(StuckGrammar),
     /// S1 to S4: the sentence has no tokens. Want of memory is never in it.
     #[error("{0}")]
     Scan(ScanFault),
@@ -65,14 +69,15 @@ pub enum Fault {
     NoMemory,
 }
 
-/// The status that the program ends with after a fault: 2 usage; 3 X, G, N and L; 4 S and P; 5 B1
+/// The status that the program ends with after a fault: 2 usage; 3 X, G, N, L and A; 4 S and P; 5 B1
 /// and B2; 7 want of memory; 8 F1, D1 and O2.
 pub fn status(fault: &Fault) -> u8
     ensures { result ≡ status_of fault.now }
 {
     match fault {
         Fault::Usage => 2,
-        Fault::Expr(_) | Fault::Text(_) | Fault::Normal(_) | Fault::Table(_) => 3,
+        Fault::Expr(_) | Fault::Text(_) => 3,
+        Fault::Normal(_) | Fault::Table(_) | Fault::Assign(_) => 3,
         Fault::Scan(_) | Fault::Parse(_) => 4,
         Fault::NotATreeFile | Fault::Damaged(_) => 5,
         Fault::NoMemory => 7,
@@ -99,6 +104,7 @@ impl From<BuildFault> for Fault {
             BuildFault::Text(fault) => Fault::Text(fault),
             BuildFault::Normal(fault) => Fault::Normal(fault),
             BuildFault::Table(fault) => Fault::Table(fault),
+            BuildFault::Assign(stuck) => Fault::Assign(stuck),
             BuildFault::NoMemory => Fault::NoMemory,
         }
     }

@@ -5,6 +5,7 @@ use crate::conflict_message::{place_of_conflict, tell_conflict};
 use crate::expression_message::{place_in, tell_expression};
 use crate::fault::Fault;
 use crate::normal_message::{place_of_fault, tell_normal};
+use crate::stuck_message::tell_stuck;
 use crate::telling::{found_at, front_of, tell_expected, tell_found, tell_path, tell_place};
 use ag_text::{Expected, RawGrammar, TextFault, expected_at, read_grammar};
 use normalform::Grammar;
@@ -74,7 +75,7 @@ fn could_stand(alloc: Global, fault: &Fault, text: &str) -> Vec<Expected> {
 /// The grammar as it stands in the text, for a fault that speaks of its names.
 fn raw_of(alloc: Global, fault: &Fault, bytes: &[u8]) -> Option<RawGrammar> {
     match fault {
-        Fault::Normal(_) | Fault::Table(_) => read_grammar(alloc, bytes).ok(),
+        Fault::Normal(_) | Fault::Table(_) | Fault::Assign(_) => read_grammar(alloc, bytes).ok(),
         _ => None,
     }
 }
@@ -115,6 +116,7 @@ impl fmt::Display for GrammarMessage<'_> {
                 write!(f, ": ")?;
                 tell_conflict(f, fault, self.text, raw, grammar)
             }
+            (Fault::Assign(stuck), Some(raw)) => tell_stuck(f, stuck, self.text, raw),
             _ => Ok(()),
         }
     }

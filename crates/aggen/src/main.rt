@@ -20,6 +20,8 @@ mod output;
 mod sentence_message;
 mod sites;
 mod source;
+mod stuck_grammar;
+mod stuck_message;
 mod telling;
 mod terminals;
 mod translator;

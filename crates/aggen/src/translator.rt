@@ -7,7 +7,9 @@ ghost use Rattle.llparse.specs.Ahead.{HasNoConflict};
 ghost use Rattle.llparse.specs.Sentences.{IsFirstFile};
 ghost use Rattle.llparse.specs.Tables.{FitsGrammar};
 ghost use Rattle.treefile.specs.Device.{Persists, WhenHonest};
-ghost use Rattle.aggen.specs.Building.{IsBuildFault};
+ghost use Rattle.passassign.specs.Least.{IsAlternating, IsLeast};
+ghost use Rattle.passassign.specs.Rows.{passes_of, AreFew};
+ghost use Rattle.aggen.specs.Building.{IsBuildFault, IsLeastPlan};
 ghost use Rattle.aggen.specs.Checking.{IsGrammarOf};
 ghost use Rattle.aggen.specs.Sentences.{IsScanFault, IsSentenceFault, IsTreeOfSentence};
 ghost use Rattle.aggen.specs.Sentences.{nodes_line as line_of};
@@ -15,19 +17,25 @@ ghost use Rattle.aggen.specs.Sentences.{nodes_line as line_of};
 use crate::build_fault::BuildFault;
 use crate::checking::grammar_of;
 use crate::fault::Fault;
+use crate::stuck_grammar::StuckGrammar;
 use ag_scan::scan;
+use ag_value::NoMemory;
 use llparse::{Tables, parse, tables};
 use normalform::Grammar;
+use passassign::{AssignFault, Assignment, assign};
+use passcode::generate;
+use planchecker::{Plan, check_plan};
 use std::alloc::{AllocError, Global};
 use std::marker::Model;
 use treefile::{Device, Writer};
 
-/// A grammar with the tables of its productions, which it keeps fitting. Contracts see it as its
-/// grammar. It keeps the allocator that it was made by.
+/// A grammar with the tables of its productions and the plan of its passes, which it keeps fitting.
+/// Contracts see it as its grammar. It keeps the allocator that it was made by.
 #[derive(Drop)]
 pub struct Translator {
     grammar: Grammar,
     tables: Tables,
+    plan: Plan,
     alloc: Global,
 }
 
@@ -37,6 +45,7 @@ impl Model for Translator {
     ghost use Rattle.ag_expr.specs.grammars.Accepted.{IsAccepted};
     ghost use Rattle.ag_expr.specs.grammars.AttributeGrammar.{Grammar as Plain};
     ghost use Rattle.llparse.specs.Tables.{FitsGrammar};
+    ghost use Rattle.aggen.specs.Building.{IsLeastPlan};
 
     ghost Value = { Plain };
 
@@ -44,24 +53,36 @@ impl Model for Translator {
 
     ghost view = { λ t. t.grammar };
 
-    ghost invariant = { λ t. IsAccepted t.grammar × FitsGrammar t.grammar t.tables };
+    ghost invariant = { λ t. IsAccepted t.grammar × FitsGrammar t.grammar t.tables
+        × IsLeastPlan t.grammar t.plan.0 t.plan.1 };
 }
 
 impl Translator {
     /// The translator of a grammar's text.
     ///
     /// G1 to G4 where the text reads as no grammar; then N1 to N10, the first fault of the grammar
-    /// that it reads as; then L1, the least conflict of an accepted grammar.
+    /// that it reads as; then L1, the least conflict of an accepted grammar; then A1, where no
+    /// assignment of passes is legal.
     pub fn build(alloc: Global, text: &[u8]) -> Result<Translator, BuildFault>
         ensures grammar { IfOk result (λ t. IsGrammarOf text.now t) }
         ensures free { IfOk result (λ t. HasNoConflict t) }
+        ensures alternating { IfOk result (λ t. IsAlternating t) }
         ensures refused { IfErr result (λ e. IsBuildFault text.now e) }
     {
         let grammar = grammar_of(alloc, text)?;
         let tables = tables(alloc, &grammar)?;
+        let assignment = match assign(alloc, &grammar) {
+            Ok(assignment) => assignment,
+            Err(AssignFault::Stuck(stuck)) => {
+                return Err(BuildFault::Assign(StuckGrammar { stuck, grammar }));
+            }
+            Err(AssignFault::NoMemory) => return Err(BuildFault::NoMemory),
+        };
+        let plan = plan_of(alloc, &grammar, assignment)?;
         Ok(Translator {
             grammar,
             tables,
+            plan,
             alloc,
         })
     }
@@ -78,6 +99,13 @@ impl Translator {
         ensures { FitsGrammar self.now result.now }
     {
         &self.tables
+    }
+
+    /// Lends the plan of the passes, the least one. Takes no memory.
+    pub fn plan(&self) -> &Plan
+        ensures { IsLeastPlan self.now result.now.0 result.now.1 }
+    {
+        &self.plan
     }
 
     /// Takes away what the device has, and leaves there the file of pass 0 of the sentence's one
@@ -116,6 +144,21 @@ impl Translator {
             &mut writer,
         )?;
         Ok(count)
+    }
+}
+
+/// The plan of a grammar and its least assignment.
+#[tactic(auto, using(planchecker::proofs::Taken::made_is_taken, crate::proofs::Plans::least_plan))]
+fn plan_of(alloc: Global, grammar: &Grammar, assignment: Assignment) -> Result<Plan, NoMemory>
+    requires least { IsLeast grammar.now (passes_of assignment) }
+    requires few { AreFew assignment }
+    ensures { IfOk result (λ p. IsLeastPlan grammar.now p.0 p.1) }
+{
+    let code = generate(alloc, grammar, &assignment)?;
+    match check_plan(alloc, grammar, assignment, code) {
+        Ok(plan) => Ok(plan),
+        // what `assign` and `generate` give is a plan
+        Err(_) => unreachable!(),
     }
 }
 

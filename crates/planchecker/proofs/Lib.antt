@@ -5,4 +5,4 @@ pub mod FewRules
 pub mod Loops
 pub mod Sorting
 pub mod Strikes
-mod Taken
+pub mod Taken

@@ -13,6 +13,8 @@ fn asked(rt: &HostRuntime, words: &[&str]) -> Result<Result<Option<String>, Faul
     match request_of(rt, alloc, line.as_slice()) {
         Ok(Request::Value(text)) => Ok(Ok(Some(String::from_str(alloc, text)?))),
         Ok(Request::Check(path)) => Ok(Ok(Some(format!(in alloc; "check: {path}")?))),
+        Ok(Request::Plan(path)) => Ok(Ok(Some(format!(in alloc; "plan: {path}")?))),
+        Ok(Request::Code(path)) => Ok(Ok(Some(format!(in alloc; "code: {path}")?))),
         Ok(
             Request::Parse(
                 Paths {
@@ -37,6 +39,8 @@ fn what_words_ask_for(rt: HostRuntime) -> Result<(), Fail> {
         (["value", "--", "--help"].as_slice(), "--help"),
         (["check", "a.ag"].as_slice(), "check: a.ag"),
         (["check", ""].as_slice(), "check: "),
+        (["plan", "a.ag"].as_slice(), "plan: a.ag"),
+        (["code", "a.ag"].as_slice(), "code: a.ag"),
         (["parse", "g", "s", "t"].as_slice(), "parse: g s t"),
     ] {
         let Ok(Some(asked)) = asked(&rt, words)? else {
@@ -50,6 +54,8 @@ fn what_words_ask_for(rt: HostRuntime) -> Result<(), Fail> {
         ["value", "1", "2"].as_slice(),
         ["check"].as_slice(),
         ["check", "a.ag", "b.ag"].as_slice(),
+        ["plan"].as_slice(),
+        ["code", "a.ag", "b.ag"].as_slice(),
         ["parse", "g", "s"].as_slice(),
         ["--no-such-option"].as_slice(),
     ] {
