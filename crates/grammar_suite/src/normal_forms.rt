@@ -150,23 +150,45 @@ fn the_swap_grammar(rt: HostRuntime) -> Result<(), Fail> {
     Ok(())
 }
 
+/// The fault that a raw grammar is refused for.
+fn told(rt: &(impl Abort + Alloc<A = Global>), raw: RawGrammar, fault: &str) -> Result<(), Fail> {
+    let told = match check_made(rt, raw) {
+        Ok(_) => String::from_str(rt.alloc(), "none")?,
+        Err(fault) => format!(in rt.alloc(); "{fault:?}")?,
+    };
+    assert_eq!(rt; told.as_str(), fault);
+    Ok(())
+}
+
 #[test]
 fn faults_of_the_swap_grammar(rt: HostRuntime) -> Result<(), Fail> {
     let alloc = rt.alloc();
-    let missing = check_made(&rt, swap(alloc, &[FIRST, SECOND])?);
-    assert!(&rt; matches!(missing, Err(NormalFault::RuleMissing(0, 0, 0))));
-    let doubled = check_made(&rt, swap(alloc, &[OUT, FIRST, SECOND, SECOND])?);
-    assert!(&rt; matches!(doubled, Err(NormalFault::RuleDoubled(20))));
-    let given = [OUT, FIRST, SECOND, (1, "s", "1")];
-    let elsewhere = check_made(&rt, swap(alloc, &given)?);
-    assert!(&rt; matches!(elsewhere, Err(NormalFault::NotDefinedHere(20))));
-    let wrong = check_made(&rt, swap(alloc, &[OUT, FIRST, (2, "i", "$1.i")])?);
-    assert!(&rt; matches!(wrong, Err(NormalFault::NotNormal(0))));
-    let both = check_made(&rt, swap(alloc, &[FIRST, (2, "i", "$1.i")])?);
-    assert!(&rt; matches!(both, Err(NormalFault::RuleMissing(0, 0, 0))));
-    let unknown = check_made(&rt, swap(alloc, &[OUT, FIRST, (3, "i", "0")])?);
-    assert!(&rt; matches!(unknown, Err(NormalFault::UnknownName(20))));
-    Ok(())
+    told(&rt, swap(alloc, &[FIRST, SECOND])?, "RuleMissing(0, 0, 0)")?;
+    told(
+        &rt,
+        swap(alloc, &[OUT, FIRST, SECOND, SECOND])?,
+        "RuleDoubled(20)",
+    )?;
+    told(
+        &rt,
+        swap(alloc, &[OUT, FIRST, SECOND, (1, "s", "1")])?,
+        "NotDefinedHere(20)",
+    )?;
+    told(
+        &rt,
+        swap(alloc, &[OUT, FIRST, (2, "i", "$1.i")])?,
+        "NotNormal(0)",
+    )?;
+    told(
+        &rt,
+        swap(alloc, &[FIRST, (2, "i", "$1.i")])?,
+        "RuleMissing(0, 0, 0)",
+    )?;
+    told(
+        &rt,
+        swap(alloc, &[OUT, FIRST, (3, "i", "0")])?,
+        "UnknownName(20)",
+    )
 }
 
 /// A grammar of the symbols S, with `out`, and T, and of one production of S.
@@ -212,15 +234,18 @@ fn literals_and_classes(rt: HostRuntime) -> Result<(), Fail> {
 #[test]
 fn names(rt: HostRuntime) -> Result<(), Fail> {
     let alloc = rt.alloc();
-    let unknown = check_made(&rt, small(alloc, "S", "T", &[EMPTY])?);
-    assert!(&rt; matches!(unknown, Err(NormalFault::UnknownName(30))));
-    let doubled = check_made(&rt, small(alloc, "S", "", &[EMPTY])?);
-    assert!(&rt; matches!(doubled, Err(NormalFault::DoubledName(2))));
-    let place = check_made(&rt, small(alloc, "", "\"x", &[(0, "out", "$1.lex")])?);
-    assert!(&rt; matches!(place, Err(NormalFault::UnknownName(0))));
-    let lex = check_made(&rt, small(alloc, "", "NAME", &[EMPTY, (1, "lex", "0")])?);
-    assert!(&rt; matches!(lex, Err(NormalFault::NotDefinedHere(30))));
-    Ok(())
+    told(&rt, small(alloc, "S", "T", &[EMPTY])?, "UnknownName(30)")?;
+    told(&rt, small(alloc, "S", "", &[EMPTY])?, "DoubledName(2)")?;
+    told(
+        &rt,
+        small(alloc, "", "\"x", &[(0, "out", "$1.lex")])?,
+        "UnknownName(0)",
+    )?;
+    told(
+        &rt,
+        small(alloc, "", "NAME", &[EMPTY, (1, "lex", "0")])?,
+        "NotDefinedHere(30)",
+    )
 }
 
 #[test]

@@ -121,8 +121,26 @@ fn even_passes_and_other_shapes_are_refused(rt: HostRuntime) -> Result<(), Fail>
 fn a_late_set_is_refused_at_the_go(rt: HostRuntime) -> Result<(), Fail> {
     let alloc = rt.alloc();
     let grammar = grammar(alloc, LEFTWARD)?;
-    let mut list = right(alloc)?;
-    list.swap(5, 6);
+    let list = vec![in alloc;
+        Instr::Get(2),
+        Instr::Set {
+            place: 2,
+            attr: 1,
+            rule: 2
+        },
+        Instr::Go(2),
+        Instr::Put(2),
+        Instr::Get(1),
+        Instr::Go(1),
+        Instr::Set {
+            place: 1,
+            attr: 1,
+            rule: 1
+        },
+        Instr::Put(1),
+        Instr::Def { attr: 0, rule: 0 },
+        Instr::End,
+    ]?;
     let late = verdict(alloc, &grammar, 1, 1, list)?;
     assert_eq!(rt; late.as_str(), "Code(0, 1, 5)");
     Ok(())
