@@ -1,5 +1,5 @@
 -- The listings of a plan and of its code, as bytes. All of this is this project's.
-use Rattle.std.specs.Prelude.{ℕ, zero, suc, ◌≡◌, ◌==◌, if◌then◌else◌, List, [], ◌∷◌, ◌++◌, Option, map, codes, decimal, slice_get, slice_index_or}
+use Rattle.std.specs.Prelude.{ℕ, zero, suc, ◌≡◌, ◌==◌, if◌then◌else◌, List, [], ◌++◌, Option, map, codes, decimal, slice_index_or}
 use Rattle.std.specs.Io.KnownBytes.{Appends}
 use Rattle.std.specs.List.{enumerate_from, flat_map, zip}
 use Rattle.ag_value.specs.Shown.{separated}

@@ -1,4 +1,4 @@
-use Rattle.std.proofs.Common.{◌≡◌, ◌∷◌, [], ℕ, decimal, refl, arith}
+use Rattle.std.proofs.Common.{◌≡◌, ◌∷◌, [], decimal, refl, arith}
 use Rattle.std.proofs.lemmas.Fmt.{decimal_digit}
 use Rattle.agoutput.proofs.samples.sample_code_listed.Goals as goal
 

@@ -1,6 +1,5 @@
-use Rattle.std.proofs.Common.{rules, ◌≡◌, ◌≤◌, ◌∷◌, [], ℕ, zero, suc, decimal, Some, None, refl, sym, subst, inr, arith, slice_get}
+use Rattle.std.proofs.Common.{rules, ◌≡◌, ◌∷◌, [], zero, suc, decimal, refl, inr, arith}
 use Rattle.std.proofs.lemmas.Fmt.{decimal_digit}
-use Rattle.ag_expr.specs.Lists.{Each}
 use Rattle.agoutput.specs.Sample.{sample_plan, sample_rows}
 use Rattle.agoutput.specs.Listings.{plan_text}
 use Rattle.ag_expr.specs.grammars.Sample.{sample}
