@@ -7,6 +7,8 @@ mod codes;
 #[cfg(test)]
 mod grammar_texts;
 #[cfg(test)]
+mod listings;
+#[cfg(test)]
 mod normal_forms;
 #[cfg(test)]
 mod passes;

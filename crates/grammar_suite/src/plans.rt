@@ -10,7 +10,7 @@ use std::alloc::Global;
 use std::test::Fail;
 
 /// Values go from the second child to the first.
-const LEFTWARD: &str = "start R; symbol R syn out; symbol A syn s inh i;
+pub(crate) const LEFTWARD: &str = "start R; symbol R syn out; symbol A syn s inh i;
 R = A A { $0.out = $1.s; $1.i = $2.s; $2.i = 0; }
 A = \"x\" { $0.s = $0.i + 1; }";
 

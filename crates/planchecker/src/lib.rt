@@ -12,4 +12,5 @@ mod plan;
 mod shape;
 
 pub use certificate::check_stuck;
+pub use places::item_of;
 pub use plan::{Plan, PlanFault, check_plan};

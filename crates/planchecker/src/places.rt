@@ -36,8 +36,11 @@ fn stored_at(items: &[Item], index: usize) -> Option<Item>
     None
 }
 
-/// What stands at a place of a production, if there is such a place.
-pub(crate) fn item_of(production: &Production, place: u16) -> Option<Item>
+/// What stands at a place of a production, if there is such a place: at place 0 the symbol of the
+/// left side, and from 1 on the items of the right side that have a place, from left to right.
+///
+/// Takes no memory; reads the right side up to the place.
+pub fn item_of(production: &Production, place: u16) -> Option<Item>
     ensures { result ≡ item_at production.now place }
 {
     if place == 0 {

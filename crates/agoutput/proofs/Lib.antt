@@ -1,0 +1,4 @@
+pub mod Directions
+pub mod Loops
+pub mod Names
+pub mod Written

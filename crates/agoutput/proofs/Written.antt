@@ -1,0 +1,32 @@
+-- One write more of the bytes.
+use Rattle.std.proofs.Common.{ℕ, List, ◌++◌, take, drop, Option, Some, None, sym, ap, ◌∙◌, append_assoc}
+use Rattle.std.proofs.lemmas.List.{take-append-drop}
+use Rattle.std.specs.Io.KnownBytes.{Appends, Keeps}
+use Rattle.agoutput.specs.Writing.{AppendsBeginning, HasWritten}
+
+appended : (old mid new : Option (List ℕ)) (xs ys : List ℕ) → Appends old mid xs → Appends mid new ys → Appends old new (xs ++ ys)
+appended None mid new xs ys p q = tt
+appended (Some os) None new xs ys p q = absurd p
+appended (Some os) (Some ms) None xs ys p q = absurd q
+appended (Some os) (Some ms) (Some ns) xs ys p q = q ∙ ap (λ (w : List ℕ). w ++ ys) p ∙ append_assoc os xs ys
+
+kept : (old mid new : Option (List ℕ)) (xs : List ℕ) → Appends old mid xs → Keeps mid new → Appends old new xs
+kept None mid new xs p q = tt
+kept (Some os) None new xs p q = absurd p
+kept (Some os) (Some ms) None xs p q = absurd q
+kept (Some os) (Some ms) (Some ns) xs p q = q ∙ p
+
+pub one_more : (old mid new : Option (List ℕ)) (bytes rest : List ℕ) (n : ℕ) → HasWritten old mid bytes rest → Appends mid new (take n rest) → HasWritten old new bytes (drop n rest)
+one_more old mid new bytes rest n so_far more = record {
+  front = so_far.front ++ take n rest;
+  cut = so_far.cut ∙ ap (λ (w : List ℕ). so_far.front ++ w) (sym (take-append-drop n rest)) ∙ sym (append_assoc so_far.front (take n rest) (drop n rest));
+  put = appended old mid new so_far.front (take n rest) so_far.put more;
+}
+
+pub none_more : (old mid new : Option (List ℕ)) (bytes rest : List ℕ) → HasWritten old mid bytes rest → Keeps mid new → AppendsBeginning old new bytes
+none_more old mid new bytes rest so_far same = record { front = so_far.front; rest = rest; cut = so_far.cut; put = kept old mid new so_far.front so_far.put same }
+
+pub so_far_written : (old new : Option (List ℕ)) (bytes rest : List ℕ) → HasWritten old new bytes rest → AppendsBeginning old new bytes
+so_far_written old new bytes rest so_far = record { front = so_far.front; rest = rest; cut = so_far.cut; put = so_far.put }
+
+pub ruleset beginning = (none_more, so_far_written)

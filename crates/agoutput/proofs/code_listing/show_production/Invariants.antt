@@ -1,0 +1,8 @@
+use Rattle.std.proofs.Common.{◌≡◌, ◌+◌, ◌++◌, drop, string_bytes}
+use Rattle.std.specs.List.{enumerate_from, flat_map}
+use Rattle.passcode.specs.Rows.{row_of}
+use Rattle.agoutput.specs.Listings.{code_line}
+use Rattle.agoutput.proofs.code_listing.show_production.Given as goal
+
+abbrev pub invariant-loop-before : goal.invariant-loop-before
+invariant-loop-before l = string_bytes l.out ++ flat_map (code_line l.grammar l.number l.production) (enumerate_from (l.before + 1) (row_of (drop l.before l.lists))) ≡ string_bytes l.initial.out ++ flat_map (code_line l.grammar l.number l.production) (enumerate_from 1 (row_of l.lists))

@@ -1,0 +1,191 @@
+//! The listing of a plan's code.
+
+ghost use Rattle.std.specs.Prelude.{◌≡◌, ◌++◌, IfOk, IsErrOf, OnOk, codes, decimal, map};
+ghost use Rattle.std.specs.Prelude.{string_bytes};
+ghost use Rattle.std.specs.Io.KnownBytes.{Appends};
+ghost use Rattle.ag_value.specs.Shown.{separated};
+ghost use Rattle.passcode.specs.Rows.{row_of};
+ghost use Rattle.planchecker.specs.Plans.{IsPlan};
+ghost use Rattle.agoutput.specs.Listings.{attribute_name as name_at, code_line, code_text};
+ghost use Rattle.agoutput.specs.Listings.{instruction_text, production_text};
+ghost use Rattle.agoutput.specs.Writing.{AppendsBeginning};
+
+use crate::fault::ListingFault;
+use crate::naming::{attribute_name, show_number};
+use crate::writing::write_text;
+use normalform::{Grammar, Production};
+use passcode::{Code, Instr};
+use planchecker::Plan;
+use std::alloc::{AllocError, Global};
+use std::io::Write;
+
+/// Appends the name of an instruction and a place.
+fn show_place(alloc: Global, out: &mut String, name: &str, place: u16) -> Result<(), AllocError>
+    ensures { OnOk result (string_bytes out.new ≡ string_bytes out.old
+        ++ (name.now ++ decimal place)) }
+{
+    out.push_str(name)?;
+    show_number(alloc, out, place as usize)
+}
+
+/// Appends the name of an attribute at a place, and the rule that gives it its value.
+fn show_given(
+    alloc: Global,
+    out: &mut String,
+    grammar: &Grammar,
+    production: &Production,
+    place: u16,
+    attr: u16,
+    rule: u16,
+) -> Result<(), AllocError>
+    ensures { OnOk result (string_bytes out.new ≡ string_bytes out.old
+        ++ (name_at grammar.now production.now place attr ++ codes " rule " ++ decimal rule)) }
+{
+    out.push_str(attribute_name(grammar, production, place, attr))?;
+    out.push_str(" rule ")?;
+    show_number(alloc, out, rule as usize)
+}
+
+/// Appends an instruction for a node of a production.
+fn show_instruction(
+    alloc: Global,
+    out: &mut String,
+    grammar: &Grammar,
+    production: &Production,
+    instruction: Instr,
+) -> Result<(), AllocError>
+    ensures { OnOk result (string_bytes out.new
+        ≡ string_bytes out.old ++ instruction_text grammar.now production.now instruction) }
+{
+    match instruction {
+        Instr::Get(place) => show_place(alloc, out, "get ", place)?,
+        Instr::Set { place, attr, rule } => {
+            show_place(alloc, out, "set ", place)?;
+            out.push_str(".")?;
+            show_given(alloc, out, grammar, production, place, attr, rule)?;
+        }
+        Instr::Go(place) => show_place(alloc, out, "go ", place)?,
+        Instr::Put(place) => show_place(alloc, out, "put ", place)?,
+        Instr::Def { attr, rule } => {
+            out.push_str("def ")?;
+            show_given(alloc, out, grammar, production, 0, attr, rule)?;
+        }
+        Instr::End => out.push_str("end")?,
+    }
+    Ok(())
+}
+
+/// Appends instructions, with a comma and a space between neighbours.
+fn show_list(
+    alloc: Global,
+    out: &mut String,
+    grammar: &Grammar,
+    production: &Production,
+    list: &[Instr],
+) -> Result<(), AllocError>
+    ensures { OnOk result (string_bytes out.new ≡ string_bytes out.old
+        ++ separated (map (instruction_text grammar.now production.now) list.now)) }
+{
+    let [first, rest @ ..] = list else {
+        return Ok(());
+    };
+    show_instruction(alloc, out, grammar, production, *first)?;
+    for instruction in rest {
+        out.push_str(", ")?;
+        show_instruction(alloc, out, grammar, production, *instruction)?;
+    }
+    Ok(())
+}
+
+/// Appends the line of a production and a pass.
+fn show_line(
+    alloc: Global,
+    out: &mut String,
+    grammar: &Grammar,
+    number: usize,
+    production: &Production,
+    pass: usize,
+    list: &[Instr],
+) -> Result<(), AllocError>
+    ensures { OnOk result (string_bytes out.new ≡ string_bytes out.old
+        ++ code_line grammar.now number production.now (pass, list.now)) }
+{
+    show_number(alloc, out, number)?;
+    out.push_str(" pass ")?;
+    show_number(alloc, out, pass)?;
+    out.push_str(": ")?;
+    show_list(alloc, out, grammar, production, list)?;
+    out.push_str("\n")?;
+    Ok(())
+}
+
+/// Appends the lines of a production.
+fn show_production(
+    alloc: Global,
+    out: &mut String,
+    grammar: &Grammar,
+    number: usize,
+    production: &Production,
+    lists: &[Vec<Instr>],
+) -> Result<(), AllocError>
+    ensures { OnOk result (string_bytes out.new ≡ string_bytes out.old
+        ++ production_text grammar.now ((number, production.now), row_of lists.now)) }
+{
+    for (before, list) in lists.iter().enumerate() {
+        show_line(
+            alloc,
+            out,
+            grammar,
+            number,
+            production,
+            before + 1,
+            list.as_slice(),
+        )?;
+    }
+    Ok(())
+}
+
+/// The listing of code.
+fn code_lines(alloc: Global, grammar: &Grammar, code: &Code) -> Result<String, AllocError>
+    ensures { IfOk result (λ text. string_bytes text ≡ code_text grammar.now code.now) }
+{
+    let mut out = String::new(alloc);
+    let productions = grammar.productions().iter().enumerate();
+    for ((number, production), lists) in productions.zip(code.rows().iter()) {
+        show_production(
+            alloc,
+            &mut out,
+            grammar,
+            number,
+            production,
+            lists.as_slice(),
+        )?;
+    }
+    Ok(out)
+}
+
+/// Writes the listing of a plan's code: a line for each production, in the order of the grammar's
+/// text, and in that for each pass from 1, with the instructions of its list.
+///
+/// O2 Write where a write fails or takes no byte; a beginning of the listing has gone out then.
+/// NoMemory where a growth was refused; nothing has gone out then. Takes memory for the whole
+/// listing, which is made before its first byte goes out.
+pub fn write_code<W: Write>(
+    alloc: Global,
+    out: &mut W,
+    grammar: &Grammar,
+    plan: &Plan,
+) -> Result<(), ListingFault>
+    requires plan { IsPlan grammar.now plan.now.0 plan.now.1 }
+    ensures ok { OnOk result (Appends (W.contents out.old) (W.contents out.new)
+        (code_text grammar.now plan.now.1)) }
+    // O2: a beginning of the listing
+    ensures write { IsErrOf result ListingFault.Write → AppendsBeginning (W.contents out.old)
+        (W.contents out.new) (code_text grammar.now plan.now.1) }
+    // no memory: nothing has gone out
+    ensures memory { IsErrOf result ListingFault.NoMemory → out.new ≡ out.old }
+{
+    let listing = code_lines(alloc, grammar, plan.code())?;
+    write_text(out, listing.as_str())?;
+    Ok(())
+}

@@ -1,0 +1,14 @@
+//! Listings of a plan and of its code, as text for a reader.
+#![tactic(auto)]
+
+mod code_listing;
+mod fault;
+mod naming;
+mod plan_listing;
+pub mod samples;
+mod writing;
+
+pub use code_listing::write_code;
+pub use fault::{ListingFault, TextOutFault};
+pub use plan_listing::write_plan;
+pub use writing::write_text;

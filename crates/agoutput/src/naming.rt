@@ -1,0 +1,56 @@
+//! Numbers, and the names of attributes, as a listing has them.
+
+ghost use Rattle.std.specs.Prelude.{◌≡◌, ◌++◌, [], OnOk, decimal, slice_get, slice_index_or};
+ghost use Rattle.std.specs.Prelude.{string_bytes};
+ghost use Rattle.ag_expr.specs.grammars.AttributeGrammar.{symbol_names};
+ghost use Rattle.agoutput.specs.Listings.{attribute_name as name_at};
+
+use ag_expr::Terminal;
+use normalform::{Grammar, Item, Production, Symbol};
+use planchecker::item_of;
+use std::alloc::{AllocError, Global};
+
+/// Appends a number in decimal.
+pub(crate) fn show_number(alloc: Global, out: &mut String, number: usize) -> Result<(), AllocError>
+    ensures { OnOk result (string_bytes out.new ≡ string_bytes out.old ++ decimal number) }
+{
+    let digits = number.to_string(alloc)?;
+    out.push_str(digits.as_str())
+}
+
+/// The name of a symbol's attribute, empty where there is none of the number.
+fn symbol_attribute(symbols: &[Symbol], symbol: u16, attr: u16) -> &str
+    ensures { result.now ≡ slice_index_or (symbol_names (slice_get symbols.now symbol)) attr [] }
+{
+    if symbol as usize >= symbols.len() {
+        return "";
+    }
+    let symbol = &symbols[symbol as usize];
+    let synthesized = symbol.syn.as_slice();
+    let inherited = symbol.inh.as_slice();
+    let number = attr as usize;
+    if number < synthesized.len() {
+        synthesized[number].as_str()
+    } else if number - synthesized.len() < inherited.len() {
+        inherited[number - synthesized.len()].as_str()
+    } else {
+        ""
+    }
+}
+
+/// The name of an attribute at a place of a production, empty where there is none of the number.
+pub(crate) fn attribute_name<'a>(
+    grammar: &'a Grammar,
+    production: &Production,
+    place: u16,
+    attr: u16,
+) -> &'a str
+    ensures { result.now ≡ name_at grammar.now production.now place attr }
+{
+    match item_of(production, place) {
+        Some(Item::Symbol(symbol)) => symbol_attribute(grammar.symbols(), symbol, attr),
+        Some(Item::Terminal(Terminal::Class(_))) => if attr == 0 { "lex" } else { "" },
+        Some(Item::Terminal(Terminal::Literal(_))) => "",
+        None => "",
+    }
+}

@@ -1,0 +1,149 @@
+//! The listing of the passes of a plan.
+
+ghost use Rattle.std.specs.Prelude.{◌≡◌, ◌++◌, IfOk, IsErrOf, OnOk, decimal, string_bytes};
+ghost use Rattle.std.specs.List.{flat_map, zip};
+ghost use Rattle.ag_expr.specs.grammars.Passes.{direction_of};
+ghost use Rattle.passassign.specs.Rows.{numbers_of};
+ghost use Rattle.planchecker.specs.Plans.{IsPlan};
+ghost use Rattle.agoutput.specs.Listings.{AppendsPlan, AppendsPlanBeginning, IsPlanListing};
+ghost use Rattle.agoutput.specs.Listings.{attribute_text, direction_name, pass_line, symbol_text};
+
+use crate::fault::ListingFault;
+use crate::naming::show_number;
+use crate::writing::write_text;
+use normalform::{Grammar, Symbol};
+use passassign::Assignment;
+use planchecker::Plan;
+use std::alloc::{AllocError, Global};
+use std::io::Write;
+
+/// The direction of a pass.
+#[tactic(auto, using(crate::proofs::Directions::even_name, crate::proofs::Directions::odd_name))]
+fn direction(pass: u16) -> &'static str
+    ensures { result.now ≡ direction_name (direction_of pass) }
+{
+    if pass % 2 == 0 {
+        "left-to-right"
+    } else {
+        "right-to-left"
+    }
+}
+
+/// Appends an attribute of a symbol, where its pass is the one that is told.
+fn show_attribute(
+    out: &mut String,
+    pass: u16,
+    symbol: &str,
+    name: &str,
+    own: u16,
+) -> Result<(), AllocError>
+    ensures { OnOk result (string_bytes out.new
+        ≡ string_bytes out.old ++ attribute_text pass symbol.now (name.now, own)) }
+{
+    if own == pass {
+        out.push_str(" ")?;
+        out.push_str(symbol)?;
+        out.push_str(".")?;
+        out.push_str(name)?;
+    }
+    Ok(())
+}
+
+/// Appends a symbol's attributes of a pass.
+fn show_symbol(
+    out: &mut String,
+    pass: u16,
+    symbol: &Symbol,
+    passes: &[u16],
+) -> Result<(), AllocError>
+    ensures { OnOk result (string_bytes out.new
+        ≡ string_bytes out.old ++ symbol_text pass (symbol.now, passes.now)) }
+{
+    let names = symbol
+        .syn
+        .as_slice()
+        .iter()
+        .chain(symbol.inh.as_slice().iter());
+    for (name, own) in names.zip(passes.iter()) {
+        show_attribute(out, pass, symbol.name.as_str(), name.as_str(), *own)?;
+    }
+    Ok(())
+}
+
+/// Appends the attributes of a pass, symbol by symbol.
+fn show_symbols(
+    out: &mut String,
+    pass: u16,
+    symbols: &[Symbol],
+    rows: &[Vec<u16>],
+) -> Result<(), AllocError>
+    ensures { OnOk result (string_bytes out.new ≡ string_bytes out.old
+        ++ flat_map (symbol_text pass) (zip symbols.now (numbers_of rows.now))) }
+{
+    for (symbol, row) in symbols.iter().zip(rows.iter()) {
+        show_symbol(out, pass, symbol, row.as_slice())?;
+    }
+    Ok(())
+}
+
+/// Appends the line of a pass.
+fn show_pass(
+    alloc: Global,
+    out: &mut String,
+    grammar: &Grammar,
+    assignment: &Assignment,
+    pass: u16,
+) -> Result<(), AllocError>
+    ensures { OnOk result (string_bytes out.new
+        ≡ string_bytes out.old ++ pass_line grammar.now assignment.now pass) }
+{
+    out.push_str("pass ")?;
+    show_number(alloc, out, pass as usize)?;
+    out.push_str(" ")?;
+    out.push_str(direction(pass))?;
+    out.push_str(":")?;
+    show_symbols(out, pass, grammar.symbols(), assignment.rows())?;
+    out.push_str("\n")?;
+    Ok(())
+}
+
+/// The listing of an assignment.
+fn plan_lines(
+    alloc: Global,
+    grammar: &Grammar,
+    assignment: &Assignment,
+) -> Result<String, AllocError>
+    ensures { IfOk result (λ text. IsPlanListing grammar.now assignment.now (string_bytes text)) }
+{
+    let mut out = String::new(alloc);
+    for before in 0..assignment.passes() {
+        show_pass(alloc, &mut out, grammar, assignment, before + 1)?;
+    }
+    Ok(out)
+}
+
+/// Writes the listing of a plan's passes: a line for each pass from 1, with its direction and the
+/// attributes that it gives values, in the order in which they are declared.
+///
+/// O2 Write where a write fails or takes no byte; a beginning of the listing has gone out then.
+/// NoMemory where a growth was refused; nothing has gone out then. Takes memory for the whole
+/// listing, which is made before its first byte goes out.
+pub fn write_plan<W: Write>(
+    alloc: Global,
+    out: &mut W,
+    grammar: &Grammar,
+    plan: &Plan,
+) -> Result<(), ListingFault>
+    requires plan { IsPlan grammar.now plan.now.0 plan.now.1 }
+    ensures ok { OnOk result
+        (AppendsPlan grammar.now plan.now.0 (W.contents out.old) (W.contents out.new)) }
+    // O2: a beginning of the listing
+    ensures write { IsErrOf result ListingFault.Write → AppendsPlanBeginning grammar.now plan.now.0
+        (W.contents out.old) (W.contents out.new) }
+    // no memory: nothing has gone out
+    ensures memory { IsErrOf result ListingFault.NoMemory → out.new ≡ out.old }
+{
+    let listing = plan_lines(alloc, grammar, plan.assignment())?;
+    write_text(out, listing.as_str())?;
+    Ok(())
+}

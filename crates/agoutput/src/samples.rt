@@ -1,0 +1,17 @@
+//! Examples of the definitions, each a law.
+
+ghost use Rattle.std.specs.Prelude.{◌≡◌};
+ghost use Rattle.ag_expr.specs.grammars.Sample.{sample};
+ghost use Rattle.passcode.specs.Sample.{sample_list, sample_production};
+ghost use Rattle.agoutput.specs.Listings.{IsPlanListing, code_line};
+ghost use Rattle.agoutput.specs.Sample.{sample_line, sample_plan, sample_rows};
+
+/// The listing of the passes of the first sample,
+pub fn sample_passes_listed()
+    ensures { IsPlanListing sample sample_rows sample_plan }
+{}
+
+/// and a line of the listing of its code.
+pub fn sample_code_listed()
+    ensures { code_line sample 0 sample_production (1, sample_list) ≡ sample_line }
+{}
