@@ -1,5 +1,5 @@
 -- What a refusal of tokens, and of a tree of tokens, says of the sentence.
-use Rattle.std.proofs.Common.{◌≡◌, ◌≢◌, ◌<◌, ℕ, List, Result, Ok, Err, refl, subst, sym}
+use Rattle.std.proofs.Common.{◌≡◌, ◌<◌, ℕ, List, Result, Ok, Err, refl, subst, sym}
 use Rattle.std.specs.Prelude.{IsErrOf}
 use Rattle.ag_expr.specs.grammars.Accepted.{IsAccepted}
 use Rattle.ag_expr.specs.grammars.AttributeGrammar.{Grammar}

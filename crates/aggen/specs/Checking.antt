@@ -13,7 +13,7 @@ use Rattle.ag_text.specs.declared.raw.RawGrammar.{RawGrammar}
 use Rattle.normalform.specs.Faults.{IsFirstFault}
 use Rattle.normalform.specs.Numbers.{numbered}
 use Rattle.normalform.specs.declared.fault.NormalFault.{NormalFault}
-use Rattle.aggen.specs.Output.{AppendsBeginning}
+use Rattle.agoutput.specs.Writing.{AppendsBeginning}
 use Rattle.aggen.specs.declared.fault.Fault.{Fault}
 use Rattle.aggen.specs.declared.fault.Fault.TheVariants as fault
 

@@ -1,6 +1,6 @@
 pub mod Building
 pub mod Checking
-pub mod Output
+pub mod Listing
 pub mod Sentences
 pub mod Showing
 pub mod Status

@@ -1,5 +1,5 @@
 -- What it means to parse a sentence: the tree that it has, and what a refusal tells of it. All of this is this project's.
-use Rattle.std.specs.Prelude.{◌≡◌, ◌≢◌, ◌<◌, ◌++◌, ℕ, List, codes, decimal}
+use Rattle.std.specs.Prelude.{◌≢◌, ◌<◌, ◌++◌, ℕ, List, codes, decimal}
 use Rattle.ag_expr.specs.grammars.AttributeGrammar.{Grammar}
 use Rattle.ag_expr.specs.grammars.Tree.{Tree, depth_of, node_count, most_depth, most_nodes}
 use Rattle.ag_scan.specs.Tokens.{AreTokensOf, IsRefused}

@@ -16,7 +16,7 @@ use Rattle.treefile.specs.TreeFile.{body_of, file, version_one}
 use Rattle.treefile.specs.declared.body.Kind.TheVariants.{Token}
 use Rattle.aggen.specs.declared.fault.Fault.{Fault}
 use Rattle.aggen.specs.declared.fault.Fault.TheVariants as fault
-use Rattle.aggen.specs.Output.{AppendsBeginning}
+use Rattle.agoutput.specs.Writing.{AppendsBeginning}
 
 -- the environment of an expression without occurrences: nothing is asked of it
 abbrev pub no_values : ℕ → Value

@@ -4,6 +4,8 @@ use Rattle.ag_expr.specs.declared.fault.ExprFault.{ExprFault}
 use Rattle.ag_expr.specs.declared.fault.ExprFault.TheVariants as expr
 use Rattle.ag_scan.specs.declared.fault.ScanFault.{ScanFault}
 use Rattle.ag_scan.specs.declared.fault.ScanFault.TheVariants as scan
+use Rattle.agoutput.specs.declared.fault.ListingFault.{ListingFault}
+use Rattle.agoutput.specs.declared.fault.ListingFault.TheVariants as listing
 use Rattle.llparse.specs.declared.parse_fault.ParseFault.{ParseFault}
 use Rattle.llparse.specs.declared.parse_fault.ParseFault.TheVariants as parse
 use Rattle.treefile.specs.declared.device.DeviceFault.{DeviceFault}
@@ -71,6 +73,11 @@ frame_fault_of frame.NotATreeFile = fault.NotATreeFile
 frame_fault_of (frame.Damaged at) = fault.Damaged at
 frame_fault_of frame.Device = fault.Device
 frame_fault_of frame.NoMemory = fault.NoMemory
+
+-- the faults of writing a listing
+abbrev pub listing_fault_of : ListingFault → Fault
+listing_fault_of listing.Write = fault.Write
+listing_fault_of listing.NoMemory = fault.NoMemory
 
 -- a file can't be opened or read, or memory is short
 abbrev pub IsSourceFault : Fault → Type 0

@@ -7,8 +7,8 @@ ghost use Rattle.aggen.specs.Checking.{counts_of as line_of};
 
 use crate::build_fault::BuildFault;
 use crate::fault::Fault;
-use crate::output::write_whole;
 use ag_text::read_grammar;
+use agoutput::write_text;
 use normalform::{Grammar, check};
 use std::alloc::{AllocError, Global};
 use std::io::Write;
@@ -28,7 +28,7 @@ pub fn print_counts<W: Write>(alloc: Global, text: &[u8], out: &mut W) -> Result
 {
     let grammar = grammar_of(alloc, text)?;
     let line = counts_of(alloc, &grammar)?;
-    write_whole(out, line.as_bytes())?;
+    write_text(out, line.as_str())?;
     Ok(())
 }
 

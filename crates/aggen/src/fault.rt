@@ -2,7 +2,8 @@
 
 ghost use Rattle.std.specs.Prelude.{◌≡◌};
 ghost use Rattle.aggen.specs.Status.{build_fault_of, device_fault_of, expr_fault_of};
-ghost use Rattle.aggen.specs.Status.{frame_fault_of, parse_fault_of, scan_fault_of, status_of};
+ghost use Rattle.aggen.specs.Status.{frame_fault_of, listing_fault_of, parse_fault_of};
+ghost use Rattle.aggen.specs.Status.{scan_fault_of, status_of};
 ghost use Rattle.aggen.specs.Status.{write_fault_of};
 ghost use Rattle.aggen.specs.declared.fault.Fault.TheVariants as program_fault;
 
@@ -12,6 +13,7 @@ use ag_expr::ExprFault;
 use ag_scan::ScanFault;
 use ag_text::TextFault;
 use ag_value::NoMemory;
+use agoutput::{ListingFault, TextOutFault};
 use llparse::{ParseFault, TableFault};
 use normalform::NormalFault;
 use std::alloc::AllocError;
@@ -172,6 +174,25 @@ impl From<FrameFault> for Fault {
             FrameFault::Damaged(at) => Fault::Damaged(at),
             FrameFault::Device => Fault::Device,
             FrameFault::NoMemory => Fault::NoMemory,
+        }
+    }
+}
+
+impl From<TextOutFault> for Fault {
+    ghost from_gives = { λ _ e. e ≡ program_fault.Write };
+
+    fn from(_fault: TextOutFault) -> Fault {
+        Fault::Write
+    }
+}
+
+impl From<ListingFault> for Fault {
+    ghost from_gives = { λ fault e. e ≡ listing_fault_of fault };
+
+    fn from(fault: ListingFault) -> Fault {
+        match fault {
+            ListingFault::Write => Fault::Write,
+            ListingFault::NoMemory => Fault::NoMemory,
         }
     }
 }

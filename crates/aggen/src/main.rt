@@ -1,8 +1,9 @@
 //! `aggen`: translators from attribute grammars.
 //!
-//! The program has three commands so far. `value EXPR` evaluates an expression, takes its value
+//! The program has five commands so far. `value EXPR` evaluates an expression, takes its value
 //! through a tree file in memory, and prints what it reads back; `check G` reads and checks the
-//! grammar in a file; `parse G S TREE` parses the sentence in a file, and writes its tree's file.
+//! grammar in a file; `plan G` and `code G` print its passes and what they do; `parse G S TREE`
+//! parses the sentence in a file, and writes its tree's file.
 #![tactic(auto)]
 
 mod build_fault;
@@ -14,9 +15,9 @@ mod fault;
 mod file;
 mod grammar_message;
 mod limit_message;
+mod listing;
 mod message;
 mod normal_message;
-mod output;
 mod sentence_message;
 mod sites;
 mod source;
@@ -27,12 +28,13 @@ mod terminals;
 mod translator;
 mod value;
 
+use agoutput::write_text;
 use checking::print_counts;
 use command::{Paths, Request, request_of};
 use fault::{Fault, status};
 use grammar_message::GrammarMessage;
+use listing::{print_code, print_plan};
 use message::Message;
-use output::write_whole;
 use sentence_message::SentenceMessage;
 use source::source_of;
 use std::alloc::{AllocError, Global};
@@ -63,7 +65,9 @@ fn run<R: Env + Files + Print + Eprint + AllocGlobal>(rt: &R) -> Result<(), Faul
     match request_of(rt, alloc, words.as_slice()) {
         Ok(Request::Nothing) => Ok(()),
         Ok(Request::Value(text)) => print_value(rt, alloc, text),
-        Ok(Request::Check(path)) => check_file(rt, alloc, path),
+        Ok(Request::Check(path)) => print_of(rt, alloc, path, Part::Counts),
+        Ok(Request::Plan(path)) => print_of(rt, alloc, path, Part::Plan),
+        Ok(Request::Code(path)) => print_of(rt, alloc, path, Part::Code),
         Ok(Request::Parse(paths)) => parse_file(rt, alloc, &paths),
         // the fault of the command line was told already
         Err(Fault::Usage) => Err(Fault::Usage),
@@ -92,14 +96,36 @@ fn print_value<R: Print + Eprint>(rt: &R, alloc: Global, text: &str) -> Result<(
     }
 }
 
-/// Prints how many symbols and productions the grammar in a file has.
-fn check_file<R: Files + Print + Eprint>(rt: &R, alloc: Global, path: &str) -> Result<(), Fault> {
+/// What is printed of a grammar.
+#[derive(Clone, Copy)]
+enum Part {
+    /// How many symbols and productions it has.
+    Counts,
+    /// Its passes.
+    Plan,
+    /// What the passes do.
+    Code,
+}
+
+/// Prints a part of the grammar in a file.
+fn print_of<R: Files + Print + Eprint>(
+    rt: &R,
+    alloc: Global,
+    path: &str,
+    part: Part,
+) -> Result<(), Fault> {
     let bytes = match source_of(rt, alloc, path) {
         Ok(bytes) => bytes,
         Err(fault) => return Err(tell_grammar(rt, alloc, fault, path, &[])),
     };
+    let text = bytes.as_slice();
     let mut out = io::writer(rt);
-    match print_counts(alloc, bytes.as_slice(), &mut out) {
+    let printed = match part {
+        Part::Counts => print_counts(alloc, text, &mut out),
+        Part::Plan => print_plan(alloc, text, &mut out),
+        Part::Code => print_code(alloc, text, &mut out),
+    };
+    match printed {
         Ok(()) => Ok(()),
         Err(fault) => Err(tell_grammar(rt, alloc, fault, path, bytes.as_slice())),
     }
@@ -159,7 +185,8 @@ fn write_tree<R: Files + Print>(
     device.finish()?;
     let line = nodes_line(alloc, count)?;
     let mut out = io::writer(rt);
-    write_whole(&mut out, line.as_bytes())
+    write_text(&mut out, line.as_str())?;
+    Ok(())
 }
 
 /// Tells a fault of a sentence, or of a file beside it, in one line on standard error.

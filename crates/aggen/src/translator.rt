@@ -148,7 +148,7 @@ impl Translator {
 }
 
 /// The plan of a grammar and its least assignment.
-#[tactic(auto, using(planchecker::proofs::Taken::made_is_taken, crate::proofs::Plans::least_plan))]
+#[tactic(auto, using(planchecker::proofs::Taken::made_is_taken, crate::proofs::Building::least_plan))]
 fn plan_of(alloc: Global, grammar: &Grammar, assignment: Assignment) -> Result<Plan, NoMemory>
     requires least { IsLeast grammar.now (passes_of assignment) }
     requires few { AreFew assignment }

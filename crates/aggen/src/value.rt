@@ -11,9 +11,9 @@ ghost use Rattle.aggen.specs.Showing.{ShowsBeginning, WritesLine, first_place};
 
 use crate::fault::Fault;
 use crate::file::{line_of, read_file, write_file};
-use crate::output::write_whole;
 use ag_expr::{Env, Expr, ExprFault, Meter, eval, occurrences, read_expr};
 use ag_value::Value;
+use agoutput::write_text;
 use std::alloc::Global;
 use std::io::Write;
 use treefile::Device;
@@ -65,7 +65,7 @@ pub fn show_value<D: Device, W: Write>(
     write_file(alloc, device, value)?;
     let value = read_file(alloc, device)?;
     let line = line_of(alloc, &value)?;
-    write_whole(out, line.as_bytes())?;
+    write_text(out, line.as_str())?;
     Ok(())
 }
 

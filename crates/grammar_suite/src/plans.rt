@@ -1,10 +1,11 @@
 //! Which plans are taken for a small grammar, and which certificates.
 
 use crate::codes::grammar;
+use crate::grammar_texts::FRACTIONS;
 use ag_value::Items;
 use normalform::Grammar;
-use passassign::{Assignment, Strike, Stuck};
-use passcode::{Code, Instr};
+use passassign::{Assignment, Strike, Stuck, assign};
+use passcode::{Code, Instr, generate};
 use planchecker::{check_plan, check_stuck};
 use std::alloc::Global;
 use std::test::Fail;
@@ -289,5 +290,35 @@ fn a_value_from_both_sides_has_a_certificate(rt: HostRuntime) -> Result<(), Fail
         even: Items::from_vec(vec![in alloc; second, strike(2, 0, 2, 0), strike(0, 0, 0, 0)]?),
     };
     assert!(rt; check_stuck(&grammar, &stuck));
+    Ok(())
+}
+
+/// The grammars of the folder of examples that have a plan, beside the two above.
+const LETTERS: &str = "start L; symbol L syn out;
+L = \"x\" L { $0.out = $1.out ++ \"x\"; }
+L = { $0.out = \"\"; }";
+
+const LISTS_IN_GROUPS: &str = "start S; symbol S syn out; symbol T syn c; symbol V syn c;
+S = T \";\" S { $0.out = \"\"; }
+S = { $0.out = \"\"; }
+T = V \",\" T { $0.c = 0; }
+T = { $0.c = 0; }
+V = \"x\" V { $0.c = 0; }
+V = { $0.c = 0; }";
+
+const WORDS: &str = "start S; symbol S syn out; S = NAME \"if\" { $0.out = $1.lex; }";
+
+/// What `assign` and `generate` give is a plan.
+#[test]
+fn what_is_made_is_a_plan(rt: HostRuntime) -> Result<(), Fail> {
+    let alloc = rt.alloc();
+    for text in [FRACTIONS, LEFTWARD, LETTERS, LISTS_IN_GROUPS, WORDS] {
+        let grammar = grammar(alloc, text)?;
+        let Ok(assignment) = assign(alloc, &grammar) else {
+            return Err(Fail::from("there is no assignment"));
+        };
+        let code = generate(alloc, &grammar, &assignment)?;
+        assert!(rt; check_plan(alloc, &grammar, assignment, code).is_ok());
+    }
     Ok(())
 }

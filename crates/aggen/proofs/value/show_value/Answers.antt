@@ -18,8 +18,8 @@ returns-in_err-write_file-clause-occurs g c = λ at occurs. absurd (no_value c.a
 pub returns-in_err-value-2-clause-occurs : goal.returns-in_err-value-2-clause-occurs
 returns-in_err-value-2-clause-occurs g c = λ at occurs. absurd (no_value c.args.text.now at c.in_ok-value.value occurs c.in_ok-value.ensures.value)
 
-pub returns-in_err-write_whole-clause-occurs : goal.returns-in_err-write_whole-clause-occurs
-returns-in_err-write_whole-clause-occurs g c = λ at occurs. absurd (no_value c.args.text.now at c.in_ok-value.value occurs c.in_ok-value.ensures.value)
+pub returns-in_err-write_text-clause-occurs : goal.returns-in_err-write_text-clause-occurs
+returns-in_err-write_text-clause-occurs g c = λ at occurs. absurd (no_value c.args.text.now at c.in_ok-value.value occurs c.in_ok-value.ensures.value)
 
 pub returns-clause-occurs : goal.returns-clause-occurs
 returns-clause-occurs g c = λ at occurs. absurd (no_value c.args.text.now at c.in_ok-value.value occurs c.in_ok-value.ensures.value)

@@ -1,0 +1,39 @@
+-- What the refusals of a translator say of the text, and the plan that it keeps.
+use Rattle.std.proofs.Common.{◌≡◌, ℕ, List, Result, Err, refl, subst, sym, ◌∙◌}
+use Rattle.std.specs.Prelude.{IsErrOf}
+use Rattle.agoutput.specs.declared.fault.ListingFault.{ListingFault}
+use Rattle.agoutput.specs.declared.fault.ListingFault.TheVariants as listing
+use Rattle.ag_expr.specs.grammars.AttributeGrammar.{Grammar}
+use Rattle.llparse.specs.Tables.{IsLeastConflict}
+use Rattle.llparse.specs.declared.ahead.Ahead.{Ahead}
+use Rattle.llparse.specs.declared.fault.TableFault.{TableFault}
+use Rattle.llparse.specs.declared.fault.TableFault.TheVariants as table
+use Rattle.passassign.specs.Least.{IsLeast}
+use Rattle.passassign.specs.Rows.{passes_of}
+use Rattle.passcode.specs.Order.{AreInOrder}
+use Rattle.passcode.specs.Rows.{Lists}
+use Rattle.planchecker.specs.Plans.{IsPlan}
+use Rattle.aggen.specs.Building.{IsBuildFault, IsLeastPlan, build_fault_of_table}
+use Rattle.aggen.specs.Checking.{IsGrammarOf}
+use Rattle.aggen.specs.Listing.{OfPlan}
+use Rattle.aggen.specs.Status.{listing_fault_of}
+use Rattle.aggen.specs.declared.fault.Fault.{Fault}
+use Rattle.aggen.specs.declared.fault.Fault.TheVariants as fault
+
+-- a conflict of the grammar of a text is one of the text
+pub conflict_told : (t : List ℕ) (g : Grammar) → IsGrammarOf t g → (f : TableFault)
+    → ((symbol first second : ℕ) (x : Ahead) → f ≡ table.Conflict symbol first second x → IsLeastConflict g symbol first second x)
+    → IsBuildFault t (build_fault_of_table f)
+conflict_told t g is (table.Conflict symbol first second ahead) least = (g, is, least symbol first second ahead refl)
+conflict_told t g is table.NoMemory least = tt
+
+pub least_plan : (g : Grammar) (rows : List (List ℕ)) (code : Lists) (p : List (List ℕ) × Lists) → p ≡ (rows, code) → IsPlan g rows code → IsLeast g (passes_of rows) → AreInOrder code → IsLeastPlan g p.0 p.1
+least_plan g rows code p is plan least order = subst (λ (x : List (List ℕ) × Lists). IsLeastPlan g x.0 x.1) (sym is) (record { plan = plan; least = least; order = order })
+
+pub of_plan : (P : Grammar → List (List ℕ) → Lists → Type 0) (text : List ℕ) (g : Grammar) (rows : List (List ℕ)) (code : Lists) → IsGrammarOf text g → IsLeastPlan g rows code → P g rows code → OfPlan text P
+of_plan P text g rows code is plan holds = record { grammar = g; rows = rows; code = code; is = is; plan = plan; holds = holds }
+
+-- O2 of the program is that of a listing
+pub write_told : {A : Type 0} (e : ListingFault) (told : Fault) (r : Result A Fault) → r ≡ Err told → told ≡ listing_fault_of e → IsErrOf r fault.Write → e ≡ listing.Write
+write_told listing.Write told r p q is = refl
+write_told {A} listing.NoMemory told r p q is = let bad : fault.NoMemory ≡ told = sym q in let both : Err told ≡ (let w : Result A Fault = Err fault.Write in w) = sym p ∙ is in absurd cc

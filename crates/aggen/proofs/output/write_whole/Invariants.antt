@@ -1,9 +1,0 @@
-use Rattle.std.proofs.Common.{length}
-use Rattle.aggen.specs.Output.{HasWritten}
-use Rattle.aggen.proofs.output.write_whole.Given as goal
-
-abbrev pub invariant-loop-rest : goal.invariant-loop-rest
-invariant-loop-rest g l = HasWritten (g.W.Write.contents l.initial.out) (g.W.Write.contents l.out) l.bytes l.rest
-
-abbrev pub decreases-loop-rest : goal.decreases-loop-rest
-decreases-loop-rest g l = length l.rest

@@ -1,0 +1,47 @@
+//! Printing the plan of a grammar's text, and its code.
+
+ghost use Rattle.std.specs.Prelude.{◌≡◌, ◌≢◌, IfErr, IsErrOf, OnOk};
+ghost use Rattle.aggen.specs.Listing.{BeginsCode, BeginsPlan, IsTranslatorFault};
+ghost use Rattle.aggen.specs.Listing.{TellsCode, TellsPlan};
+
+use crate::fault::Fault;
+use crate::translator::Translator;
+use agoutput::{write_code, write_plan};
+use std::alloc::Global;
+use std::io::Write;
+
+/// Makes a translator of a grammar's text, and writes a line for each of its passes:
+/// `pass 1 right-to-left: L.p T.p B.bit`, and LF.
+///
+/// G1 to G4, N1 to N10, L1 and A1 where the text makes no translator; O2 Write where a write fails or
+/// takes no byte. Nothing is written before all is known.
+#[tactic(auto, using(crate::proofs::Building::of_plan))]
+pub fn print_plan<W: Write>(alloc: Global, text: &[u8], out: &mut W) -> Result<(), Fault>
+    ensures tells { OnOk result (TellsPlan text.now (W.contents out.old) (W.contents out.new)) }
+    ensures refused { IfErr result (λ e. e ≢ Fault.Write → IsTranslatorFault text.now e) }
+    ensures kept { IfErr result (λ e. e ≢ Fault.Write → out.new ≡ out.old) }
+    ensures write { IsErrOf result Fault.Write →
+        BeginsPlan text.now (W.contents out.old) (W.contents out.new) }
+{
+    let translator = Translator::build(alloc, text)?;
+    write_plan(alloc, out, translator.grammar(), translator.plan())?;
+    Ok(())
+}
+
+/// Makes a translator of a grammar's text, and writes a line for each production and pass:
+/// `0 pass 1: get 2, go 2, put 2, get 1, go 1, put 1, end`, and LF.
+///
+/// G1 to G4, N1 to N10, L1 and A1 where the text makes no translator; O2 Write where a write fails or
+/// takes no byte. Nothing is written before all is known.
+#[tactic(auto, using(crate::proofs::Building::of_plan))]
+pub fn print_code<W: Write>(alloc: Global, text: &[u8], out: &mut W) -> Result<(), Fault>
+    ensures tells { OnOk result (TellsCode text.now (W.contents out.old) (W.contents out.new)) }
+    ensures refused { IfErr result (λ e. e ≢ Fault.Write → IsTranslatorFault text.now e) }
+    ensures kept { IfErr result (λ e. e ≢ Fault.Write → out.new ≡ out.old) }
+    ensures write { IsErrOf result Fault.Write →
+        BeginsCode text.now (W.contents out.old) (W.contents out.new) }
+{
+    let translator = Translator::build(alloc, text)?;
+    write_code(alloc, out, translator.grammar(), translator.plan())?;
+    Ok(())
+}
