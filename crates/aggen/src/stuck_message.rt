@@ -38,7 +38,10 @@ struct Delay<'a> {
 impl<'a> Delay<'a> {
     /// The rule and the argument of a strike, as they stand in the grammar's text.
     fn of(strike: Strike, direction: Direction, raw: &'a RawGrammar) -> Option<Delay<'a>> {
-        let production = raw.productions.as_slice().get(usize::from(strike.production))?;
+        let production = raw
+            .productions
+            .as_slice()
+            .get(usize::from(strike.production))?;
         let rule = production.rules.as_slice().get(usize::from(strike.rule))?;
         let argument = occurrences(&rule.expr).get(usize::from(strike.arg))?;
         Some(Delay {
@@ -144,7 +147,9 @@ fn tell_delay<W: fmt::Write>(
     delay: &Delay<'_>,
 ) -> fmt::Result {
     let Delay {
-        target, argument, ..
+        target,
+        argument,
+        ..
     } = delay;
     tell_occurrence(f, target)?;
     tell_place(f, text, target.at)?;
