@@ -150,22 +150,22 @@ impl Write for Narrow {
     }
 }
 
-/// A writer of so many bytes.
-fn with_room(alloc: Global, room: usize, fails: bool) -> Narrow {
-    Narrow {
-        taken: Vec::new(alloc),
+/// A writer of so many bytes, which has the memory for them.
+fn with_room(alloc: Global, room: usize, fails: bool) -> Result<Narrow, Fail> {
+    Ok(Narrow {
+        taken: Vec::with_capacity(alloc, room)?,
         room,
         fails,
-    }
+    })
 }
 
 #[test]
 fn a_text_is_written_up_to_where_a_write_takes_nothing(rt: HostRuntime) -> Result<(), Fail> {
     for fails in [false, true] {
-        let mut out = with_room(rt.alloc(), 3, fails);
+        let mut out = with_room(rt.alloc(), 3, fails)?;
         write_text(&mut out, "abc")?;
         assert_eq!(rt; out.taken.as_slice(), b"abc".as_slice());
-        let mut out = with_room(rt.alloc(), 2, fails);
+        let mut out = with_room(rt.alloc(), 2, fails)?;
         assert!(rt; matches!(write_text(&mut out, "abc"), Err(TextOutFault::Write)));
         assert_eq!(rt; out.taken.as_slice(), b"ab".as_slice());
     }
@@ -177,13 +177,13 @@ fn a_listing_is_written_up_to_where_a_write_takes_nothing(rt: HostRuntime) -> Re
     let alloc = rt.alloc();
     let grammar = grammar(alloc, FRACTIONS)?;
     let plan = plan(alloc, &grammar)?;
-    let mut out = with_room(alloc, 6, false);
+    let mut out = with_room(alloc, 6, false)?;
     match write_plan(alloc, &mut out, &grammar, &plan) {
         Err(ListingFault::NoMemory) => return Err(Fail::from(ListingFault::NoMemory)),
         told => assert!(rt; matches!(told, Err(ListingFault::Write))),
     }
     assert_eq!(rt; out.taken.as_slice(), b"pass 1".as_slice());
-    let mut out = with_room(alloc, 4, true);
+    let mut out = with_room(alloc, 4, true)?;
     match write_code(alloc, &mut out, &grammar, &plan) {
         Err(ListingFault::NoMemory) => return Err(Fail::from(ListingFault::NoMemory)),
         told => assert!(rt; matches!(told, Err(ListingFault::Write))),
