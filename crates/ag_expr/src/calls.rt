@@ -126,7 +126,7 @@ fn concatenate<'e>(
     }
     let left = left.into_owned(alloc, &*scope)?;
     if let Value::Text(more) = right.get(&*scope) {
-        return Ok(Operand::owned(extend_text(left, more.as_str())?));
+        return Ok(Operand::owned(extend_text(alloc, left, more.as_str())?));
     }
     let right = right.into_owned(alloc, &*scope)?;
     Ok(Operand::owned(extend_list(left, right)?))

@@ -64,7 +64,7 @@ fn operand_of<'e, V: Env>(
         }
         Node::If(condition, one, other) => {
             let condition = operand_of(alloc, expr, condition.get(), env, scope)?;
-            match decide(condition.get(&*scope)) {
+            match decide(condition, &*scope) {
                 Ok(true) => operand_of(alloc, expr, one.get(), env, scope),
                 Ok(false) => operand_of(alloc, expr, other.get(), env, scope),
                 Err(code) => Ok(fault(code)),
@@ -255,8 +255,18 @@ fn empty_table<'e>(alloc: Global) -> Operand<'e>
     Operand::owned(Measured::new(Value::Table(Items::from_vec(Vec::new(alloc)))))
 }
 
-/// What a condition decides, or its error.
-fn decide(condition: &Value) -> Result<bool, ErrorCode>
+/// What the value of a condition decides, or its error.
+fn decide(condition: Operand<'_>, scope: &Scope<'_>) -> Result<bool, ErrorCode>
+    requires { IsIn scope.now condition }
+    ensures { (e f : AttributeValue) → MatchResult result
+        (λ holds. chosen (operand_value scope.now condition.entry) e f ≡ cond holds e f)
+        (λ code. chosen (operand_value scope.now condition.entry) e f ≡ value.Fault code) }
+{
+    decided(condition.get(scope))
+}
+
+/// What a value decides as a condition, or its error.
+fn decided(condition: &Value) -> Result<bool, ErrorCode>
     ensures { (e f : AttributeValue) → MatchResult result
         (λ holds. chosen condition.now e f ≡ cond holds e f)
         (λ code. chosen condition.now e f ≡ value.Fault code) }

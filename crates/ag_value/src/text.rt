@@ -2,21 +2,31 @@
 ghost use Rattle.std.specs.Prelude.{◌≡◌, string_bytes, IfOk};
 
 use crate::fault::NoMemory;
+use arrayvec::ArrayString;
 use std::alloc::Global;
 use std::marker::Model;
 
-/// A `String` that contracts see as the list of its bytes.
+/// Where the bytes of a text lie: up to 16 in the value itself, any number in a string.
+#[derive(Debug, Drop)]
+enum Held {
+    Short(ArrayString<16>),
+    Long(String),
+}
+
+/// A string that contracts see as the list of its bytes. Made of up to 16 bytes it takes no memory
+/// for them.
 #[derive(Debug, Drop)]
 pub struct Text {
-    string: String,
+    held: Held,
 }
 
 impl Model for Text {
-    ghost use Rattle.std.specs.Prelude.{List, ℕ, string_bytes};
+    ghost use Rattle.std.specs.Prelude.{List, ℕ};
+    ghost use Rattle.ag_value.specs.Held.{held_bytes};
 
     ghost Value = { List ℕ };
 
-    ghost view = { λ t. string_bytes t.string };
+    ghost view = { λ t. held_bytes t.held };
 }
 
 impl Text {
@@ -24,29 +34,44 @@ impl Text {
     pub fn from_string(string: String) -> Text
         ensures { result ≡ string_bytes string }
     {
-        Text { string }
+        Text {
+            held: Held::Long(string),
+        }
     }
 
-    /// A copy of a text, in memory of its own.
+    /// A copy of a text. Takes memory for more than 16 bytes.
     pub fn from_str(alloc: Global, text: &str) -> Result<Text, NoMemory>
         ensures { IfOk result (λ copied. copied ≡ text.now) }
     {
+        if let Ok(short) = ArrayString::from(text) {
+            return Ok(Text {
+                held: Held::Short(short),
+            });
+        }
         let string = String::from_str(alloc, text)?;
-        Ok(Text { string })
+        Ok(Text {
+            held: Held::Long(string),
+        })
     }
 
     /// Lends the text.
     pub fn as_str(&self) -> &str
         ensures { result.now ≡ self.now }
     {
-        self.string.as_str()
+        match &self.held {
+            Held::Short(short) => short.as_str(),
+            Held::Long(string) => string.as_str(),
+        }
     }
 
-    /// The string again. Takes no memory.
-    pub fn into_string(self) -> String
-        ensures { string_bytes result ≡ self }
+    /// A string of the text. Takes memory for a text that has none yet.
+    pub fn into_string(self, alloc: Global) -> Result<String, NoMemory>
+        ensures { IfOk result (λ string. string_bytes string ≡ self) }
     {
-        let Text { string } = self;
-        string
+        let Text { held } = self;
+        match held {
+            Held::Short(short) => Ok(String::from_str(alloc, short.as_str())?),
+            Held::Long(string) => Ok(string),
+        }
     }
 }

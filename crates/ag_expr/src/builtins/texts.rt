@@ -97,21 +97,21 @@ fn joined(alloc: Global, items: &[Value], separator: &str) -> Result<String, NoM
 }
 
 /// `a ++ b` where b is a text: the left argument grows by it. Takes memory for the growth.
-pub fn extend_text(left: Measured, right: &str) -> Result<Measured, NoMemory>
+pub fn extend_text(alloc: Global, left: Measured, right: &str) -> Result<Measured, NoMemory>
     ensures { IfOk result (λ m. m ≡ concatenated left (value.Text right.now)) }
 {
     match left.into_value() {
-        Value::Text(text) => extended(text, right),
+        Value::Text(text) => extended(alloc, text, right),
         _ => Ok(Measured::new(Value::Fault(ErrorCode::Kind))),
     }
 }
 
 /// Two texts, one behind the other.
 #[tactic(auto, using(ag_value::proofs::Layers::items, ag_value::proofs::Utf8::utf8))]
-fn extended(left: Text, right: &str) -> Result<Measured, NoMemory>
+fn extended(alloc: Global, left: Text, right: &str) -> Result<Measured, NoMemory>
     ensures { IfOk result (λ m. m ≡ fit (value.Text (left ++ right.now))) }
 {
-    let mut string = left.into_string();
+    let mut string = left.into_string(alloc)?;
     string.push_str(right)?;
     let text = Text::from_string(string);
     // a look tells the prover that a text is UTF-8

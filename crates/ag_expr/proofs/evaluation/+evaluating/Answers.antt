@@ -28,8 +28,8 @@ operand_of-chain_of-requires g t c = λ κs le.
     let below : all_below n (length c.operand_of.new.scope) c.as_slice.result.now ≡ true = rw c.as_slice.ensures (subst (λ (s : List Value). all_below n (length s) c.in-Chain.others ≡ true) (sym c.in_ok-value-in-Chain.ensures.stays) outer) in
     (search (rules, the_lemmas), (le, (c.in_ok-value-in-Chain.ensures.within, (below, (c.requires.lends, c.requires.well)))))
 
-pub operand_of-returns-in-Chain-clause-value : goal.operand_of-returns-in-Chain-clause-value
-operand_of-returns-in-Chain-clause-value g t c =
+pub operand_of-returns-in_ok-value-in-Chain-clause-value : goal.operand_of-returns-in_ok-value-in-Chain-clause-value
+operand_of-returns-in_ok-value-in-Chain-clause-value g t c =
     let env = g.V.Env.lent c.args.env.now in
     let s = c.args.scope.now in
     let f : Operator × Node → Operator × Meaning = λ p. (p.0, value_in p.1) in
