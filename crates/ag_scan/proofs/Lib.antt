@@ -1,4 +1,5 @@
 pub mod Answered
+pub mod Beginnings
 pub mod Choosing
 pub mod ClassWords
 pub mod Examples

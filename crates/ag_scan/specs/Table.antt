@@ -1,10 +1,12 @@
 -- Looking up the longest literal in front of a text. All of this is this project's. Texts stand here as the lists of their bytes.
-use Rattle.std.specs.Prelude.{◌≡◌, ℕ, ◌+◌, ◌<◌, ◌≤◌, false, List, ◌++◌, Option, Some, None, slice_get, length}
+use Rattle.std.specs.Prelude.{◌≡◌, ℕ, ◌+◌, ◌<◌, ◌≤◌, false, List, ◌∷◌, ◌++◌, Option, Some, None, slice_get, get_or, length}
 use Rattle.std.specs.Cmp.Lexicographic.{slice_cmp}
 use Rattle.std.specs.Ordering.{nat_cmp, is_gt}
 use Rattle.ag_expr.specs.Lists.{Each}
 use Rattle.ag_expr.specs.grammars.Accepted.{most_literals}
 use Rattle.ag_scan.specs.declared.literals.Word.{Word}
+use Rattle.ag_scan.specs.declared.starts.Start.{Start}
+use Rattle.ag_scan.specs.declared.starts.Start.TheVariants.{Nothing, Sole, Several}
 
 -- the text begins with the bytes `front`
 abbrev pub IsFront : List ℕ → List ℕ → Type 0
@@ -70,3 +72,20 @@ pub record IsLongestFront (literals : List (List ℕ)) (text : List ℕ) (w : Wo
 -- the text begins with no literal
 abbrev pub HasNoFront : List (List ℕ) → List ℕ → Type 0
 HasNoFront literals text = Each (λ x. IsFront x text → ⊥) literals
+
+-- which words begin with a byte, once the word of an index does too
+abbrev pub with_one : Start → ℕ → Start
+with_one Nothing index = Sole index
+with_one (Sole other) index = Several
+with_one Several index = Several
+
+-- what is said of the words that begin with a byte, where the word of the index k does
+abbrev pub Tells : ℕ → Start → Type 0
+Tells k Nothing = ⊥
+Tells k (Sole index) = index ≡ k
+Tells k Several = Unit {0}
+
+-- Each of the first `count` words begins with a byte, and it is told of that byte.
+pub record AreTold (words : List Word) (starts : List Start) (count : ℕ) : Type 0 where
+  pub whole : length starts ≡ 256
+  pub each : (k : ℕ) (w : Word) → k < count → slice_get words k ≡ Some w → (b : ℕ) × (rest : List ℕ) × (w.text.now ≡ b ∷ rest) × ((d : Start) → Tells k (get_or starts b d))

@@ -132,6 +132,9 @@ pub fn class_in_front<'t>(classes: &[u16], text: &'t str) -> Option<Front<'t>>
     ensures { option_map (λ f. cutting.front_of f) result
         ≡ cutting.class_from classes.now (chars text.now) }
 {
+    if classes.is_empty() {
+        return None;
+    }
     let (c, behind) = first(text)?;
     if starts_name(c) {
         if !classes.contains(&NAME) {

@@ -7,6 +7,7 @@ mod front;
 pub mod laws;
 mod literals;
 mod scanning;
+mod starts;
 mod token;
 
 pub use ag_expr::Terminal;

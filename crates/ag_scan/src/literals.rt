@@ -1,12 +1,15 @@
 //! The literals of a grammar in the order of their texts, and the longest one at the front of a
 //! text.
 
-ghost use Rattle.std.specs.Prelude.{◌≡◌, ◌≤◌, length, Some, IfOk, MatchBool, MatchOption};
+ghost use Rattle.std.specs.Prelude.{◌≡◌, ◌≤◌, length, slice_get, Some, IfNone, IfOk, IfSome};
+ghost use Rattle.std.specs.Prelude.{MatchBool, MatchOption};
 ghost use Rattle.ag_expr.specs.grammars.Accepted.{most_literals};
-ghost use Rattle.ag_scan.specs.Table.{AreLinked, AreLiterals, AreOrdered, AreUpTo, GivesLast};
-ghost use Rattle.ag_scan.specs.Table.{HasNoFront, IsFront, IsLongestFront, IsTable, NoFront};
-ghost use Rattle.ag_scan.specs.Table.{behind_last};
+ghost use Rattle.ag_scan.specs.Table.{AreLinked, AreLiterals, AreOrdered, AreTold, AreUpTo};
+ghost use Rattle.ag_scan.specs.Table.{GivesLast, HasNoFront, IsFront, IsLongestFront, IsTable};
+ghost use Rattle.ag_scan.specs.Table.{NoFront, behind_last};
+ghost use Rattle.ag_scan.specs.Words.{HasNoEmpty};
 
+use crate::starts::{Start, first_byte, starts_of};
 use ag_value::{NoMemory, Text};
 use std::alloc::Global;
 use std::marker::Model;
@@ -19,23 +22,26 @@ pub struct Word<'g> {
 }
 
 /// The literals in the order of their texts, each with the index of the last one before it that its
-/// own text begins with. Contracts see it as the list of the texts by their numbers.
+/// own text begins with, and for each byte which of them begin with it. Contracts see it as the list
+/// of the texts by their numbers.
 #[derive(Drop)]
 pub struct Literals<'g> {
     texts: &'g [Text],
     words: Vec<Word<'g>>,
     shorter: Vec<Option<u16>>,
+    starts: Vec<Start>,
 }
 
 impl<'g> Model for Literals<'g> {
-    ghost use Rattle.std.specs.Prelude.{List, ℕ};
-    ghost use Rattle.ag_scan.specs.Table.{IsTable};
+    ghost use Rattle.std.specs.Prelude.{List, ℕ, length};
+    ghost use Rattle.ag_scan.specs.Table.{AreTold, IsTable};
 
     ghost Value = { List (List ℕ) };
 
     ghost view = { λ l. l.texts.now };
 
-    ghost invariant = { λ l. IsTable l.texts.now l.words.items l.shorter.items };
+    ghost invariant = { λ l. IsTable l.texts.now l.words.items l.shorter.items
+        × AreTold l.words.items l.starts.items (length l.words.items) };
 }
 
 /// Whether the text begins with a word.
@@ -141,26 +147,64 @@ fn longest_of<'g>(
     ensures { MatchOption result (HasNoFront texts.now text.now)
         (λ w. IsLongestFront texts.now text.now w) }
 {
-    if texts.is_empty() {
-        return None;
-    }
     let bound = count_up_to(words, text);
     let index = last_front(words, shorter, bound, text)?;
     Some(words[index as usize])
 }
 
+/// The word of an index, where the text begins with it.
+fn front_at<'g>(words: &[Word<'g>], index: u16, text: &str) -> Option<Word<'g>>
+    ensures there { IfSome result (λ w. slice_get words.now index ≡ Some w) }
+    ensures front { IfSome result (λ w. IsFront w.text.now text.now) }
+    ensures none { IfNone result ((w : Word) → slice_get words.now index ≡ Some w
+        → IsFront w.text.now text.now → ⊥) }
+{
+    match words.get(index as usize) {
+        Some(word) if begins_with(text, word.text) => Some(*word),
+        _ => None,
+    }
+}
+
+/// The longest literal that the text begins with, which is looked for in the whole table only where
+/// several begin with the text's first byte.
+fn longest_by_start<'g>(
+    texts: &[Text],
+    words: &[Word<'g>],
+    shorter: &[Option<u16>],
+    starts: &[Start],
+    text: &str,
+) -> Option<Word<'g>>
+    requires table { IsTable texts.now words.now shorter.now }
+    requires starts { AreTold words.now starts.now (length words.now) }
+    ensures { MatchOption result (HasNoFront texts.now text.now)
+        (λ w. IsLongestFront texts.now text.now w) }
+{
+    if text.is_empty() {
+        return None;
+    }
+    let start = starts[first_byte(text) as usize];
+    match start {
+        Start::Nothing => None,
+        Start::Sole(index) => front_at(words, index, text),
+        Start::Several => longest_of(texts, words, shorter, text),
+    }
+}
+
 impl<'g> Literals<'g> {
-    /// The table of a grammar's literals. Takes memory for each.
+    /// The table of a grammar's literals. Takes memory for each, and for 256 bytes.
     pub fn new(alloc: Global, texts: &'g [Text]) -> Result<Literals<'g>, NoMemory>
-        requires { length texts.now ≤ most_literals }
+        requires many { length texts.now ≤ most_literals }
+        requires words { HasNoEmpty texts.now }
         ensures { IfOk result (λ l. l ≡ texts.now) }
     {
         let words = ordered(alloc, texts)?;
         let shorter = linked(alloc, words.as_slice())?;
+        let starts = starts_of(alloc, words.as_slice())?;
         Ok(Literals {
             texts,
             words,
             shorter,
+            starts,
         })
     }
 
@@ -169,10 +213,11 @@ impl<'g> Literals<'g> {
         ensures { MatchOption result (HasNoFront self.now text.now)
             (λ w. IsLongestFront self.now text.now w) }
     {
-        longest_of(
+        longest_by_start(
             self.texts,
             self.words.as_slice(),
             self.shorter.as_slice(),
+            self.starts.as_slice(),
             text,
         )
     }

@@ -103,9 +103,11 @@ fn token_in_front<'t>(
     if lex.len() > MOST_TOKEN_BYTES {
         return Err(ScanFault::LongToken(at));
     }
+    // a look tells the prover that a text is UTF-8
+    let _utf8 = lex.as_bytes();
     let token = Token {
         kind,
-        lex: Text::from_string(String::from_str(alloc, lex)?),
+        lex: Text::from_str(alloc, lex)?,
         at: at as u32,
     };
     Ok((token, rest))

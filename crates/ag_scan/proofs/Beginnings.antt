@@ -1,0 +1,87 @@
+-- Looking up a literal by the byte that a text begins with.
+use Rattle.std.proofs.Common.{◌≡◌, ℕ, ◌+◌, ◌<◌, ◌≤◌, List, ◌∷◌, ◌++◌, length, get_or, Option, Some, None, IfSome, IfNone, MatchOption, slice_get, refl, ap, sym, ◌∙◌, subst, arith}
+use Rattle.std.proofs.Math.ListN.{set, replicate}
+use Rattle.std.proofs.lemmas.List.{length-set, length-replicate, get_or-set_other}
+use Rattle.std.proofs.lemmas.Grind.{get_or-set_at}
+use Rattle.ag_scan.specs.declared.literals.Word.{Word}
+use Rattle.ag_scan.specs.declared.starts.Start.{Start}
+use Rattle.ag_scan.specs.declared.starts.Start.TheVariants.{Nothing, Sole, Several}
+use Rattle.ag_scan.specs.Table.{IsFront, IsTable, IsLongestFront, HasNoFront, AreTold, Tells, with_one}
+use Rattle.ag_scan.proofs.Tables.{compared, same_there, there_within}
+
+pub none_told : (words : List Word) (starts : List Start) → starts ≡ replicate 256 Nothing → AreTold words starts 0
+none_told words starts e = record { whole = ap length e ∙ length-replicate 256 Nothing; each = λ k w below there. let bad : ⊥ = omega arith in absurd bad }
+
+-- what is told of a word stays so when a word more begins with its byte
+still_told : (k : ℕ) (s : Start) (index : ℕ) → Tells k s → Tells k (with_one s index)
+still_told k Nothing index h = absurd h
+still_told k (Sole other) index h = tt
+still_told k Several index h = tt
+
+newly_told : (s : Start) (index : ℕ) → Tells index (with_one s index)
+newly_told Nothing index = refl
+newly_told (Sole other) index = tt
+newly_told Several index = tt
+
+-- one word more is told of
+module _ (words : List Word) (starts : List Start) (index b : ℕ) (rest : List ℕ) (w : Word) (s : Start) (told : AreTold words starts index) (there : slice_get words index ≡ Some w) (text : w.text.now ≡ b ∷ rest) (byte : b < 256) (is : get_or starts b s ≡ s) where
+  new : List Start
+  new = set starts b (with_one s index)
+
+  within : b < length starts
+  within = omega (arith, told.whole)
+
+  kept : (k c : ℕ) → ((d : Start) → Tells k (get_or starts c d)) → (d : Start) → Tells k (get_or (set starts b (with_one s index)) c d)
+  kept k c old d =
+      compared c b
+      (λ less. subst (Tells k) (sym (get_or-set_other starts b c (with_one s index) d (λ e. let bad : ⊥ = omega (arith, e) in bad))) (old d))
+      (λ same. subst (Tells k) (sym (get_or-set_at starts b c (with_one s index) d same within)) (still_told k s index (subst (Tells k) is (subst (λ j. Tells k (get_or starts j s)) same (old s)))))
+      (λ more. subst (Tells k) (sym (get_or-set_other starts b c (with_one s index) d (λ e. let bad : ⊥ = omega (arith, e) in bad))) (old d))
+
+  by : (k : ℕ) (u : Word) → k < index + 1 → slice_get words k ≡ Some u → (c : ℕ) × (more : List ℕ) × (u.text.now ≡ c ∷ more) × ((d : Start) → Tells k (get_or (set starts b (with_one s index)) c d))
+  by k u below at =
+      compared k index
+      (λ less. let old = told.each k u less at in (old.0, old.1, old.2, kept k old.0 old.3))
+      (λ same. (
+        b,
+        rest,
+        ap (λ (v : Word). v.text.now) (same_there words k index u w at there same) ∙ text,
+        λ d. subst (Tells k) (sym (get_or-set_at starts b b (with_one s index) d refl within)) (subst (λ j. Tells j (with_one s index)) (sym same) (newly_told s index)),
+      ))
+      (λ more. let bad : ⊥ = omega arith in absurd bad)
+
+  pub one_told : AreTold words (set starts b (with_one s index)) (index + 1)
+  one_told = record { whole = length-set starts b (with_one s index) ∙ told.whole; each = by }
+
+-- what the table tells of a text
+module _ (literals : List (List ℕ)) (words : List Word) (shorter : List (Option ℕ)) (table : IsTable literals words shorter) (starts : List Start) (told : AreTold words starts (length words)) (text : List ℕ) where
+  -- a literal in front of the text is a word that begins as the text does
+  told_front : (b : ℕ) (rest x : List ℕ) (n : ℕ) → text ≡ b ∷ rest → slice_get literals n ≡ Some x → IsFront x text → (k : ℕ) × (w : Word) × (slice_get words k ≡ Some w) × (w.text.now ≡ x) × ((d : Start) → Tells k (get_or starts b d))
+  told_front b rest x n e at front =
+      let found = table.literals_all.whole n x at in
+      let of = told.each found.0 found.1 (there_within words found.0 found.1 found.2) found.2 in
+      let same : of.0 ∷ (of.1 ++ front.0) ≡ b ∷ rest = ap (λ y. y ++ front.0) (sym of.2 ∙ found.3) ∙ sym front.1 ∙ e in
+      let first : of.0 ≡ b = cc in
+      (found.0, found.1, found.2, found.3, λ d. subst (λ c. Tells found.0 (get_or starts c d)) first (of.3 d))
+
+  module _ (b : ℕ) (rest : List ℕ) (e : text ≡ b ∷ rest) (d : Start) (i : ℕ) (sole : get_or starts b d ≡ Sole i) where
+    sole_none : ((w : Word) → slice_get words i ≡ Some w → IsFront w.text.now text → ⊥) → HasNoFront literals text
+    sole_none not_here n x at front =
+        let found = told_front b rest x n e at front in
+        let same : i ≡ found.0 = subst (Tells found.0) sole (found.4 d) in
+        not_here found.1 (subst (λ j. slice_get words j ≡ Some found.1) (sym same) found.2) (subst (λ y. IsFront y text) (sym found.3) front)
+
+    sole_longest : (w : Word) → slice_get words i ≡ Some w → IsFront w.text.now text → IsLongestFront literals text w
+    sole_longest w there front = record { numbered = table.literals_all.numbered i w there; front = front; longest = longest }
+      where
+        longest : (n : ℕ) (x : List ℕ) → slice_get literals n ≡ Some x → IsFront x text → length x ≤ length w.text.now
+        longest n x at is_front =
+            let found = told_front b rest x n e at is_front in
+            let same : i ≡ found.0 = subst (Tells found.0) sole (found.4 d) in
+            let texts : w.text.now ≡ x = ap (λ (v : Word). v.text.now) (same_there words i found.0 w found.1 there found.2 same) ∙ found.3 in
+            omega (arith, ap length texts)
+
+    pub sole_told : (r : Option Word) → IfSome r (λ w. slice_get words i ≡ Some w) → IfSome r (λ w. IsFront w.text.now text) → IfNone r ((w : Word) → slice_get words i ≡ Some w → IsFront w.text.now text → ⊥)
+        → MatchOption r (HasNoFront literals text) (λ w. IsLongestFront literals text w)
+    sole_told None there front not_here = sole_none not_here
+    sole_told (Some w) there front not_here = sole_longest w there front

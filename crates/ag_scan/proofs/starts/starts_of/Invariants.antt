@@ -1,0 +1,5 @@
+use Rattle.ag_scan.specs.Table.{AreTold}
+use Rattle.ag_scan.proofs.starts.starts_of.Given as goal
+
+abbrev pub invariant-loop-index : goal.invariant-loop-index
+invariant-loop-index l = AreTold l.words l.starts.items l.index

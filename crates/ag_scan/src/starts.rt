@@ -1,0 +1,54 @@
+//! Which of the literals begin with each byte.
+
+ghost use Rattle.std.specs.Prelude.{◌≡◌, ◌≤◌, ◌∷◌, List, ℕ, length, IfOk};
+ghost use Rattle.ag_expr.specs.Lists.{Each};
+ghost use Rattle.ag_expr.specs.grammars.Accepted.{most_literals};
+ghost use Rattle.ag_scan.specs.Table.{AreTold, with_one};
+
+use crate::literals::Word;
+use ag_value::NoMemory;
+use std::alloc::Global;
+
+/// Which words begin with a byte.
+#[derive(Clone, Copy, Debug, PartialEq, Eq)]
+pub enum Start {
+    /// None.
+    Nothing,
+    /// The one of this index alone.
+    Sole(u16),
+    /// Several.
+    Several,
+}
+
+/// What is known of a byte once the word of an index begins with it too.
+fn with_one(start: Start, index: u16) -> Start
+    ensures { result ≡ with_one start index }
+{
+    match start {
+        Start::Nothing => Start::Sole(index),
+        _ => Start::Several,
+    }
+}
+
+/// The byte that a text begins with.
+pub fn first_byte(text: &str) -> u8
+    requires { 1 ≤ length text.now }
+    ensures { (rest : List ℕ) × (text.now ≡ result ∷ rest) }
+{
+    text.as_bytes()[0]
+}
+
+/// For each byte the words that begin with it. Takes memory for 256 entries.
+pub fn starts_of(alloc: Global, words: &[Word<'_>]) -> Result<Vec<Start>, NoMemory>
+    requires many { length words.now ≤ most_literals }
+    requires texts { Each (λ w. 1 ≤ length w.text.now) words.now }
+    ensures { IfOk result (λ s. AreTold words.now s.items (length words.now)) }
+{
+    let mut starts = vec![in alloc; Start::Nothing; 256]?;
+    for index in 0..words.len() {
+        let first = first_byte(words[index].text) as usize;
+        let start = starts[first];
+        starts[first] = with_one(start, index as u16);
+    }
+    Ok(starts)
+}
