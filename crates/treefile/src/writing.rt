@@ -100,7 +100,8 @@ impl Writer {
         })
     }
 
-    /// Appends the frame of a record by one call of the device. Takes memory for the frame.
+    /// Appends the frame of a record by one call of the device. Takes memory for the frame, where
+    /// there are values.
     ///
     /// Asks for at most 16 values, each of them well, and for fewer than u64::MAX frames put
     /// before.
@@ -146,6 +147,10 @@ impl Writer {
         // A broken writer doesn't touch the device.
         if self.is_broken {
             return Err(WriteFault::Device);
+        }
+        if values.is_empty() {
+            let answer = device.append(&bare_frame(kind, number));
+            return self.settle(answer);
         }
         fill_frame(&mut self.buffer, kind, number, values)?;
         let answer = device.append(self.buffer.as_slice());
@@ -223,6 +228,14 @@ impl Writer {
     {
         self.written
     }
+}
+
+/// The frame of a record without values.
+fn bare_frame(kind: Kind, number: u16) -> [u8; 7]
+    ensures { result ≡ frame (body_of kind number []) }
+{
+    let [high, low] = number.to_be_bytes();
+    [kind.byte(), high, low, 0, 0, 0, 3]
 }
 
 /// Makes the buffer the frame of a record.
