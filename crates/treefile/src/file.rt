@@ -1,7 +1,7 @@
 //! A device over a file, which gathers what is appended.
 
-ghost use Rattle.std.specs.Prelude.{◌≡◌, ◌≤◌, ◌+◌, [], length, slice_range};
-ghost use Rattle.std.specs.Prelude.{Ok, Err, IfOk, IsErrOf, OnErr, OnOk};
+ghost use Rattle.std.specs.Prelude.{◌≡◌, ◌≤◌, ◌+◌, ◌++◌, [], length, slice_range};
+ghost use Rattle.std.specs.Prelude.{Ok, Err, IfErr, IfOk, IsErrOf, OnErr, OnOk};
 ghost use Rattle.std.specs.Io.KnownBytes.{Appends, Keeps};
 ghost use Rattle.treefile.specs.Device.{Appends as DeviceAppends, Clears, HasRisen, LeavesContent};
 ghost use Rattle.treefile.specs.Device.{Persists, TakesNoMemory, WhenHonest, most_failures};
@@ -142,6 +142,46 @@ impl<F: Write> FileDevice<F> {
         self.gathered.clear();
         Ok(())
     }
+
+    /// Gathers bytes, for which there is room. Takes memory for them.
+    fn gather(&mut self, bytes: &[u8]) -> Result<(), DeviceFault>
+        ensures ok { OnOk result (self.new
+            ≡ record self.old { gathered = self.old.gathered ++ bytes.now }) }
+        ensures err { OnErr result (self.new ≡ self.old) }
+        ensures memory { IfErr result (λ e. e ≡ DeviceFault.NoMemory) }
+    {
+        match self.gathered.extend_from_slice(bytes) {
+            Ok(()) => Ok(()),
+            Err(_) => Err(DeviceFault::NoMemory),
+        }
+    }
+
+    /// Appends bytes, also where there is no room to gather them.
+    #[cold]
+    #[inline(never)]
+    fn append_slowly(&mut self, bytes: &[u8]) -> Result<(), DeviceFault>
+        ensures content { WhenHonest self.old.is_honest
+            (DeviceAppends bytes.now (content_of self.old) (content_of self.new) result) }
+        ensures persists { FilePersists self.old self.new (IsErrOf result DeviceFault.Failed) }
+        ensures taken { OnOk result
+            (Appends (taken F.contents self.old) (taken F.contents self.new) bytes.now) }
+        ensures refused { IsErrOf result DeviceFault.NoMemory →
+            Keeps (taken F.contents self.old) (taken F.contents self.new) }
+        ensures reading { self.old.access ≡ Access.Reading → IsErrOf result DeviceFault.Failed }
+        ensures broken { StaysBroken self.old self.new (IsErrOf result DeviceFault.Failed) }
+    {
+        if self.access != Access::Writing {
+            return Err(self.fail());
+        }
+        if GATHERED_BYTES.saturating_sub(self.gathered.len()) < bytes.len() {
+            self.finish()?;
+        }
+        if GATHERED_BYTES <= bytes.len() {
+            let written = self.file.write_all(bytes);
+            return self.told(written);
+        }
+        self.gather(bytes)
+    }
 }
 
 impl<F: Read + Write + Seek + OpenFile> FileDevice<F> {
@@ -216,20 +256,11 @@ impl<F: Read + Write + Seek + OpenFile> Device for FileDevice<F> {
         ensures reading { self.old.access ≡ Access.Reading → IsErrOf result DeviceFault.Failed }
         ensures broken { StaysBroken self.old self.new (IsErrOf result DeviceFault.Failed) }
     {
-        if self.access != Access::Writing {
-            return Err(self.fail());
+        let room = GATHERED_BYTES.saturating_sub(self.gathered.len());
+        if self.access != Access::Writing || room <= bytes.len() {
+            return self.append_slowly(bytes);
         }
-        if GATHERED_BYTES.saturating_sub(self.gathered.len()) < bytes.len() {
-            self.finish()?;
-        }
-        if GATHERED_BYTES <= bytes.len() {
-            let written = self.file.write_all(bytes);
-            return self.told(written);
-        }
-        match self.gathered.extend_from_slice(bytes) {
-            Ok(()) => Ok(()),
-            Err(_) => Err(DeviceFault::NoMemory),
-        }
+        self.gather(bytes)
     }
 
     fn read_at(&mut self, at: u64, out: &mut [u8]) -> Result<(), DeviceFault>
