@@ -126,15 +126,12 @@ fn text_in_front(text: &str) -> Option<Front<'_>>
     }
 }
 
-/// The word of a class in use at the front. Takes no memory.
+/// The word at the front of one of these classes.
 #[tactic(auto, unfolding(crate::specs::Cutting::class_from))]
-pub fn class_in_front<'t>(classes: &[u16], text: &'t str) -> Option<Front<'t>>
+fn class_among<'t>(classes: &[u16], text: &'t str) -> Option<Front<'t>>
     ensures { option_map (λ f. cutting.front_of f) result
         ≡ cutting.class_from classes.now (chars text.now) }
 {
-    if classes.is_empty() {
-        return None;
-    }
     let (c, behind) = first(text)?;
     if starts_name(c) {
         if !classes.contains(&NAME) {
@@ -152,4 +149,16 @@ pub fn class_in_front<'t>(classes: &[u16], text: &'t str) -> Option<Front<'t>>
         return text_in_front(behind);
     }
     None
+}
+
+/// The word of a class in use at the front. Takes no memory.
+#[tactic(auto, unfolding(crate::specs::Cutting::class_from))]
+pub fn class_in_front<'t>(classes: &[u16], text: &'t str) -> Option<Front<'t>>
+    ensures { option_map (λ f. cutting.front_of f) result
+        ≡ cutting.class_from classes.now (chars text.now) }
+{
+    if classes.is_empty() {
+        return None;
+    }
+    class_among(classes, text)
 }
