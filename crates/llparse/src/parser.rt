@@ -67,8 +67,7 @@ fn put_leaf<D: Device>(
     ensures persists { Persists (D.is_honest device.old) (D.is_honest device.new)
         (D.failures device.old) (D.failures device.new) (IsErrOf result ParseFault.Device) }
 {
-    let copy = String::from_str(alloc, lex.as_str())?;
-    let value = Value::Text(Text::from_string(copy));
+    let value = Value::Text(Text::from_str(alloc, lex.as_str())?);
     writer.put(device, Kind::Token, class, &[value])?;
     Ok(())
 }
@@ -138,6 +137,7 @@ impl Parser {
     }
 
     /// Opens a node of the symbol that comes next.
+    #[inline(always)]
     pub(crate) fn open(
         &mut self,
         tables: &Tables,
