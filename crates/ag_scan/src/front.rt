@@ -152,6 +152,7 @@ fn class_among<'t>(classes: &[u16], text: &'t str) -> Option<Front<'t>>
 }
 
 /// The word of a class in use at the front. Takes no memory.
+#[inline(always)]
 #[tactic(auto, unfolding(crate::specs::Cutting::class_from))]
 pub fn class_in_front<'t>(classes: &[u16], text: &'t str) -> Option<Front<'t>>
     ensures { option_map (λ f. cutting.front_of f) result

@@ -114,6 +114,7 @@ fn token_in_front<'t>(
 }
 
 /// The tokens of a text that is no longer than a sentence.
+#[inline(never)]
 fn tokens_of(
     alloc: Global,
     literals: &Literals<'_>,

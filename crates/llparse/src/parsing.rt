@@ -24,6 +24,7 @@ use std::alloc::Global;
 use treefile::{Device, Writer};
 
 /// Writes the records of the one tree of the tokens behind what the device has.
+#[inline(never)]
 fn run<D: Device>(
     alloc: Global,
     grammar: &Grammar,

@@ -109,6 +109,7 @@ impl Writer {
     /// D1 Device where the device failed: it has a beginning of the frame more, and the writer is
     /// broken. A broken writer answers this for good, and doesn't touch the device. For want of
     /// memory nothing changes.
+    #[inline(always)]
     pub fn put<D: Device>(
         &mut self,
         device: &mut D,
