@@ -8,8 +8,8 @@ use ag_value::Text;
 pub struct Token {
     /// What it is a word of.
     pub kind: Terminal,
-    /// Its text: of a TEXT what stands between the quotes, and else the word itself.
-    pub lex: Text,
     /// Where its word begins, in bytes from the front of the sentence.
     pub at: u32,
+    /// Its text: of a TEXT what stands between the quotes, and else the word itself.
+    pub lex: Text,
 }
