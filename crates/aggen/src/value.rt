@@ -1,4 +1,4 @@
-//! The program's one command: the value of an expression, by way of a tree file.
+//! The value of an expression, by way of a tree file.
 
 ghost use Rattle.std.specs.Prelude.{◌≡◌, ◌≢◌, ℕ, [], IfErr, IfOk, IsErrAnd, IsErrOf, OnOk};
 ghost use Rattle.ag_expr.specs.language.Expression.{ReadsAsExpr};

@@ -1,11 +1,11 @@
 //! A fault of an expression, or of no text, in one line for a reader.
 
 use crate::expression_message::{place_in, tell_expression};
-use crate::fault::Fault;
 use crate::telling::{found_at, tell_place};
 use ag_expr::{ExprFault, expected_at};
 use ag_text::Expected;
 use ag_value::NoMemory;
+use aggen::Fault;
 use std::alloc::Global;
 use std::fmt;
 

@@ -2,9 +2,11 @@
 
 ghost use Rattle.std.specs.Prelude.{false};
 
-use super::*;
-use std::io::Write;
-use treefile::{Device, DeviceFault, FuseDevice};
+use aggen::{Fault, show_value};
+use std::alloc::Global;
+use std::io::{self, Write};
+use std::test::Fail;
+use treefile::{Device, DeviceFault, FuseDevice, MemDevice};
 
 /// A writer that takes so many bytes, one at a time, and then fails or takes none.
 #[derive(Drop)]

@@ -6,47 +6,33 @@
 //! parses the sentence in a file, and writes its tree's file.
 #![tactic(auto)]
 
-mod build_fault;
-mod checking;
 mod command;
 mod conflict_message;
 mod expression_message;
-mod fault;
-mod file;
 mod grammar_message;
 mod limit_message;
-mod listing;
 mod message;
 mod normal_message;
 mod sentence_message;
 mod sites;
-mod source;
-mod stuck_grammar;
 mod stuck_message;
 mod telling;
 mod terminals;
-mod translator;
-mod value;
 
+use aggen::{
+    Fault, Translator, nodes_line, print_code, print_counts, print_plan, show_value, source_of,
+    status,
+};
 use agoutput::write_text;
-use checking::print_counts;
 use command::{Paths, Request, request_of};
-use fault::{Fault, status};
 use grammar_message::GrammarMessage;
-use listing::{print_code, print_plan};
 use message::Message;
 use sentence_message::SentenceMessage;
-use source::source_of;
 use std::alloc::{AllocError, Global};
 use std::io;
 use std::process::ExitCode;
 use std::rt::{Env, Files};
-use translator::{Translator, nodes_line};
 use treefile::{FileDevice, MemDevice};
-use value::show_value;
-
-#[cfg(test)]
-mod tests;
 
 fn main(rt: HostRuntime) -> ExitCode {
     match run(&rt) {

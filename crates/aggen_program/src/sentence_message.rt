@@ -1,10 +1,9 @@
 //! A fault of a sentence in one line for a reader.
 
-use crate::fault::Fault;
 use crate::telling::{front_of, tell_found, tell_path, tell_place};
 use crate::terminals::{tell_aheads, tell_terminals};
-use crate::translator::Translator;
 use ag_scan::{ScanFault, Token, scan};
+use aggen::{Fault, Translator};
 use llparse::{Ahead, ParseFault, expected_at};
 use normalform::Grammar;
 use std::alloc::Global;

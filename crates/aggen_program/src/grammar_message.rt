@@ -1,13 +1,12 @@
 //! A fault of a grammar's file in one line for a reader.
 
-use crate::checking::grammar_of;
 use crate::conflict_message::{place_of_conflict, tell_conflict};
 use crate::expression_message::{place_in, tell_expression};
-use crate::fault::Fault;
 use crate::normal_message::{place_of_fault, tell_normal};
 use crate::stuck_message::tell_stuck;
 use crate::telling::{found_at, front_of, tell_expected, tell_found, tell_path, tell_place};
 use ag_text::{Expected, RawGrammar, TextFault, expected_at, read_grammar};
+use aggen::{Fault, grammar_of};
 use normalform::Grammar;
 use std::alloc::Global;
 use std::fmt;

@@ -1,9 +1,9 @@
 //! Why no order of passes serves a grammar, in words.
 
-use crate::stuck_grammar::{StuckGrammar, tell_attribute};
 use crate::telling::tell_place;
 use ag_expr::{Occ, occurrences};
 use ag_text::RawGrammar;
+use aggen::{StuckGrammar, tell_attribute};
 use passassign::{Strike, Stuck};
 use std::fmt;
 

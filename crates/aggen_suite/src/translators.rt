@@ -1,10 +1,27 @@
 //! Translators: the tree files of sentences, and what grammars and sentences are refused for.
 
-use super::checks::FRACTIONS;
-use super::*;
-use std::alloc::Alloc;
+use aggen::{Fault, Translator};
+use std::alloc::{Alloc, Global};
 use std::process::Abort;
-use treefile::FuseDevice;
+use std::test::Fail;
+use treefile::{FuseDevice, MemDevice};
+
+/// The grammar of binary fractions.
+const FRACTIONS: &str = "start N;
+symbol N syn out;
+symbol Q syn v;
+symbol L syn p, v inh w;
+symbol T syn p, v inh w;
+symbol B syn bit;
+N = L Q { $0.out = text($1.v + $2.v); $1.w = $1.p; }
+Q = { $0.v = 0; }
+Q = \".\" L { $0.v = $1.v; $1.w = 32768; }
+L = B T { $0.p = $2.p; $0.v = $1.bit * $0.w + $2.v; $2.w = $0.w div 2; }
+T = { $0.p = 65536; $0.v = 0; }
+T = B T { $0.p = $2.p * 2; $0.v = $1.bit * $0.w + $2.v; $2.w = $0.w div 2; }
+B = \"0\" { $0.bit = 0; }
+B = \"1\" { $0.bit = 1; }
+";
 
 /// What comes of a sentence: how many nodes its tree has and its file bytes, or the refusal.
 fn outcome(alloc: Global, text: &str, sentence: &str) -> Result<String, Fail> {

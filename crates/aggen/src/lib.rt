@@ -1,0 +1,23 @@
+//! Translators from attribute grammars: a grammar's text makes one or is refused, its plan is
+//! listed, and it makes of a sentence the file of its one tree. Beside it the value of an
+//! expression, by way of a tree file.
+#![tactic(auto)]
+
+mod build_fault;
+mod checking;
+mod fault;
+mod file;
+mod listing;
+mod source;
+mod stuck_grammar;
+mod translator;
+mod value;
+
+pub use build_fault::BuildFault;
+pub use checking::{grammar_of, print_counts};
+pub use fault::{Fault, status};
+pub use listing::{print_code, print_plan};
+pub use source::{bytes_of, source_of};
+pub use stuck_grammar::{StuckGrammar, tell_attribute};
+pub use translator::{Translator, nodes_line};
+pub use value::show_value;
