@@ -132,6 +132,7 @@ fn command<'a>(alloc: Global) -> Result<Command<'a>, AllocError> {
             "The name of the tree file, which is made or made anew",
         ))?;
     Command::new(alloc, "aggen")
+        .bin_name("aggen")?
         .version("0.1.0")
         .about("Makes translators from attribute grammars")
         .after_help("With no command it does what `aggen value \"2 + 3 * 4\"` does.")
