@@ -1,4 +1,4 @@
-//! The file of a value, and the status of each fault.
+//! The file of a value, the status of each fault, and what is told of a damaged file.
 
 use ag_expr::ExprFault;
 use ag_text::TextFault;
@@ -36,4 +36,20 @@ fn statuses(rt: HostRuntime) {
     ] {
         assert_eq!(rt; status(&fault), want);
     }
+}
+
+/// No command of the program reads a file that it did not write, so far.
+#[test]
+fn damage_is_told(rt: HostRuntime) -> Result<(), Fail> {
+    for (fault, line) in [
+        (Fault::NotATreeFile, "B1 the device holds no tree file"),
+        (
+            Fault::Damaged(15),
+            "B2 at 15: the tree file is damaged here",
+        ),
+    ] {
+        let told = fault.to_string(rt.alloc())?;
+        assert_eq!(rt; told.as_str(), line);
+    }
+    Ok(())
 }
