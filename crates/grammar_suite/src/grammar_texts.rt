@@ -1,7 +1,10 @@
 //! Grammars as texts: what is read of them, and where they are refused.
 
-use ag_expr::ExprFault;
-use ag_text::{RawGrammar, RawItem, TextFault, expected_at, read_grammar};
+ghost use Rattle.std.specs.Prelude.{IfOk};
+ghost use Rattle.normalform.specs.Faults.{IsReadable};
+
+use ag_text::{RawGrammar, RawItem, expected_at, read_grammar};
+use normalform::{Grammar, check, is_readable};
 use std::alloc::{Alloc, Global};
 use std::process::Abort;
 use std::test::Fail;
@@ -23,59 +26,80 @@ B = \"0\" { $0.bit = 0; }
 B = \"1\" { $0.bit = 1; }
 ";
 
-/// The grammar that a text reads as.
-fn grammar(rt: &(impl Abort + Alloc<A = Global>), text: &str) -> Result<RawGrammar, Fail> {
-    Ok(read_grammar(rt.alloc(), text.as_bytes())?)
-}
+/// Values go from the second child to the first.
+pub(crate) const LEFTWARD: &str = "start R; symbol R syn out; symbol A syn s inh i;
+R = A A { $0.out = $1.s; $1.i = $2.s; $2.i = 0; }
+A = \"x\" { $0.s = $0.i + 1; }";
 
-/// The member of a list with this index.
-fn at<T>(list: &[T], index: usize) -> Result<&T, Fail> {
-    match list.get(index) {
-        Some(member) => Ok(member),
-        None => Err(Fail::from("the list is shorter")),
+/// Values go from the first child to the second.
+pub(crate) const RIGHTWARD: &str = "start R; symbol R syn out; symbol A syn s inh i;
+R = A A { $0.out = $2.s; $1.i = 0; $2.i = $1.s; }
+A = \"x\" { $0.s = $0.i + 1; }";
+
+/// Values go both ways.
+pub(crate) const BOTH_WAYS: &str = "start R; symbol R syn out; symbol A syn s inh i;
+R = A A { $0.out = $1.s; $1.i = $2.s; $2.i = 0; }
+A = \"x\" { $0.s = $0.i + 1; }
+R = \"y\" A A { $0.out = $2.s; $1.i = 0; $2.i = $1.s; }";
+
+/// A value from both sides.
+pub(crate) const FROM_SIDES: &str =
+    "start S; symbol S syn out; symbol L syn s; symbol M syn t inh i; symbol R syn s;
+S = L M R { $0.out = $2.t; $2.i = $1.s + $3.s; }
+L = \"l\" { $0.s = 1; }
+M = \"m\" { $0.t = $0.i; }
+R = \"r\" { $0.s = 2; }";
+
+/// The raw grammar of a text.
+pub(crate) fn raw(alloc: Global, text: &str) -> Result<RawGrammar, Fail>
+    ensures { IfOk result (λ raw. IsReadable raw) }
+{
+    let raw = read_grammar(alloc, text.as_bytes())?;
+    if !is_readable(&raw) {
+        return Err(Fail::from("an item is none"));
     }
+    Ok(raw)
 }
 
-/// The fault with which a text is refused.
-fn refusal(rt: &(impl Abort + Alloc<A = Global>), text: &[u8]) -> Result<TextFault, Fail> {
-    match read_grammar(rt.alloc(), text) {
-        Ok(_) => panic!(rt; "read as a grammar"),
-        Err(TextFault::NoMemory) => Err(Fail::from(TextFault::NoMemory)),
-        Err(fault) => Ok(fault),
+/// The grammar of a text.
+pub(crate) fn grammar(alloc: Global, text: &str) -> Result<Grammar, Fail> {
+    Ok(check(alloc, raw(alloc, text)?)?)
+}
+
+/// The member of a list with this index, which is there.
+fn at<'a, T>(rt: &impl Abort, list: &'a [T], index: usize) -> &'a T {
+    match list.get(index) {
+        Some(member) => member,
+        None => panic!(rt; "the list is shorter"),
     }
 }
 
 /// Each part of a grammar stands where it should.
 #[test]
 fn fractions(rt: HostRuntime) -> Result<(), Fail> {
-    let raw = grammar(&rt, FRACTIONS)?;
-    assert_eq!(&rt; raw.start.name.as_str(), "N");
-    assert_eq!(&rt; raw.start.at, 6);
+    let raw = raw(rt.alloc(), FRACTIONS)?;
+    assert_eq!(rt; raw.start.name.as_str(), "N");
+    assert_eq!(rt; raw.start.at, 6);
     let symbols = raw.symbols.as_slice();
-    assert_eq!(&rt; symbols.len(), 5);
-    assert_eq!(&rt; at(symbols, 2)?.name.name.as_str(), "L");
-    assert_eq!(&rt; at(symbols, 2)?.syn.as_slice().len(), 2);
-    assert_eq!(&rt; at(at(symbols, 2)?.syn.as_slice(), 1)?.name.as_str(), "v");
-    assert_eq!(&rt; at(at(symbols, 2)?.inh.as_slice(), 0)?.name.as_str(), "w");
+    assert_eq!(rt; symbols.len(), 5);
+    let third = at(&rt, symbols, 2);
+    assert_eq!(rt; third.name.name.as_str(), "L");
+    assert_eq!(rt; third.syn.as_slice().len(), 2);
+    assert_eq!(rt; at(&rt, third.syn.as_slice(), 1).name.as_str(), "v");
+    assert_eq!(rt; at(&rt, third.inh.as_slice(), 0).name.as_str(), "w");
     let productions = raw.productions.as_slice();
-    assert_eq!(&rt; productions.len(), 8);
-    assert_eq!(&rt; at(productions, 0)?.rules.as_slice().len(), 2);
-    assert_eq!(&rt;
-        at(at(productions, 0)?.rules.as_slice(), 1)?.target.place,
-        1
-    );
-    assert_eq!(&rt;
-        at(at(productions, 0)?.rules.as_slice(), 1)?
-            .target
-            .attr
-            .as_str(),
-        "w"
-    );
-    assert_eq!(&rt; at(productions, 3)?.items.as_slice().len(), 2);
-    assert_eq!(&rt; at(productions, 7)?.left.name.as_str(), "B");
-    match at(at(productions, 7)?.items.as_slice(), 0)? {
-        RawItem::Literal(text) => assert_eq!(&rt; text.as_str(), "1"),
-        _ => panic!(&rt; "no literal"),
+    assert_eq!(rt; productions.len(), 8);
+    let first = at(&rt, productions, 0);
+    assert_eq!(rt; first.rules.as_slice().len(), 2);
+    let target = &at(&rt, first.rules.as_slice(), 1).target;
+    assert_eq!(rt; target.place, 1);
+    assert_eq!(rt; target.attr.as_str(), "w");
+    assert_eq!(rt; at(&rt, productions, 3).items.as_slice().len(), 2);
+    let last = at(&rt, productions, 7);
+    assert_eq!(rt; last.left.name.as_str(), "B");
+    match at(&rt, last.items.as_slice(), 0) {
+        RawItem::Literal(text) => assert_eq!(rt; text.as_str(), "1"),
+        _ => panic!(rt; "no literal"),
     }
     Ok(())
 }
@@ -83,108 +107,121 @@ fn fractions(rt: HostRuntime) -> Result<(), Fail> {
 /// A class, a literal with an escape, and the offsets of a rule's occurrences.
 #[test]
 fn parts(rt: HostRuntime) -> Result<(), Fail> {
-    let raw = grammar(
-        &rt,
+    let raw = raw(
+        rt.alloc(),
         "start S; S = NAME TEXT \"\\\"\" { $0.out = 1 + $2.lex; }",
     )?;
-    let production = at(raw.productions.as_slice(), 0)?;
+    let production = at(&rt, raw.productions.as_slice(), 0);
     let items = production.items.as_slice();
-    assert_eq!(&rt; items.len(), 3);
-    assert!(&rt; matches!(at(items, 0)?, RawItem::Class(0)));
-    assert!(&rt; matches!(at(items, 1)?, RawItem::Class(2)));
-    match at(items, 2)? {
-        RawItem::Literal(text) => assert_eq!(&rt; text.as_str(), "\""),
-        _ => panic!(&rt; "no literal"),
+    assert_eq!(rt; items.len(), 3);
+    assert!(rt; matches!(at(&rt, items, 0), RawItem::Class(0)));
+    assert!(rt; matches!(at(&rt, items, 1), RawItem::Class(2)));
+    match at(&rt, items, 2) {
+        RawItem::Literal(text) => assert_eq!(rt; text.as_str(), "\""),
+        _ => panic!(rt; "no literal"),
     }
-    let rule = at(production.rules.as_slice(), 0)?;
-    assert_eq!(&rt; rule.target.at, 30);
+    let rule = at(&rt, production.rules.as_slice(), 0);
+    assert_eq!(rt; rule.target.at, 30);
     let occurrences = ag_expr::occurrences(&rule.expr);
-    assert_eq!(&rt; occurrences.len(), 1);
-    assert_eq!(&rt; at(occurrences, 0)?.at, 43);
+    assert_eq!(rt; occurrences.len(), 1);
+    assert_eq!(rt; at(&rt, occurrences, 0).at, 43);
     Ok(())
 }
 
 /// A grammar without symbols and productions, and doubled names, are read.
 #[test]
 fn bare(rt: HostRuntime) -> Result<(), Fail> {
-    let raw = grammar(&rt, "start S;")?;
-    assert_eq!(&rt; raw.symbols.as_slice().len(), 0);
-    assert_eq!(&rt; raw.productions.as_slice().len(), 0);
-    let doubled = grammar(&rt, "start S; symbol S syn a, a; symbol S;")?;
-    assert_eq!(&rt; doubled.symbols.as_slice().len(), 2);
-    assert_eq!(&rt; at(doubled.symbols.as_slice(), 0)?.syn.as_slice().len(), 2);
+    let bare = raw(rt.alloc(), "start S;")?;
+    assert_eq!(rt; bare.symbols.as_slice().len(), 0);
+    assert_eq!(rt; bare.productions.as_slice().len(), 0);
+    let doubled = raw(rt.alloc(), "start S; symbol S syn a, a; symbol S;")?;
+    assert_eq!(rt; doubled.symbols.as_slice().len(), 2);
+    assert_eq!(rt;
+        at(&rt, doubled.symbols.as_slice(), 0).syn.as_slice().len(),
+        2
+    );
+    Ok(())
+}
+
+/// Where a text's start symbol stands, or why the text is refused.
+fn answer(alloc: Global, text: &[u8]) -> Result<String, Fail> {
+    Ok(match read_grammar(alloc, text) {
+        Ok(raw) => format!(in alloc; "start at {}", raw.start.at)?,
+        Err(fault) => format!(in alloc; "{fault:?}")?,
+    })
+}
+
+/// Each text has the answer that stands beside it.
+fn answers(rt: &(impl Abort + Alloc<A = Global>), rows: &[(&str, &str)]) -> Result<(), Fail> {
+    for (text, wanted) in rows {
+        let told = answer(rt.alloc(), text.as_bytes())?;
+        assert_eq!(rt; told.as_str(), *wanted, "at {text}");
+    }
     Ok(())
 }
 
 /// Where texts are refused.
 #[test]
 fn refusals(rt: HostRuntime) -> Result<(), Fail> {
-    for (text, fault) in [
-        ("", TextFault::Unexpected(1, 0)),
-        ("start 5;", TextFault::Unexpected(1, 6)),
-        ("start S", TextFault::Unexpected(1, 7)),
-        ("start S;\r\r\nsymbol 7;", TextFault::Unexpected(2, 18)),
-        ("start symbol;", TextFault::Unexpected(1, 6)),
-        ("start S; symbol S syn ;", TextFault::Unexpected(1, 22)),
-        (
-            "start S; symbol S inh a syn b;",
-            TextFault::Unexpected(1, 24),
-        ),
-        ("start S; S = \"\" { }", TextFault::Unexpected(1, 13)),
-        ("start S; S = \"a b\" { }", TextFault::Unexpected(1, 13)),
-        ("start S; S = \"\\n\" { }", TextFault::Unexpected(1, 13)),
-        (
-            "start S; S = { $65536.a = 1; }",
-            TextFault::Unexpected(1, 15),
-        ),
-        ("start S; S = { $0.a 1; }", TextFault::Unexpected(1, 20)),
-        ("start S; S = { $0.a = 1; ", TextFault::Unexpected(1, 25)),
-        ("start S; S = { } ?", TextFault::Unexpected(1, 17)),
-    ] {
-        assert_eq!(&rt; refusal(&rt, text.as_bytes())?, fault);
-    }
-    Ok(())
+    answers(
+        &rt,
+        &[
+            ("", "Unexpected(1, 0)"),
+            ("start 5;", "Unexpected(1, 6)"),
+            ("start S", "Unexpected(1, 7)"),
+            ("start S;\r\r\nsymbol 7;", "Unexpected(2, 18)"),
+            ("start symbol;", "Unexpected(1, 6)"),
+            ("start S; symbol S syn ;", "Unexpected(1, 22)"),
+            ("start S; symbol S inh a syn b;", "Unexpected(1, 24)"),
+            ("start S; S = \"\" { }", "Unexpected(1, 13)"),
+            ("start S; S = \"a b\" { }", "Unexpected(1, 13)"),
+            ("start S; S = \"\\n\" { }", "Unexpected(1, 13)"),
+            ("start S; S = { $65536.a = 1; }", "Unexpected(1, 15)"),
+            ("start S; S = { $0.a 1; }", "Unexpected(1, 20)"),
+            ("start S; S = { $0.a = 1; ", "Unexpected(1, 25)"),
+            ("start S; S = { } ?", "Unexpected(1, 17)"),
+        ],
+    )
 }
 
 /// Where the expressions of rules are refused.
 #[test]
 fn wrong_expressions(rt: HostRuntime) -> Result<(), Fail> {
-    for (text, fault) in [
-        (
-            "start S; symbol S syn out; S = { $0.out = 1 + ; }",
-            ExprFault::Unexpected(46),
-        ),
-        ("start S; S = { $0.out = 1 }", ExprFault::Unexpected(26)),
-        ("start S; S = { $0.out = 1", ExprFault::Unexpected(25)),
-        ("start S; S = { $0.out = 1 ? ; }", ExprFault::NoToken(26)),
-        (
-            "start S; S = { $0.out = $65536.a; }",
-            ExprFault::NumberTooLarge(24),
-        ),
-    ] {
-        assert_eq!(&rt; refusal(&rt, text.as_bytes())?, TextFault::Expr(fault));
-    }
-    Ok(())
+    answers(
+        &rt,
+        &[
+            (
+                "start S; symbol S syn out; S = { $0.out = 1 + ; }",
+                "Expr(Unexpected(46))",
+            ),
+            ("start S; S = { $0.out = 1 }", "Expr(Unexpected(26))"),
+            ("start S; S = { $0.out = 1", "Expr(Unexpected(25))"),
+            ("start S; S = { $0.out = 1 ? ; }", "Expr(NoToken(26))"),
+            (
+                "start S; S = { $0.out = $65536.a; }",
+                "Expr(NumberTooLarge(24))",
+            ),
+        ],
+    )
 }
 
 /// A text that ends within a character is no UTF-8.
 #[test]
 fn bad_utf8(rt: HostRuntime) -> Result<(), Fail> {
-    let fault = refusal(&rt, &[b's', b't', 0xc3])?;
-    assert_eq!(&rt; fault, TextFault::BadUtf8(2));
+    let told = answer(rt.alloc(), &[b's', b't', 0xc3])?;
+    assert_eq!(rt; told.as_str(), "BadUtf8(2)");
     Ok(())
 }
 
 /// The longest text is read, and one byte more is too long.
 #[test]
 fn limit(rt: HostRuntime) -> Result<(), Fail> {
-    let mut text = String::from_str(rt.alloc(), "start S;")?;
-    for _ in 0..1_048_568 {
-        text.push(' ')?;
+    for (spaces, wanted) in [(1_048_568, "start at 6"), (1_048_569, "TooLong")] {
+        let blank = " ".repeat(rt.alloc(), spaces)?;
+        let text = format!(in rt.alloc(); "start S;{blank}")?;
+        let told = answer(rt.alloc(), text.as_bytes())?;
+        assert_eq!(rt; told.as_str(), wanted);
     }
-    assert_eq!(&rt; grammar(&rt, text.as_str())?.start.at, 6);
-    text.push(' ')?;
-    assert_eq!(&rt; refusal(&rt, text.as_bytes())?, TextFault::TooLong);
     Ok(())
 }
 
@@ -207,22 +244,36 @@ fn one_token_less(rt: HostRuntime) -> Result<(), Fail> {
         ("start S; symbol S syn out; S = { $0.out 1; }", 40),
         ("start S; symbol S syn out; S = { $0.out = 1; ", 45),
     ] {
-        assert_eq!(&rt;
-            refusal(&rt, text.as_bytes())?,
-            TextFault::Unexpected(1, at)
-        );
+        let wanted = format!(in rt.alloc(); "Unexpected(1, {at})")?;
+        answers(&rt, &[(text, wanted.as_str())])?;
     }
-    for (text, at) in [
-        ("start S; symbol S syn out; S = { $0.out = ; }", 42),
-        ("start S; symbol S syn out; S = { $0.out = 1 }", 44),
-    ] {
-        let fault = TextFault::Expr(ExprFault::Unexpected(at));
-        assert_eq!(&rt; refusal(&rt, text.as_bytes())?, fault);
-    }
-    Ok(())
+    answers(
+        &rt,
+        &[
+            (
+                "start S; symbol S syn out; S = { $0.out = ; }",
+                "Expr(Unexpected(42))",
+            ),
+            (
+                "start S; symbol S syn out; S = { $0.out = 1 }",
+                "Expr(Unexpected(44))",
+            ),
+        ],
+    )
 }
 
 /// What could stand where a text is refused.
+fn expected(alloc: Global, text: &str) -> Result<String, Fail> {
+    match read_grammar(alloc, text.as_bytes()) {
+        Ok(_) => Err(Fail::from("read as a grammar")),
+        Err(fault) => {
+            let found = expected_at(alloc, text, fault)?;
+            Ok(format!(in alloc; "{found:?}")?)
+        }
+    }
+}
+
+/// What could stand at each refusal.
 #[test]
 fn expectations(rt: HostRuntime) -> Result<(), Fail> {
     for (text, wanted) in [
@@ -248,10 +299,8 @@ fn expectations(rt: HostRuntime) -> Result<(), Fail> {
             "[Part(Operator), Part(Sign(\")\"))]",
         ),
     ] {
-        let fault = refusal(&rt, text.as_bytes())?;
-        let found = expected_at(rt.alloc(), text, fault)?;
-        let shown = format!(in rt.alloc(); "{found:?}")?;
-        assert_eq!(&rt; shown.as_str(), wanted, "at {text}");
+        let shown = expected(rt.alloc(), text)?;
+        assert_eq!(rt; shown.as_str(), wanted, "at {text}");
     }
     Ok(())
 }

@@ -3,8 +3,6 @@
 #![tactic(auto)]
 
 #[cfg(test)]
-mod codes;
-#[cfg(test)]
 mod grammar_texts;
 #[cfg(test)]
 mod listings;

@@ -1,397 +1,284 @@
-//! Raw grammars by hand: which are accepted, and the first fault of the others.
+//! Which raw grammars are accepted, and the first fault of the others.
 
-use ag_expr::{Item, Occ, Target, Terminal, read_expr};
-use ag_text::{Named, RawGrammar, RawItem, RawProduction, RawRule, RawSymbol};
+ghost use Rattle.normalform.specs.Faults.{IsReadable};
+
+use crate::grammar_texts::{grammar, raw};
+use ag_expr::{Item, Target, Terminal};
+use ag_text::{Named, RawGrammar, RawItem, RawProduction, RawSymbol};
 use ag_value::{Items, Text};
-use normalform::{Grammar, LimitKind, NormalFault, check, is_readable};
+use normalform::{NormalFault, check, is_readable};
 use std::alloc::{Alloc, Global};
 use std::process::Abort;
 use std::test::Fail;
 
-fn text_of(alloc: Global, text: &str) -> Result<Text, Fail> {
-    Ok(Text::from_string(String::from_str(alloc, text)?))
+#[test]
+fn the_swap_grammar(rt: HostRuntime) -> Result<(), Fail> {
+    let checked = grammar(
+        rt.alloc(),
+        "start R; symbol R syn out; symbol A syn s inh i;
+R = A A { $0.out = $1.s; $1.i = $2.s; $2.i = 0; }
+A = \"x\" { $0.s = $0.i + 1; }",
+    )?;
+    assert_eq!(rt; checked.symbols().len(), 2);
+    assert_eq!(rt; checked.productions().len(), 2);
+    assert_eq!(rt; checked.literals().len(), 1);
+    assert_eq!(rt; checked.classes().len(), 0);
+    assert_eq!(rt; checked.start(), 0);
+    let Some(first) = checked.productions().get(0) else {
+        panic!(rt; "a production is missing");
+    };
+    assert!(rt; first.items.as_slice().get(1).copied() == Some(Item::Symbol(1)));
+    let Some(given) = first.rules.as_slice().get(1) else {
+        panic!(rt; "a rule is missing");
+    };
+    assert_eq!(rt; given.target.place, 1);
+    assert_eq!(rt; given.target.attr, 1);
+    let argument = given.args.as_slice().get(0).copied();
+    assert!(rt; argument == Some(Target { place: 2, attr: 0 }));
+    Ok(())
 }
 
-fn named(alloc: Global, name: &str, at: usize) -> Result<Named, Fail> {
-    let name = text_of(alloc, name)?;
-    Ok(Named { name, at })
+#[test]
+fn literals_and_classes(rt: HostRuntime) -> Result<(), Fail> {
+    let checked = grammar(
+        rt.alloc(),
+        "start S; symbol S syn out; S = NAME \"if\" \"x\" \"if\" { $0.out = $1.lex; }",
+    )?;
+    assert_eq!(rt; checked.literals().len(), 2);
+    assert!(rt; checked.literals()[1].as_str() == "x");
+    assert_eq!(rt; checked.classes().len(), 1);
+    let Some(production) = checked.productions().get(0) else {
+        panic!(rt; "the production is missing");
+    };
+    let items = production.items.as_slice();
+    let class = items.get(0).copied();
+    assert!(rt; class == Some(Item::Terminal(Terminal::Class(0))));
+    let literal = items.get(3).copied();
+    assert!(rt; literal == Some(Item::Terminal(Terminal::Literal(0))));
+    Ok(())
 }
 
-/// The words of a text, each at this offset.
-fn named_all(alloc: Global, names: &str, at: usize) -> Result<Items<Named>, Fail> {
-    let mut list = Vec::new(alloc);
-    for name in names.split(' ') {
-        if !name.is_empty() {
-            list.push(named(alloc, name, at)?)?;
+/// A fault, with the name of the symbol that it tells.
+fn shown(alloc: Global, fault: &NormalFault) -> Result<String, Fail> {
+    Ok(match fault {
+        NormalFault::Unproductive(symbol) => {
+            format!(in alloc; "Unproductive {} at {}", symbol.name.as_str(), symbol.at)?
         }
-    }
-    Ok(Items::from_vec(list))
+        NormalFault::Unreachable(symbol) => {
+            format!(in alloc; "Unreachable {} at {}", symbol.name.as_str(), symbol.at)?
+        }
+        _ => format!(in alloc; "{fault:?}")?,
+    })
 }
 
-fn symbol(alloc: Global, at: usize, name: &str, syn: &str, inh: &str) -> Result<RawSymbol, Fail> {
+/// The fault that a raw grammar is refused for, or that it is accepted.
+fn answer(alloc: Global, raw: RawGrammar) -> Result<String, Fail>
+    requires { IsReadable raw }
+{
+    match check(alloc, raw) {
+        Ok(_) => Ok(String::from_str(alloc, "accepted")?),
+        Err(fault) => shown(alloc, &fault),
+    }
+}
+
+/// The answer to a text's grammar is this one.
+fn told(rt: &(impl Abort + Alloc<A = Global>), text: &str, wanted: &str) -> Result<(), Fail> {
+    let alloc = rt.alloc();
+    let told = answer(alloc, raw(alloc, text)?)?;
+    assert_eq!(rt; told.as_str(), wanted);
+    Ok(())
+}
+
+/// The rules of the first production of the swap grammar begin at offset 59.
+#[test]
+fn faults_of_the_swap_grammar(rt: HostRuntime) -> Result<(), Fail> {
+    for (rules, wanted) in [
+        ("$1.i = $2.s; $2.i = 0;", "RuleMissing(0, 0, 0)"),
+        (
+            "$0.out = $1.s; $1.i = $2.s; $2.i = 0; $2.i = 0;",
+            "RuleDoubled(97)",
+        ),
+        (
+            "$0.out = $1.s; $1.i = $2.s; $2.i = 0; $1.s = 1;",
+            "NotDefinedHere(97)",
+        ),
+        ("$0.out = $1.s; $1.i = $2.s; $2.i = $1.i;", "NotNormal(94)"),
+        ("$1.i = $2.s; $2.i = $1.i;", "RuleMissing(0, 0, 0)"),
+        ("$0.out = $1.s; $1.i = $2.s; $3.i = 0;", "UnknownName(87)"),
+    ] {
+        let text = format!(in rt.alloc();
+            "start R; symbol R syn out; symbol A syn s inh i; R = A A {{ {rules} }}
+A = \"x\" {{ $0.s = $0.i + 1; }}"
+        )?;
+        told(&rt, text.as_str(), wanted)?;
+    }
+    Ok(())
+}
+
+/// Faults of names, and of grammars that are not reduced.
+#[test]
+fn faults_of_small_grammars(rt: HostRuntime) -> Result<(), Fail> {
+    for (text, wanted) in [
+        (
+            "start S; symbol S syn out; symbol S; S = T { $0.out = 0; }",
+            "UnknownName(41)",
+        ),
+        (
+            "start S; symbol S syn out; symbol S; S = { $0.out = 0; }",
+            "DoubledName(34)",
+        ),
+        (
+            "start S; symbol S syn out; S = \"x\" { $0.out = $1.lex; }",
+            "UnknownName(46)",
+        ),
+        (
+            "start S; symbol S syn out; S = NAME { $0.out = 0; $1.lex = 0; }",
+            "NotDefinedHere(50)",
+        ),
+        ("start S;", "BadStart"),
+        (
+            "start S; symbol S syn out; S = S { $0.out = 0; }",
+            "Unproductive S at 16",
+        ),
+        (
+            "start S; symbol S syn out; symbol T; S = { $0.out = 0; } T = { }",
+            "Unreachable T at 34",
+        ),
+    ] {
+        told(&rt, text, wanted)?;
+    }
+    Ok(())
+}
+
+/// The name `s` with a number.
+fn numbered(alloc: Global, number: u32) -> Result<Named, Fail> {
+    let name = Text::from_string(format!(in alloc; "s{number}")?);
+    Ok(Named { name, at: 0 })
+}
+
+/// The declaration of a symbol with a numbered name.
+fn symbol(alloc: Global, number: u32) -> Result<RawSymbol, Fail> {
     Ok(RawSymbol {
-        name: named(alloc, name, at)?,
-        syn: named_all(alloc, syn, at)?,
-        inh: named_all(alloc, inh, at)?,
+        name: numbered(alloc, number)?,
+        syn: Items::from_vec(Vec::new(alloc)),
+        inh: Items::from_vec(Vec::new(alloc)),
     })
 }
 
-/// An item: a word that begins with a quote is a literal, `NAME` a class, another a symbol.
-fn item(alloc: Global, word: &str, at: usize) -> Result<RawItem, Fail> {
-    if word == "NAME" {
-        return Ok(RawItem::Class(0));
-    }
-    match word.strip_prefix('"') {
-        Some(text) => Ok(RawItem::Literal(text_of(alloc, text)?)),
-        None => Ok(RawItem::Name(named(alloc, word, at)?)),
-    }
-}
-
-fn rule(alloc: Global, place: u16, attr: &str, text: &str, at: usize) -> Result<RawRule, Fail> {
-    let attr = text_of(alloc, attr)?;
-    let expr = read_expr(alloc, text)?;
-    Ok(RawRule {
-        target: Occ { place, attr, at },
-        expr,
-    })
-}
-
-/// A production whose names and targets are at this offset.
-fn production(
-    alloc: Global,
-    at: usize,
-    left: &str,
-    words: &str,
-    rules: &[(u16, &str, &str)],
-) -> Result<RawProduction, Fail> {
+/// A production of a numbered symbol, whose right side is the next one, or nothing for the last.
+fn production(alloc: Global, number: u32, last: u32) -> Result<RawProduction, Fail> {
     let mut items = Vec::new(alloc);
-    for word in words.split(' ') {
-        if !word.is_empty() {
-            items.push(item(alloc, word, at)?)?;
-        }
-    }
-    let mut list = Vec::new(alloc);
-    for (place, attr, text) in rules {
-        list.push(rule(alloc, *place, attr, text, at)?)?;
+    if number < last {
+        items.push(RawItem::Name(numbered(alloc, number + 1)?))?;
     }
     Ok(RawProduction {
-        left: named(alloc, left, at)?,
+        left: numbered(alloc, number)?,
         items: Items::from_vec(items),
-        rules: Items::from_vec(list),
+        rules: Items::from_vec(Vec::new(alloc)),
     })
 }
 
-fn grammar(
-    alloc: Global,
-    start: &str,
-    symbols: Vec<RawSymbol>,
-    productions: Vec<RawProduction>,
-) -> Result<RawGrammar, Fail> {
+/// S and so many symbols behind it, each of which has the next one on its right side.
+fn chain(alloc: Global, last: u32) -> Result<RawGrammar, Fail> {
+    let bare = raw(alloc, "start S; symbol S syn out; S = s1 { $0.out = 0; }")?;
+    let mut symbols = bare.symbols.into_vec();
+    let mut productions = bare.productions.into_vec();
+    for number in 1..=last {
+        symbols.push(symbol(alloc, number)?)?;
+        productions.push(production(alloc, number, last)?)?;
+    }
     Ok(RawGrammar {
-        start: named(alloc, start, 0)?,
+        start: bare.start,
         symbols: Items::from_vec(symbols),
         productions: Items::from_vec(productions),
     })
 }
 
-fn check_made(
-    rt: &(impl Abort + Alloc<A = Global>),
-    raw: RawGrammar,
-) -> Result<Grammar, NormalFault> {
-    assert!(rt; is_readable(&raw));
-    check(rt.alloc(), raw)
-}
-
-/// The symbols R and A of the swap grammar.
-fn swap_symbols(alloc: Global) -> Result<Vec<RawSymbol>, Fail> {
-    let mut symbols = Vec::new(alloc);
-    symbols.push(symbol(alloc, 1, "R", "out", "")?)?;
-    symbols.push(symbol(alloc, 2, "A", "s", "i")?)?;
-    Ok(symbols)
-}
-
-/// The swap grammar, with these rules of its first production.
-fn swap(alloc: Global, rules: &[(u16, &str, &str)]) -> Result<RawGrammar, Fail> {
-    let mut productions = Vec::new(alloc);
-    productions.push(production(alloc, 20, "R", "A A", rules)?)?;
-    let second = [(0, "s", "$0.i + 1")];
-    productions.push(production(alloc, 10, "A", "\"x", &second)?)?;
-    grammar(alloc, "R", swap_symbols(alloc)?, productions)
-}
-
-const OUT: (u16, &str, &str) = (0, "out", "$1.s");
-
-const FIRST: (u16, &str, &str) = (1, "i", "$2.s");
-
-const SECOND: (u16, &str, &str) = (2, "i", "0");
-
-#[test]
-fn the_swap_grammar(rt: HostRuntime) -> Result<(), Fail> {
-    let raw = swap(rt.alloc(), &[OUT, FIRST, SECOND])?;
-    let Ok(checked) = check_made(&rt, raw) else {
-        return Err(Fail::from("it is refused"));
-    };
-    assert_eq!(&rt; checked.symbols().len(), 2);
-    assert_eq!(&rt; checked.productions().len(), 2);
-    assert_eq!(&rt; checked.literals().len(), 1);
-    assert_eq!(&rt; checked.classes().len(), 0);
-    assert_eq!(&rt; checked.start(), 0);
-    let Some(first) = checked.productions().get(0) else {
-        return Err(Fail::from("a production is missing"));
-    };
-    assert!(&rt; first.items.as_slice().get(1).copied() == Some(Item::Symbol(1)));
-    let Some(given) = first.rules.as_slice().get(1) else {
-        return Err(Fail::from("a rule is missing"));
-    };
-    assert_eq!(&rt; given.target.place, 1);
-    assert_eq!(&rt; given.target.attr, 1);
-    let argument = given.args.as_slice().get(0).copied();
-    assert!(&rt; argument == Some(Target { place: 2, attr: 0 }));
-    Ok(())
-}
-
-/// The fault that a raw grammar is refused for.
-fn told(rt: &(impl Abort + Alloc<A = Global>), raw: RawGrammar, fault: &str) -> Result<(), Fail> {
-    let told = match check_made(rt, raw) {
-        Ok(_) => String::from_str(rt.alloc(), "none")?,
-        Err(fault) => format!(in rt.alloc(); "{fault:?}")?,
-    };
-    assert_eq!(rt; told.as_str(), fault);
-    Ok(())
-}
-
-#[test]
-fn faults_of_the_swap_grammar(rt: HostRuntime) -> Result<(), Fail> {
-    let alloc = rt.alloc();
-    told(&rt, swap(alloc, &[FIRST, SECOND])?, "RuleMissing(0, 0, 0)")?;
-    told(
-        &rt,
-        swap(alloc, &[OUT, FIRST, SECOND, SECOND])?,
-        "RuleDoubled(20)",
-    )?;
-    told(
-        &rt,
-        swap(alloc, &[OUT, FIRST, SECOND, (1, "s", "1")])?,
-        "NotDefinedHere(20)",
-    )?;
-    told(
-        &rt,
-        swap(alloc, &[OUT, FIRST, (2, "i", "$1.i")])?,
-        "NotNormal(0)",
-    )?;
-    told(
-        &rt,
-        swap(alloc, &[FIRST, (2, "i", "$1.i")])?,
-        "RuleMissing(0, 0, 0)",
-    )?;
-    told(
-        &rt,
-        swap(alloc, &[OUT, FIRST, (3, "i", "0")])?,
-        "UnknownName(20)",
-    )
-}
-
-/// A grammar of the symbols S, with `out`, and T, and of one production of S.
-fn small(
-    alloc: Global,
-    second: &str,
-    words: &str,
-    rules: &[(u16, &str, &str)],
-) -> Result<RawGrammar, Fail> {
-    let mut symbols = Vec::new(alloc);
-    symbols.push(symbol(alloc, 1, "S", "out", "")?)?;
-    if second != "" {
-        symbols.push(symbol(alloc, 2, second, "", "")?)?;
-    }
-    let mut productions = Vec::new(alloc);
-    productions.push(production(alloc, 30, "S", words, rules)?)?;
-    grammar(alloc, "S", symbols, productions)
-}
-
-const EMPTY: (u16, &str, &str) = (0, "out", "0");
-
-#[test]
-fn literals_and_classes(rt: HostRuntime) -> Result<(), Fail> {
-    let alloc = rt.alloc();
-    let raw = small(alloc, "", "NAME \"if \"x \"if", &[(0, "out", "$1.lex")])?;
-    let Ok(checked) = check_made(&rt, raw) else {
-        return Err(Fail::from("it is refused"));
-    };
-    assert_eq!(&rt; checked.literals().len(), 2);
-    assert!(&rt; checked.literals()[1].as_str() == "x");
-    assert_eq!(&rt; checked.classes().len(), 1);
-    let Some(production) = checked.productions().get(0) else {
-        return Err(Fail::from("the production is missing"));
-    };
-    let items = production.items.as_slice();
-    let class = items.get(0).copied();
-    assert!(&rt; class == Some(Item::Terminal(Terminal::Class(0))));
-    let literal = items.get(3).copied();
-    assert!(&rt; literal == Some(Item::Terminal(Terminal::Literal(0))));
-    Ok(())
-}
-
-#[test]
-fn names(rt: HostRuntime) -> Result<(), Fail> {
-    let alloc = rt.alloc();
-    told(&rt, small(alloc, "S", "T", &[EMPTY])?, "UnknownName(30)")?;
-    told(&rt, small(alloc, "S", "", &[EMPTY])?, "DoubledName(2)")?;
-    told(
-        &rt,
-        small(alloc, "", "\"x", &[(0, "out", "$1.lex")])?,
-        "UnknownName(0)",
-    )?;
-    told(
-        &rt,
-        small(alloc, "", "NAME", &[EMPTY, (1, "lex", "0")])?,
-        "NotDefinedHere(30)",
-    )
-}
-
-#[test]
-fn reduced_grammars(rt: HostRuntime) -> Result<(), Fail> {
-    let alloc = rt.alloc();
-    let bare = grammar(alloc, "S", Vec::new(alloc), Vec::new(alloc))?;
-    assert!(&rt; matches!(check_made(&rt, bare), Err(NormalFault::BadStart)));
-    match check_made(&rt, small(alloc, "", "S", &[EMPTY])?) {
-        Err(NormalFault::Unproductive(name)) => assert!(&rt; name.name.as_str() == "S"),
-        _ => return Err(Fail::from("another answer")),
-    }
-    let mut symbols = Vec::new(alloc);
-    symbols.push(symbol(alloc, 9, "S", "out", "")?)?;
-    symbols.push(symbol(alloc, 8, "T", "", "")?)?;
-    let mut productions = Vec::new(alloc);
-    productions.push(production(alloc, 7, "S", "", &[EMPTY])?)?;
-    productions.push(production(alloc, 6, "T", "", &[])?)?;
-    match check_made(&rt, grammar(alloc, "S", symbols, productions)?) {
-        Err(NormalFault::Unreachable(name)) => assert_eq!(&rt; name.at, 8),
-        _ => return Err(Fail::from("another answer")),
-    }
-    Ok(())
-}
-
-fn numbered_name(alloc: Global, number: u32) -> Result<String, Fail> {
-    let mut name = String::from_str(alloc, "s")?;
-    name.push_str(number.to_string(alloc)?.as_str())?;
-    Ok(name)
-}
-
-/// So many symbols, each of which has the next one on its right side, and the last none.
-fn chain(alloc: Global, count: u32) -> Result<RawGrammar, Fail> {
-    let mut symbols = Vec::new(alloc);
-    symbols.push(symbol(alloc, 0, "S", "out", "")?)?;
-    let mut productions = Vec::new(alloc);
-    productions.push(production(alloc, 0, "S", "s1", &[EMPTY])?)?;
-    for number in 1..count {
-        let name = numbered_name(alloc, number)?;
-        let mut right = String::new(alloc);
-        if number < count - 1 {
-            right = numbered_name(alloc, number + 1)?;
-        }
-        symbols.push(symbol(alloc, 0, name.as_str(), "", "")?)?;
-        productions.push(production(alloc, 0, name.as_str(), right.as_str(), &[])?)?;
-    }
-    grammar(alloc, "S", symbols, productions)
-}
-
-fn limit_of(
-    rt: &(impl Abort + Alloc<A = Global>),
-    raw: RawGrammar,
-) -> Result<Option<LimitKind>, Fail> {
-    match check_made(rt, raw) {
-        Ok(_) => Ok(None),
-        Err(NormalFault::Limit(kind)) => Ok(Some(kind)),
-        Err(_) => Err(Fail::from("another fault")),
-    }
-}
-
 #[test]
 fn limits_of_symbols(rt: HostRuntime) -> Result<(), Fail> {
-    let alloc = rt.alloc();
-    assert!(&rt; limit_of(&rt, chain(alloc, 256)?)? == None);
-    assert!(&rt; limit_of(&rt, chain(alloc, 257)?)? == Some(LimitKind::Symbols));
-    assert!(&rt; limit_of(&rt, chain(alloc, 100000)?)? == Some(LimitKind::Symbols));
+    for (last, wanted) in [
+        (255, "accepted"),
+        (256, "Limit(Symbols)"),
+        (99_999, "Limit(Symbols)"),
+    ] {
+        let raw = chain(rt.alloc(), last)?;
+        assert!(rt; is_readable(&raw));
+        let told = answer(rt.alloc(), raw)?;
+        assert_eq!(rt; told.as_str(), wanted);
+    }
     Ok(())
 }
 
-/// S with so many further attributes, inherited ones of T, each with its rule.
-fn attributes(alloc: Global, count: u32) -> Result<RawGrammar, Fail> {
-    let mut names = String::new(alloc);
-    let mut rules = Vec::new(alloc);
-    rules.push(rule(alloc, 0, "out", "0", 0)?)?;
-    for number in 0..count {
-        let name = numbered_name(alloc, number)?;
-        names.push_str(name.as_str())?;
-        names.push_str(" ")?;
-        rules.push(rule(alloc, 1, name.as_str(), "0", 0)?)?;
+/// S with a T on its right side that has so many inherited attributes, each with its rule.
+fn attributes(alloc: Global, count: u32) -> Result<String, Fail> {
+    let mut names = String::from_str(alloc, "a")?;
+    let mut rules = String::from_str(alloc, "$1.a = 0;")?;
+    for number in 1..count {
+        write!(names, ", s{number}")?;
+        write!(rules, " $1.s{number} = 0;")?;
     }
-    let mut symbols = Vec::new(alloc);
-    symbols.push(symbol(alloc, 0, "S", "out", "")?)?;
-    symbols.push(symbol(alloc, 0, "T", "", names.as_str())?)?;
-    let mut first = production(alloc, 0, "S", "T", &[])?;
-    first.rules = Items::from_vec(rules);
-    let mut productions = Vec::new(alloc);
-    productions.push(first)?;
-    productions.push(production(alloc, 0, "T", "", &[])?)?;
-    grammar(alloc, "S", symbols, productions)
+    Ok(format!(in alloc;
+        "start S; symbol S syn out; symbol T inh {names}; S = T {{ $0.out = 0; {rules} }} T = {{ }}"
+    )?)
 }
 
 /// So many productions of S, each of so many times one word.
-fn repeated(alloc: Global, count: u32, word: &str, words: u32) -> Result<RawGrammar, Fail> {
-    let mut items = String::new(alloc);
-    for _ in 0..words {
-        items.push_str(word)?;
-        items.push_str(" ")?;
-    }
-    let mut symbols = Vec::new(alloc);
-    symbols.push(symbol(alloc, 0, "S", "out", "")?)?;
-    let mut productions = Vec::new(alloc);
-    for _ in 0..count {
-        productions.push(production(alloc, 0, "S", items.as_str(), &[EMPTY])?)?;
-    }
-    grammar(alloc, "S", symbols, productions)
+fn repeated(alloc: Global, count: usize, word: &str, words: usize) -> Result<String, Fail> {
+    let items = word.repeat(alloc, words)?;
+    let production = format!(in alloc; "S = {items} {{ $0.out = 0; }}")?;
+    let productions = production.as_str().repeat(alloc, count)?;
+    Ok(format!(in alloc; "start S; symbol S syn out; {productions}")?)
 }
 
-/// So many different literals, 64 in a production.
-fn different(alloc: Global, count: u32) -> Result<RawGrammar, Fail> {
-    let mut symbols = Vec::new(alloc);
-    symbols.push(symbol(alloc, 0, "S", "out", "")?)?;
-    let mut productions = Vec::new(alloc);
-    let mut items = Vec::new(alloc);
-    for number in 0..count {
-        items.push(RawItem::Literal(Text::from_string(numbered_name(alloc, number)?)))?;
-        if items.len() == 64 || number + 1 == count {
-            let mut made = production(alloc, 0, "S", "", &[EMPTY])?;
-            made.items = Items::from_vec(items);
-            productions.push(made)?;
-            items = Vec::new(alloc);
-        }
-    }
-    grammar(alloc, "S", symbols, productions)
-}
-
-fn long_literal(alloc: Global, length: u32) -> Result<RawGrammar, Fail> {
-    let mut word = String::from_str(alloc, "\"")?;
-    for _ in 0..length {
-        word.push_str("x")?;
-    }
+/// A literal of so many bytes.
+fn long_literal(alloc: Global, length: usize) -> Result<String, Fail> {
+    let bytes = "x".repeat(alloc, length)?;
+    let word = format!(in alloc; "\"{bytes}\"")?;
     repeated(alloc, 1, word.as_str(), 1)
 }
 
+/// So many different literals, 64 in a production.
+fn different(alloc: Global, count: u32) -> Result<String, Fail> {
+    let mut text = String::from_str(alloc, "start S; symbol S syn out; S =")?;
+    for number in 0..count {
+        if number > 0 && number % 64 == 0 {
+            text.push_str(" { $0.out = 0; } S =")?;
+        }
+        write!(text, " \"s{number}\"")?;
+    }
+    text.push_str(" { $0.out = 0; }")?;
+    Ok(text)
+}
+
 #[test]
-fn further_limits(rt: HostRuntime) -> Result<(), Fail> {
-    let alloc = rt.alloc();
-    assert!(&rt; limit_of(&rt, attributes(alloc, 16)?)? == None);
-    assert!(&rt; limit_of(&rt, attributes(alloc, 17)?)? == Some(LimitKind::Attributes));
-    assert!(&rt; limit_of(&rt, repeated(alloc, 512, "", 0)?)? == None);
-    assert!(&rt; limit_of(&rt, repeated(alloc, 513, "", 0)?)? == Some(LimitKind::Productions));
-    assert!(&rt; limit_of(&rt, repeated(alloc, 1, "\"x", 64)?)? == None);
-    assert!(&rt; limit_of(&rt, repeated(alloc, 1, "\"x", 65)?)? == Some(LimitKind::Items));
-    assert!(&rt; limit_of(&rt, repeated(alloc, 1, "NAME", 16)?)? == None);
-    assert!(&rt; limit_of(&rt, repeated(alloc, 1, "NAME", 17)?)? == Some(LimitKind::Stored));
-    assert!(&rt; limit_of(&rt, long_literal(alloc, 255)?)? == None);
-    assert!(&rt; limit_of(&rt, long_literal(alloc, 256)?)? == Some(LimitKind::LiteralLength));
-    assert!(&rt; limit_of(&rt, different(alloc, 1024)?)? == None);
-    assert!(&rt; limit_of(&rt, different(alloc, 1025)?)? == Some(LimitKind::Literals));
+fn limits_of_attributes_and_literals(rt: HostRuntime) -> Result<(), Fail> {
+    for (count, wanted) in [(16, "accepted"), (17, "Limit(Attributes)")] {
+        told(&rt, attributes(rt.alloc(), count)?.as_str(), wanted)?;
+    }
+    for (count, wanted) in [(1024, "accepted"), (1025, "Limit(Literals)")] {
+        told(&rt, different(rt.alloc(), count)?.as_str(), wanted)?;
+    }
+    for (length, wanted) in [(255, "accepted"), (256, "Limit(LiteralLength)")] {
+        told(&rt, long_literal(rt.alloc(), length)?.as_str(), wanted)?;
+    }
+    Ok(())
+}
+
+#[test]
+fn limits_of_productions(rt: HostRuntime) -> Result<(), Fail> {
+    for (count, word, words, wanted) in [
+        (512, "", 0, "accepted"),
+        (513, "", 0, "Limit(Productions)"),
+        (1, "\"x\" ", 64, "accepted"),
+        (1, "\"x\" ", 65, "Limit(Items)"),
+        (1, "NAME ", 16, "accepted"),
+        (1, "NAME ", 17, "Limit(Stored)"),
+    ] {
+        told(
+            &rt,
+            repeated(rt.alloc(), count, word, words)?.as_str(),
+            wanted,
+        )?;
+    }
     Ok(())
 }
