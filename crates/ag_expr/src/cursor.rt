@@ -148,7 +148,7 @@ impl<'t> Cursor<'t> {
     }
 
     /// The offset of the token in front, or of what stands there, or the text's length at its end.
-    pub fn offset(&self) -> usize
+    pub(crate) fn offset(&self) -> usize
         ensures { result ≡ left.offset self.now }
     {
         self.text.len() - self.rest.len()
@@ -204,7 +204,7 @@ impl<'t> Cursor<'t> {
 
     /// Passes the occurrence in front, and answers its number among the different ones. Takes
     /// memory where it is the first with its place and name.
-    pub fn take_occurrence(
+    pub(crate) fn take_occurrence(
         &mut self,
         alloc: Global,
         place: u16,
@@ -222,7 +222,7 @@ impl<'t> Cursor<'t> {
     }
 
     /// Whether this punctuation stands in front.
-    pub fn sees(&self, mark: Punctuation) -> bool
+    pub(crate) fn sees(&self, mark: Punctuation) -> bool
         ensures { result ≡ reading.sees (reading.is_sign (tokens.mark mark)) (input self.now) }
     {
         match self.peek() {
@@ -232,7 +232,7 @@ impl<'t> Cursor<'t> {
     }
 
     /// Passes this punctuation, or refuses what stands there as `refusal` does. Takes no memory.
-    pub fn expect(&mut self, mark: Punctuation) -> Result<(), ExprFault>
+    pub(crate) fn expect(&mut self, mark: Punctuation) -> Result<(), ExprFault>
         ensures { Reads (λ _. reading.expect (tokens.mark mark)) self.old result self.new }
     {
         match self.peek() {
@@ -245,7 +245,7 @@ impl<'t> Cursor<'t> {
     }
 
     /// Whether this name stands in front.
-    pub fn sees_word(&self, name: &str) -> bool
+    pub(crate) fn sees_word(&self, name: &str) -> bool
         ensures { result
             ≡ reading.sees (reading.is_sign (tokens.word name.now)) (input self.now) }
     {
@@ -256,7 +256,7 @@ impl<'t> Cursor<'t> {
     }
 
     /// Passes this name, or refuses what stands there as `refusal` does. Takes no memory.
-    pub fn expect_word(&mut self, name: &str) -> Result<(), ExprFault>
+    pub(crate) fn expect_word(&mut self, name: &str) -> Result<(), ExprFault>
         ensures { Reads (λ _. reading.expect (tokens.word name.now)) self.old result self.new }
     {
         match self.peek() {
@@ -270,7 +270,7 @@ impl<'t> Cursor<'t> {
 
     /// Passes a name that is not reserved in expressions, or refuses what stands there as `refusal`
     /// does. Takes no memory.
-    pub fn new_name(&mut self) -> Result<&'t str, ExprFault>
+    pub(crate) fn new_name(&mut self) -> Result<&'t str, ExprFault>
         ensures { ReadsAs (λ name. name.now) (λ _. reading.token_as syntax.new_name)
             self.old result self.new }
     {
@@ -285,7 +285,7 @@ impl<'t> Cursor<'t> {
 
     /// The different occurrences that were passed, at the end of the text; before it what stands there
     /// is refused as `refusal` does.
-    pub fn finish(self) -> Result<SmallVec<Occ, 4>, ExprFault>
+    pub(crate) fn finish(self) -> Result<SmallVec<Occ, 4>, ExprFault>
         ensures reads { left.Finishes self.entry result }
         ensures listed { IfOk result (λ list. list.items ≡ everything self.entry) }
     {

@@ -279,8 +279,10 @@ fn decided(condition: &Value) -> Result<bool, ErrorCode>
 }
 
 /// The value of an expression where `env` lends the values of its occurrences. Takes memory for
-/// what is made, and for a copy of a value that is lent where it leaves the expression or goes into
-/// a list or table. The meter counts one more, also where memory is refused.
+/// what is made, and for copies: of a value that is lent or bound, where it leaves the expression,
+/// goes into a list or table, or grows; of the part that `nth` or `get` takes of what the expression
+/// made; and of what it made and bound, where another name is bound to that too. The meter counts
+/// one more, also where memory is refused.
 pub fn eval<V: Env>(
     alloc: Global,
     expr: &Expr,

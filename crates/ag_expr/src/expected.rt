@@ -21,6 +21,8 @@ pub enum Expected {
     NewName,
     /// An operator.
     Operator,
+    /// An operator other than `==` and `<`, of which one stands there already.
+    TighterOperator,
     /// This punctuation or reserved name.
     Sign(&'static str),
     /// The end of the text.
@@ -44,8 +46,10 @@ pub fn expected_at(alloc: Global, text: &str, at: usize) -> Result<Vec<Expected>
     } else if can_stand(alloc, before, "_")? {
         found.push(Expected::NewName)?;
     }
-    if can_stand(alloc, before, "*")? {
+    if can_stand(alloc, before, "==")? {
         found.push(Expected::Operator)?;
+    } else if can_stand(alloc, before, "*")? {
+        found.push(Expected::TighterOperator)?;
     }
     for sign in SIGNS {
         if !(operand && sign == "(") && can_stand(alloc, before, sign)? {

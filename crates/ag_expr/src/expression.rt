@@ -1,13 +1,13 @@
 //! Expressions as values of the program, and reading a text as one.
 
-ghost use Rattle.std.specs.Prelude.{◌≡◌, length, true, IfOk, IfErr};
+ghost use Rattle.std.specs.Prelude.{◌≡◌, chars, drop, length, true, IfOk, IfErr};
 ghost use Rattle.ag_expr.specs.language.Trees.{is_below};
-ghost use Rattle.ag_expr.specs.language.Expression.{ReadsAsExpr, IsRefused, IsAt};
+ghost use Rattle.ag_expr.specs.language.Expression.{ReadsAsExpr, IsRefused, IsAt, Says};
 ghost use Rattle.std.specs.Str.{IsCharBoundary};
 ghost use Rattle.ag_expr.specs.language.Left.{input};
 ghost use Rattle.ag_expr.specs.language.Places.{IsFirstOf, IsRead, IsReadToEnd};
-ghost use Rattle.ag_expr.specs.language.Until.{IsReadUntil, IsRefusedUntil, ReadsUntil};
-ghost use Rattle.ag_expr.specs.language.Until.{first_semicolon};
+ghost use Rattle.ag_expr.specs.language.Until.{IsFirstUntil, IsReadUntil, IsRefusedUntil};
+ghost use Rattle.ag_expr.specs.language.Until.{ReadsUntil, first_semicolon};
 
 use crate::cursor::Cursor;
 use crate::fault::ExprFault;
@@ -78,8 +78,10 @@ pub fn read_expr(alloc: Global, text: &str) -> Result<Expr, ExprFault>
 pub fn read_until(alloc: Global, text: &str, from: usize) -> Result<(Expr, usize), ExprFault>
     requires { IsCharBoundary text.now from }
     ensures exact { IsReadUntil text.now from result }
+    ensures first { IfErr result (λ e. IsFirstUntil text.now from e) }
     ensures reads { IfOk result (λ x. ReadsUntil text.now from x) }
     ensures refuses { IfErr result (λ e. IsRefusedUntil text.now from e) }
+    ensures places { IfErr result (λ e. Says from (chars (drop from text.now)) e) }
 {
     match next_semicolon(Cursor::at(alloc, text, from)) {
         Some(at) => {

@@ -82,6 +82,16 @@ impl<'e> Held<'e> {
         }
     }
 
+    /// The value once more: lent where it is lent, and else a copy.
+    pub fn again(&self, alloc: Global) -> Result<Held<'e>, NoMemory>
+        ensures { IfOk result (λ h. held_value h ≡ held_value self.now) }
+    {
+        match self {
+            Held::Lent(lent) => Ok(Held::Lent(Lent::new(lent.get()))),
+            Held::Owned(owned) => Ok(Held::Owned(Measured::new(copy(alloc, owned.get())?))),
+        }
+    }
+
     /// The value itself: a copy of it where it is lent.
     pub fn into_owned(self, alloc: Global) -> Result<Measured, NoMemory>
         ensures { IfOk result (λ m. m ≡ held_value self.entry) }
@@ -155,16 +165,14 @@ impl<'e> Operand<'e> {
         }
     }
 
-    /// What a binding keeps of it: a copy where it is another binding's value.
+    /// What a binding keeps of it: a copy where another binding owns it.
     pub fn kept(self, alloc: Global, scope: &Scope<'e>) -> Result<Held<'e>, NoMemory>
         requires { IsIn scope.now self }
         ensures { IfOk result (λ h. held_value h ≡ operand_value scope.now self.entry) }
     {
         match self {
             Operand::Held(held) => Ok(held),
-            Operand::Bound(k) => {
-                Ok(Held::Owned(Measured::new(copy(alloc, scope.get(k).get())?)))
-            }
+            Operand::Bound(k) => scope.get(k).again(alloc),
         }
     }
 

@@ -1,5 +1,5 @@
 -- What is answered is what reading the tokens of the text gives, and what follows of the text.
-use Rattle.std.proofs.Common.{◌≡◌, ◌≢◌, ℕ, ◌+◌, true, false, List, [], ◌∷◌, ◌++◌, length, Result, Ok, Err, IfOk, IfErr, chars, drop, IsUtf8, inl, inr, refl, ap, sym, ◌∙◌, subst, arith, length-append}
+use Rattle.std.proofs.Common.{◌≡◌, ◌≢◌, ℕ, ◌+◌, true, false, List, [], ◌∷◌, ◌++◌, length, Result, Ok, Err, IfOk, IfErr, chars, drop, IsUtf8, inl, inr, refl, ap, sym, ◌∙◌, subst, arith, append_assoc, append-nil, length-append}
 use Rattle.std.proofs.lemmas.Bool.{and_parts}
 use Rattle.std.specs.Result.{IsErrAnd}
 use Rattle.std.specs.Str.{IsCharBoundary}
@@ -131,8 +131,12 @@ refuses_of text (Err (fault.Unexpected at)) is = none_of text _ (λ e. cc) is
 refuses_of text (Err (fault.NumberTooLarge at)) is = none_of text _ (λ e. cc) is
 refuses_of text (Err (fault.TooDeep at)) is = none_of text _ (λ e. cc) is
 
+-- a fault that reading answers is told of the first token that can't be taken
+pub told_of : (i : Input) (e : ExprFault) → read_from i ≡ Err e → IsToldFirst (occurrences_of i) max_levels i e
+told_of i e is = refuses_at_the_first (occurrences_of i) max_levels i e (answered_fault (occurrences_of i) (expr_of (occurrences_of i) max_levels i) e is)
+
 first_fault : (text : List ℕ) (e : ExprFault) → IsRead text (Err e) → IsFirstOf text e
-first_fault text e is i lexes memory = refuses_at_the_first (occurrences_of i) max_levels i e (answered_fault (occurrences_of i) (expr_of (occurrences_of i) max_levels i) e (is i lexes (λ q. memory cc)))
+first_fault text e is i lexes memory = told_of i e (is i lexes (λ q. memory cc))
 
 pub first_of : (text : List ℕ) (r : Result (Node × List Occ) ExprFault) → IsRead text r → IfErr r (IsFirstOf text)
 first_of text (Ok x) is = tt
@@ -166,39 +170,58 @@ token_at (word at all w cs t qs end rest split is longest are) (u ∷ us) p ps e
       one.1,
     )
 
-module _ (cs : List ℕ) (i : Input) (lexes : Lexes 0 cs i) where
-  stands_at : (us : List Placed) (p : Placed) (ps : List Placed) → i.left ≡ us ++ p ∷ ps → (there : TokenAt 0 cs p.at) × (there.0.token ≡ p.token)
+module _ (from : ℕ) (cs : List ℕ) (i : Input) (lexes : Lexes from cs i) where
+  pub stands_at : (us : List Placed) (p : Placed) (ps : List Placed) → i.left ≡ us ++ p ∷ ps → (there : TokenAt from cs p.at) × (there.0.token ≡ p.token)
   stands_at us p ps cut = let one = token_at lexes.before us p ps cut in ((one.0, ap is_within one.1 ∙ placed_inner us p ps (sym (ap all_within cut) ∙ lexes.within)), one.1)
 
-  told_at : (listed : List Occ) (levels : ℕ) (f : ExprFault) → IsToldFirst listed levels i f → Says 0 cs f
-  told_at listed levels f (inl w) = subst (Says 0 cs) (sym w.says) (here w.rest w.cut)
+  -- where the tokens end
+  pub ends_at : Says from cs (ending_fault i.ending)
+  ends_at = go i.left i.ending lexes
     where
-      ends : (ps : List Placed) (e : Ending) → Lexes 0 cs (record { left = ps; ending = e }) → Says 0 cs (ending_fault e)
-      ends ps (ending.EndsAt at) is = inr (record { placed = ps; before = subst (AreTokens 0 cs ps at) is.stops is.before })
-      ends ps (ending.NoTokenAt at) is = by is.rest is.before is.stops
+      go : (ps : List Placed) (e : Ending) → Lexes from cs (record { left = ps; ending = e }) → Says from cs (ending_fault e)
+      go ps (ending.EndsAt at) is = inr (record { placed = ps; before = subst (AreTokens from cs ps at) is.stops is.before })
+      go ps (ending.NoTokenAt at) is = by is.rest is.before is.stops
         where
-          by : (rest : List ℕ) → AreTokens 0 cs ps at rest → HasNoToken rest → Says 0 cs (fault.NoToken at)
+          by : (rest : List ℕ) → AreTokens from cs ps at rest → HasNoToken rest → Says from cs (fault.NoToken at)
           by [] before none = absurd none
           by (c ∷ rest) before none = record { first = c; rest = rest; reaches = record { placed = ps; before = before }; no_separator = none.0; no_token = none.1 }
-      ends ps (ending.TooLargeAt at) is =
+      go ps (ending.TooLargeAt at) is =
           let t = is.stops in
-          (record { word = t.word; token = t.token; rest = t.behind; reaches = record { placed = ps; before = subst (AreTokens 0 cs ps at) t.split is.before }; is = t.is; longest = t.longest }, t.large)
+          (record { word = t.word; token = t.token; rest = t.behind; reaches = record { placed = ps; before = subst (AreTokens from cs ps at) t.split is.before }; is = t.is; longest = t.longest }, t.large)
 
-      here : (rest : List Placed) → i.left ≡ w.before ++ rest → Says 0 cs (refusal_of i.ending rest)
-      here [] cut = ends i.left i.ending lexes
-      here (p ∷ ps) cut = inl (stands_at w.before p ps cut).0
-  told_at listed levels f (inr d) = let one = stands_at d.before d.first d.rest d.cut in subst (Says 0 cs) (sym d.says) (one.0, ap begins_expression one.1 ∙ d.begins_one)
+  -- A fault is told of the first of the tokens in front, which end where it says.
+  pub told_before : (part : Input) (behind : List Placed) → i.left ≡ part.left ++ behind → Says from cs (ending_fault part.ending) → (listed : List Occ) (levels : ℕ) (f : ExprFault) → IsToldFirst listed levels part f → Says from cs f
+  told_before part behind cut ends listed levels f told = go told
+    where
+      further : (us ps : List Placed) → part.left ≡ us ++ ps → i.left ≡ us ++ (ps ++ behind)
+      further us ps here = cut ∙ ap (λ qs. qs ++ behind) here ∙ append_assoc us ps behind
 
-says_of : (text : List ℕ) (e : ExprFault) → e ≢ fault.NoMemory → IsRead text (Err e) → IsAt text e
-says_of text e memory is = told_at (chars text) (input (start_of text)) (starts text 0 (fits_first text)) (occurrences_of (input (start_of text))) max_levels e (first_fault text e is (input (start_of text)) (starts text 0 (fits_first text)) memory)
+      says : (us rest : List Placed) → part.left ≡ us ++ rest → Says from cs (refusal_of part.ending rest)
+      says us [] here = ends
+      says us (p ∷ ps) here = inl (stands_at us p (ps ++ behind) (further us (p ∷ ps) here)).0
+
+      go : IsToldFirst listed levels part f → Says from cs f
+      go (inl w) = subst (Says from cs) (sym w.says) (says w.before w.rest w.cut)
+      go (inr d) = let one = stands_at d.before d.first (d.rest ++ behind) (further d.before (d.first ∷ d.rest) d.cut) in subst (Says from cs) (sym d.says) (one.0, ap begins_expression one.1 ∙ d.begins_one)
+
+  -- and of all of them
+  pub told_at : (listed : List Occ) (levels : ℕ) (f : ExprFault) → IsToldFirst listed levels i f → Says from cs f
+  told_at = told_before i [] (sym (append-nil i.left)) ends_at
+
+-- of memory nothing is said
+pub unless_memory : (from : ℕ) (cs : List ℕ) (e : ExprFault) → (e ≢ fault.NoMemory → Says from cs e) → Says from cs e
+unless_memory from cs fault.NoMemory says = tt
+unless_memory from cs (fault.NoToken at) says = says (λ e. cc)
+unless_memory from cs (fault.Unexpected at) says = says (λ e. cc)
+unless_memory from cs (fault.NumberTooLarge at) says = says (λ e. cc)
+unless_memory from cs (fault.TooDeep at) says = says (λ e. cc)
 
 pub places_of : (text : List ℕ) (r : Result (Node × List Occ) ExprFault) → IsRead text r → IfErr r (IsAt text)
 places_of text (Ok x) is = tt
-places_of text (Err fault.NoMemory) is = tt
-places_of text (Err (fault.NoToken at)) is = says_of text _ (λ e. cc) is
-places_of text (Err (fault.Unexpected at)) is = says_of text _ (λ e. cc) is
-places_of text (Err (fault.NumberTooLarge at)) is = says_of text _ (λ e. cc) is
-places_of text (Err (fault.TooDeep at)) is = says_of text _ (λ e. cc) is
+places_of text (Err e) is =
+    let i = input (start_of text) in
+    let lexes = starts text 0 (fits_first text) in
+    unless_memory 0 (chars text) e (λ memory. told_at 0 (chars text) i lexes (occurrences_of i) max_levels e (first_fault text e is i lexes memory))
 
 -- a text reads as one expression at most
 pub one_expression : (text : List ℕ) (one other : Node × List Occ) → ReadsAsExpr text one → ReadsAsExpr text other → one ≡ other

@@ -1,5 +1,5 @@
 -- An expression that is read up to a semicolon: the text before it is read as one that ends there.
-use Rattle.std.proofs.Common.{◌≡◌, ℕ, ◌+◌, ◌-◌, Bool, true, false, cond, List, [], ◌∷◌, ◌++◌, length, take, drop, Option, Some, None, Result, Ok, Err, IfOk, IfErr, chars, IsUtf8, encode_utf8_all, refl, ap, sym, ◌∙◌, subst, arith, append_assoc, length-append}
+use Rattle.std.proofs.Common.{◌≡◌, ℕ, ◌+◌, ◌-◌, Bool, true, false, cond, List, [], ◌∷◌, ◌++◌, length, take, drop, Option, Some, None, Result, Ok, Err, IfOk, IfErr, chars, IsUtf8, encode_utf8_all, inl, inr, refl, ap, sym, ◌∙◌, subst, arith, append_assoc, length-append}
 use Rattle.std.proofs.lemmas.Bool.{and_parts}
 use Rattle.std.proofs.lemmas.List.{drop-take, length-take-le}
 use Rattle.std.proofs.lemmas.Str.{IsCharBoundary-at_seam, IsCharBoundary-from_drop, IsCharBoundary-from_rest, IsUtf8-drop, IsUtf8-take, chars-encodes, encodes-append, encodes-chars, scalars-chars}
@@ -16,17 +16,17 @@ use Rattle.ag_expr.specs.language.Ending.{Ending, offset_of}
 use Rattle.ag_expr.specs.language.Ending as ending
 use Rattle.ag_expr.specs.language.Left.{State, start_at, input, offset, left_by, cut, none_left, one_before, unspaced}
 use Rattle.ag_expr.specs.language.Lexing.{token_from}
-use Rattle.ag_expr.specs.language.Expression.{max_levels}
+use Rattle.ag_expr.specs.language.Expression.{max_levels, Says}
 use Rattle.ag_expr.specs.language.Placed.{Placed, Input, tokens}
 use Rattle.ag_expr.specs.language.Syntax.{IsExpr}
 use Rattle.ag_expr.specs.language.Places.{IsReadFrom, read_from}
 use Rattle.ag_expr.specs.language.Reading.{front, front_is, sees, is_sign, ending_fault}
 use Rattle.ag_expr.specs.language.Token.{Token, mark}
 use Rattle.ag_expr.specs.language.Tokens.{AreTokens, ended, separator, word, IsLongest, Lexes, all_within, is_within, width}
-use Rattle.ag_expr.specs.language.Until.{Ended, semicolon, first_semicolon, before_semicolon, with_offset, or_fault, until_by, read_until_from, IsReadUntil, ReadsUntil, IsRefusedUntil}
+use Rattle.ag_expr.specs.language.Until.{Ended, semicolon, first_semicolon, before_semicolon, with_offset, or_fault, until_by, read_until_from, IsReadUntil, ReadsUntil, IsRefusedUntil, IsToldUntil, IsFirstUntil}
 use Rattle.ag_expr.proofs.language.Exact.{sign_is}
 use Rattle.ag_expr.proofs.language.Lexed.{separator_width, width-append, width-chars, width-encoded}
-use Rattle.ag_expr.proofs.language.Texts.{starts, only, fits_at, ends_wide, spells_of, spelled_back}
+use Rattle.ag_expr.proofs.language.Texts.{starts, only, fits_at, ends_wide, spells_of, spelled_back, told_of, stands_at, ends_at, told_before, told_at, unless_memory}
 
 -- ---- the first semicolon
 
@@ -83,6 +83,39 @@ module _ (s : State) where
       go : (o : Option Token) → front (input s) ≡ o → front_is is_semicolon o ≡ true → first_semicolon (input s).left ≡ Some (offset s)
       go None e h = let bad : ⊥ = cc in absurd bad
       go (Some t) e h = let one = front_at t e in rw (one.1, h) refl
+
+-- ---- what a fault is told of
+
+module _ (i : Input) (f : ExprFault) where
+  told_until : (o : Option ℕ) → until_by o i ≡ Err f → IsToldUntil o i f
+  told_until (Some at) is = go (read_from part) refl is
+    where
+      part : Input
+      part = record { left = before_semicolon i.left; ending = ending.EndsAt at }
+
+      go : (r : Result (Node × List Occ) ExprFault) → read_from part ≡ r → with_offset at r ≡ Err f → IsToldUntil (Some at) i f
+      go (Ok x) read is = let bad : ⊥ = cc in absurd bad
+      go (Err g) read is = let same : g ≡ f = cc in told_of part f (read ∙ ap Err same)
+  told_until None is = go (read_from i) refl is
+    where
+      go : (r : Result (Node × List Occ) ExprFault) → read_from i ≡ r → or_fault (ending_fault i.ending) r ≡ Err f → IsToldUntil None i f
+      go (Ok x) read is =
+          let s = spells_of i x read in
+          let same : ending_fault i.ending ≡ f = cc in
+          inr (record { at = s.at; ends = s.ends; says = sym same ∙ ap ending_fault s.ends; tree = x.0; spells = s.spells })
+      go (Err g) read is = let same : g ≡ f = cc in inl (told_of i f (read ∙ ap Err same))
+
+  says_until : (from : ℕ) (cs : List ℕ) → Lexes from cs i → (o : Option ℕ) → first_semicolon i.left ≡ o → IsToldUntil o i f → Says from cs f
+  says_until from cs lexes (Some at) h told =
+      let cut = split_first i.left at h in
+      let stop = stands_at from cs i lexes (before_semicolon i.left) (semicolon at) cut.0 cut.1 in
+      told_before from cs i lexes (record { left = before_semicolon i.left; ending = ending.EndsAt at }) (semicolon at ∷ cut.0) cut.1 (inl stop.0) _ max_levels f told
+  says_until from cs lexes None h (inl told) = told_at from cs i lexes _ max_levels f told
+  says_until from cs lexes None h (inr u) = subst (Says from cs) (ap ending_fault u.ends ∙ sym u.says) (ends_at from cs i lexes)
+
+pub first_until : (text : List ℕ) (from : ℕ) (r : Result Ended ExprFault) → IsReadUntil text from r → IfErr r (IsFirstUntil text from)
+first_until text from (Ok x) is = tt
+first_until text from (Err f) is = λ i lexes memory. told_until i f (first_semicolon i.left) (is i lexes (λ q. memory cc))
 
 -- ---- the text before it
 
@@ -241,6 +274,10 @@ module _ (text : List ℕ) (from : ℕ) (utf8 : IsUtf8 text) (from_here : IsChar
       let back = ap (λ o. until_by o k) found.0 ∙ ap (λ ps. with_offset x.1 (read_from (record { left = ps; ending = ending.EndsAt x.1 }))) found.1 ∙ ap (with_offset x.1) (spelled_back reads.placed x.1 x.0 reads.listed reads.spells) in
       let clash = sym (is k reads.lexes (λ q. memory cc)) ∙ back in
       cc
+
+  pub places_until : (r : Result Ended ExprFault) → IsReadUntil text from r → IfErr r (Says from (chars (drop from text)))
+  places_until (Ok x) is = tt
+  places_until (Err f) is = unless_memory from (chars (drop from text)) f (λ memory. says_until j f from (chars (drop from text)) lexes (first_semicolon j.left) refl (first_until text from (Err f) is j lexes memory))
 
 -- a fault that is answered
 pub answered : (text : List ℕ) (from : ℕ) (r : Result Ended ExprFault) (e : ExprFault) → IsErrAnd r (λ x. x ≡ e) → IsReadUntil text from (Err e) → IsReadUntil text from r

@@ -1,5 +1,5 @@
--- Two grammars to try the definitions on. The first has a number for `out`, and no text of it, since there is no
--- expression yet that makes a text of a number.
+-- Two grammars to try the definitions on. The first has a number for `out`, and no text of it: the definitions say
+-- nothing of what `out` is, and the grammar is shorter so.
 --   start R; symbol R syn out; symbol A syn s inh i;
 --   R = A A { $0.out = $1.s; $1.i = $2.s; $2.i = 0; }
 --   A = "x" { $0.s = $0.i + 1; }

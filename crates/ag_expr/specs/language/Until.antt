@@ -1,5 +1,5 @@
 -- Reading an expression up to a semicolon: this project's language.
-use Rattle.std.specs.Prelude.{◌≡◌, ◌≢◌, ℕ, cond, List, [], ◌∷◌, ◌++◌, drop, Option, Some, None, Result, Ok, Err, chars}
+use Rattle.std.specs.Prelude.{◌≡◌, ◌≢◌, ℕ, cond, List, [], ◌∷◌, ◌++◌, drop, Option, Some, None, Result, Ok, Err, ◌⊎◌, chars}
 use Rattle.ag_expr.specs.declared.fault.ExprFault.{ExprFault}
 use Rattle.ag_expr.specs.declared.fault.ExprFault.TheVariants as fault
 use Rattle.ag_expr.specs.declared.node.Node.{Node}
@@ -10,7 +10,7 @@ use Rattle.ag_expr.specs.language.Ending as ending
 use Rattle.ag_expr.specs.language.Expression.{max_levels}
 use Rattle.ag_expr.specs.language.Occurrences.{all_occurrences, different}
 use Rattle.ag_expr.specs.language.Placed.{Placed, Input, tokens}
-use Rattle.ag_expr.specs.language.Places.{read_from}
+use Rattle.ag_expr.specs.language.Places.{IsToldFirst, occurrences_of, read_from}
 use Rattle.ag_expr.specs.language.Reading.{is_sign, ending_fault}
 use Rattle.ag_expr.specs.language.Syntax.{IsExpr}
 use Rattle.ag_expr.specs.language.Token.{mark}
@@ -70,3 +70,21 @@ pub record ReadsUntil (text : List ℕ) (from : ℕ) (x : Ended) : Type 0 where
 -- what a refusal says of the text: that no expression stands there up to a semicolon, unless memory ran out
 abbrev pub IsRefusedUntil : List ℕ → ℕ → ExprFault → Type 0
 IsRefusedUntil text from e = e ≢ fault.NoMemory → (x : Ended) → ReadsUntil text from x → ⊥
+
+-- The tokens are an expression, and the fault is that of the text's end, where a semicolon had to stand.
+pub record IsUnended (i : Input) (f : ExprFault) : Type 0 where
+  pub at : ℕ
+  pub ends : i.ending ≡ ending.EndsAt at
+  pub says : f ≡ fault.Unexpected at
+  pub tree : Node
+  pub spells : IsExpr (occurrences_of i) max_levels (tokens i.left) tree
+
+-- The fault is told of the first token up to the first semicolon that can't be taken. Where no semicolon stands it is told of the first of all tokens, or
+-- of the text's end.
+abbrev pub IsToldUntil : Option ℕ → Input → ExprFault → Type 0
+IsToldUntil (Some at) i f = IsToldFirst (different (all_occurrences (before_semicolon i.left))) max_levels (record { left = before_semicolon i.left; ending = ending.EndsAt at }) f
+IsToldUntil None i f = IsToldFirst (occurrences_of i) max_levels i f ⊎ IsUnended i f
+
+-- A fault other than for memory is told of the first token from the offset `from` on, up to a semicolon, that can't be taken.
+abbrev pub IsFirstUntil : List ℕ → ℕ → ExprFault → Type 0
+IsFirstUntil text from f = (i : Input) → Lexes from (chars (drop from text)) i → f ≢ fault.NoMemory → IsToldUntil (first_semicolon i.left) i f

@@ -3,7 +3,7 @@ use Rattle.std.specs.Str.{IsCharBoundary}
 use Rattle.ag_expr.specs.language.Left.{State, input}
 use Rattle.ag_expr.specs.language.Until.{first_semicolon}
 use Rattle.ag_expr.proofs.language.Texts.{fits_at, read_to}
-use Rattle.ag_expr.proofs.language.Until.{at_there, from_there, fits_before, read_before, read_without, reads_until, refuses_until, answered}
+use Rattle.ag_expr.proofs.language.Until.{at_there, from_there, fits_before, read_before, read_without, reads_until, refuses_until, first_until, places_until, answered}
 use Rattle.ag_expr.proofs.expression.read_until.Goals as goal
 
 -- ---- up to a semicolon
@@ -28,6 +28,12 @@ returns-in_err-expr-in-Some-clause-exact c =
 pub returns-in_err-expr-in-Some-clause-refuses : goal.returns-in_err-expr-in-Some-clause-refuses
 returns-in_err-expr-in-Some-clause-refuses c = refuses_until c.args.text.now c.args.from c.utf8.text c.requires _ (returns-in_err-expr-in-Some-clause-exact c)
 
+pub returns-in_err-expr-in-Some-clause-first : goal.returns-in_err-expr-in-Some-clause-first
+returns-in_err-expr-in-Some-clause-first c = first_until c.args.text.now c.args.from _ (returns-in_err-expr-in-Some-clause-exact c)
+
+pub returns-in_err-expr-in-Some-clause-places : goal.returns-in_err-expr-in-Some-clause-places
+returns-in_err-expr-in-Some-clause-places c = places_until c.args.text.now c.args.from c.utf8.text c.requires _ (returns-in_err-expr-in-Some-clause-exact c)
+
 pub returns-in_ok-expr-in-Some-clause-exact : goal.returns-in_ok-expr-in-Some-clause-exact
 returns-in_ok-expr-in-Some-clause-exact c =
     let there = ap (λ (s : State). first_semicolon (input s).left) (sym c.at.ensures) ∙ sym c.in-Some.ensures in
@@ -49,6 +55,12 @@ returns-in_err-_unended-in-None-clause-exact c =
 pub returns-in_err-_unended-in-None-clause-refuses : goal.returns-in_err-_unended-in-None-clause-refuses
 returns-in_err-_unended-in-None-clause-refuses c = refuses_until c.args.text.now c.args.from c.utf8.text c.requires _ (returns-in_err-_unended-in-None-clause-exact c)
 
+pub returns-in_err-_unended-in-None-clause-first : goal.returns-in_err-_unended-in-None-clause-first
+returns-in_err-_unended-in-None-clause-first c = first_until c.args.text.now c.args.from _ (returns-in_err-_unended-in-None-clause-exact c)
+
+pub returns-in_err-_unended-in-None-clause-places : goal.returns-in_err-_unended-in-None-clause-places
+returns-in_err-_unended-in-None-clause-places c = places_until c.args.text.now c.args.from c.utf8.text c.requires _ (returns-in_err-_unended-in-None-clause-exact c)
+
 pub returns-in_ok-_unended-in-None-clause-exact : goal.returns-in_ok-_unended-in-None-clause-exact
 returns-in_ok-_unended-in-None-clause-exact c =
     let none = ap (λ (s : State). first_semicolon (input s).left) (sym c.at.ensures) ∙ sym c.in-None.ensures in
@@ -57,3 +69,9 @@ returns-in_ok-_unended-in-None-clause-exact c =
 
 pub returns-in_ok-_unended-in-None-clause-refuses : goal.returns-in_ok-_unended-in-None-clause-refuses
 returns-in_ok-_unended-in-None-clause-refuses c = refuses_until c.args.text.now c.args.from c.utf8.text c.requires _ (returns-in_ok-_unended-in-None-clause-exact c)
+
+pub returns-in_ok-_unended-in-None-clause-first : goal.returns-in_ok-_unended-in-None-clause-first
+returns-in_ok-_unended-in-None-clause-first c = first_until c.args.text.now c.args.from _ (returns-in_ok-_unended-in-None-clause-exact c)
+
+pub returns-in_ok-_unended-in-None-clause-places : goal.returns-in_ok-_unended-in-None-clause-places
+returns-in_ok-_unended-in-None-clause-places c = places_until c.args.text.now c.args.from c.utf8.text c.requires _ (returns-in_ok-_unended-in-None-clause-exact c)
