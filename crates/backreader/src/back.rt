@@ -118,6 +118,8 @@ impl Back {
             (λ body. IsBody version_one body.now)) }
         ensures room { IfOk result (λ found. IfSome found
             (λ body. length body.now + length_bytes ≤ self.old.progress.at)) }
+        // B1 is only told by `start`
+        ensures file { IsErrOf result FrameFault.NotATreeFile → self.old.progress.fault ≢ None }
         ensures broken { IfSome self.old.progress.fault
             (λ fault. (result ≡ Err fault) × (device.new ≡ device.old)) }
         ensures content { LeavesContent (D.is_honest device.old)
@@ -140,6 +142,7 @@ impl Back {
             result (next_before version_one self.old.bytes self.old.progress.at) }
         ensures broken { IfSome self.old.progress.fault (λ fault. result ≡ Err fault) }
         ensures device { IsErrOf result FrameFault.Device → self.old.progress.fault ≢ None }
+        ensures file { IsErrOf result FrameFault.NotATreeFile → self.old.progress.fault ≢ None }
         ensures bytes { self.new.bytes ≡ self.old.bytes }
         ensures moved { self.new.progress
             ≡ progress_after self.old.progress (lent_body (body_so_long self.old) result) }

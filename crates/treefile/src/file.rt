@@ -1,6 +1,6 @@
 //! A device over a file, which gathers what is appended.
 
-ghost use Rattle.std.specs.Prelude.{◌≡◌, ◌≤◌, ◌+◌, ◌++◌, [], length, slice_range};
+ghost use Rattle.std.specs.Prelude.{◌≡◌, ◌≤◌, ◌+◌, ◌++◌, ◌⊎◌, [], length, slice_range};
 ghost use Rattle.std.specs.Prelude.{Ok, Err, IfErr, IfOk, IsErrOf, OnErr, OnOk};
 ghost use Rattle.std.specs.Io.KnownBytes.{Appends, Keeps};
 ghost use Rattle.treefile.specs.Device.{Appends as DeviceAppends, Clears, HasRisen, LeavesContent};
@@ -168,6 +168,9 @@ impl<F: Write> FileDevice<F> {
         ensures refused { IsErrOf result DeviceFault.NoMemory →
             Keeps (taken F.contents self.old) (taken F.contents self.new) }
         ensures reading { self.old.access ≡ Access.Reading → IsErrOf result DeviceFault.Failed }
+        ensures access { OnOk result (self.new.access ≡ self.old.access) }
+        ensures breaks { self.old.access ≡ Access.Writing →
+            IsErrOf result DeviceFault.Failed → self.new.access ≡ Access.Broken }
         ensures broken { StaysBroken self.old self.new (IsErrOf result DeviceFault.Failed) }
     {
         if self.access != Access::Writing {
@@ -236,6 +239,9 @@ impl<F: Read + Write + Seek + OpenFile> Device for FileDevice<F> {
         ensures taken { OnOk result
             (Keeps (taken F.contents self.old) (taken F.contents self.new)) }
         ensures gathered { OnOk result (self.new.gathered ≡ []) }
+        ensures access { OnOk result (self.new.access ≡ self.old.access) }
+        ensures breaks { OnErr result
+            ((self.new.gathered ≡ []) ⊎ (self.new.access ≡ Access.Broken)) }
         ensures broken { StaysBroken self.old self.new (IsErrOf result DeviceFault.Failed) }
     {
         self.finish()?;
@@ -254,6 +260,9 @@ impl<F: Read + Write + Seek + OpenFile> Device for FileDevice<F> {
         ensures refused { IsErrOf result DeviceFault.NoMemory →
             Keeps (taken F.contents self.old) (taken F.contents self.new) }
         ensures reading { self.old.access ≡ Access.Reading → IsErrOf result DeviceFault.Failed }
+        ensures access { OnOk result (self.new.access ≡ self.old.access) }
+        ensures breaks { self.old.access ≡ Access.Writing →
+            IsErrOf result DeviceFault.Failed → self.new.access ≡ Access.Broken }
         ensures broken { StaysBroken self.old self.new (IsErrOf result DeviceFault.Failed) }
     {
         let room = GATHERED_BYTES.saturating_sub(self.gathered.len());
@@ -272,6 +281,9 @@ impl<F: Read + Write + Seek + OpenFile> Device for FileDevice<F> {
         ensures persists { FilePersists self.old self.new (IsErrOf result DeviceFault.Failed) }
         ensures memory { TakesNoMemory result }
         ensures gathered { OnOk result (self.new.gathered ≡ []) }
+        ensures access { OnOk result (self.new.access ≡ self.old.access) }
+        ensures breaks { OnErr result
+            ((self.new.gathered ≡ []) ⊎ (self.new.access ≡ Access.Broken)) }
         ensures broken { StaysBroken self.old self.new (IsErrOf result DeviceFault.Failed) }
     {
         self.finish()?;
@@ -288,6 +300,7 @@ impl<F: Read + Write + Seek + OpenFile> Device for FileDevice<F> {
         ensures memory { TakesNoMemory result }
         ensures gathered { OnOk result (self.new.gathered ≡ []) }
         ensures reading { self.old.access ≡ Access.Reading → IsErrOf result DeviceFault.Failed }
+        ensures access { OnOk result (self.new.access ≡ self.old.access) }
         ensures broken { StaysBroken self.old self.new (IsErrOf result DeviceFault.Failed) }
     {
         if self.access != Access::Writing {

@@ -5,11 +5,10 @@ use Rattle.backreader.specs.Place.{Progress}
 use Rattle.backreader.specs.Ranks.{rank_of}
 use Rattle.backreader.specs.Taking.{Refuses}
 use Rattle.backreader.specs.Turning.{most_levels}
-use Rattle.backreader.specs.declared.turning.TurnFault.TheVariants as turn_fault
 use Rattle.treefile.specs.Backward.{next_before}
 use Rattle.treefile.specs.Ending.{IsBytes, Told}
 use Rattle.treefile.specs.TreeFile.{version_one}
-use Rattle.backreader.proofs.Whole.{fault_behind, file_told, frame_left_over, never_told, refused, taken, tree_turned}
+use Rattle.backreader.proofs.Whole.{fault_behind, file_told, frame_left_over, refused, taken, tree_turned}
 use Rattle.backreader.proofs.turning.turn.Goals as goal
 
 -- the body that is lent, if there is one
@@ -48,14 +47,6 @@ returns-in_err-back-2-clause-told g c honest =
     let fault = c.in_err-back-2.field-0.0 in
     let told : Told body_of (Err fault) (next_before version_one content t.now.at) = subst (λ (bytes : List ℕ). Told body_of (Err fault) (next_before version_one bytes t.now.at)) (c.in_ok-tree.ensures.content is ∙ c.in_ok-back.ensures.content honest) (c.in_err-back-2.ensures.told c.in_ok-tree.ensures.ready.unbroken (c.in_ok-tree.ensures.from_persists.honest ∙ is)) in
     rw (p.1, p.2) (fault_behind rank c.args.pass content (g.E.Device.is_honest c.args.to.now) (g.E.Device.content c.tree.new.to) t body_of fault told)
-
-pub returns-in_err-back-2-clause-untouched : goal.returns-in_err-back-2-clause-untouched
-returns-in_err-back-2-clause-untouched g c told_so honest =
-    let p = err_from_is_err_and c.from_residual-in_err-back-2.result c.from_residual-in_err-back-2.ensures.1 in
-    let is : g.D.Device.is_honest c.start.new.device ≡ true = c.in_ok-back.ensures.persists.honest ∙ honest in
-    let both : Err p.0 ≡ Err turn_fault.NotATreeFile = sym p.1 ∙ told_so in
-    let same : p.0 ≡ turn_fault.NotATreeFile = cc in
-    absurd (never_told body_of (g.D.Device.content c.tree.new.from) c.tree.new.self.back.progress.at c.in_err-back-2.field-0.0 (c.in_err-back-2.ensures.told c.in_ok-tree.ensures.ready.unbroken (c.in_ok-tree.ensures.from_persists.honest ∙ is)) (sym p.2 ∙ same))
 
 -- a frame is left over
 pub returns-then-is_some-clause-told : goal.returns-then-is_some-clause-told
