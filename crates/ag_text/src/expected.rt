@@ -111,7 +111,10 @@ fn can_stand(alloc: Global, before: &str, token: &str) -> Result<bool, NoMemory>
         Err(TextFault::NoMemory) | Err(TextFault::Expr(ExprFault::NoMemory)) => Err(
             NoMemory::NoMemory,
         ),
-        Err(TextFault::Unexpected(_, at)) => Ok(at > before.len().saturating_add(1)),
+        // behind the `=` of a rule the text ends where an expression could stand
+        Err(TextFault::Unexpected(_, at) | TextFault::Expr(ExprFault::Unexpected(at))) => {
+            Ok(at > before.len().saturating_add(1))
+        }
         Err(_) => Ok(false),
     }
 }
