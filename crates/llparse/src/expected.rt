@@ -163,8 +163,9 @@ fn parser_behind(
 /// tables allow in other places alone is not told. Where `parse` doesn't refuse them by P1, there
 /// is nothing that could stand.
 ///
-/// Asks for tables of the grammar. Reads the tokens twice, and takes memory for two stacks as
-/// `parse` has one, and for the answer.
+/// Where the tables are not the grammar's, it tells where a parse by them is stuck and what they let
+/// stand there, which are still literals of the grammar, classes and the end. Reads the tokens
+/// twice, and takes memory for two stacks as `parse` has one, and for the answer.
 pub fn expected_at(
     alloc: Global,
     grammar: &Grammar,

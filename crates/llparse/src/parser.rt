@@ -1,9 +1,10 @@
 //! How far a sentence is parsed, and the steps that go on with it.
-ghost use Rattle.std.specs.Prelude.{◌≡◌, ◌≤◌, ◌<◌, ◌+◌, ◌∷◌, ◌++◌, [], ℕ, Bool, List, false};
+ghost use Rattle.std.specs.Prelude.{◌≡◌, ◌≤◌, ◌<◌, ◌+◌, ◌∷◌, ◌++◌, [], ℕ, Bool, List, true, false};
 ghost use Rattle.std.specs.Prelude.{length, slice_get, reverse, MatchOption, Some, None};
 ghost use Rattle.std.specs.Prelude.{IfErr, IfOk, IfSome, IsErrOf, OnOk};
 ghost use Rattle.ag_expr.specs.declared.grammar.Item.TheVariants as item;
 ghost use Rattle.ag_expr.specs.declared.grammar.Terminal.TheVariants as terminal;
+ghost use Rattle.ag_expr.specs.grammars.Accepted.{most_items};
 ghost use Rattle.ag_expr.specs.grammars.AttributeGrammar.{Grammar as AGrammar};
 ghost use Rattle.ag_expr.specs.grammars.Tree.{IsTokenText, most_depth, most_nodes};
 ghost use Rattle.treefile.specs.Device.{Persists, WhenHonest};
@@ -38,7 +39,7 @@ pub(crate) struct OpenNode {
 /// The item that an open node has next.
 fn item_at(grammar: &Grammar, node: OpenNode) -> Option<Item>
     ensures item { result ≡ slice_get (right_side grammar.now node.production) node.place }
-    ensures room { IfSome result (λ _. node.place < 64) }
+    ensures room { IfSome result (λ _. node.place < most_items) }
 {
     let production = grammar.productions().get(node.production as usize)?;
     production
@@ -57,13 +58,15 @@ fn put_leaf<D: Device>(
     writer: &mut Writer,
 ) -> Result<(), ParseFault>
     requires text { IsTokenText lex.now }
-    requires room { writer.old.written < 65536 }
+    requires room { writer.old.written < most_nodes }
     requires fine { writer.old.is_broken ≡ false }
     ensures frame { OnOk result (WhenHonest (D.is_honest device.old)
         (D.content device.new ≡ D.content device.old ++ leaf_frame class lex.now)) }
     ensures counted { OnOk result
         (writer.new ≡ record writer.old { written = writer.old.written + 1 }) }
     ensures refuses { IfErr result IsWant }
+    ensures breaks { IsErrOf result ParseFault.Device → writer.new.is_broken ≡ true }
+    ensures broken { writer.new.is_broken ≡ true → IsErrOf result ParseFault.Device }
     ensures persists { Persists (D.is_honest device.old) (D.is_honest device.new)
         (D.failures device.old) (D.failures device.new) (IsErrOf result ParseFault.Device) }
 {
@@ -78,13 +81,15 @@ pub(crate) fn put_node<D: Device>(
     device: &mut D,
     writer: &mut Writer,
 ) -> Result<(), ParseFault>
-    requires room { writer.old.written < 65536 }
+    requires room { writer.old.written < most_nodes }
     requires fine { writer.old.is_broken ≡ false }
     ensures frame { OnOk result (WhenHonest (D.is_honest device.old)
         (D.content device.new ≡ D.content device.old ++ node_frame production)) }
     ensures counted { OnOk result
         (writer.new ≡ record writer.old { written = writer.old.written + 1 }) }
     ensures refuses { IfErr result IsWant }
+    ensures breaks { IsErrOf result ParseFault.Device → writer.new.is_broken ≡ true }
+    ensures broken { writer.new.is_broken ≡ true → IsErrOf result ParseFault.Device }
     ensures persists { Persists (D.is_honest device.old) (D.is_honest device.new)
         (D.failures device.old) (D.failures device.new) (IsErrOf result ParseFault.Device) }
 {
@@ -203,6 +208,8 @@ impl Parser {
         ensures count { OnOk result (self.new.count ≡ self.old.count + 1) }
         ensures written { OnOk result (writer.new
             ≡ record writer.old { written = writer.old.written + 1 }) }
+        ensures breaks { IsErrOf result ParseFault.Device → writer.new.is_broken ≡ true }
+        ensures broken { writer.new.is_broken ≡ true → IsErrOf result ParseFault.Device }
         ensures persists { Persists (D.is_honest device.old) (D.is_honest device.new)
             (D.failures device.old) (D.failures device.new) (IsErrOf result ParseFault.Device) }
     {
@@ -236,6 +243,8 @@ impl Parser {
         ensures written { OnOk result
             (writer.new.written + length self.new.stack.items ≡ self.new.count) }
         ensures fine { OnOk result (writer.new.is_broken ≡ false) }
+        ensures breaks { IsErrOf result ParseFault.Device → writer.new.is_broken ≡ true }
+        ensures broken { writer.new.is_broken ≡ true → IsErrOf result ParseFault.Device }
         ensures persists { Persists (D.is_honest device.old) (D.is_honest device.new)
             (D.failures device.old) (D.failures device.new) (IsErrOf result ParseFault.Device) }
     {

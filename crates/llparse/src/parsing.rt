@@ -1,6 +1,6 @@
 //! Parsing a sentence: the records of the one tree of its tokens are written as it goes, by one
 //! token of look-ahead and with a stack of its own.
-ghost use Rattle.std.specs.Prelude.{◌≡◌, ◌<◌, ◌+◌, ℕ, false, Err, IfErr, IfOk, IsErrOf, OnOk};
+ghost use Rattle.std.specs.Prelude.{◌≡◌, ◌<◌, ◌+◌, ℕ, true, false, Err, IfErr, IfOk, IsErrOf, OnOk};
 ghost use Rattle.ag_expr.specs.grammars.Tree.{depth_of, node_count, IsWithinLimits, Tree};
 ghost use Rattle.ag_expr.specs.grammars.Tree.{most_depth, most_nodes};
 ghost use Rattle.ag_scan.specs.Tokens.{FitAll};
@@ -42,6 +42,8 @@ fn run<D: Device>(
         ≡ record { written = count; is_broken = false }) }
     ensures refused { IfErr result (IsRefused (task_of grammar.now tokens.now
         (D.is_honest device.old) (D.content device.old)) (offset_at tokens.now)) }
+    ensures breaks { IsErrOf result ParseFault.Device → writer.new.is_broken ≡ true }
+    ensures broken { writer.new.is_broken ≡ true → IsErrOf result ParseFault.Device }
     ensures persists { Persists (D.is_honest device.old) (D.is_honest device.new)
         (D.failures device.old) (D.failures device.new) (IsErrOf result ParseFault.Device) }
 {
@@ -78,7 +80,7 @@ fn run<D: Device>(
 ///
 /// P1 Unexpected where no tree has these tokens; P2 TooDeep and P3 TooManyNodes where each that has
 /// them is beyond the limit; D1 Device where the device failed. A beginning of the file may have
-/// been written then.
+/// been written then. D1 leaves the writer broken, and no other refusal does.
 pub fn parse<D: Device>(
     alloc: Global,
     grammar: &Grammar,
@@ -118,6 +120,9 @@ pub fn parse<D: Device>(
     ensures large { (t : Tree) → IsTreeWith grammar.now (words_of tokens.now) t
         → IsErrOf result ParseFault.TooManyNodes → most_nodes < node_count t }
 
+    // the writer is broken where the device failed, and for no other cause
+    ensures breaks { IsErrOf result ParseFault.Device → writer.new.is_broken ≡ true }
+    ensures broken { writer.new.is_broken ≡ true → IsErrOf result ParseFault.Device }
     ensures persists { Persists (D.is_honest device.old) (D.is_honest device.new)
         (D.failures device.old) (D.failures device.new) (IsErrOf result ParseFault.Device) }
 {
