@@ -2,6 +2,7 @@ pub mod Adding
 pub mod DependentRows
 mod BothWays
 mod Earliest
+mod Fewest
 pub mod Finally
 pub mod Finishing
 pub mod Following

@@ -3,12 +3,13 @@ use Rattle.std.specs.Prelude.{ℕ, ◌≡◌, ◌≤◌, ◌↔◌, List, [], �
 use Rattle.ag_expr.specs.Lists.{Has, Differ, Each}
 use Rattle.ag_expr.specs.grammars.AttributeGrammar.{Grammar, symbol_kinds}
 use Rattle.ag_expr.specs.grammars.Accepted.{IsComplete, IsNormal}
-use Rattle.ag_expr.specs.grammars.Passes.{Passes, Direction, direction_of}
+use Rattle.ag_expr.specs.grammars.Passes.{Passes, Direction, IsLegal, direction_of}
 use Rattle.passassign.specs.declared.stuck.Strike.{Strike}
 use Rattle.passassign.specs.declared.stuck.Stuck.{Stuck}
 use Rattle.passassign.specs.Certificate.{Members, Strikes, IsGood, AreGood, IsCertificate, stuck_of}
 use Rattle.passassign.specs.Least.{Partial, partial_of, IsAttribute, IsOver, IsLegalPartial, IsStuck, IsLeast, IsAlternating}
 use Rattle.passassign.specs.Making.{IsOpen, AreFinished, IsPass, IsMade, AreIdle, AreMarks, given_by}
+use Rattle.passassign.specs.Rows.{passes_of, IsGreatest}
 
 -- The members of a certificate's set are stuck.
 abbrev pub MembersAreStuck : Type 0
@@ -37,6 +38,10 @@ MadeIsLegal = (g : Grammar) (k : ℕ) (m : Partial) → Each (IsComplete g) g.pr
 -- Where they then give every attribute a pass, that is the least assignment.
 abbrev pub WholeIsLeast : Type 0
 WholeIsLeast = (g : Grammar) (k : ℕ) (n : Partial) (m : Passes) → Each (IsComplete g) g.productions → Each (IsNormal g) g.productions → IsMade g k n → ((s : ℕ) → length (m s) ≡ length (symbol_kinds (slice_get g.symbols s))) → ((s a : ℕ) → partial_of m s a ≡ n s a) → IsLeast g m
+
+-- A least assignment has the fewest passes: the greatest one of a legal assignment is no less than its own.
+abbrev pub LeastHasFewest : Type 0
+LeastHasFewest = (g : Grammar) (rows other : List (List ℕ)) (n k : ℕ) → IsLeast g (passes_of rows) → IsLegal g (passes_of other) → IsGreatest n rows → IsGreatest k other → n ≤ k
 
 -- What two passes one after the other leave that give nothing is stuck,
 abbrev pub RestIsStuck : Type 0

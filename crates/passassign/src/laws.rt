@@ -3,7 +3,7 @@
 ghost use Rattle.passassign.specs.Laws.{MembersAreStuck, StuckIsRefused, CertifiedIsRefused};
 ghost use Rattle.passassign.specs.Laws.{MadeIsAtMost, LeftIsLater, MadeIsLegal, WholeIsLeast};
 ghost use Rattle.passassign.specs.Laws.{RestIsStuck, StuckIsLeft, RestIsCertified};
-ghost use Rattle.passassign.specs.Laws.{StrikesGrow, MarksMakePass};
+ghost use Rattle.passassign.specs.Laws.{StrikesGrow, MarksMakePass, LeastHasFewest};
 
 /// The members of a certificate's set are stuck: no legal partial assignment gives them a pass.
 pub fn members_are_stuck()
@@ -42,6 +42,11 @@ pub fn made_is_legal()
 /// Where they then give every attribute a pass, that is the least assignment.
 pub fn whole_is_least()
     ensures { WholeIsLeast }
+{}
+
+/// A least assignment has the fewest passes: no legal one has a greatest pass below its own.
+pub fn least_has_fewest()
+    ensures { LeastHasFewest }
 {}
 
 /// What two passes one after the other leave that give nothing is stuck.

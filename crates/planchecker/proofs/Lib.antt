@@ -4,5 +4,6 @@ pub mod Due
 pub mod FewRules
 pub mod Loops
 pub mod Sorting
+pub mod Stepwise
 pub mod Strikes
 pub mod Taken

@@ -1,14 +1,26 @@
--- What the law states.
-use Rattle.std.specs.Prelude.{ℕ, List}
-use Rattle.ag_expr.specs.grammars.AttributeGrammar.{Grammar}
-use Rattle.ag_expr.specs.grammars.Passes.{IsLegal}
+-- What the laws state.
+use Rattle.std.specs.Prelude.{ℕ, ◌↔◌, List}
+use Rattle.ag_expr.specs.Lists.{Has}
+use Rattle.ag_expr.specs.declared.grammar.Production.{Production}
+use Rattle.ag_expr.specs.grammars.Accepted.{IsAccepted}
+use Rattle.ag_expr.specs.grammars.AttributeGrammar.{Grammar, IsProduction}
+use Rattle.ag_expr.specs.grammars.Passes.{Passes, IsLegal}
 use Rattle.passassign.specs.Rows.{passes_of, AreFew}
-use Rattle.passcode.specs.Agreement.{Agrees}
+use Rattle.passcode.specs.declared.instr.Instr.{Instr}
+use Rattle.passcode.specs.declared.instr.Instr.TheVariants as instr
+use Rattle.passcode.specs.Agreement.{Agrees, IsListFor}
 use Rattle.passcode.specs.Rows.{Lists}
 use Rattle.passcode.specs.Shape.{HasLists}
 use Rattle.planchecker.specs.declared.plan.PlanFault.{PlanFault}
+use Rattle.planchecker.specs.First.{EachAt}
+use Rattle.planchecker.specs.Following.{IsDue}
 use Rattle.planchecker.specs.Plans.{IsPlanFault}
 
 -- An assignment as `assign` makes it, and code as `generate` makes it for that, are refused for no reason.
 abbrev pub MadeIsTaken : Type 0
 MadeIsTaken = (g : Grammar) (rows : List (List ℕ)) (code : Lists) → IsLegal g (passes_of rows) → AreFew rows → Agrees g (passes_of rows) code → HasLists g rows code → (f : PlanFault) → IsPlanFault g rows code f → ⊥
+
+-- Under a legal assignment of an accepted grammar, a list for a production and a pass agrees exactly where each of its
+-- instructions may stand where it does and `End` stands in it.
+abbrev pub AgreesBySteps : Type 0
+AgreesBySteps = (g : Grammar) (m : Passes) (p k : ℕ) (q : Production) (xs : List Instr) → IsAccepted g → IsLegal g m → IsProduction g p q → IsListFor m q k xs ↔ (EachAt (IsDue m q k xs) xs × Has xs instr.End)
