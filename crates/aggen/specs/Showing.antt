@@ -127,11 +127,10 @@ IsTextFault _ = ⊥
 
 -- what comes of showing a value: a fault of its text, of the device, of the file on it, of writing, or of memory
 abbrev pub IsShowFault : Fault → Type 0
-IsShowFault fault.Usage = ⊥
-IsShowFault fault.File = ⊥
-IsShowFault (fault.Text e) = ⊥
-IsShowFault (fault.Normal e) = ⊥
-IsShowFault (fault.Table e) = ⊥
-IsShowFault (fault.Scan e) = ⊥
-IsShowFault (fault.Parse e) = ⊥
-IsShowFault _ = Unit {0}
+IsShowFault (fault.Expr e) = Unit {0}
+IsShowFault fault.NotATreeFile = Unit {0}
+IsShowFault (fault.Damaged at) = Unit {0}
+IsShowFault fault.Device = Unit {0}
+IsShowFault fault.Write = Unit {0}
+IsShowFault fault.NoMemory = Unit {0}
+IsShowFault _ = ⊥

@@ -108,42 +108,48 @@ impl Device for Other {
     }
 }
 
-/// What `show_value` answers where the device gives back these bytes.
-fn told(alloc: Global, file: &[u8]) -> Result<Result<(), Fault>, Fail> {
+/// What `show_value` answers where the device gives back these bytes. What it writes is appended.
+fn told(alloc: Global, file: &[u8], out: &mut Vec<u8>) -> Result<Result<(), Fault>, Fail> {
     let mut device = Other {
         file: MemDevice::from_bytes(file.to_vec(alloc)?),
     };
-    let mut out = Vec::new(alloc);
-    Ok(show_value(alloc, "1", &mut device, &mut out))
+    Ok(show_value(alloc, "1", &mut device, out))
 }
 
 #[test]
 fn files_that_are_not_what_was_written(rt: HostRuntime) -> Result<(), Fail> {
     let alloc = rt.alloc();
-    let none = told(alloc, &[])?;
+    let mut out = Vec::new(alloc);
+    let none = told(alloc, &[], &mut out)?;
     assert!(rt; matches!(none, Err(Fault::NotATreeFile)));
-    let header = told(alloc, b"AGT1\0\0")?;
+    let header = told(alloc, b"AGT1\0\0", &mut out)?;
     assert!(rt; matches!(header, Err(Fault::Damaged(6))));
     // a node, a token of class 1, a token without a value, one with two, and one with what is no
     // value
-    let node = told(alloc, b"AGT1\0\0\0\0\0\x04\x01\0\0\0\x05")?;
+    let node = told(alloc, b"AGT1\0\0\0\0\0\x04\x01\0\0\0\x05", &mut out)?;
     assert!(rt; matches!(node, Err(Fault::Damaged(15))));
-    let class = told(alloc, b"AGT1\0\0\x01\0\x01\x04\x01\0\0\0\x05")?;
+    let class = told(alloc, b"AGT1\0\0\x01\0\x01\x04\x01\0\0\0\x05", &mut out)?;
     assert!(rt; matches!(class, Err(Fault::Damaged(15))));
-    let empty = told(alloc, b"AGT1\0\0\x01\0\0\0\0\0\x03")?;
+    let empty = told(alloc, b"AGT1\0\0\x01\0\0\0\0\0\x03", &mut out)?;
     assert!(rt; matches!(empty, Err(Fault::Damaged(13))));
-    let two = told(alloc, b"AGT1\0\0\x01\0\0\x04\x01\x04\x01\0\0\0\x07")?;
+    let two = told(
+        alloc,
+        b"AGT1\0\0\x01\0\0\x04\x01\x04\x01\0\0\0\x07",
+        &mut out,
+    )?;
     assert!(rt; matches!(two, Err(Fault::Damaged(17))));
-    let bad = told(alloc, b"AGT1\0\0\x01\0\0\x04\x09\0\0\0\x05")?;
+    let bad = told(alloc, b"AGT1\0\0\x01\0\0\x04\x09\0\0\0\x05", &mut out)?;
     assert!(rt; matches!(bad, Err(Fault::Damaged(15))));
     // of two frames the last one's end is told
     let second = told(
         alloc,
         b"AGT1\0\0\x01\0\0\x04\x01\0\0\0\x05\0\0\0\x04\x01\0\0\0\x05",
+        &mut out,
     )?;
     assert!(rt; matches!(second, Err(Fault::Damaged(24))));
-    // another value is shown as it was read
-    let other = told(alloc, b"AGT1\0\0\x01\0\0\x04\x02\0\0\0\x05")?;
+    // another value is shown as it was read, and of the files above nothing was written
+    let other = told(alloc, b"AGT1\0\0\x01\0\0\x04\x02\0\0\0\x05", &mut out)?;
     assert!(rt; matches!(other, Ok(())));
+    assert_eq!(rt; out.as_slice(), b"error divide\n".as_slice());
     Ok(())
 }
