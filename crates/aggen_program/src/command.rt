@@ -50,8 +50,8 @@ pub struct Paths<'a> {
 }
 
 /// What the words ask for, the program's name first. Help and the version are printed on standard
-/// output, and what is wrong with the words on standard error; O2 Write where they can't be
-/// printed.
+/// output, O2 Write where they can't be; what is wrong with the words on standard error, where that
+/// can be written.
 pub fn request_of<'a, R: Print + Eprint>(
     rt: &R,
     alloc: Global,
@@ -88,21 +88,23 @@ fn request_in<'a>(matches: &ArgMatches<'a>) -> Request<'a> {
     }
 }
 
-/// Prints help, the version, or what is wrong with the words.
+/// Prints help, the version, or what is wrong with the words. O2 Write where help or the version
+/// can't be printed.
 fn refuse<'a, R: Print + Eprint>(rt: &R, error: Error) -> Result<Request<'a>, Fault>
     ensures { IfErr result IsCommandFault }
 {
     if error.kind() == ErrorKind::OutOfMemory {
         return Err(Fault::NoMemory);
     }
-    if error.print(rt).is_err() {
+    let printed = error.print(rt);
+    if error.exit_code() != 0 {
+        // where the line can't be written, the status still tells
+        return Err(Fault::Usage);
+    }
+    if printed.is_err() {
         return Err(Fault::Write);
     }
-    if error.exit_code() == 0 {
-        Ok(Request::Nothing)
-    } else {
-        Err(Fault::Usage)
-    }
+    Ok(Request::Nothing)
 }
 
 fn command<'a>(alloc: Global) -> Result<Command<'a>, AllocError> {

@@ -1,6 +1,6 @@
 //! What is wrong with an expression, in words.
 
-use crate::telling::{tell_expected, tell_found};
+use crate::telling::{begins_with, tell_expected, tell_found};
 use ag_expr::{Expected as Part, ExprFault};
 use ag_text::Expected;
 use std::fmt;
@@ -20,7 +20,7 @@ pub fn place_in(fault: ExprFault) -> Option<usize> {
 pub fn tell_expression<W: fmt::Write>(
     f: &mut fmt::Formatter<W>,
     fault: ExprFault,
-    found: &str,
+    found: Option<&str>,
     expected: &[Expected],
 ) -> fmt::Result {
     match fault {
@@ -47,26 +47,27 @@ pub fn tell_expression<W: fmt::Write>(
 }
 
 /// What a character that begins no token may have been meant as.
-fn hint_of(found: &str) -> &'static str {
-    match found.as_bytes().first() {
-        Some(b'"') => ", a text ends with a quote and has only the escapes \\\" \\\\ \\n \\t \\r",
-        Some(b'$') => ", an occurrence is `$`, digits, `.` and a name with nothing between",
-        _ => "",
+fn hint_of(found: Option<&str>) -> &'static str {
+    if begins_with(found, '"') {
+        ", a text ends with a quote and has only the escapes \\\" \\\\ \\n \\t \\r"
+    } else if begins_with(found, '$') {
+        ", an occurrence is `$`, digits, `.` and a name with nothing between"
+    } else {
+        ""
     }
 }
 
 /// What stands at a place, and what could, or what is wrong with the name or the occurrence there.
 fn tell_unexpected<W: fmt::Write>(
     f: &mut fmt::Formatter<W>,
-    found: &str,
+    found: Option<&str>,
     expected: &[Expected],
 ) -> fmt::Result {
     write!(f, ": found ")?;
     tell_found(f, found)?;
     match expected.first() {
         Some(Expected::Part(Part::BoundName)) => write!(f, ", a name that no `let` binds here"),
-        Some(Expected::Part(Part::Expression | Part::Operand))
-            if found.as_bytes().first() == Some(&b'$') => {
+        Some(Expected::Part(Part::Expression | Part::Operand)) if begins_with(found, '$') => {
             write!(f, ", which has a value in a grammar only")
         }
         _ => tell_expected(f, expected),

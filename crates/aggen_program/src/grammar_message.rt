@@ -4,7 +4,10 @@ use crate::conflict_message::{place_of_conflict, tell_conflict};
 use crate::expression_message::{place_in, tell_expression};
 use crate::normal_message::{place_of_fault, tell_normal};
 use crate::stuck_message::tell_stuck;
-use crate::telling::{found_at, front_of, tell_expected, tell_found, tell_path, tell_place};
+use crate::telling::{
+    begins_with, found_at, front_of, refusal_of, tell_expected, tell_found, tell_path, tell_place,
+};
+use ag_expr::ExprFault;
 use ag_text::{Expected, RawGrammar, TextFault, expected_at, read_grammar};
 use aggen::{Fault, grammar_of};
 use normalform::Grammar;
@@ -19,8 +22,9 @@ pub struct GrammarMessage<'a> {
     fault: &'a Fault,
     path: &'a str,
     text: &'a str,
-    found: &'a str,
+    found: Option<&'a str>,
     expected: Vec<Expected>,
+    broken: Option<ExprFault>,
     raw: Option<RawGrammar>,
     grammar: Option<Grammar>,
 }
@@ -38,14 +42,17 @@ impl<'a> GrammarMessage<'a> {
         let text = front_of(bytes);
         let found = match place_of(fault) {
             Some(at) => found_at(alloc, text, at),
-            None => "",
+            None => None,
         };
+        let expected = could_stand(alloc, fault, text);
+        let broken = broken_of(alloc, found, expected.as_slice());
         GrammarMessage {
             fault,
             path,
             text,
             found,
-            expected: could_stand(alloc, fault, text),
+            expected,
+            broken,
             raw: raw_of(alloc, fault, bytes),
             grammar: accepted_of(alloc, fault, bytes),
         }
@@ -69,6 +76,17 @@ fn could_stand(alloc: Global, fault: &Fault, text: &str) -> Vec<Expected> {
         }
     }
     Vec::new(alloc)
+}
+
+/// Why what was found is no literal or no occurrence, where it begins as one and one could stand.
+fn broken_of(alloc: Global, found: Option<&str>, expected: &[Expected]) -> Option<ExprFault> {
+    let is_meant = begins_with(found, '"') && expected.contains(&Expected::Item)
+        || begins_with(found, '$') && expected.contains(&Expected::Rule);
+    if is_meant {
+        refusal_of(alloc, found?)
+    } else {
+        None
+    }
 }
 
 /// The grammar as it stands in the text, for a fault that speaks of its names.
@@ -96,13 +114,19 @@ impl fmt::Display for GrammarMessage<'_> {
                 if let Some(at) = place_of(self.fault) {
                     tell_place(f, self.text, at)?;
                 }
-                tell_text(f, *fault, self.found, self.expected.as_slice())
+                match self.broken {
+                    Some(broken) => tell_expression(f, broken, self.found, &[]),
+                    None => tell_text(f, *fault, self.found, self.expected.as_slice()),
+                }
             }
             (Fault::Normal(fault), Some(raw)) => {
-                if let Some(at) = place_of_fault(fault, raw) {
-                    tell_place(f, self.text, at)?;
+                match place_of_fault(fault, raw) {
+                    Some(at) => {
+                        tell_place(f, self.text, at)?;
+                        write!(f, ": ")?;
+                    }
+                    None => write!(f, " ")?,
                 }
-                write!(f, ": ")?;
                 tell_normal(f, fault, self.text, raw)
             }
             (Fault::Table(fault), Some(raw)) => {
@@ -125,7 +149,7 @@ impl fmt::Display for GrammarMessage<'_> {
 fn tell_text<W: fmt::Write>(
     f: &mut fmt::Formatter<W>,
     fault: TextFault,
-    found: &str,
+    found: Option<&str>,
     expected: &[Expected],
 ) -> fmt::Result {
     match fault {
@@ -135,7 +159,7 @@ fn tell_text<W: fmt::Write>(
         TextFault::Unexpected(_, _) => {
             write!(f, ": found ")?;
             tell_found(f, found)?;
-            if expected.contains(&Expected::Item) && found.starts_with('"') {
+            if expected.contains(&Expected::Item) && begins_with(found, '"') {
                 return write!(
                     f,
                     ", where a literal has a character at least and no space, tab or line break"
@@ -144,7 +168,10 @@ fn tell_text<W: fmt::Write>(
             tell_expected(f, expected)
         }
         TextFault::Expr(fault) => tell_expression(f, fault, found, expected),
-        TextFault::TooLong => write!(f, ": the file has more than 1,048,576 bytes"),
+        TextFault::TooLong => write!(
+            f,
+            " the file has more than 1,048,576 bytes, write the grammar shorter"
+        ),
         TextFault::NoMemory => Ok(()),
     }
 }

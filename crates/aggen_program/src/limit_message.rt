@@ -14,7 +14,7 @@ pub fn place_of_limit(raw: &RawGrammar, kind: LimitKind) -> Option<usize> {
     Some(large_production(raw, kind)?.left.at)
 }
 
-/// Which limit a grammar exceeds.
+/// Which limit a grammar exceeds, and what to do.
 pub fn tell_limit<W: fmt::Write>(
     f: &mut fmt::Formatter<W>,
     raw: &RawGrammar,
@@ -36,16 +36,20 @@ pub fn tell_limit<W: fmt::Write>(
     write!(f, " {}", excess(kind))
 }
 
-/// What it has that exceeds a limit.
+/// What it has that exceeds a limit, and what to do.
 fn excess(kind: LimitKind) -> &'static str {
     match kind {
-        LimitKind::Symbols => "has more than 256 symbols",
-        LimitKind::Attributes => "has more than 16 attributes",
-        LimitKind::Productions => "has more than 512 productions",
-        LimitKind::Items => "has more than 64 items on its right side",
-        LimitKind::Stored => "has more than 16 symbols and classes on its right side",
-        LimitKind::LiteralLength => "has a literal of more than 255 bytes",
-        LimitKind::Literals => "has more than 1,024 different literals",
+        LimitKind::Symbols => "has more than 256 symbols, write fewer",
+        LimitKind::Attributes => "has more than 16 attributes, write fewer",
+        LimitKind::Productions => "has more than 512 productions, write fewer",
+        LimitKind::Items => {
+            "has more than 64 items on its right side, give a part of it a symbol of its own"
+        }
+        LimitKind::Stored => {
+            "has more than 16 symbols and classes on its right side, give a part of it a symbol of its own"
+        }
+        LimitKind::LiteralLength => "has a literal of more than 255 bytes, write a shorter one",
+        LimitKind::Literals => "has more than 1,024 different literals, write fewer",
     }
 }
 

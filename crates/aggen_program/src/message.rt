@@ -15,7 +15,7 @@ use std::fmt;
 pub struct Message<'a> {
     fault: &'a Fault,
     text: &'a str,
-    found: &'a str,
+    found: Option<&'a str>,
     expected: Vec<Expected>,
 }
 
@@ -29,7 +29,7 @@ impl<'a> Message<'a> {
         };
         let found = match place_of(fault) {
             Some(at) => found_at(alloc, text, at),
-            None => "",
+            None => None,
         };
         Message {
             fault,

@@ -1,11 +1,11 @@
 //! A fault of a sentence in one line for a reader.
 
 use crate::telling::{front_of, tell_found, tell_path, tell_place};
-use crate::terminals::{tell_aheads, tell_terminals};
+use crate::terminals::{class_name, tell_aheads, tell_terminals};
 use ag_scan::{ScanFault, Token, scan};
 use aggen::{Fault, Translator};
 use llparse::{Ahead, ParseFault, expected_at};
-use normalform::Grammar;
+use normalform::{Grammar, Terminal};
 use std::alloc::Global;
 use std::fmt;
 
@@ -62,12 +62,17 @@ impl<'a> SentenceMessage<'a> {
         Some(())
     }
 
-    /// What can't be taken: a token's text, empty at the sentence's end.
-    fn found(&self) -> &str {
-        match self.tokens.get(self.index) {
-            Some(token) => token.lex.as_str(),
-            None => "",
-        }
+    /// What can't be taken: a token as it stands in the sentence, a TEXT with its quotes. None at the
+    /// sentence's end.
+    fn found(&self) -> Option<&str> {
+        let token = self.tokens.get(self.index)?;
+        let lex = token.lex.as_str();
+        let length = match token.kind {
+            Terminal::Class(number) if class_name(number) == "TEXT" => lex.len().saturating_add(2),
+            _ => lex.len(),
+        };
+        let at = token.at as usize;
+        Some(self.text.get(at..at.saturating_add(length)).unwrap_or(lex))
     }
 }
 
@@ -95,11 +100,11 @@ impl fmt::Display for SentenceMessage<'_> {
             }
             Fault::Parse(ParseFault::TooDeep) => write!(
                 f,
-                ": the tree of the sentence is more than 256 nodes deep, nest it less"
+                " no tree of at most 256 levels has these tokens, nest them less"
             ),
             Fault::Parse(ParseFault::TooManyNodes) => write!(
                 f,
-                ": the tree of the sentence has more than 65,536 nodes, cut it into smaller ones"
+                " no tree of at most 65,536 nodes has these tokens, cut the sentence into smaller ones"
             ),
             _ => Ok(()),
         }
@@ -131,19 +136,24 @@ fn tell_scan<W: fmt::Write>(
             write!(f, " here, a token is ")?;
             tell_terminals(f, grammar)
         }
-        ScanFault::LongToken(_) => write!(f, ": the token here has more than 65,535 bytes"),
-        ScanFault::TooLong => write!(f, ": the sentence has more than 1,048,576 bytes"),
+        ScanFault::LongToken(_) => write!(
+            f,
+            ": the token here has more than 65,535 bytes, cut it into smaller ones"
+        ),
+        ScanFault::TooLong => write!(
+            f,
+            " the sentence has more than 1,048,576 bytes, cut it into smaller ones"
+        ),
         ScanFault::NoMemory => Ok(()),
     }
 }
 
-/// The character at an offset.
-fn first_character(text: &str, at: usize) -> &str {
-    let Some(rest) = text.get(at..) else {
-        return "";
-    };
+/// The character at an offset. None at the text's end.
+fn first_character(text: &str, at: usize) -> Option<&str> {
+    let rest = text.get(at..)?;
     match rest.char_indices().nth(1) {
-        Some((end, _)) => rest.get(..end).unwrap_or(rest),
-        None => rest,
+        Some((end, _)) => rest.get(..end),
+        None if rest.is_empty() => None,
+        None => Some(rest),
     }
 }

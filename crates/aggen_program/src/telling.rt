@@ -1,6 +1,6 @@
 //! The parts of messages: places in a text, what stands there, and what could.
 
-use ag_expr::{Cursor, Expected as Part};
+use ag_expr::{Cursor, Expected as Part, ExprFault};
 use ag_text::Expected;
 use std::alloc::Global;
 use std::fmt;
@@ -44,28 +44,55 @@ pub fn front_of(bytes: &[u8]) -> &str {
     }
 }
 
-/// What stands at an offset: the token there, or else the characters up to the next separator;
-/// nothing at the text's end.
-pub fn found_at(alloc: Global, text: &str, at: usize) -> &str {
-    let Some(rest) = text.get(at..) else {
-        return "";
-    };
+/// What stands at an offset: the token there, or else the characters up to the next separator, one
+/// at least. None at the text's end.
+pub fn found_at(alloc: Global, text: &str, at: usize) -> Option<&str> {
+    let rest = text.get(at..)?;
     let mut cursor = Cursor::new(alloc, rest);
     if cursor.peek().is_none() {
-        return match rest.find(char::is_whitespace) {
-            Some(end) => rest.get(..end).unwrap_or(rest),
-            None => rest,
-        };
+        return word_in_front(rest);
     }
     cursor.bump();
-    rest.get(..cursor.place()).unwrap_or(rest).trim_end()
+    Some(rest.get(..cursor.place()).unwrap_or(rest).trim_end())
 }
 
-/// What stands at a place, or that the text ends there.
-pub fn tell_found<W: fmt::Write>(f: &mut fmt::Formatter<W>, found: &str) -> fmt::Result {
-    if found.is_empty() {
-        return write!(f, "the end of the text");
+/// The characters in front up to the next separator, one at least. None of an empty text.
+fn word_in_front(text: &str) -> Option<&str> {
+    for (offset, character) in text.char_indices() {
+        if 0 < offset && is_separator(character) {
+            return text.get(..offset);
+        }
     }
+    if text.is_empty() { None } else { Some(text) }
+}
+
+/// Whether a character stands between tokens: no other space does.
+fn is_separator(character: char) -> bool {
+    matches!(character, ' ' | '\t' | '\r' | '\n')
+}
+
+/// Why no token begins with what was found. None where one does.
+pub fn refusal_of(alloc: Global, found: &str) -> Option<ExprFault> {
+    let cursor = Cursor::new(alloc, found);
+    match cursor.peek() {
+        Some(_) => None,
+        None => Some(cursor.refusal()),
+    }
+}
+
+/// Whether what was found begins with a character.
+pub fn begins_with(found: Option<&str>, character: char) -> bool {
+    match found {
+        Some(found) => found.starts_with(character),
+        None => false,
+    }
+}
+
+/// What stands at a place; None: that the text ends there.
+pub fn tell_found<W: fmt::Write>(f: &mut fmt::Formatter<W>, found: Option<&str>) -> fmt::Result {
+    let Some(found) = found else {
+        return write!(f, "the end of the text");
+    };
     write!(f, "`")?;
     let mut shown = 0usize;
     for character in found.chars() {
@@ -85,7 +112,8 @@ pub fn tell_path<W: fmt::Write>(f: &mut fmt::Formatter<W>, path: &str) -> fmt::R
     tell_word(f, path)
 }
 
-/// A word, each character by its number where it controls a terminal.
+/// A word, each character by its number where it controls a terminal or can be taken for a plain
+/// space.
 pub fn tell_word<W: fmt::Write>(f: &mut fmt::Formatter<W>, word: &str) -> fmt::Result {
     for character in word.chars() {
         tell_character(f, character)?;
@@ -93,9 +121,10 @@ pub fn tell_word<W: fmt::Write>(f: &mut fmt::Formatter<W>, word: &str) -> fmt::R
     Ok(())
 }
 
-/// A character, by its number where it controls a terminal.
+/// A character, by its number where it controls a terminal or can be taken for a plain space.
 fn tell_character<W: fmt::Write>(f: &mut fmt::Formatter<W>, character: char) -> fmt::Result {
-    if !character.is_control() {
+    let is_plain = character == ' ' || !character.is_whitespace();
+    if is_plain && !character.is_control() {
         return write!(f, "{character}");
     }
     for part in character.escape_unicode() {
@@ -146,6 +175,7 @@ fn tell_part<W: fmt::Write>(f: &mut fmt::Formatter<W>, part: Part) -> fmt::Resul
         Part::BoundName => write!(f, "a bound name"),
         Part::NewName => write!(f, "a name to bind"),
         Part::Operator => write!(f, "an operator"),
+        Part::TighterOperator => write!(f, "an operator other than `==` and `<`"),
         Part::Sign(sign) => write!(f, "`{sign}`"),
         Part::End => write!(f, "the end"),
     }
