@@ -292,6 +292,7 @@ fn expectations(rt: HostRuntime) -> Result<(), Fail> {
         ("start S; S 5", "[Sign(\"=\")]"),
         ("start S; S = 5", "[Item, Sign(\"{\")]"),
         ("start S; S = { 5", "[Rule, Sign(\"}\")]"),
+        ("start S; S = { $0.a 1; }", "[Sign(\"=\")]"),
         ("start S; S = { $0.a = 1 + ; }", "[Part(Operand)]"),
         ("start S; S = { $0.a = 1 }", "[Part(Operator), Sign(\";\")]"),
         (

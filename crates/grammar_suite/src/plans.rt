@@ -76,19 +76,23 @@ fn second_row(alloc: Global, passes: u16) -> Result<Vec<Vec<Instr>>, Fail> {
     Ok(row)
 }
 
-/// What is said of an assignment of all attributes to one pass and of code for so many passes,
-/// whose last list for the first production is this one.
-fn verdict(alloc: Global, pass: u16, passes: u16, last: &str) -> Result<String, Fail> {
+/// What is said of an assignment and of code for so many passes, whose last list for the first
+/// production is this one.
+fn told_of(alloc: Global, assignment: Assignment, passes: u16, last: &str) -> Result<String, Fail> {
     let first = first_row(alloc, passes, last)?;
     let second = second_row(alloc, passes)?;
     let code = Code::of_rows(vec![in alloc; first, second]?);
-    let assignment = all_in(alloc, pass)?;
     Ok(
         match check_plan(alloc, &grammar(alloc, LEFTWARD)?, assignment, code) {
             Ok(plan) => format!(in alloc; "{} passes", plan.assignment().passes())?,
             Err(fault) => format!(in alloc; "{fault:?}")?,
         },
     )
+}
+
+/// The same of the assignment of all attributes to one pass.
+fn verdict(alloc: Global, pass: u16, passes: u16, last: &str) -> Result<String, Fail> {
+    told_of(alloc, all_in(alloc, pass)?, passes, last)
 }
 
 /// Each verdict, by the pass, the passes and the last list, is this one.
@@ -118,6 +122,20 @@ fn passes_and_shapes(rt: HostRuntime) -> Result<(), Fail> {
             (1, 1, "0123465789", "Code(0, 1, 5)"),
         ],
     )
+}
+
+/// Passes for a symbol that the grammar has not are refused. A row without any is as none.
+#[test]
+fn rows_of_no_symbol(rt: HostRuntime) -> Result<(), Fail> {
+    let alloc = rt.alloc();
+    for (further, wanted) in [(&[1][..], "Shape"), (&[][..], "1 passes")] {
+        let out = vec![in alloc; 1]?;
+        let other = vec![in alloc; 1, 1]?;
+        let rows = vec![in alloc; out, other, further.to_vec(alloc)?]?;
+        let told = told_of(alloc, Assignment::of_rows(rows), 1, "0123456789")?;
+        assert_eq!(rt; told.as_str(), wanted);
+    }
+    Ok(())
 }
 
 /// No instruction may be left out, and none may stand twice.
