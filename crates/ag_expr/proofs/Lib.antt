@@ -1,4 +1,3 @@
-pub mod grammars
 pub mod language
 pub mod Options
 pub mod values

@@ -4,7 +4,6 @@ pub mod Below
 pub mod Bindings
 pub mod Exact
 pub mod Examples
-pub mod Expressions
 pub mod Fronts
 pub mod Lexed
 pub mod Lexes
@@ -20,7 +19,6 @@ pub mod Steady
 pub mod TextTurns
 pub mod Texts
 pub mod TokenLaws
-pub mod Trees
 pub mod Turns
 pub mod Until
 pub mod Values

@@ -1,4 +1,1 @@
-pub mod grammars
 pub mod language
-pub mod Lists
-pub mod values

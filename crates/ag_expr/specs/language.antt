@@ -1,6 +1,5 @@
--- The expression language: its tokens, its syntax, what an expression is worth.
+-- The expression language: its tokens and its syntax.
 pub mod Ending
-pub mod Evaluation
 pub mod Expression
 pub mod Faults
 pub mod Laws
@@ -17,6 +16,5 @@ pub mod Reading
 pub mod Syntax
 pub mod Token
 pub mod Tokens
-pub mod Trees
 pub mod Until
 pub mod Worked

@@ -5,11 +5,11 @@ ghost use Rattle.ag_value.specs.Well.{IsWell};
 ghost use Rattle.ag_value.specs.declared.value.Value.TheVariants as value;
 ghost use Rattle.ag_expr.specs.declared.operand.Held.{Held};
 ghost use Rattle.ag_expr.specs.language.Operands.{IsIn, found_part, operand_value, part_value};
-ghost use Rattle.ag_expr.specs.values.Arguments.{fault_of};
-ghost use Rattle.ag_expr.specs.values.Calls.{called, called_with, put};
-ghost use Rattle.ag_expr.specs.values.Lists.{appended, concatenated, nth_of};
-ghost use Rattle.ag_expr.specs.values.Operators.{applied};
-ghost use Rattle.ag_expr.specs.values.Tables.{got_from};
+ghost use Rattle.ag_grammar.specs.values.Arguments.{fault_of};
+ghost use Rattle.ag_grammar.specs.values.Calls.{called, called_with, put};
+ghost use Rattle.ag_grammar.specs.values.Lists.{appended, concatenated, nth_of};
+ghost use Rattle.ag_grammar.specs.values.Operators.{applied};
+ghost use Rattle.ag_grammar.specs.values.Tables.{got_from};
 
 use crate::builtins::comparing::{equal, less, truth};
 use crate::builtins::faults::{fault_of, fault_of_one, fault_of_three, fault_of_two};
@@ -19,9 +19,9 @@ use crate::builtins::tables;
 use crate::builtins::tables::{get, has, keys};
 use crate::builtins::texts::{extend_text, join};
 use crate::measured::Measured;
-use crate::node::{BinaryCall, Operator, UnaryCall};
 use crate::operand::Operand;
 use crate::scope::Scope;
+use ag_grammar::{BinaryCall, Operator, UnaryCall};
 use ag_value::{ErrorCode, NoMemory, Value, copy};
 use std::alloc::Global;
 
@@ -87,7 +87,7 @@ fn calculate(operator: Operator, left: &Value, right: &Value) -> Value
 
 /// The number that `+`, `-` or `*` gives for two numbers: None where it gives an error, for another
 /// operator, and for other values.
-#[tactic(auto, unfolding(crate::specs::values::Arguments::leftmost))]
+#[tactic(auto, unfolding(ag_grammar::specs::values::Arguments::leftmost))]
 pub fn reckoned(operator: Operator, left: &Value, right: &Value) -> Option<i64>
     ensures { IfSome result (λ n. value.Num n ≡ applied operator left.now right.now) }
 {
@@ -125,15 +125,41 @@ fn concatenate<'e>(
         return Ok(fault(code));
     }
     let left = left.into_owned(alloc, &*scope)?;
+    Ok(Operand::owned(extended(alloc, left, right, scope)?))
+}
+
+/// A value that has grown by what is in an operand.
+fn extended<'e>(
+    alloc: Global,
+    left: Measured,
+    right: Operand<'e>,
+    scope: &Scope<'e>,
+) -> Result<Measured, NoMemory>
+    requires { IsIn scope.now right }
+    ensures { IfOk result (λ m. m ≡ concatenated left (operand_value scope.now right.entry)) }
+{
     if let Value::Text(more) = right.get(&*scope) {
-        return Ok(Operand::owned(extend_text(alloc, left, more.as_str())?));
+        return extend_text(alloc, left, more.as_str());
     }
-    let right = right.into_owned(alloc, &*scope)?;
-    Ok(Operand::owned(extend_list(left, right)?))
+    extend_list(left, right.into_owned(alloc, &*scope)?)
 }
 
 /// The value of a call of one operand. Takes memory for what is made.
-pub fn call_unary(alloc: Global, call: UnaryCall, argument: &Value) -> Result<Measured, NoMemory>
+pub fn call_unary<'e>(
+    alloc: Global,
+    call: UnaryCall,
+    argument: Operand<'e>,
+    scope: &Scope<'e>,
+) -> Result<Operand<'e>, NoMemory>
+    requires { IsIn scope.now argument }
+    ensures { IfOk result (λ o. o
+        ≡ Operand.Held (Held.Owned (called call (operand_value scope.now argument.entry)))) }
+{
+    Ok(Operand::owned(made_of(alloc, call, argument.get(&*scope))?))
+}
+
+/// What a call of one argument makes of its value.
+fn made_of(alloc: Global, call: UnaryCall, argument: &Value) -> Result<Measured, NoMemory>
     requires { IsWell argument.now }
     ensures { IfOk result (λ m. m ≡ called call argument.now) }
 {
@@ -170,30 +196,50 @@ pub fn call_binary<'e>(
     ensures within { IfOk result (λ o. IsIn scope.now o) }
 {
     match call {
-        BinaryCall::Nth => nth_of(alloc, first, second, scope),
         BinaryCall::Append => append_to(alloc, first, second, scope),
-        BinaryCall::Join => join_by(alloc, first, second, scope),
-        BinaryCall::Get => get_from(alloc, first, second, scope),
-        BinaryCall::Has => Ok(had_by(first, second, scope)),
         BinaryCall::OrElse => Ok(or_else(first, second, scope)),
+        _ => found_by(alloc, call, &first, second.get(&*scope), scope),
+    }
+}
+
+/// The value of a call that keeps none of its operands.
+fn found_by<'e>(
+    alloc: Global,
+    call: BinaryCall,
+    first: &Operand<'e>,
+    second: &Value,
+    scope: &Scope<'e>,
+) -> Result<Operand<'e>, NoMemory>
+    requires grows { call ≢ BinaryCall.Append }
+    requires chooses { call ≢ BinaryCall.OrElse }
+    requires within { IsIn scope.now first.now }
+    ensures value { IfOk result (λ o. operand_value scope.now o
+        ≡ called_with call (operand_value scope.now first.now) second.now) }
+    ensures within { IfOk result (λ o. IsIn scope.now o) }
+{
+    match call {
+        BinaryCall::Nth => nth_of(alloc, first, second, scope),
+        BinaryCall::Join => join_by(alloc, first.get(&*scope), second),
+        BinaryCall::Get => get_from(alloc, first, second, scope),
+        BinaryCall::Has => Ok(had_by(first.get(&*scope), second)),
+        // these keep their operands
+        BinaryCall::Append | BinaryCall::OrElse => Ok(fault(ErrorCode::Kind)),
     }
 }
 
 /// `nth(l, i)`: lent where the list is lent from outside, else a copy.
 fn nth_of<'e>(
     alloc: Global,
-    list: Operand<'e>,
-    place: Operand<'e>,
+    list: &Operand<'e>,
+    place: &Value,
     scope: &Scope<'e>,
 ) -> Result<Operand<'e>, NoMemory>
-    requires list { IsIn scope.now list }
-    requires place { IsIn scope.now place }
+    requires { IsIn scope.now list.now }
     ensures value { IfOk result (λ o. operand_value scope.now o
-        ≡ called_with BinaryCall.Nth (operand_value scope.now list.entry)
-        (operand_value scope.now place.entry)) }
+        ≡ called_with BinaryCall.Nth (operand_value scope.now list.now) place.now) }
     ensures within { IfOk result (λ o. IsIn scope.now o) }
 {
-    let (whole, place) = (list.get(&*scope), place.get(&*scope));
+    let whole = list.get(&*scope);
     if let Some(code) = fault_of_two(whole, place) {
         return Ok(fault(code));
     }
@@ -206,18 +252,16 @@ fn nth_of<'e>(
 /// `get(t, k)`: lent where the table is lent from outside, else a copy.
 fn get_from<'e>(
     alloc: Global,
-    table: Operand<'e>,
-    key: Operand<'e>,
+    table: &Operand<'e>,
+    key: &Value,
     scope: &Scope<'e>,
 ) -> Result<Operand<'e>, NoMemory>
-    requires table { IsIn scope.now table }
-    requires key { IsIn scope.now key }
+    requires { IsIn scope.now table.now }
     ensures value { IfOk result (λ o. operand_value scope.now o
-        ≡ called_with BinaryCall.Get (operand_value scope.now table.entry)
-        (operand_value scope.now key.entry)) }
+        ≡ called_with BinaryCall.Get (operand_value scope.now table.now) key.now) }
     ensures within { IfOk result (λ o. IsIn scope.now o) }
 {
-    let (whole, key) = (table.get(&*scope), key.get(&*scope));
+    let whole = table.get(&*scope);
     if let Some(code) = fault_of_two(whole, key) {
         return Ok(fault(code));
     }
@@ -274,20 +318,10 @@ fn append_to<'e>(
 }
 
 /// `join(l, s)`
-fn join_by<'e>(
-    alloc: Global,
-    list: Operand<'e>,
-    separator: Operand<'e>,
-    scope: &Scope<'e>,
-) -> Result<Operand<'e>, NoMemory>
-    requires list { IsIn scope.now list }
-    requires separator { IsIn scope.now separator }
-    ensures value { IfOk result (λ o. operand_value scope.now o
-        ≡ called_with BinaryCall.Join (operand_value scope.now list.entry)
-        (operand_value scope.now separator.entry)) }
-    ensures within { IfOk result (λ o. IsIn scope.now o) }
+fn join_by<'e>(alloc: Global, list: &Value, separator: &Value) -> Result<Operand<'e>, NoMemory>
+    ensures { IfOk result (λ o. o
+        ≡ Operand.Held (Held.Owned (called_with BinaryCall.Join list.now separator.now))) }
 {
-    let (list, separator) = (list.get(&*scope), separator.get(&*scope));
     if let Some(code) = fault_of_two(list, separator) {
         return Ok(fault(code));
     }
@@ -295,15 +329,10 @@ fn join_by<'e>(
 }
 
 /// `has(t, k)`
-fn had_by<'e>(table: Operand<'e>, key: Operand<'e>, scope: &Scope<'e>) -> Operand<'e>
-    requires table { IsIn scope.now table }
-    requires key { IsIn scope.now key }
-    ensures value { operand_value scope.now result
-        ≡ called_with BinaryCall.Has (operand_value scope.now table.entry)
-        (operand_value scope.now key.entry) }
-    ensures within { IsIn scope.now result }
+fn had_by<'e>(table: &Value, key: &Value) -> Operand<'e>
+    requires { IsWell table.now }
+    ensures { result ≡ Operand.Held (Held.Owned (called_with BinaryCall.Has table.now key.now)) }
 {
-    let (table, key) = (table.get(&*scope), key.get(&*scope));
     match fault_of_two(table, key) {
         Some(code) => fault(code),
         None => made(has(table, key)),
@@ -331,23 +360,22 @@ fn or_else<'e>(value: Operand<'e>, other: Operand<'e>, scope: &Scope<'e>) -> Ope
 pub fn call_put<'e>(
     alloc: Global,
     table: Operand<'e>,
-    key: Operand<'e>,
+    key: &Value,
     item: Operand<'e>,
     scope: &Scope<'e>,
 ) -> Result<Operand<'e>, NoMemory>
     requires table { IsIn scope.now table }
-    requires key { IsIn scope.now key }
+    requires key { IsWell key.now }
     requires item { IsIn scope.now item }
     ensures value { IfOk result (λ o. operand_value scope.now o
-        ≡ put (operand_value scope.now table.entry) (operand_value scope.now key.entry)
+        ≡ put (operand_value scope.now table.entry) key.now
         (operand_value scope.now item.entry)) }
     ensures within { IfOk result (λ o. IsIn scope.now o) }
 {
-    let text = key.get(&*scope);
-    if let Some(code) = fault_of_three(table.get(&*scope), text, item.get(&*scope)) {
+    if let Some(code) = fault_of_three(table.get(&*scope), key, item.get(&*scope)) {
         return Ok(fault(code));
     }
     let table = table.into_owned(alloc, &*scope)?;
     let item = item.into_owned(alloc, &*scope)?;
-    Ok(Operand::owned(tables::put(alloc, table, text, item)?))
+    Ok(Operand::owned(tables::put(alloc, table, key, item)?))
 }

@@ -12,13 +12,14 @@ ghost use Rattle.ag_expr.specs.language.Reading as reading;
 ghost use Rattle.ag_expr.specs.language.Syntax as syntax;
 ghost use Rattle.ag_expr.specs.language.Token as tokens;
 ghost use Rattle.ag_expr.specs.language.Offsets.{place};
+ghost use Rattle.ag_grammar.specs.expressions.Occurrences.{AreDifferent};
 
 use crate::fault::{ExprFault, TokenFault};
 use crate::lexer::{skip_separators, token_in_front};
 use crate::names::{Scope, call_of, is_reserved};
-use crate::occurrence::Occ;
 use crate::occurrence_table::OccurrenceTable;
 use crate::token::{Punctuation, Token};
+use ag_grammar::Occ;
 use ag_value::NoMemory;
 use smallvec::SmallVec;
 use std::alloc::Global;
@@ -41,7 +42,7 @@ pub struct Cursor<'t> {
 
 impl<'t> Model for Cursor<'t> {
     ghost use Rattle.std.specs.Prelude.{ℕ, List, chars};
-    ghost use Rattle.ag_expr.specs.declared.occurrence.Occ.{Occ};
+    ghost use Rattle.ag_grammar.specs.declared.occurrence.Occ.{Occ};
     ghost use Rattle.ag_expr.specs.language.Left.{IsReady};
 
     ghost Value = { List Occ × (List ℕ × List ℕ) };
@@ -288,6 +289,7 @@ impl<'t> Cursor<'t> {
     pub(crate) fn finish(self) -> Result<SmallVec<Occ, 4>, ExprFault>
         ensures reads { left.Finishes self.entry result }
         ensures listed { IfOk result (λ list. list.items ≡ everything self.entry) }
+        ensures different { IfOk result (λ list. AreDifferent list.items) }
     {
         if !self.rest.is_empty() {
             return Err(self.refusal());

@@ -6,33 +6,31 @@ ghost use Rattle.std.specs.Prelude.{cond};
 ghost use Rattle.ag_value.specs.Well.{IsWell, is_item};
 ghost use Rattle.ag_value.specs.declared.value.Value.{Value as AttributeValue};
 ghost use Rattle.ag_value.specs.declared.value.Value.TheVariants as value;
-ghost use Rattle.ag_expr.specs.language.Evaluation.{AreWell, chain_value, item_values, value_in};
-ghost use Rattle.ag_expr.specs.language.Evaluation.{value_of};
+ghost use Rattle.ag_grammar.specs.expressions.Evaluation.{AreWell, chain_value, item_values, value_in};
+ghost use Rattle.ag_grammar.specs.expressions.Evaluation.{value_of};
 ghost use Rattle.ag_expr.specs.language.Operands.{IsIn, each_within, held_value};
 ghost use Rattle.ag_expr.specs.language.Operands.{operand_value};
-ghost use Rattle.ag_expr.specs.language.Trees.{all_below, is_within};
-ghost use Rattle.ag_expr.specs.values.Calls.{called_with, chosen, put};
-ghost use Rattle.ag_expr.specs.values.Fitting.{fit};
-ghost use Rattle.ag_expr.specs.values.Lists.{listed};
-ghost use Rattle.ag_expr.specs.values.Operators.{applied};
+ghost use Rattle.ag_grammar.specs.expressions.Trees.{all_below, is_within};
+ghost use Rattle.ag_grammar.specs.values.Calls.{called_with, chosen, put};
+ghost use Rattle.ag_grammar.specs.values.Fitting.{fit};
+ghost use Rattle.ag_grammar.specs.values.Lists.{listed};
+ghost use Rattle.ag_grammar.specs.values.Operators.{applied};
 
 use crate::builtins::faults::fault_of;
 use crate::calls::{apply, call_binary, call_put, call_unary, fault, reckoned};
 use crate::environment::Env;
-use crate::expression::Expr;
 use crate::gathering::Gathering;
-use crate::literal::Literal;
 use crate::measured::Measured;
 use crate::meter::Meter;
-use crate::node::{BinaryCall, Node, Operator};
 use crate::operand::{Held, Lent, Operand};
 use crate::scope::Scope;
+use ag_grammar::{BinaryCall, Expr, Literal, Node, Operator};
 use ag_value::{ErrorCode, Items, MAX_DEPTH, MAX_WEIGHT, NoMemory, Value, depth, weight};
 use std::alloc::Global;
 
 /// What a part of an expression gives. The bindings stay as they are.
 #[cycle(evaluating)]
-#[tactic(auto, using(crate::proofs::language::Trees::parts))]
+#[tactic(auto, using(ag_grammar::proofs::expressions::Trees::parts))]
 fn operand_of<'e, V: Env>(
     alloc: Global,
     expr: &'e Expr,
@@ -57,10 +55,8 @@ fn operand_of<'e, V: Env>(
             chain_of(alloc, expr, value, others.as_slice(), env, scope)
         }
         Node::Let(definition, body) => {
-            let held = operand_of(alloc, expr, definition.get(), env, scope)?.kept(alloc, &*scope)?;
-            scope.bind(held)?;
-            let operand = operand_of(alloc, expr, body.get(), env, scope)?;
-            Ok(scope.leave(operand))
+            let definition = operand_of(alloc, expr, definition.get(), env, scope)?;
+            body_of(alloc, expr, definition, body.get(), env, scope)
         }
         Node::If(condition, one, other) => {
             let condition = operand_of(alloc, expr, condition.get(), env, scope)?;
@@ -72,25 +68,101 @@ fn operand_of<'e, V: Env>(
         }
         Node::Unary(call, argument) => {
             let argument = operand_of(alloc, expr, argument.get(), env, scope)?;
-            Ok(Operand::owned(call_unary(alloc, *call, argument.get(&*scope))?))
+            call_unary(alloc, *call, argument, &*scope)
         }
         Node::Binary(call, first, second) => {
             let first = operand_of(alloc, expr, first.get(), env, scope)?;
-            if settles(*call, first.get(&*scope)) {
-                return Ok(first);
-            }
-            let second = operand_of(alloc, expr, second.get(), env, scope)?;
-            call_binary(alloc, *call, first, second, &*scope)
+            called_on(alloc, expr, *call, first, second.get(), env, scope)
         }
         Node::Put(table, key, item) => {
             let table = operand_of(alloc, expr, table.get(), env, scope)?;
             let key = operand_of(alloc, expr, key.get(), env, scope)?;
-            let item = operand_of(alloc, expr, item.get(), env, scope)?;
-            call_put(alloc, table, key, item, &*scope)
+            put_of(alloc, expr, table, key, item.get(), env, scope)
         }
         Node::List(items) => list_of(alloc, expr, items.as_slice(), env, scope),
         Node::EmptyTable => Ok(empty_table(alloc)),
     }
+}
+
+/// The value of the body of a `let`, where the definition has given a value.
+#[cycle(evaluating)]
+fn body_of<'e, V: Env>(
+    alloc: Global,
+    expr: &'e Expr,
+    definition: Operand<'e>,
+    body: &'e Node,
+    env: &'e V,
+    scope: &mut Scope<'e>,
+) -> Result<Operand<'e>, NoMemory>
+    requires definition { IsIn scope.old definition }
+    requires below { is_within (length expr.now.1) body.now
+        (length (scope.old ++ operand_value scope.old definition ∷ [])) ≡ true }
+    requires lends { length expr.now.1 ≤ V.count env.now }
+    requires well { AreWell (length expr.now.1) (V.lent env.now) }
+    ensures value { OnOk result (IfOk result (λ o. operand_value scope.new o
+        ≡ value_in body.now (V.lent env.now)
+        (scope.old ++ operand_value scope.old definition.entry ∷ []))) }
+    ensures within { IfOk result (λ o. IsIn scope.new o) }
+    ensures stays { OnOk result (scope.new ≡ scope.old) }
+{
+    let held = definition.kept(alloc, &*scope)?;
+    scope.bind(held)?;
+    let operand = operand_of(alloc, expr, body, env, scope)?;
+    Ok(scope.leave(operand))
+}
+
+/// The value of a call of two arguments, where the first has given a value.
+#[cycle(evaluating)]
+fn called_on<'e, V: Env>(
+    alloc: Global,
+    expr: &'e Expr,
+    call: BinaryCall,
+    first: Operand<'e>,
+    second: &'e Node,
+    env: &'e V,
+    scope: &mut Scope<'e>,
+) -> Result<Operand<'e>, NoMemory>
+    requires first { IsIn scope.old first }
+    requires below { is_within (length expr.now.1) second.now (length scope.old) ≡ true }
+    requires lends { length expr.now.1 ≤ V.count env.now }
+    requires well { AreWell (length expr.now.1) (V.lent env.now) }
+    ensures value { OnOk result (IfOk result (λ o. operand_value scope.new o
+        ≡ called_with call (operand_value scope.old first.entry)
+        (value_in second.now (V.lent env.now) scope.old))) }
+    ensures within { IfOk result (λ o. IsIn scope.new o) }
+    ensures stays { OnOk result (scope.new ≡ scope.old) }
+{
+    if settles(call, first.get(&*scope)) {
+        return Ok(first);
+    }
+    let second = operand_of(alloc, expr, second, env, scope)?;
+    call_binary(alloc, call, first, second, &*scope)
+}
+
+/// The value of a `put`, where the table and the key have given values.
+#[cycle(evaluating)]
+fn put_of<'e, V: Env>(
+    alloc: Global,
+    expr: &'e Expr,
+    table: Operand<'e>,
+    key: Operand<'e>,
+    item: &'e Node,
+    env: &'e V,
+    scope: &mut Scope<'e>,
+) -> Result<Operand<'e>, NoMemory>
+    requires table { IsIn scope.old table }
+    requires key { IsIn scope.old key }
+    requires below { is_within (length expr.now.1) item.now (length scope.old) ≡ true }
+    requires lends { length expr.now.1 ≤ V.count env.now }
+    requires well { AreWell (length expr.now.1) (V.lent env.now) }
+    ensures value { OnOk result (IfOk result (λ o. operand_value scope.new o
+        ≡ put (operand_value scope.old table.entry) (operand_value scope.old key.entry)
+        (value_in item.now (V.lent env.now) scope.old))) }
+    ensures within { IfOk result (λ o. IsIn scope.new o) }
+    ensures stays { OnOk result (scope.new ≡ scope.old) }
+{
+    let item = operand_of(alloc, expr, item, env, scope)?;
+    call_put(alloc, table, key.get(&*scope), item, &*scope)
 }
 
 /// Whether a call has its first argument's value, whatever the second is.
@@ -193,7 +265,7 @@ fn within_limits(item: &Value) -> Option<&Value>
 
 /// `[a, ..]`: the list of the items, or the leftmost of them that is an error.
 #[cycle(evaluating)]
-#[tactic(auto, unfolding(crate::specs::values::Arguments::leftmost))]
+#[tactic(auto, unfolding(ag_grammar::specs::values::Arguments::leftmost))]
 fn list_of<'e, V: Env>(
     alloc: Global,
     expr: &'e Expr,

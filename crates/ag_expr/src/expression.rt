@@ -1,7 +1,7 @@
-//! Expressions as values of the program, and reading a text as one.
+//! Reading a text as an expression.
 
 ghost use Rattle.std.specs.Prelude.{◌≡◌, chars, drop, length, true, IfOk, IfErr};
-ghost use Rattle.ag_expr.specs.language.Trees.{is_below};
+ghost use Rattle.ag_grammar.specs.expressions.Trees.{is_below};
 ghost use Rattle.ag_expr.specs.language.Expression.{ReadsAsExpr, IsRefused, IsAt, Says};
 ghost use Rattle.std.specs.Str.{IsCharBoundary};
 ghost use Rattle.ag_expr.specs.language.Left.{input};
@@ -11,47 +11,10 @@ ghost use Rattle.ag_expr.specs.language.Until.{ReadsUntil, first_semicolon};
 
 use crate::cursor::Cursor;
 use crate::fault::ExprFault;
-use crate::node::Node;
-use crate::occurrence::Occ;
 use crate::parser::parse;
 use crate::token::Punctuation;
-use smallvec::SmallVec;
+use ag_grammar::Expr;
 use std::alloc::Global;
-use std::marker::Model;
-
-/// An expression: its tree, and the different occurrences in it in the order of their first
-/// appearance.
-#[derive(Debug, Drop)]
-pub struct Expr {
-    node: Node,
-    occurrences: SmallVec<Occ, 4>,
-}
-
-impl Model for Expr {
-    ghost use Rattle.std.specs.Prelude.{◌≡◌, List, length, true};
-    ghost use Rattle.ag_expr.specs.language.Trees.{is_below};
-    ghost use Rattle.std.specs.Coded.{codes};
-    ghost use Rattle.ag_expr.specs.declared.node.Node.{Node};
-    ghost use Rattle.ag_expr.specs.declared.occurrence.Occ.{Occ};
-    ghost use Rattle.ag_expr.specs.contracts.node.Node as node_row;
-
-    ghost Value = { Node × List Occ };
-
-    ghost coded = { Prim.hlevel (codes, node_row.the_row.coded) };
-
-    ghost view = { λ e. (e.node, e.occurrences.items) };
-
-    ghost invariant = { λ e. is_below (length e.occurrences.items) e.node ≡ true };
-}
-
-/// Lends the different occurrences of an expression, in the order of their first appearance in its
-/// text. Takes no memory.
-pub fn occurrences(expr: &Expr) -> &[Occ]
-    ensures lent { result.now ≡ expr.now.1 }
-    ensures listed { is_below (length result.now) expr.now.0 ≡ true }
-{
-    expr.occurrences.as_slice()
-}
 
 /// Reads a text as an expression: its tree, and the different occurrences in it. Takes memory.
 ///
@@ -115,15 +78,5 @@ fn whole(alloc: Global, mut cursor: Cursor<'_>) -> Result<Expr, ExprFault>
 {
     let node = parse(alloc, &mut cursor)?;
     let occurrences = cursor.finish()?;
-    Ok(Expr { node, occurrences })
-}
-
-impl Expr {
-    /// Lends the tree.
-    pub(crate) fn tree(&self) -> &Node
-        ensures value { result.now ≡ self.now.0 }
-        ensures below { is_below (length self.now.1) result.now ≡ true }
-    {
-        &self.node
-    }
+    Ok(Expr::new(node, occurrences))
 }

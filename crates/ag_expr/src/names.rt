@@ -3,7 +3,7 @@
 ghost use Rattle.std.specs.Prelude.{◌≡◌, ◌∷◌, ◌++◌, [], None, OnOk, bytes_eq};
 ghost use Rattle.ag_expr.specs.language.Names as names_spec;
 
-use crate::node::{BinaryCall, UnaryCall};
+use ag_grammar::{BinaryCall, UnaryCall};
 use ag_value::NoMemory;
 use std::alloc::Global;
 use std::marker::Model;

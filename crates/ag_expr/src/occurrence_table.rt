@@ -2,8 +2,9 @@
 
 ghost use Rattle.std.specs.Prelude.{◌≡◌, [], Some, IfOk, OnOk, OnErr};
 ghost use Rattle.ag_expr.specs.language.Occurrences as spec;
+ghost use Rattle.ag_grammar.specs.expressions.Occurrences.{AreDifferent};
 
-use crate::occurrence::Occ;
+use ag_grammar::Occ;
 use ag_value::{NoMemory, Text};
 use smallvec::SmallVec;
 use std::alloc::Global;
@@ -19,15 +20,17 @@ pub struct OccurrenceTable<'t> {
 
 impl<'t> Model for OccurrenceTable<'t> {
     ghost use Rattle.std.specs.Prelude.{List};
-    ghost use Rattle.ag_expr.specs.declared.occurrence.Occ.{Occ};
+    ghost use Rattle.ag_grammar.specs.declared.occurrence.Occ.{Occ};
 
     ghost Value = { List Occ };
 
     ghost use Rattle.ag_expr.specs.language.Numbers.{Follows};
+    ghost use Rattle.ag_grammar.specs.expressions.Occurrences.{AreDifferent};
 
     ghost view = { λ table. table.listed.items };
 
-    ghost invariant = { λ table. Follows table.numbers table.listed.items };
+    ghost invariant = { λ table. Follows table.numbers table.listed.items
+        × AreDifferent table.listed.items };
 }
 
 impl<'t> OccurrenceTable<'t> {
@@ -79,7 +82,8 @@ impl<'t> OccurrenceTable<'t> {
 
     /// The listed occurrences. Takes no memory.
     pub fn into_list(self) -> SmallVec<Occ, 4>
-        ensures { result.items ≡ self.entry }
+        ensures listed { result.items ≡ self.entry }
+        ensures different { AreDifferent result.items }
     {
         self.listed
     }

@@ -13,10 +13,9 @@ ghost use Rattle.ag_expr.specs.language.Token as token;
 use crate::cursor::Cursor;
 use crate::fault::ExprFault;
 use crate::lexer::unescaped;
-use crate::literal::Literal;
 use crate::names::{Call, Scope, call_of, is_reserved};
-use crate::node::{BinaryCall, Node, Operator, UnaryCall};
 use crate::token::{Punctuation, Token};
+use ag_grammar::{BinaryCall, Literal, Node, Operator, UnaryCall};
 use ag_value::{Boxed, Items, NoMemory};
 use std::alloc::Global;
 

@@ -9,9 +9,9 @@ use Rattle.std.specs.Cmp.Lexicographic.{pointwise, told_text}
 use Rattle.std.specs.List.{prefix_len}
 use Rattle.std.specs.Str.{is_utf8}
 use Rattle.std.specs.Str.Lossy.{utf8_valid_len}
-use Rattle.ag_expr.specs.Lists.{Has}
-use Rattle.ag_expr.specs.declared.grammar.Terminal.TheVariants.{Literal}
-use Rattle.ag_expr.specs.grammars.Tree.{most_token_bytes}
+use Rattle.ag_grammar.specs.Lists.{Has}
+use Rattle.ag_grammar.specs.declared.grammar.Terminal.TheVariants.{Literal}
+use Rattle.ag_grammar.specs.grammars.Tree.{most_token_bytes}
 use Rattle.ag_expr.specs.language.Left.{StartsPlain, unspaced}
 use Rattle.ag_expr.specs.language.Tokens.{is_separator, width}
 use Rattle.ag_expr.proofs.language.Lexed.{width-append, width-chars, plain_behind, separator_width}

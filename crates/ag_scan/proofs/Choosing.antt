@@ -1,7 +1,7 @@
 -- Which word in front is the token.
 use Rattle.std.proofs.Common.{◌≡◌, ℕ, ◌+◌, ◌<◌, ◌≤◌, true, false, nat_lt, List, [], ◌∷◌, ◌++◌, length, Option, Some, None, refl, ap, sym, ◌∙◌, subst, arith, option_map, MatchOption}
 use Rattle.std.proofs.lemmas.Str.{len_utf8_bounds}
-use Rattle.ag_expr.specs.declared.grammar.Terminal.TheVariants.{Literal, Class}
+use Rattle.ag_grammar.specs.declared.grammar.Terminal.TheVariants.{Literal, Class}
 use Rattle.ag_expr.specs.language.Tokens.{width}
 use Rattle.ag_expr.proofs.language.Lexed.{width-append}
 use Rattle.ag_scan.specs.Words.{Vocabulary, over, IsLiteral, IsClassed, IsAnyWord, IsLongest, BeginsNone, IsToken}

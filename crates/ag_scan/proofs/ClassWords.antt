@@ -9,8 +9,8 @@ use Rattle.std.specs.Char.{is_ascii_digit, is_ascii_alphabetic}
 use Rattle.std.specs.List.{prefix_len, list_all}
 use Rattle.unicode_ident.specs.Ident.{is_xid_start, is_xid_continue}
 use Rattle.unicode_ident.proofs.IdentLemmas.{is_xid_continue-ascii, is_xid_start-is_xid_continue}
-use Rattle.ag_expr.specs.Lists.{Has}
-use Rattle.ag_expr.specs.declared.grammar.Terminal.TheVariants.{Class}
+use Rattle.ag_grammar.specs.Lists.{Has}
+use Rattle.ag_grammar.specs.declared.grammar.Terminal.TheVariants.{Class}
 use Rattle.ag_expr.specs.language.Tokens.{starts_name, IsName, IsDigits}
 use Rattle.ag_expr.proofs.language.Fronts.{front_passes, front_reaches, front_ends}
 use Rattle.ag_expr.proofs.language.TokenLaws.{no_start}

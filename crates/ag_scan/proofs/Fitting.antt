@@ -4,8 +4,8 @@ use Rattle.std.proofs.lemmas.Bool.Decides.{nat_tests}
 use Rattle.std.proofs.lemmas.Str.{is_utf8-from_IsUtf8}
 use Rattle.std.specs.Bool.{MatchBool}
 use Rattle.std.specs.Cmp.Lexicographic.{pointwise, told_text}
-use Rattle.ag_expr.specs.Lists.{Has}
-use Rattle.ag_expr.specs.grammars.Tree.{IsTokenText}
+use Rattle.ag_grammar.specs.Lists.{Has}
+use Rattle.ag_grammar.specs.grammars.Tree.{IsTokenText}
 use Rattle.ag_scan.specs.Cutting.{uses}
 use Rattle.ag_scan.proofs.ClassWords.{used_has, has_used}
 use Rattle.ag_scan.proofs.Tables.{compared, same_there}

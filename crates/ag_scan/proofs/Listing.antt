@@ -3,10 +3,10 @@ use Rattle.std.proofs.Common.{◌≡◌, ℕ, zero, suc, ◌+◌, ◌-◌, ◌<�
 use Rattle.std.proofs.lemmas.Bool.Decides.{nat_tests}
 use Rattle.std.proofs.lemmas.Str.{is_utf8-from_IsUtf8, chars-nil, len_utf8_bounds}
 use Rattle.std.specs.List.{prefix_len}
-use Rattle.ag_expr.specs.Lists.{Each}
-use Rattle.ag_expr.specs.declared.grammar.Terminal.{Terminal}
-use Rattle.ag_expr.specs.declared.grammar.Terminal.TheVariants.{Literal, Class}
-use Rattle.ag_expr.specs.grammars.Tree.{most_token_bytes}
+use Rattle.ag_grammar.specs.Lists.{Each}
+use Rattle.ag_grammar.specs.declared.grammar.Terminal.{Terminal}
+use Rattle.ag_grammar.specs.declared.grammar.Terminal.TheVariants.{Literal, Class}
+use Rattle.ag_grammar.specs.grammars.Tree.{most_token_bytes}
 use Rattle.ag_expr.specs.language.Left.{StartsPlain, unspaced}
 use Rattle.ag_expr.specs.language.Tokens.{is_separator, width}
 use Rattle.ag_expr.proofs.language.Lexed.{width-append, width-chars, spaces, plain_behind}

@@ -8,12 +8,12 @@ use Rattle.std.specs.List.{list_all}
 use Rattle.std.specs.Str.{is_utf8}
 use Rattle.std.specs.Str.Lossy.{utf8_valid_len}
 use Rattle.std.specs.Char.{is_ascii_digit, is_ascii_alphabetic}
-use Rattle.ag_expr.specs.Lists.{Each, Differ}
-use Rattle.ag_expr.specs.declared.grammar.Terminal.{Terminal}
-use Rattle.ag_expr.specs.declared.grammar.Terminal.TheVariants.{Literal, Class}
-use Rattle.ag_expr.specs.grammars.Accepted.{IsAccepted, IsSeparator}
-use Rattle.ag_expr.specs.grammars.AttributeGrammar.{Grammar}
-use Rattle.ag_expr.specs.grammars.Tree.{most_token_bytes}
+use Rattle.ag_grammar.specs.Lists.{Each, Differ}
+use Rattle.ag_grammar.specs.declared.grammar.Terminal.{Terminal}
+use Rattle.ag_grammar.specs.declared.grammar.Terminal.TheVariants.{Literal, Class}
+use Rattle.ag_grammar.specs.grammars.Accepted.{IsAccepted, IsSeparator}
+use Rattle.ag_grammar.specs.grammars.AttributeGrammar.{Grammar}
+use Rattle.ag_grammar.specs.grammars.Tree.{most_token_bytes}
 use Rattle.ag_expr.specs.language.Tokens.{is_separator, starts_name, width}
 use Rattle.ag_expr.proofs.language.TokenLaws.{no_start}
 use Rattle.ag_scan.specs.Laws.{IsAnswer, AtMostOneAnswer}

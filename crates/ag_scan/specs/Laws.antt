@@ -1,7 +1,7 @@
 -- What the law of sentences states.
 use Rattle.std.specs.Prelude.{◌≡◌, List, ℕ, Result, Ok, Err}
-use Rattle.ag_expr.specs.grammars.Accepted.{IsAccepted}
-use Rattle.ag_expr.specs.grammars.AttributeGrammar.{Grammar}
+use Rattle.ag_grammar.specs.grammars.Accepted.{IsAccepted}
+use Rattle.ag_grammar.specs.grammars.AttributeGrammar.{Grammar}
 use Rattle.ag_scan.specs.Tokens.{AreTokensOf, IsRefused}
 use Rattle.ag_scan.specs.Words.{Vocabulary, vocabulary_of}
 use Rattle.ag_scan.specs.declared.fault.ScanFault.{ScanFault}

@@ -2,8 +2,8 @@
 use Rattle.std.specs.Prelude.{◌≡◌, ℕ, ◌+◌, ◌<◌, ◌≤◌, false, List, ◌∷◌, ◌++◌, Option, Some, None, slice_get, get_or, length}
 use Rattle.std.specs.Cmp.Lexicographic.{slice_cmp}
 use Rattle.std.specs.Ordering.{nat_cmp, is_gt}
-use Rattle.ag_expr.specs.Lists.{Each}
-use Rattle.ag_expr.specs.grammars.Accepted.{most_literals}
+use Rattle.ag_grammar.specs.Lists.{Each}
+use Rattle.ag_grammar.specs.grammars.Accepted.{most_literals}
 use Rattle.ag_scan.specs.declared.literals.Word.{Word}
 use Rattle.ag_scan.specs.declared.starts.Start.{Start}
 use Rattle.ag_scan.specs.declared.starts.Start.TheVariants.{Nothing, Sole, Several}

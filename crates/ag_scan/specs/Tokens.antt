@@ -1,10 +1,10 @@
 -- What the tokens of a sentence are, by longest match, and why a sentence has none. All of this is this project's.
 use Rattle.std.specs.Prelude.{◌≡◌, ℕ, ◌+◌, ◌<◌, ◌≤◌, true, false, List, [], ◌∷◌, ◌++◌, length, Some, IsUtf8, chars, slice_get}
 use Rattle.std.specs.Str.Lossy.{utf8_valid_len}
-use Rattle.ag_expr.specs.Lists.{Each, Has}
-use Rattle.ag_expr.specs.declared.grammar.Terminal.{Terminal}
-use Rattle.ag_expr.specs.declared.grammar.Terminal.TheVariants.{Literal, Class}
-use Rattle.ag_expr.specs.grammars.Tree.{most_token_bytes, IsTokenText}
+use Rattle.ag_grammar.specs.Lists.{Each, Has}
+use Rattle.ag_grammar.specs.declared.grammar.Terminal.{Terminal}
+use Rattle.ag_grammar.specs.declared.grammar.Terminal.TheVariants.{Literal, Class}
+use Rattle.ag_grammar.specs.grammars.Tree.{most_token_bytes, IsTokenText}
 use Rattle.ag_expr.specs.language.Tokens.{is_separator, width}
 use Rattle.ag_scan.specs.Words.{Vocabulary, IsAnyWord, BeginsNone, IsToken}
 use Rattle.ag_scan.specs.declared.fault.ScanFault.{ScanFault}

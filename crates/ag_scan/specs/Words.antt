@@ -1,10 +1,10 @@
 -- The words of a sentence: what is a word of a literal or of a class. All of this is this project's. A text stands here as the list of its characters.
 use Rattle.std.specs.Prelude.{◌≡◌, ℕ, zero, suc, ◌≤◌, Bool, true, not, ◌||◌, ◌==◌, List, [], ◌∷◌, ◌++◌, length, Some, slice_get, encode_utf8_all}
 use Rattle.std.specs.List.{list_all}
-use Rattle.ag_expr.specs.Lists.{Each, Has}
-use Rattle.ag_expr.specs.declared.grammar.Terminal.{Terminal}
-use Rattle.ag_expr.specs.declared.grammar.Terminal.TheVariants.{Literal, Class}
-use Rattle.ag_expr.specs.grammars.AttributeGrammar.{Grammar}
+use Rattle.ag_grammar.specs.Lists.{Each, Has}
+use Rattle.ag_grammar.specs.declared.grammar.Terminal.{Terminal}
+use Rattle.ag_grammar.specs.declared.grammar.Terminal.TheVariants.{Literal, Class}
+use Rattle.ag_grammar.specs.grammars.AttributeGrammar.{Grammar}
 use Rattle.ag_expr.specs.language.Tokens.{IsDigits, IsName}
 
 -- What the words are taken from: the texts of the literals by their numbers, and the classes in use.

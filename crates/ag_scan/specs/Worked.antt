@@ -1,6 +1,6 @@
 -- Sentences whose tokens are worked out by hand.
 use Rattle.std.specs.Prelude.{[], ◌∷◌, codes}
-use Rattle.ag_expr.specs.declared.grammar.Terminal.TheVariants.{Literal, Class}
+use Rattle.ag_grammar.specs.declared.grammar.Terminal.TheVariants.{Literal, Class}
 use Rattle.ag_scan.specs.Tokens.{AreTokensOf, NoTokenAt}
 use Rattle.ag_scan.specs.Words.{over}
 

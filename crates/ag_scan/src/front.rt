@@ -5,7 +5,7 @@ ghost use Rattle.ag_expr.specs.language.Left.{unspaced};
 ghost use Rattle.ag_expr.specs.language.Tokens as tokens_spec;
 ghost use Rattle.ag_scan.specs.Cutting as cutting;
 
-use ag_expr::Terminal;
+use ag_grammar::Terminal;
 
 /// The numbers of the classes.
 const NAME: u16 = 0;

@@ -10,7 +10,7 @@ mod scanning;
 mod starts;
 mod token;
 
-pub use ag_expr::Terminal;
+pub use ag_grammar::Terminal;
 pub use fault::ScanFault;
 pub use scanning::{fits, scan};
 pub use token::Token;

@@ -3,7 +3,7 @@
 
 ghost use Rattle.std.specs.Prelude.{◌≡◌, ◌≤◌, length, slice_get, Some, IfNone, IfOk, IfSome};
 ghost use Rattle.std.specs.Prelude.{MatchBool, MatchOption};
-ghost use Rattle.ag_expr.specs.grammars.Accepted.{most_literals};
+ghost use Rattle.ag_grammar.specs.grammars.Accepted.{most_literals};
 ghost use Rattle.ag_scan.specs.Table.{AreLinked, AreLiterals, AreOrdered, AreTold, AreUpTo};
 ghost use Rattle.ag_scan.specs.Table.{GivesLast, HasNoFront, IsFront, IsLongestFront, IsTable};
 ghost use Rattle.ag_scan.specs.Table.{NoFront, behind_last};

@@ -2,9 +2,9 @@
 
 ghost use Rattle.std.specs.Prelude.{◌≡◌, ◌≤◌, ◌++◌, length, nat_lt, chars, encode_utf8_all};
 ghost use Rattle.std.specs.Prelude.{◌↔◌, IfOk, IfErr, IsTrue, MatchOption, Some, slice_get};
-ghost use Rattle.ag_expr.specs.Lists.{Has};
-ghost use Rattle.ag_expr.specs.grammars.Accepted.{most_literals};
-ghost use Rattle.ag_expr.specs.grammars.Tree.{IsTokenText};
+ghost use Rattle.ag_grammar.specs.Lists.{Has};
+ghost use Rattle.ag_grammar.specs.grammars.Accepted.{most_literals};
+ghost use Rattle.ag_grammar.specs.grammars.Tree.{IsTokenText};
 ghost use Rattle.ag_expr.specs.language.Tokens.{width};
 ghost use Rattle.ag_scan.specs.Cutting.{CutsLiteral, CutsToken, front_of};
 ghost use Rattle.ag_scan.specs.Table.{IsFront};
@@ -18,16 +18,14 @@ use crate::fault::ScanFault;
 use crate::front::{Front, class_in_front, skip_separators};
 use crate::literals::Literals;
 use crate::token::Token;
-use ag_expr::Terminal;
+use ag_grammar::Terminal;
+use ag_grammar::limits::MOST_TOKEN_BYTES;
 use ag_value::Text;
 use normalform::Grammar;
 use std::alloc::Global;
 
 /// How many bytes a sentence has at most.
 const MOST_SENTENCE_BYTES: usize = 1_048_576;
-
-/// How many bytes the text of a token has at most.
-const MOST_TOKEN_BYTES: usize = 65_535;
 
 /// What stands in a text behind a word in front.
 fn split_word<'t>(text: &'t str, word: &str) -> (&'t str, &'t str)

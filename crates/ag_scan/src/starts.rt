@@ -1,8 +1,8 @@
 //! Which of the literals begin with each byte.
 
 ghost use Rattle.std.specs.Prelude.{◌≡◌, ◌≤◌, ◌∷◌, List, ℕ, length, IfOk};
-ghost use Rattle.ag_expr.specs.Lists.{Each};
-ghost use Rattle.ag_expr.specs.grammars.Accepted.{most_literals};
+ghost use Rattle.ag_grammar.specs.Lists.{Each};
+ghost use Rattle.ag_grammar.specs.grammars.Accepted.{most_literals};
 ghost use Rattle.ag_scan.specs.Table.{AreTold, with_one};
 
 use crate::literals::Word;

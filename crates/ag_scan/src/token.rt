@@ -1,6 +1,6 @@
 //! The tokens of a sentence.
 
-use ag_expr::Terminal;
+use ag_grammar::Terminal;
 use ag_value::Text;
 
 /// A token of a sentence.

@@ -5,7 +5,7 @@ use Rattle.ag_expr.specs.language.Ending as ending
 use Rattle.ag_expr.specs.language.Placed.{Placed, Input}
 use Rattle.ag_expr.specs.language.Reading.{is_end}
 use Rattle.ag_expr.proofs.language.Lexes.{one_input}
-use Rattle.ag_text.specs.declared.raw.RawGrammar.{RawGrammar}
+use Rattle.ag_grammar.specs.declared.raw.RawGrammar.{RawGrammar}
 use Rattle.ag_text.specs.Laws.{ReadingAgrees, RefusesAtTheFirst, OneGrammar}
 use Rattle.ag_text.specs.Places.{NoneGoesOn, IsFirstWrong}
 use Rattle.ag_text.specs.Reading as reading

@@ -7,8 +7,8 @@ use Rattle.std.proofs.Math.Utf8.{scalar, scalars}
 use Rattle.std.specs.Str.{IsCharBoundary}
 use Rattle.ag_expr.specs.declared.fault.ExprFault.{ExprFault}
 use Rattle.ag_expr.specs.declared.fault.ExprFault.TheVariants as fault
-use Rattle.ag_expr.specs.declared.node.Node.{Node}
-use Rattle.ag_expr.specs.declared.occurrence.Occ.{Occ}
+use Rattle.ag_grammar.specs.declared.node.Node.{Node}
+use Rattle.ag_grammar.specs.declared.occurrence.Occ.{Occ}
 use Rattle.ag_expr.specs.language.Ending.{Ending, offset_of}
 use Rattle.ag_expr.specs.language.Left.{start_of, start_at, input}
 use Rattle.ag_expr.specs.language.Offsets.{place_of, place}

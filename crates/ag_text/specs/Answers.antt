@@ -9,7 +9,7 @@ use Rattle.ag_expr.specs.language.Placed.{Input}
 use Rattle.ag_expr.specs.language.Tokens.{Lexes}
 use Rattle.ag_text.specs.declared.fault.TextFault.{TextFault}
 use Rattle.ag_text.specs.declared.fault.TextFault.TheVariants as fault
-use Rattle.ag_text.specs.declared.raw.RawGrammar.{RawGrammar}
+use Rattle.ag_grammar.specs.declared.raw.RawGrammar.{RawGrammar}
 use Rattle.ag_text.specs.declared.stop.Stop.{Stop}
 use Rattle.ag_text.specs.declared.stop.Stop.TheVariants as stop
 use Rattle.ag_text.specs.Grammar.{max_length, ReadsAsNone}

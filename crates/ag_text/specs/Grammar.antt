@@ -3,7 +3,7 @@ use Rattle.std.specs.Prelude.{◌≤◌, ℕ, List, length, chars, IsUtf8}
 use Rattle.ag_expr.specs.language.Ending as ending
 use Rattle.ag_expr.specs.language.Placed.{Placed}
 use Rattle.ag_expr.specs.language.Tokens.{Lexes}
-use Rattle.ag_text.specs.declared.raw.RawGrammar.{RawGrammar}
+use Rattle.ag_grammar.specs.declared.raw.RawGrammar.{RawGrammar}
 use Rattle.ag_text.specs.Syntax.{IsGrammar}
 
 -- how many bytes a grammar's text has at most

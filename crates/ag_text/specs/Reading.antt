@@ -1,8 +1,8 @@
 -- Reading a grammar from the front of placed tokens: what is read, and what is left; or why reading stops.
 use Rattle.std.specs.Prelude.{ℕ, zero, suc, Bool, true, not, cond, if◌then◌else◌, List, [], ◌∷◌, ◌++◌, length, Option, Some, None, Result, Ok, Err, codes}
 use Rattle.ag_expr.specs.declared.fault.ExprFault.{ExprFault}
-use Rattle.ag_expr.specs.declared.node.Node.{Node}
-use Rattle.ag_expr.specs.declared.occurrence.Occ.{Occ}
+use Rattle.ag_grammar.specs.declared.node.Node.{Node}
+use Rattle.ag_grammar.specs.declared.occurrence.Occ.{Occ}
 use Rattle.ag_expr.specs.declared.token.Punctuation.{Punctuation}
 use Rattle.ag_expr.specs.declared.token.Punctuation.TheVariants as punctuation
 use Rattle.ag_expr.specs.language.Placed.{Placed, Input}
@@ -10,12 +10,12 @@ use Rattle.ag_expr.specs.language.Reading.{front, is_end, next, sees}
 use Rattle.ag_expr.specs.language.Offsets.{place}
 use Rattle.ag_expr.specs.language.Until.{Ended, read_until_from}
 use Rattle.ag_expr.specs.language.Token.{Token}
-use Rattle.ag_text.specs.declared.raw.Named.{Named}
-use Rattle.ag_text.specs.declared.raw.RawGrammar.{RawGrammar}
-use Rattle.ag_text.specs.declared.raw.RawItem.{RawItem}
-use Rattle.ag_text.specs.declared.raw.RawProduction.{RawProduction}
-use Rattle.ag_text.specs.declared.raw.RawRule.{RawRule}
-use Rattle.ag_text.specs.declared.raw.RawSymbol.{RawSymbol}
+use Rattle.ag_grammar.specs.declared.raw.Named.{Named}
+use Rattle.ag_grammar.specs.declared.raw.RawGrammar.{RawGrammar}
+use Rattle.ag_grammar.specs.declared.raw.RawItem.{RawItem}
+use Rattle.ag_grammar.specs.declared.raw.RawProduction.{RawProduction}
+use Rattle.ag_grammar.specs.declared.raw.RawRule.{RawRule}
+use Rattle.ag_grammar.specs.declared.raw.RawSymbol.{RawSymbol}
 use Rattle.ag_text.specs.declared.stop.Stop.{Stop}
 use Rattle.ag_text.specs.declared.stop.Stop.TheVariants.{WrongAt, InExpr}
 use Rattle.ag_text.specs.Words.{is_mark, is_word, mark_in, word_in, name_in, item_in, target_in}

@@ -1,7 +1,7 @@
 -- Which placed tokens spell a grammar: this project's grammar of grammars.
 use Rattle.std.specs.Prelude.{◌≡◌, ℕ, List, [], ◌∷◌, None, codes}
-use Rattle.ag_expr.specs.declared.node.Node.{Node}
-use Rattle.ag_expr.specs.declared.occurrence.Occ.{Occ}
+use Rattle.ag_grammar.specs.declared.node.Node.{Node}
+use Rattle.ag_grammar.specs.declared.occurrence.Occ.{Occ}
 use Rattle.ag_expr.specs.declared.token.Punctuation.{Punctuation}
 use Rattle.ag_expr.specs.declared.token.Punctuation.TheVariants as punctuation
 use Rattle.ag_expr.specs.language.Expression.{max_levels}
@@ -9,11 +9,11 @@ use Rattle.ag_expr.specs.language.Occurrences.{all_occurrences, different}
 use Rattle.ag_expr.specs.language.Placed.{Placed, tokens}
 use Rattle.ag_expr.specs.language.Syntax.{IsExpr}
 use Rattle.ag_expr.specs.language.Until.{first_semicolon}
-use Rattle.ag_text.specs.declared.raw.Named.{Named}
-use Rattle.ag_text.specs.declared.raw.RawGrammar.{RawGrammar}
-use Rattle.ag_text.specs.declared.raw.RawProduction.{RawProduction}
-use Rattle.ag_text.specs.declared.raw.RawRule.{RawRule}
-use Rattle.ag_text.specs.declared.raw.RawSymbol.{RawSymbol}
+use Rattle.ag_grammar.specs.declared.raw.Named.{Named}
+use Rattle.ag_grammar.specs.declared.raw.RawGrammar.{RawGrammar}
+use Rattle.ag_grammar.specs.declared.raw.RawProduction.{RawProduction}
+use Rattle.ag_grammar.specs.declared.raw.RawRule.{RawRule}
+use Rattle.ag_grammar.specs.declared.raw.RawSymbol.{RawSymbol}
 use Rattle.ag_text.specs.Spelling.{◌>>=◌, ◌>>◌, gives, one, ◌or◌, Many, further}
 use Rattle.ag_text.specs.Words.{mark_in, word_in, name_in, item_in, target_in}
 

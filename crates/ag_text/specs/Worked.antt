@@ -1,15 +1,15 @@
 -- Tokens and grammars for worked examples.
 use Rattle.std.specs.Prelude.{ℕ, List, [], ◌∷◌, pos, codes}
 use Rattle.ag_value.specs.declared.value.Value.TheVariants as value
-use Rattle.ag_expr.specs.declared.node.Node.TheVariants as node
+use Rattle.ag_grammar.specs.declared.node.Node.TheVariants as node
 use Rattle.ag_expr.specs.declared.token.Punctuation.{Punctuation}
 use Rattle.ag_expr.specs.declared.token.Punctuation.TheVariants as punctuation
 use Rattle.ag_expr.specs.language.Placed.{Placed}
 use Rattle.ag_expr.specs.language.Token as token
-use Rattle.ag_text.specs.declared.raw.Named.{Named}
-use Rattle.ag_text.specs.declared.raw.RawGrammar.{RawGrammar}
-use Rattle.ag_text.specs.declared.raw.RawItem.TheVariants as item
-use Rattle.ag_text.specs.declared.raw.RawRule.{RawRule}
+use Rattle.ag_grammar.specs.declared.raw.Named.{Named}
+use Rattle.ag_grammar.specs.declared.raw.RawGrammar.{RawGrammar}
+use Rattle.ag_grammar.specs.declared.raw.RawItem.TheVariants as item
+use Rattle.ag_grammar.specs.declared.raw.RawRule.{RawRule}
 
 abbrev pub name_at : ℕ → List ℕ → Placed
 name_at at name = record { at = at; token = token.Name name }

@@ -9,10 +9,10 @@ ghost use Rattle.ag_text.specs.declared.fault.TextFault.TheVariants as fault;
 
 use crate::fault::TextFault;
 use crate::parser::whole_grammar;
-use crate::raw::RawGrammar;
 use crate::reader::Reader;
 use crate::stop::Stop;
 use ag_expr::ExprFault;
+use ag_grammar::RawGrammar;
 use std::alloc::Global;
 
 /// How many bytes a grammar's text has at most.

@@ -3,13 +3,13 @@
 ghost use Rattle.ag_text.specs.Passing.{Reads};
 ghost use Rattle.ag_text.specs.Reading as reading;
 
-use crate::raw::{Named, RawGrammar, RawItem, RawProduction, RawRule, RawSymbol};
 use crate::reader::Reader;
 use crate::stop::Stop;
 use crate::tokens::{
     end, expect, expect_word, item, name, sees_any, sees_mark, sees_other, sees_word, target,
 };
 use ag_expr::Punctuation;
+use ag_grammar::{Named, RawGrammar, RawItem, RawProduction, RawRule, RawSymbol};
 use ag_value::Items;
 use std::alloc::Global;
 

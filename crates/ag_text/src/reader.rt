@@ -9,7 +9,8 @@ ghost use Rattle.ag_text.specs.Passing.{Reads};
 ghost use Rattle.ag_text.specs.Reading.{ended_expr_from};
 
 use crate::stop::{Stop, in_expr};
-use ag_expr::{Cursor, Expr, Token, read_until};
+use ag_expr::{Cursor, Token, read_until};
+use ag_grammar::Expr;
 use std::alloc::Global;
 use std::marker::Model;
 

@@ -12,10 +12,10 @@ ghost use Rattle.ag_text.specs.Reading as reading;
 ghost use Rattle.ag_text.specs.Words as words;
 ghost use Rattle.ag_text.specs.declared.stop.Stop.TheVariants as stop;
 
-use crate::raw::{Named, RawItem};
 use crate::reader::Reader;
 use crate::stop::Stop;
-use ag_expr::{Occ, Punctuation, Token, unescaped};
+use ag_expr::{Punctuation, Token, unescaped};
+use ag_grammar::{Named, Occ, RawItem};
 use ag_value::{NoMemory, Text};
 use std::alloc::Global;
 

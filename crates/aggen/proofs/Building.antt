@@ -3,7 +3,7 @@ use Rattle.std.proofs.Common.{◌≡◌, ℕ, List, Result, Err, refl, subst, sy
 use Rattle.std.specs.Prelude.{IsErrOf}
 use Rattle.agoutput.specs.declared.fault.ListingFault.{ListingFault}
 use Rattle.agoutput.specs.declared.fault.ListingFault.TheVariants as listing
-use Rattle.ag_expr.specs.grammars.AttributeGrammar.{Grammar}
+use Rattle.ag_grammar.specs.grammars.AttributeGrammar.{Grammar}
 use Rattle.llparse.specs.Tables.{IsLeastConflict}
 use Rattle.llparse.specs.declared.ahead.Ahead.{Ahead}
 use Rattle.llparse.specs.declared.fault.TableFault.{TableFault}

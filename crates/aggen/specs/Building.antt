@@ -1,6 +1,6 @@
 -- What it means that a text makes a translator: the grammar that it is, or its first fault. All of this is this project's.
 use Rattle.std.specs.Prelude.{ℕ, List}
-use Rattle.ag_expr.specs.grammars.AttributeGrammar.{Grammar}
+use Rattle.ag_grammar.specs.grammars.AttributeGrammar.{Grammar}
 use Rattle.ag_text.specs.declared.fault.TextFault.{TextFault}
 use Rattle.ag_text.specs.declared.fault.TextFault.TheVariants as text
 use Rattle.llparse.specs.Ahead.{HasNoConflict}

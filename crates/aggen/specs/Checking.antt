@@ -3,19 +3,23 @@
 use Rattle.std.specs.Prelude.{◌≡◌, ◌≢◌, ◌++◌, ℕ, List, length, Option, Err, codes, decimal}
 use Rattle.std.specs.Io.KnownBytes.{Appends}
 use Rattle.ag_expr.specs.declared.fault.ExprFault.TheVariants as expr
-use Rattle.ag_expr.specs.grammars.Accepted.{IsAccepted}
-use Rattle.ag_expr.specs.grammars.AttributeGrammar.{Grammar}
+use Rattle.ag_grammar.specs.grammars.Accepted.{IsAccepted}
+use Rattle.ag_grammar.specs.grammars.AttributeGrammar.{Grammar}
 use Rattle.ag_text.specs.Answers.{IsFirstOf, IsRead, IsRefused}
 use Rattle.ag_text.specs.Grammar.{ReadsAsGrammar}
 use Rattle.ag_text.specs.declared.fault.TextFault.{TextFault}
 use Rattle.ag_text.specs.declared.fault.TextFault.TheVariants as text_fault
-use Rattle.ag_text.specs.declared.raw.RawGrammar.{RawGrammar}
-use Rattle.normalform.specs.Faults.{IsFirstFault}
+use Rattle.ag_grammar.specs.declared.raw.RawGrammar.{RawGrammar}
+use Rattle.normalform.specs.Faults.{IsFirstFault, IsReadable}
 use Rattle.normalform.specs.Numbers.{numbered}
 use Rattle.normalform.specs.declared.fault.NormalFault.{NormalFault}
 use Rattle.agoutput.specs.Writing.{AppendsBeginning}
 use Rattle.aggen.specs.declared.fault.Fault.{Fault}
 use Rattle.aggen.specs.declared.fault.Fault.TheVariants as fault
+
+-- The literals and classes of what a text reads as are those that a text gives.
+abbrev pub TextsAreReadable : Type 0
+TextsAreReadable = (text : List ℕ) (raw : RawGrammar) → ReadsAsGrammar text raw → IsReadable raw
 
 -- the text reads as a raw grammar, which by numbers is this one, and it is accepted
 pub record IsGrammarOf (text : List ℕ) (grammar : Grammar) : Type 0 where

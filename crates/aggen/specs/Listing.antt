@@ -1,7 +1,7 @@
 -- What it means to print the plan of a grammar's text, or its code. All of this is this project's.
 use Rattle.std.specs.Prelude.{ℕ, List, Option}
 use Rattle.std.specs.Io.KnownBytes.{Appends}
-use Rattle.ag_expr.specs.grammars.AttributeGrammar.{Grammar}
+use Rattle.ag_grammar.specs.grammars.AttributeGrammar.{Grammar}
 use Rattle.agoutput.specs.Listings.{AppendsPlan, AppendsPlanBeginning, code_text}
 use Rattle.agoutput.specs.Writing.{AppendsBeginning}
 use Rattle.passcode.specs.Rows.{Lists}

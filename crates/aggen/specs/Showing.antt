@@ -2,12 +2,12 @@
 -- written. All of this is this project's.
 use Rattle.std.specs.Prelude.{◌≡◌, ◌⊎◌, ℕ, pos, List, [], ◌∷◌, ◌++◌, codes, Option, None, Some}
 use Rattle.std.specs.Io.KnownBytes.{Appends}
-use Rattle.ag_expr.specs.language.Evaluation.{value_of}
+use Rattle.ag_grammar.specs.expressions.Evaluation.{value_of}
 use Rattle.ag_expr.specs.language.Expression.{IsAt, ReadsAsExpr, ReadsAsNone}
 use Rattle.ag_expr.specs.declared.fault.ExprFault.{ExprFault}
 use Rattle.ag_expr.specs.declared.fault.ExprFault.TheVariants as expr
-use Rattle.ag_expr.specs.declared.node.Node.{Node}
-use Rattle.ag_expr.specs.declared.occurrence.Occ.{Occ}
+use Rattle.ag_grammar.specs.declared.node.Node.{Node}
+use Rattle.ag_grammar.specs.declared.occurrence.Occ.{Occ}
 use Rattle.ag_value.specs.Shown.{shown_of}
 use Rattle.ag_value.specs.Well.{IsWell}
 use Rattle.ag_value.specs.declared.value.Value.{Value}

@@ -34,7 +34,7 @@ pub fn print_counts<W: Write>(alloc: Global, text: &[u8], out: &mut W) -> Result
 
 /// The grammar that a text is, read and checked. G1 to G4 where it reads as none; N1 to N10, the
 /// first fault, where it reads as one that is not accepted.
-#[tactic(auto, using(normalform::proofs::FromTexts::texts_are_readable))]
+#[tactic(auto, using(crate::proofs::FromTexts::texts_are_readable))]
 pub fn grammar_of(alloc: Global, text: &[u8]) -> Result<Grammar, BuildFault>
     ensures grammar { IfOk result (λ g. IsGrammarOf text.now g) }
     ensures refused { IfErr result (λ e. IsGrammarFault text.now e) }

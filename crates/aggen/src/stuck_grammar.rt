@@ -32,7 +32,7 @@ impl fmt::Display for StuckGrammar {
 }
 
 /// An attribute by the names of its symbol and of itself: `L.p`.
-pub fn tell_attribute<W: fmt::Write>(
+fn tell_attribute<W: fmt::Write>(
     f: &mut fmt::Formatter<W>,
     grammar: &Grammar,
     symbol: u16,
@@ -41,14 +41,8 @@ pub fn tell_attribute<W: fmt::Write>(
     let Some(symbol) = grammar.symbols().get(usize::from(symbol)) else {
         return Ok(());
     };
-    let index = usize::from(attribute);
-    let inherited = index.saturating_sub(symbol.syn.as_slice().len());
-    let name = match symbol.syn.as_slice().get(index) {
-        Some(name) => Some(name),
-        None => symbol.inh.as_slice().get(inherited),
-    };
-    match name {
-        Some(name) => write!(f, "{}.{}", symbol.name.as_str(), name.as_str()),
+    match symbol.attribute_name(attribute) {
+        Some(name) => write!(f, "{}.{name}", symbol.name.as_str()),
         None => Ok(()),
     }
 }

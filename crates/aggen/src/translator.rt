@@ -1,8 +1,8 @@
 //! Translators: made once of a grammar's text, and then used for any number of sentences.
 
 ghost use Rattle.std.specs.Prelude.{◌≡◌, IfErr, IfOk, IsErrOf, OnOk, string_bytes};
-ghost use Rattle.ag_expr.specs.grammars.Tree.{node_count, IsWithinLimits, Tree};
-ghost use Rattle.ag_expr.specs.grammars.Tree.{most_depth, most_nodes};
+ghost use Rattle.ag_grammar.specs.grammars.Tree.{node_count, IsWithinLimits, Tree};
+ghost use Rattle.ag_grammar.specs.grammars.Tree.{most_depth, most_nodes};
 ghost use Rattle.llparse.specs.Ahead.{HasNoConflict};
 ghost use Rattle.llparse.specs.Sentences.{IsFirstFile};
 ghost use Rattle.llparse.specs.Tables.{FitsGrammar};
@@ -41,9 +41,9 @@ pub struct Translator {
 
 impl Model for Translator {
     ghost use Rattle.std.specs.Coded.{codes};
-    ghost use Rattle.ag_expr.specs.contracts.node.Node as node_row;
-    ghost use Rattle.ag_expr.specs.grammars.Accepted.{IsAccepted};
-    ghost use Rattle.ag_expr.specs.grammars.AttributeGrammar.{Grammar as Plain};
+    ghost use Rattle.ag_grammar.specs.contracts.node.Node as node_row;
+    ghost use Rattle.ag_grammar.specs.grammars.Accepted.{IsAccepted};
+    ghost use Rattle.ag_grammar.specs.grammars.AttributeGrammar.{Grammar as Plain};
     ghost use Rattle.llparse.specs.Tables.{FitsGrammar};
     ghost use Rattle.aggen.specs.Building.{IsLeastPlan};
 

@@ -7,17 +7,7 @@
 #![tactic(auto)]
 
 mod command;
-mod conflict_message;
-mod expression_message;
-mod grammar_message;
-mod limit_message;
-mod message;
-mod normal_message;
-mod sentence_message;
-mod sites;
-mod stuck_message;
-mod telling;
-mod terminals;
+mod faults;
 
 use aggen::{
     Fault, Translator, nodes_line, print_code, print_counts, print_plan, show_value, source_of,
@@ -25,9 +15,7 @@ use aggen::{
 };
 use agoutput::write_text;
 use command::{Paths, Request, request_of};
-use grammar_message::GrammarMessage;
-use message::Message;
-use sentence_message::SentenceMessage;
+use faults::{tell, tell_expression, tell_file, tell_grammar, tell_sentence};
 use std::alloc::{AllocError, Global};
 use std::io;
 use std::process::ExitCode;
@@ -46,7 +34,7 @@ fn run<R: Env + Files + Print + Eprint + AllocGlobal>(rt: &R) -> Result<(), Faul
     let alloc = rt.alloc();
     let words = match words_of(rt, alloc) {
         Ok(words) => words,
-        Err(fault) => return Err(tell(rt, alloc, fault, "")),
+        Err(fault) => return Err(tell(rt, fault)),
     };
     match request_of(rt, alloc, words.as_slice()) {
         Ok(Request::Nothing) => Ok(()),
@@ -57,7 +45,7 @@ fn run<R: Env + Files + Print + Eprint + AllocGlobal>(rt: &R) -> Result<(), Faul
         Ok(Request::Parse(paths)) => parse_file(rt, alloc, &paths),
         // the fault of the command line was told already
         Err(Fault::Usage) => Err(Fault::Usage),
-        Err(fault) => Err(tell(rt, alloc, fault, "")),
+        Err(fault) => Err(tell(rt, fault)),
     }
 }
 
@@ -78,7 +66,7 @@ fn print_value<R: Print + Eprint>(rt: &R, alloc: Global, text: &str) -> Result<(
     let mut out = io::writer(rt);
     match show_value(alloc, text, &mut device, &mut out) {
         Ok(()) => Ok(()),
-        Err(fault) => Err(tell(rt, alloc, fault, text)),
+        Err(fault) => Err(tell_expression(rt, alloc, fault, text)),
     }
 }
 
@@ -102,7 +90,7 @@ fn print_of<R: Files + Print + Eprint>(
 ) -> Result<(), Fault> {
     let bytes = match source_of(rt, alloc, path) {
         Ok(bytes) => bytes,
-        Err(fault) => return Err(tell_grammar(rt, alloc, fault, path, &[])),
+        Err(fault) => return Err(tell_file(rt, fault, path)),
     };
     let text = bytes.as_slice();
     let mut out = io::writer(rt);
@@ -113,7 +101,7 @@ fn print_of<R: Files + Print + Eprint>(
     };
     match printed {
         Ok(()) => Ok(()),
-        Err(fault) => Err(tell_grammar(rt, alloc, fault, path, bytes.as_slice())),
+        Err(fault) => Err(tell_grammar(rt, alloc, fault, bytes.as_slice())),
     }
 }
 
@@ -127,15 +115,13 @@ fn parse_file<R: Files + Print + Eprint>(
     let translator = translator_in(rt, alloc, paths.grammar)?;
     let sentence = match source_of(rt, alloc, paths.sentence) {
         Ok(sentence) => sentence,
-        Err(fault) => {
-            let path = paths.sentence;
-            return Err(tell_sentence(rt, alloc, fault, path, &translator, &[]));
-        }
+        Err(fault) => return Err(tell_file(rt, fault, paths.sentence)),
     };
     let sentence = sentence.as_slice();
     match write_tree(rt, alloc, &translator, sentence, paths.tree) {
         Ok(()) => Ok(()),
-        Err(fault) => Err(tell_sentence(rt, alloc, fault, paths.tree, &translator, sentence)),
+        Err(fault @ (Fault::File | Fault::Device)) => Err(tell_file(rt, fault, paths.tree)),
+        Err(fault) => Err(tell_sentence(rt, alloc, fault, &translator, sentence)),
     }
 }
 
@@ -147,13 +133,13 @@ fn translator_in<R: Files + Eprint>(
 ) -> Result<Translator, Fault> {
     let bytes = match source_of(rt, alloc, path) {
         Ok(bytes) => bytes,
-        Err(fault) => return Err(tell_grammar(rt, alloc, fault, path, &[])),
+        Err(fault) => return Err(tell_file(rt, fault, path)),
     };
     match Translator::build(alloc, bytes.as_slice()) {
         Ok(translator) => Ok(translator),
         Err(fault) => {
             let fault = Fault::from(fault);
-            Err(tell_grammar(rt, alloc, fault, path, bytes.as_slice()))
+            Err(tell_grammar(rt, alloc, fault, bytes.as_slice()))
         }
     }
 }
@@ -173,33 +159,4 @@ fn write_tree<R: Files + Print>(
     let mut out = io::writer(rt);
     write_text(&mut out, line.as_str())?;
     Ok(())
-}
-
-/// Tells a fault of a sentence, or of a file beside it, in one line on standard error.
-fn tell_sentence<R: Eprint>(
-    rt: &R,
-    alloc: Global,
-    fault: Fault,
-    path: &str,
-    translator: &Translator,
-    sentence: &[u8],
-) -> Fault {
-    let message = SentenceMessage::new(alloc, &fault, path, translator, sentence);
-    // where the line can't be written, the status still tells
-    let _ = rt.eprintln(message);
-    fault
-}
-
-/// Tells a fault of a grammar's file in one line on standard error.
-fn tell_grammar<R: Eprint>(rt: &R, alloc: Global, fault: Fault, path: &str, bytes: &[u8]) -> Fault {
-    // where the line can't be written, the status still tells
-    let _ = rt.eprintln(GrammarMessage::new(alloc, &fault, path, bytes));
-    fault
-}
-
-/// Tells a fault of a text in one line on standard error.
-fn tell<R: Eprint>(rt: &R, alloc: Global, fault: Fault, text: &str) -> Fault {
-    // where the line can't be written, the status still tells
-    let _ = rt.eprintln(Message::new(alloc, &fault, text));
-    fault
 }

@@ -2,47 +2,18 @@
 
 ghost use Rattle.std.specs.Prelude.{false};
 
+use crate::narrow::with_room;
 use aggen::{Fault, show_value};
 use std::alloc::Global;
-use std::io::{self, Write};
 use std::test::Fail;
 use treefile::{Device, DeviceFault, FuseDevice, MemDevice};
-
-/// A writer that takes so many bytes, one at a time, and then fails or takes none.
-#[derive(Drop)]
-struct Narrow {
-    taken: Vec<u8>,
-    room: usize,
-    fails: bool,
-}
-
-impl Write for Narrow {
-    fn write(&mut self, buf: &[u8]) -> io::Result<usize> {
-        if self.taken.len() < self.room && !buf.is_empty() {
-            self.taken.push(buf[0])?;
-            return Ok(1);
-        }
-        if self.fails {
-            return Err(io::Error::from(io::ErrorKind::Other));
-        }
-        Ok(0)
-    }
-
-    fn flush(&mut self) -> io::Result<()> {
-        Ok(())
-    }
-}
 
 #[test]
 fn a_writer_that_stops(rt: HostRuntime) -> Result<(), Fail> {
     for fails in [false, true] {
         for (room, is_whole) in [(0, false), (2, false), (3, true)] {
             let mut device = MemDevice::new(rt.alloc());
-            let mut out = Narrow {
-                taken: Vec::new(rt.alloc()),
-                room,
-                fails,
-            };
+            let mut out = with_room(rt.alloc(), room, fails)?;
             let shown = show_value(rt.alloc(), "14", &mut device, &mut out);
             match shown {
                 Ok(()) => assert!(rt; is_whole),

@@ -1,4 +1,3 @@
-pub mod Directions
 pub mod Loops
 pub mod Names
 pub mod Written

@@ -3,20 +3,15 @@ use Rattle.std.specs.Prelude.{ℕ, zero, suc, ◌≡◌, ◌==◌, if◌then◌e
 use Rattle.std.specs.Io.KnownBytes.{Appends}
 use Rattle.std.specs.List.{enumerate_from, flat_map, zip}
 use Rattle.ag_value.specs.Shown.{separated}
-use Rattle.ag_expr.specs.declared.grammar.Production.{Production}
-use Rattle.ag_expr.specs.declared.grammar.Symbol.{Symbol}
-use Rattle.ag_expr.specs.grammars.AttributeGrammar.{Grammar, attribute_names, item_at, item_names}
-use Rattle.ag_expr.specs.grammars.Passes.{Direction, LeftToRight, RightToLeft, direction_of}
+use Rattle.ag_grammar.specs.declared.grammar.Production.{Production}
+use Rattle.ag_grammar.specs.declared.grammar.Symbol.{Symbol}
+use Rattle.ag_grammar.specs.grammars.AttributeGrammar.{Grammar, attribute_names, item_at, item_names}
+use Rattle.ag_grammar.specs.grammars.Passes.{direction_name, direction_of}
 use Rattle.passassign.specs.Rows.{IsGreatest}
 use Rattle.passcode.specs.Rows.{Lists}
 use Rattle.passcode.specs.declared.instr.Instr.{Instr}
 use Rattle.passcode.specs.declared.instr.Instr.TheVariants as instr
 use Rattle.agoutput.specs.Writing.{AppendsBeginning}
-
--- how a direction is written
-abbrev pub direction_name : Direction → List ℕ
-direction_name LeftToRight = codes "left-to-right"
-direction_name RightToLeft = codes "right-to-left"
 
 -- an attribute's name and its pass: where that is pass k, a space, the symbol's name, a point and the attribute's name
 abbrev pub attribute_text : ℕ → List ℕ → List ℕ × ℕ → List ℕ

@@ -1,4 +1,4 @@
--- Examples of listings, of the first sample grammar of ag_expr.
+-- Examples of listings, of the first sample grammar of ag_grammar.
 use Rattle.std.specs.Prelude.{ℕ, List, [], ◌∷◌, codes}
 
 -- all its attributes are of the first pass, which goes from right to left

@@ -2,12 +2,11 @@
 
 ghost use Rattle.std.specs.Prelude.{◌≡◌, ◌++◌, [], OnOk, decimal, slice_get, slice_index_or};
 ghost use Rattle.std.specs.Prelude.{string_bytes};
-ghost use Rattle.ag_expr.specs.grammars.AttributeGrammar.{symbol_names};
+ghost use Rattle.ag_grammar.specs.grammars.AttributeGrammar.{symbol_names};
 ghost use Rattle.agoutput.specs.Listings.{attribute_name as name_at};
 
-use ag_expr::Terminal;
+use ag_grammar::Terminal;
 use normalform::{Grammar, Item, Production, Symbol};
-use planchecker::item_of;
 use std::alloc::{AllocError, Global};
 
 /// Appends a number in decimal.
@@ -25,16 +24,9 @@ fn symbol_attribute(symbols: &[Symbol], symbol: u16, attr: u16) -> &str
     if symbol as usize >= symbols.len() {
         return "";
     }
-    let symbol = &symbols[symbol as usize];
-    let synthesized = symbol.syn.as_slice();
-    let inherited = symbol.inh.as_slice();
-    let number = attr as usize;
-    if number < synthesized.len() {
-        synthesized[number].as_str()
-    } else if number - synthesized.len() < inherited.len() {
-        inherited[number - synthesized.len()].as_str()
-    } else {
-        ""
+    match symbols[symbol as usize].attribute_name(attr) {
+        Some(name) => name,
+        None => "",
     }
 }
 
@@ -47,7 +39,7 @@ pub(crate) fn attribute_name<'a>(
 ) -> &'a str
     ensures { result.now ≡ name_at grammar.now production.now place attr }
 {
-    match item_of(production, place) {
+    match production.item_at(place) {
         Some(Item::Symbol(symbol)) => symbol_attribute(grammar.symbols(), symbol, attr),
         Some(Item::Terminal(Terminal::Class(_))) => if attr == 0 { "lex" } else { "" },
         Some(Item::Terminal(Terminal::Literal(_))) => "",

@@ -2,32 +2,20 @@
 
 ghost use Rattle.std.specs.Prelude.{◌≡◌, ◌++◌, IfOk, IsErrOf, OnOk, decimal, string_bytes};
 ghost use Rattle.std.specs.List.{flat_map, zip};
-ghost use Rattle.ag_expr.specs.grammars.Passes.{direction_of};
 ghost use Rattle.passassign.specs.Rows.{numbers_of};
 ghost use Rattle.planchecker.specs.Plans.{IsPlan};
 ghost use Rattle.agoutput.specs.Listings.{AppendsPlan, AppendsPlanBeginning, IsPlanListing};
-ghost use Rattle.agoutput.specs.Listings.{attribute_text, direction_name, pass_line, symbol_text};
+ghost use Rattle.agoutput.specs.Listings.{attribute_text, pass_line, symbol_text};
 
 use crate::fault::ListingFault;
 use crate::naming::show_number;
 use crate::writing::write_text;
+use ag_grammar::Direction;
 use normalform::{Grammar, Symbol};
 use passassign::Assignment;
 use planchecker::Plan;
 use std::alloc::{AllocError, Global};
 use std::io::Write;
-
-/// The direction of a pass.
-#[tactic(auto, using(crate::proofs::Directions::even_name, crate::proofs::Directions::odd_name))]
-fn direction(pass: u16) -> &'static str
-    ensures { result.now ≡ direction_name (direction_of pass) }
-{
-    if pass % 2 == 0 {
-        "left-to-right"
-    } else {
-        "right-to-left"
-    }
-}
 
 /// Appends an attribute of a symbol, where its pass is the one that is told.
 fn show_attribute(
@@ -100,7 +88,7 @@ fn show_pass(
     out.push_str("pass ")?;
     show_number(alloc, out, pass as usize)?;
     out.push_str(" ")?;
-    out.push_str(direction(pass))?;
+    out.push_str(Direction::of_pass(pass).name())?;
     out.push_str(":")?;
     show_symbols(out, pass, grammar.symbols(), assignment.rows())?;
     out.push_str("\n")?;

@@ -1,7 +1,7 @@
 //! Examples of the definitions, each a law.
 
 ghost use Rattle.std.specs.Prelude.{◌≡◌};
-ghost use Rattle.ag_expr.specs.grammars.Sample.{sample};
+ghost use Rattle.ag_grammar.specs.grammars.Sample.{sample};
 ghost use Rattle.passcode.specs.Sample.{sample_list, sample_production};
 ghost use Rattle.agoutput.specs.Listings.{IsPlanListing, code_line};
 ghost use Rattle.agoutput.specs.Sample.{sample_line, sample_plan, sample_rows};

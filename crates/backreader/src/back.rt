@@ -1,57 +1,51 @@
 //! A reader of tree files that goes from the end to the header.
 
-ghost use Rattle.std.specs.Prelude.{◌≡◌, ◌≢◌, ◌≤◌, ◌+◌, ◌-◌, Ok, Err, None, IfNone, IfOk};
-ghost use Rattle.std.specs.Prelude.{IfSome, IsErrOf, length, slice_range};
+ghost use Rattle.std.specs.Prelude.{◌≡◌, ◌≢◌, ◌≤◌, ◌+◌, None, Err, IfOk};
+ghost use Rattle.std.specs.Prelude.{IfSome, IsErrOf, length};
 ghost use Rattle.std.specs.Option.{option_map};
-ghost use Rattle.backreader.specs.Place.{HasRead, IsOver, lent_body, body_so_long, progress_after};
-ghost use Rattle.treefile.specs.Backward.{next_before, pass_in, pass_of};
+ghost use Rattle.backreader.specs.Place.{HasRead, IsLarge, IsOver, Progress, lent_body};
+ghost use Rattle.backreader.specs.Place.{progress_after};
+ghost use Rattle.treefile.specs.Backward.{next_before, pass_in};
 ghost use Rattle.treefile.specs.Device.{LeavesContent, Persists, WhenHonest};
-ghost use Rattle.treefile.specs.Ending.{IsBody, IsBytes, Told, body_before, greatest_body};
-ghost use Rattle.treefile.specs.Ending.{header_bytes};
-ghost use Rattle.treefile.specs.Ending.{least_body, length_bytes};
+ghost use Rattle.treefile.specs.Ending.{IsBody, Told, length_bytes};
 ghost use Rattle.treefile.specs.TreeFile.{version_one};
-ghost use Rattle.treefile.specs.declared.reading.FrameFault.TheVariants.{Damaged};
 
+use crate::window::Window;
 use std::alloc::Global;
 use std::marker::Model;
-use treefile::{
-    Device, FrameFault, HEADER_BYTES, LENGTH_BYTES, begins_tree_file, bytes_at, fits_before,
-};
-
-/// How many bytes a header has, the number of the pass being its last two.
-const HEADER: usize = HEADER_BYTES as usize;
-
-/// How many bytes the length behind a body has.
-const LENGTH: usize = LENGTH_BYTES as usize;
+use treefile::{Device, FrameFault, pass_in};
 
 /// Reads the bodies of a tree file from the last to the first. It holds no device: each call takes
-/// the one that it was started on. It is seen as the bytes that it was started on and how far it
-/// has come in them.
+/// the one that it was started on. It is seen as how far it has come, and the bytes before that
+/// place that it has read.
 #[derive(Drop)]
 pub struct Back {
-    bytes: Vec<u8>,
+    window: Window,
     pass: u16,
-    at: usize,
     records: u64,
     fault: Option<FrameFault>,
 }
 
 impl Model for Back {
-    ghost use Rattle.std.specs.Prelude.{◌≤◌, ◌<◌, ◌+◌, ◌^◌, length};
-    ghost use Rattle.treefile.specs.Ending.{header_bytes};
+    ghost use Rattle.std.specs.Prelude.{◌<◌, ◌+◌, ◌^◌};
     ghost use Rattle.backreader.specs.Place.{Place};
+    ghost use Rattle.backreader.specs.Windows.{unread};
 
     ghost Value = { Place };
 
     ghost view = { λ b. record {
-      bytes = b.bytes.items;
-      progress = record { pass = b.pass; at = b.at; records = b.records; fault = b.fault };
+      window = unread b.window;
+      progress = record {
+        pass = b.pass;
+        at = b.window.at;
+        records = b.records;
+        fault = b.fault;
+      };
     } };
 
-    // the offset is behind the header and within the bytes, and each body that was lent stood
-    // behind it with its length: so they are fewer than the greatest u64
-    ghost invariant = { λ b. (header_bytes ≤ b.at) × (b.at ≤ length b.bytes.items)
-        × (b.records + b.at < 2 ^ 64) };
+    // each body that was lent stood behind the offset with its length: so they are fewer than the
+    // greatest u64
+    ghost invariant = { λ b. b.records + b.window.at < 2 ^ 64 };
 }
 
 impl Back {
@@ -63,7 +57,7 @@ impl Back {
     /// A reader of the tree file that a device has, behind its last frame.
     ///
     /// B1 NotATreeFile where there are fewer than 6 bytes or the first four are not `AGT1`. D1
-    /// Device where a call of the device failed. Takes memory for the bytes of the device.
+    /// Device where a call of the device failed. Takes memory for a buffer of 4,096 bytes.
     pub fn start<D: Device>(alloc: Global, device: &mut D) -> Result<Back, FrameFault>
         // The number of the pass, and B1, exactly as the content has them
         ensures told { WhenHonest (D.is_honest device.old) (Told (λ back. back.progress.pass) result
@@ -74,7 +68,6 @@ impl Back {
             (IfOk result (λ back. back.progress.at ≡ length (D.content device.old))) }
         ensures fresh { IfOk result (λ back. back.progress.records ≡ 0) }
         ensures unbroken { IfOk result (λ back. back.progress.fault ≡ None) }
-        ensures bytes { IfOk result (λ back. IsBytes back.bytes) }
         ensures content { LeavesContent (D.is_honest device.old)
             (D.content device.old) (D.content device.new) }
         // D1 only where the number of failures rose
@@ -82,14 +75,10 @@ impl Back {
             (D.failures device.old) (D.failures device.new) (IsErrOf result FrameFault.Device) }
     {
         let end = device.len()?;
-        if !begins_tree_file(device, end)? {
-            return Err(FrameFault::NotATreeFile);
-        }
-        let bytes = bytes_at(alloc, device, 0, end as usize)?;
-        let pass = pass_in_header(&bytes);
+        let pass = pass_in(device, end)?;
+        let window = Window::new(alloc, end)?;
         Ok(Back {
-            at: bytes.len(),
-            bytes,
+            window,
             pass,
             records: 0,
             fault: None,
@@ -102,7 +91,8 @@ impl Back {
     ///
     /// B2 Damaged where no frame ends there, with the offset at which one should. D1 Device where
     /// a call of the device failed. After either that refusal is answered for good, and the device
-    /// is left alone. For want of memory nothing changes.
+    /// is left alone. Takes memory for a frame of more than 4,096 bytes, and for want of it nothing
+    /// changes.
     pub fn back<D: Device>(&mut self, device: &mut D) -> Result<Option<&[u8]>, FrameFault>
         requires { WhenHonest (D.is_honest device.old) (IsOver (D.content device.old) self.old) }
         // How far the reader has come, and that it is one of the same content
@@ -113,6 +103,10 @@ impl Back {
         ensures told { self.old.progress.fault ≡ None → WhenHonest (D.is_honest device.old)
             (Told (option_map (λ body. body.now)) result
             (next_before version_one (D.content device.old) self.old.progress.at)) }
+        // Want of memory only where the frame has more bytes than the buffer of `start`
+        ensures memory { self.old.progress.fault ≡ None → WhenHonest (D.is_honest device.old)
+            (IsErrOf result FrameFault.NoMemory →
+            IsLarge (next_before version_one (D.content device.old) self.old.progress.at)) }
         // Whatever the device is, a body is lent that may stand in a frame and stood before
         ensures body { IfOk result (λ found. IfSome found
             (λ body. IsBody version_one body.now)) }
@@ -129,44 +123,20 @@ impl Back {
             (D.failures device.old) (D.failures device.new)
             (IsErrOf result FrameFault.Device × (self.old.progress.fault ≡ None)) }
     {
-        match self.step()? {
-            None => Ok(None),
-            Some(length) => Ok(Some(&self.bytes[self.at..self.at + length])),
-        }
-    }
-
-    /// Moves before the frame that ends at the offset. The length of its body.
-    #[tactic(auto, unfolding(treefile::specs::Backward::next_before))]
-    fn step(&mut self) -> Result<Option<usize>, FrameFault>
-        ensures told { self.old.progress.fault ≡ None → Told (option_map (body_so_long self.old))
-            result (next_before version_one self.old.bytes self.old.progress.at) }
-        ensures broken { IfSome self.old.progress.fault (λ fault. result ≡ Err fault) }
-        ensures device { IsErrOf result FrameFault.Device → self.old.progress.fault ≢ None }
-        ensures file { IsErrOf result FrameFault.NotATreeFile → self.old.progress.fault ≢ None }
-        ensures bytes { self.new.bytes ≡ self.old.bytes }
-        ensures moved { self.new.progress
-            ≡ progress_after self.old.progress (lent_body (body_so_long self.old) result) }
-        ensures least { IfOk result (λ found. IfSome found (λ count. least_body ≤ count)) }
-        ensures greatest { IfOk result (λ found. IfSome found
-            (λ count. count ≤ greatest_body version_one)) }
-        ensures room { IfOk result (λ found. IfSome found
-            (λ count. self.new.progress.at + count + length_bytes ≡ self.old.progress.at)) }
-        ensures within { self.old.progress.at ≤ length self.old.bytes }
-    {
         if let Some(fault) = self.fault {
             return Err(fault);
         }
-        if self.at == HEADER {
-            return Ok(None);
+        match self.window.next(device) {
+            Ok(None) => Ok(None),
+            Ok(Some(length)) => {
+                self.records += 1;
+                Ok(Some(self.window.taken(length)))
+            }
+            Err(fault) => {
+                self.fault = for_good(fault);
+                Err(fault)
+            }
         }
-        let Some(length) = length_before(&self.bytes, self.at) else {
-            let fault = FrameFault::Damaged(self.at as u64);
-            self.fault = Some(fault);
-            return Err(fault);
-        };
-        self.at -= LENGTH + length;
-        self.records += 1;
-        Ok(Some(length))
     }
 
     /// The number of the pass in the header.
@@ -180,7 +150,7 @@ impl Back {
     pub(crate) fn end(&self) -> u64
         ensures { result ≡ self.now.progress.at }
     {
-        self.at as u64
+        self.window.at()
     }
 
     /// How many bodies were lent.
@@ -191,37 +161,13 @@ impl Back {
     }
 }
 
-/// The number of the pass in the header of a tree file.
-fn pass_in_header(bytes: &[u8]) -> u16
-    requires { header_bytes ≤ length bytes.now }
-    ensures number { result ≡ pass_of bytes.now }
-    ensures bytes { IsBytes bytes.now }
+/// A refusal that is answered for good, which want of memory is not.
+fn for_good(fault: FrameFault) -> Option<FrameFault>
+    ensures { (old : Progress) → old.fault ≡ None →
+        record old { fault = result } ≡ progress_after old (Err fault) }
 {
-    let mut number = [0; 2];
-    number.copy_from_slice(&bytes[HEADER - 2..HEADER]);
-    u16::from_be_bytes(number)
-}
-
-/// The length of the body whose frame ends at an offset.
-#[tactic(auto, unfolding(treefile::specs::Ending::body_before))]
-fn length_before(bytes: &[u8], at: usize) -> Option<usize>
-    requires { at ≤ length bytes.now }
-    ensures found { IfSome result (λ count. body_before version_one bytes.now at
-        ≡ Ok (slice_range bytes.now (at - length_bytes - count) (at - length_bytes))) }
-    ensures room { IfSome result (λ count. header_bytes + count + length_bytes ≤ at) }
-    ensures least { IfSome result (λ count. least_body ≤ count) }
-    ensures greatest { IfSome result (λ count. count ≤ greatest_body version_one) }
-    ensures none { IfNone result (body_before version_one bytes.now at ≡ Err (Damaged at)) }
-{
-    if at < HEADER + LENGTH {
-        return None;
-    }
-    let mut number = [0; 4];
-    number.copy_from_slice(&bytes[at - LENGTH..at]);
-    let length = u32::from_be_bytes(number);
-    if fits_before(at as u64, u64::from(length)) {
-        Some(length as usize)
-    } else {
-        None
+    match fault {
+        FrameFault::NoMemory => None,
+        FrameFault::NotATreeFile | FrameFault::Damaged(_) | FrameFault::Device => Some(fault),
     }
 }

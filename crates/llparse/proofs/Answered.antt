@@ -1,8 +1,8 @@
 -- What a parse tells of each tree of its tokens.
 use Rattle.std.proofs.Common.{◌≡◌, ℕ, Bool, List, ◌++◌, drop, Result, Ok, Err, refl, ap, sym, ◌∙◌, subst}
 use Rattle.std.specs.Prelude.{IfErr, IfOk, OnOk}
-use Rattle.ag_expr.specs.grammars.AttributeGrammar.{Grammar}
-use Rattle.ag_expr.specs.grammars.Tree.{Tree}
+use Rattle.ag_grammar.specs.grammars.AttributeGrammar.{Grammar}
+use Rattle.ag_grammar.specs.grammars.Tree.{Tree}
 use Rattle.ag_scan.specs.declared.token.Token.{Token}
 use Rattle.treefile.specs.Device.{WhenHonest}
 use Rattle.treefile.specs.TreeFile.{header, version_one}
@@ -26,4 +26,4 @@ module _ (g : Grammar) (tokens : List Token) (honest : Bool) (front bytes : List
   pub none_of : IfErr result (IsRefused (task_of g tokens honest front) (offset_at tokens)) → (at : ℕ) (t : Tree) → result ≡ Err (fault.Unexpected at) → IsTreeWith g (words_of tokens) t → ⊥
   none_of refused at t e has =
       let r : IsRefused (task_of g tokens honest front) (offset_at tokens) (fault.Unexpected at) = subst (λ z. IfErr z (IsRefused (task_of g tokens honest front) (offset_at tokens))) e refused in
-      r.1.ends (drop r.0 (words_of tokens)) t refl (whole (task_of g tokens honest front) r.0 t has)
+      r.1.ends (drop r.0 (words_of tokens)) t refl (whole g (words_of tokens) r.0 t has)

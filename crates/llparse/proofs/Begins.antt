@@ -1,15 +1,15 @@
 -- What is open can be completed, where each symbol has a tree.
 use Rattle.std.proofs.Common.{◌≡◌, ℕ, zero, suc, ◌<◌, List, [], ◌∷◌, ◌++◌, length, Some, slice_get, refl, sym, ◌∙◌, subst, append_assoc, arith}
 use Rattle.std.proofs.lemmas.Str.{is_utf8-from_IsUtf8}
-use Rattle.ag_expr.specs.declared.grammar.Item.TheVariants as item
-use Rattle.ag_expr.specs.declared.grammar.Item.{Item}
-use Rattle.ag_expr.specs.declared.grammar.Production.{Production}
-use Rattle.ag_expr.specs.declared.grammar.Terminal.TheVariants.{Literal, Class}
-use Rattle.ag_expr.specs.grammars.Accepted.{IsAccepted}
-use Rattle.ag_expr.specs.grammars.AttributeGrammar.{Grammar, stored_items, IsProduction}
-use Rattle.ag_expr.specs.grammars.Tree.{Tree, leaf, node, Forest, none, more, Fits, FitsAll}
-use Rattle.ag_expr.specs.grammars.Yield.{Lexeme, yield_along, yield_of}
-use Rattle.ag_expr.proofs.grammars.Productive.{by_trees}
+use Rattle.ag_grammar.specs.declared.grammar.Item.TheVariants as item
+use Rattle.ag_grammar.specs.declared.grammar.Item.{Item}
+use Rattle.ag_grammar.specs.declared.grammar.Production.{Production}
+use Rattle.ag_grammar.specs.declared.grammar.Terminal.TheVariants.{Literal, Class}
+use Rattle.ag_grammar.specs.grammars.Accepted.{IsAccepted}
+use Rattle.ag_grammar.specs.grammars.AttributeGrammar.{Grammar, stored_items, IsProduction}
+use Rattle.ag_grammar.specs.grammars.Tree.{Tree, leaf, node, Forest, none, more, Fits, FitsAll}
+use Rattle.ag_grammar.specs.grammars.Yield.{Lexeme, yield_along, yield_of}
+use Rattle.ag_grammar.proofs.grammars.Productive.{by_trees}
 use Rattle.llparse.specs.Opened.{joined, Open, Continues, IsStack}
 use Rattle.llparse.specs.Parsing.{Task, After, Reading, Asked}
 use Rattle.llparse.specs.declared.parser.OpenNode.{OpenNode}

@@ -3,7 +3,7 @@ use Rattle.std.proofs.Common.{ℕ, zero, suc, ◌+◌, ◌≡◌, ◌<◌, ◌�
 use Rattle.std.proofs.lemmas.Bool.{cases_eq, false≢true}
 use Rattle.std.proofs.lemmas.List.{get_or-set_other, get_or-set_same}
 use Rattle.std.proofs.lemmas.Option.{same_Some, slice_get_within}
-use Rattle.ag_expr.specs.declared.grammar.Production.{Production}
+use Rattle.ag_grammar.specs.declared.grammar.Production.{Production}
 use Rattle.llparse.specs.Predicted.{choice_at, AreFirstFrom, IsClash, IsLeastFrom, IsMarkedOf}
 use Rattle.llparse.specs.Reach.{is_marked}
 use Rattle.llparse.specs.declared.choosing.Pair.{Pair}

@@ -1,11 +1,11 @@
 -- What comes next along items.
 use Rattle.std.proofs.Common.{ℕ, Contains, ◌+◌, ◌≡◌, ◌<◌, ◌⊎◌, ◌↔◌, Bool, true, false, ◌&&◌, ◌||◌, List, [], ◌∷◌, ◌++◌, length, get_or, drop, refl, ap, sym, ◌∙◌, subst, inl, inr, drop-cons, add-one}
 use Rattle.std.proofs.lemmas.Bool.{false≢true}
-use Rattle.ag_expr.specs.declared.grammar.Item.TheVariants as item
-use Rattle.ag_expr.specs.declared.grammar.Item.{Item}
-use Rattle.ag_expr.specs.declared.grammar.Terminal.{Terminal}
-use Rattle.ag_expr.specs.grammars.AttributeGrammar.{Grammar}
-use Rattle.ag_expr.specs.grammars.Accepted.{IsNamedItem}
+use Rattle.ag_grammar.specs.declared.grammar.Item.TheVariants as item
+use Rattle.ag_grammar.specs.declared.grammar.Item.{Item}
+use Rattle.ag_grammar.specs.declared.grammar.Terminal.{Terminal}
+use Rattle.ag_grammar.specs.grammars.AttributeGrammar.{Grammar}
+use Rattle.ag_grammar.specs.grammars.Accepted.{IsNamedItem}
 use Rattle.llparse.specs.Ahead.{IsNullable, AreNullable, nothing, a_symbol, InFirstOf, here, inside, later, ComesFirst}
 use Rattle.llparse.specs.Comes.{next_in, all_empty, OfRest}
 use Rattle.llparse.specs.Edges.{Adds, Begins}

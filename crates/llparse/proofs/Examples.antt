@@ -1,10 +1,10 @@
 -- The examples of conflicts.
 use Rattle.std.proofs.Common.{◌≡◌, ℕ, zero, suc, inl, inr, refl, arith, sym, ◌∙◌, Contains, [], ◌∷◌}
 use Rattle.std.proofs.lemmas.Bool.{cases_eq}
-use Rattle.ag_expr.specs.declared.grammar.Production.{Production}
-use Rattle.ag_expr.specs.declared.grammar.Terminal.TheVariants.{Literal}
-use Rattle.ag_expr.specs.grammars.AttributeGrammar.{IsProduction}
-use Rattle.ag_expr.specs.grammars.Sample.{sample}
+use Rattle.ag_grammar.specs.declared.grammar.Production.{Production}
+use Rattle.ag_grammar.specs.declared.grammar.Terminal.TheVariants.{Literal}
+use Rattle.ag_grammar.specs.grammars.AttributeGrammar.{IsProduction}
+use Rattle.ag_grammar.specs.grammars.Sample.{sample}
 use Rattle.llparse.specs.declared.ahead.Ahead.TheVariants as ahead
 use Rattle.llparse.specs.Ahead.{of_production, here, inside, HasNoConflict, IsConflict}
 use Rattle.llparse.specs.Reach.{InReach, seed, edge, row}

@@ -11,15 +11,16 @@ use Rattle.ag_value.specs.declared.value.Value.TheOpen.{Value-F}
 use Rattle.ag_value.specs.declared.value.Value.TheFolds.{fold-roll-Value}
 use Rattle.ag_value.specs.Measure.{weight_of, weight_step, depth_of, depth_step}
 use Rattle.ag_value.specs.Well.{IsWell, is_item, item_step, is_fault, fault_step}
-use Rattle.ag_expr.specs.Lists.{Each}
-use Rattle.ag_expr.specs.declared.grammar.Item.TheVariants as item
-use Rattle.ag_expr.specs.declared.grammar.Item.{Item}
-use Rattle.ag_expr.specs.declared.grammar.Production.{Production}
-use Rattle.ag_expr.specs.declared.grammar.Terminal.TheVariants.{Literal, Class}
-use Rattle.ag_expr.specs.grammars.AttributeGrammar.{Grammar, stored_items}
-use Rattle.ag_expr.specs.grammars.Passes.{Passes, LeftToRight}
-use Rattle.ag_expr.specs.grammars.Solution.{AtEachNodeOf, IsWellOn, NoRule, Solves, SolvesAll, Valuation, WellAt, children, left_passes, rest}
-use Rattle.ag_expr.specs.grammars.Tree.{Tree, Forest, leaf, node, none, more, Fits, FitsAll, IsTokenText}
+use Rattle.ag_grammar.specs.Lists.{Each}
+use Rattle.ag_grammar.specs.declared.grammar.Item.TheVariants as item
+use Rattle.ag_grammar.specs.declared.grammar.Item.{Item}
+use Rattle.ag_grammar.specs.declared.grammar.Production.{Production}
+use Rattle.ag_grammar.specs.declared.grammar.Terminal.TheVariants.{Literal, Class}
+use Rattle.ag_grammar.specs.grammars.AttributeGrammar.{Grammar, stored_items}
+use Rattle.ag_grammar.specs.declared.direction.Direction.TheVariants.{LeftToRight}
+use Rattle.ag_grammar.specs.grammars.Passes.{Passes}
+use Rattle.ag_grammar.specs.grammars.Solution.{AtEachNodeOf, IsWellOn, NoRule, Solves, SolvesAll, Valuation, WellAt, children, left_passes, rest}
+use Rattle.ag_grammar.specs.grammars.Tree.{Tree, Forest, leaf, node, none, more, Fits, FitsAll, IsTokenText}
 use Rattle.treefile.specs.Orders.{postfix, postfix_all}
 use Rattle.treefile.specs.Records.{bodies_of, bodies_of_all, node_body, values_up_to}
 use Rattle.treefile.specs.TreeFile.{body_of, frame, header, version_one}

@@ -2,13 +2,13 @@
 use Rattle.std.proofs.Common.{ℕ, Contains, take, ◌+◌, ◌≡◌, ◌<◌, ◌⊎◌, ◌↔◌, Bool, true, false, List, [], ◌∷◌, length, get_or, All, refl, ap, sym, ◌∙◌, subst, inl, inr, arith}
 use Rattle.std.specs.Prelude.{if◌then◌else◌}
 use Rattle.std.proofs.lemmas.List.Elements.{Contains-get_or}
-use Rattle.ag_expr.specs.declared.grammar.Item.TheVariants as item
-use Rattle.ag_expr.specs.declared.grammar.Item.{Item}
-use Rattle.ag_expr.specs.declared.grammar.Production.{Production}
-use Rattle.ag_expr.specs.declared.grammar.Terminal.{Terminal}
-use Rattle.ag_expr.specs.declared.grammar.Terminal.TheVariants.{Literal, Class}
-use Rattle.ag_expr.specs.grammars.AttributeGrammar.{Grammar}
-use Rattle.ag_expr.specs.grammars.Accepted.{IsAccepted, IsNamedItem}
+use Rattle.ag_grammar.specs.declared.grammar.Item.TheVariants as item
+use Rattle.ag_grammar.specs.declared.grammar.Item.{Item}
+use Rattle.ag_grammar.specs.declared.grammar.Production.{Production}
+use Rattle.ag_grammar.specs.declared.grammar.Terminal.{Terminal}
+use Rattle.ag_grammar.specs.declared.grammar.Terminal.TheVariants.{Literal, Class}
+use Rattle.ag_grammar.specs.grammars.AttributeGrammar.{Grammar}
+use Rattle.ag_grammar.specs.grammars.Accepted.{IsAccepted, IsNamedItem}
 use Rattle.llparse.specs.Ahead.{IsNullable, InFirst, of_production, InFirstOf, here, inside, later}
 use Rattle.llparse.specs.Edges.{Adds, front, node_in, Begins, HasEdge, IsEdge, IsFirstEdge, IsKnownAhead, OfSome}
 use Rattle.llparse.specs.Nodes.{node_of, place_of}

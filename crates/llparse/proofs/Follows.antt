@@ -2,11 +2,11 @@
 use Rattle.std.proofs.Common.{ℕ, Contains, take, ◌+◌, ◌≡◌, ◌<◌, ◌⊎◌, ◌↔◌, Bool, true, false, List, ◌∷◌, ◌++◌, length, get_or, All, refl, ap, sym, ◌∙◌, subst, inl, inr, arith}
 use Rattle.std.proofs.lemmas.List.Elements.{Contains-get_or, Contains-append_right}
 use Rattle.std.proofs.lemmas.Option.{slice_get_within}
-use Rattle.ag_expr.specs.declared.grammar.Item.TheVariants as item
-use Rattle.ag_expr.specs.declared.grammar.Item.{Item}
-use Rattle.ag_expr.specs.declared.grammar.Production.{Production}
-use Rattle.ag_expr.specs.grammars.AttributeGrammar.{Grammar, IsProduction}
-use Rattle.ag_expr.specs.grammars.Accepted.{IsAccepted, IsNamedItem}
+use Rattle.ag_grammar.specs.declared.grammar.Item.TheVariants as item
+use Rattle.ag_grammar.specs.declared.grammar.Item.{Item}
+use Rattle.ag_grammar.specs.declared.grammar.Production.{Production}
+use Rattle.ag_grammar.specs.grammars.AttributeGrammar.{Grammar, IsProduction}
+use Rattle.ag_grammar.specs.grammars.Accepted.{IsAccepted, IsNamedItem}
 use Rattle.llparse.specs.Ahead.{IsNullable, ComesFirst, InFollow, at_end, next, last}
 use Rattle.llparse.specs.Comes.{next_in, all_empty, IsFollowEdge, IsFollowed, OfRest}
 use Rattle.llparse.specs.Edges.{node_in, Adds, Begins, HasEdge, IsEdge, OfSome}

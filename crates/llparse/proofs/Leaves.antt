@@ -1,12 +1,12 @@
 -- What taking a token of a class keeps true.
 use Rattle.std.proofs.Common.{◌≡◌, ℕ, suc, ◌+◌, ◌<◌, ◌≤◌, List, [], ◌∷◌, ◌++◌, length, drop, refl, ap, sym, ◌∙◌, subst, append_assoc, append-nil, arith}
-use Rattle.ag_expr.specs.declared.grammar.Item.TheVariants as item
-use Rattle.ag_expr.specs.declared.grammar.Item.{Item}
-use Rattle.ag_expr.specs.declared.grammar.Terminal.TheVariants.{Class}
-use Rattle.ag_expr.specs.grammars.Accepted.{IsAccepted}
-use Rattle.ag_expr.specs.grammars.AttributeGrammar.{Grammar}
-use Rattle.ag_expr.specs.grammars.Tree.{IsTokenText, leaf, none, more}
-use Rattle.ag_expr.specs.grammars.Yield.{Lexeme}
+use Rattle.ag_grammar.specs.declared.grammar.Item.TheVariants as item
+use Rattle.ag_grammar.specs.declared.grammar.Item.{Item}
+use Rattle.ag_grammar.specs.declared.grammar.Terminal.TheVariants.{Class}
+use Rattle.ag_grammar.specs.grammars.Accepted.{IsAccepted}
+use Rattle.ag_grammar.specs.grammars.AttributeGrammar.{Grammar}
+use Rattle.ag_grammar.specs.grammars.Tree.{IsTokenText, leaf, none, more}
+use Rattle.ag_grammar.specs.grammars.Yield.{Lexeme}
 use Rattle.treefile.specs.Device.{WhenHonest}
 use Rattle.llparse.specs.Ahead.{ahead_of}
 use Rattle.llparse.specs.Opened.{joined, open_at}
@@ -16,7 +16,7 @@ use Rattle.llparse.specs.declared.ahead.Ahead.TheVariants as ahead
 use Rattle.llparse.specs.declared.parser.OpenNode.{OpenNode}
 use Rattle.llparse.proofs.Begins.{begins_reading}
 use Rattle.llparse.proofs.Fronts.{behind, one_more}
-use Rattle.llparse.proofs.Shown.{length-shows, whole}
+use Rattle.llparse.proofs.Shown.{length-shows}
 use Rattle.llparse.proofs.Sizes as size
 use Rattle.llparse.proofs.Steps as step
 
@@ -63,17 +63,25 @@ module _ (k : Task) where
   }
 
   pub deep_leaf : (p c : ℕ) (ys : List Item) (fs : List OpenNode) (i n : ℕ) (rs : List ℕ) → k.depth ≤ suc (length fs) → Reading k p (item.Terminal (Class c) ∷ ys) fs i n rs → IsTooDeep k
-  deep_leaf p c ys fs i n rs full r t h =
-      let w = step.class_next k.grammar p r.done c ys r.under (drop i k.words) t (r.complete (drop i k.words) t refl (whole k i t h)) in
-      let same = length-shows g r.under fs r.shows in
-      let d = size.depth_open k.grammar (open_at p (joined r.done (more (leaf c w.0) none)) ys) r.under w.1 t w.3 in
-      let levels = size.deepest-joined r.done (more (leaf c w.0) none) in
-      omega arith
+  deep_leaf p c ys fs i n rs full r = (
+    i,
+    r.held.within,
+    λ rest t e h.
+        let w = step.class_next k.grammar p r.done c ys r.under rest t (r.complete rest t e h) in
+        let same = length-shows g r.under fs r.shows in
+        let d = size.depth_open k.grammar (open_at p (joined r.done (more (leaf c w.0) none)) ys) r.under w.1 t w.3 in
+        let levels = size.deepest-joined r.done (more (leaf c w.0) none) in
+        omega arith,
+  )
 
   pub large_leaf : (p c : ℕ) (ys : List Item) (fs : List OpenNode) (i n : ℕ) (rs : List ℕ) → k.nodes ≤ n → Reading k p (item.Terminal (Class c) ∷ ys) fs i n rs → IsTooLarge k
-  large_leaf p c ys fs i n rs full r t h =
-      let w = step.class_next k.grammar p r.done c ys r.under (drop i k.words) t (r.complete (drop i k.words) t refl (whole k i t h)) in
-      let counted = r.held.counted in
-      let d = size.count_open k.grammar (open_at p (joined r.done (more (leaf c w.0) none)) ys) r.under w.1 t w.3 in
-      let counts = size.node_counts-joined r.done (more (leaf c w.0) none) in
-      omega arith
+  large_leaf p c ys fs i n rs full r = (
+    i,
+    r.held.within,
+    λ rest t e h.
+        let w = step.class_next k.grammar p r.done c ys r.under rest t (r.complete rest t e h) in
+        let counted = r.held.counted in
+        let d = size.count_open k.grammar (open_at p (joined r.done (more (leaf c w.0) none)) ys) r.under w.1 t w.3 in
+        let counts = size.node_counts-joined r.done (more (leaf c w.0) none) in
+        omega arith,
+  )

@@ -1,11 +1,11 @@
 -- What taking a token of a literal keeps true.
 use Rattle.std.proofs.Common.{◌≡◌, ℕ, ◌+◌, List, [], ◌∷◌, ◌++◌, drop, ap, sym, ◌∙◌, subst, append_assoc}
-use Rattle.ag_expr.specs.declared.grammar.Item.TheVariants as item
-use Rattle.ag_expr.specs.declared.grammar.Item.{Item}
-use Rattle.ag_expr.specs.declared.grammar.Terminal.TheVariants.{Literal}
-use Rattle.ag_expr.specs.grammars.Accepted.{IsAccepted}
-use Rattle.ag_expr.specs.grammars.AttributeGrammar.{Grammar, literal_text}
-use Rattle.ag_expr.specs.grammars.Yield.{Lexeme}
+use Rattle.ag_grammar.specs.declared.grammar.Item.TheVariants as item
+use Rattle.ag_grammar.specs.declared.grammar.Item.{Item}
+use Rattle.ag_grammar.specs.declared.grammar.Terminal.TheVariants.{Literal}
+use Rattle.ag_grammar.specs.grammars.Accepted.{IsAccepted}
+use Rattle.ag_grammar.specs.grammars.AttributeGrammar.{Grammar, literal_text}
+use Rattle.ag_grammar.specs.grammars.Yield.{Lexeme}
 use Rattle.llparse.specs.Ahead.{ahead_of}
 use Rattle.llparse.specs.Parsing.{Task, Reading}
 use Rattle.llparse.specs.Sentences.{IsTreeWith, IsStuckAt}

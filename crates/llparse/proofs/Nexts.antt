@@ -1,7 +1,7 @@
 -- The words that are left, as the tokens have them.
 use Rattle.std.proofs.Common.{◌≡◌, ℕ, zero, suc, ◌+◌, ◌≤◌, List, [], ◌∷◌, drop, length, slice_get, Some, None, refl, ap, sym, ◌∙◌, add-one, arith}
 use Rattle.ag_scan.specs.declared.token.Token.{Token}
-use Rattle.ag_expr.specs.declared.grammar.Terminal.{Terminal}
+use Rattle.ag_grammar.specs.declared.grammar.Terminal.{Terminal}
 use Rattle.llparse.specs.Ahead.{ahead_of}
 use Rattle.llparse.specs.declared.ahead.Ahead.TheVariants as ahead
 use Rattle.llparse.specs.Sentences.{last_offset, offset_at, words_of}

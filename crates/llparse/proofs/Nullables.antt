@@ -7,12 +7,12 @@ use Rattle.std.proofs.lemmas.List.{get_or-set_other, get_or-set_same, get_or_def
 use Rattle.std.proofs.lemmas.List.Elements.{All-push, Contains-push_cases, Contains-get_or, Contains-append_left, Contains-push, All-contains, All-pop}
 use Rattle.std.proofs.lemmas.List.Sums.{AllPass-from_list_all}
 use Rattle.std.proofs.lemmas.Option.{slice_get-get_or, slice_get_within, get_or_from_slice_get}
-use Rattle.ag_expr.specs.declared.grammar.Item.TheVariants as item
-use Rattle.ag_expr.specs.declared.grammar.Item.{Item}
-use Rattle.ag_expr.specs.declared.grammar.Production.{Production}
-use Rattle.ag_expr.specs.Lists.{Each}
-use Rattle.ag_expr.specs.grammars.AttributeGrammar.{Grammar}
-use Rattle.ag_expr.specs.grammars.Accepted.{IsAccepted, IsNamedItem}
+use Rattle.ag_grammar.specs.declared.grammar.Item.TheVariants as item
+use Rattle.ag_grammar.specs.declared.grammar.Item.{Item}
+use Rattle.ag_grammar.specs.declared.grammar.Production.{Production}
+use Rattle.ag_grammar.specs.Lists.{Each}
+use Rattle.ag_grammar.specs.grammars.AttributeGrammar.{Grammar}
+use Rattle.ag_grammar.specs.grammars.Accepted.{IsAccepted, IsNamedItem}
 use Rattle.llparse.specs.Ahead.{IsNullable, by_production, AreNullable, nothing, a_symbol}
 use Rattle.llparse.specs.Nullable.{is_empty, IsItemBelow, Waits, IsSearch, IsSettled, Grows, Notes}
 use Rattle.llparse.specs.Reach.{is_marked, row}

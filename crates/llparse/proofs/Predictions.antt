@@ -2,10 +2,10 @@
 use Rattle.std.proofs.Common.{ℕ, zero, suc, ◌+◌, ◌≡◌, ◌<◌, ◌↔◌, Bool, true, List, [], ◌∷◌, ◌++◌, length, get_or, refl, ap, sym, ◌∙◌, subst, inl, inr, arith}
 use Rattle.std.proofs.lemmas.Bool.{cases_eq}
 use Rattle.std.proofs.lemmas.Option.{get_or_from_slice_get}
-use Rattle.ag_expr.specs.declared.grammar.Item.{Item}
-use Rattle.ag_expr.specs.declared.grammar.Production.{Production}
-use Rattle.ag_expr.specs.grammars.AttributeGrammar.{Grammar, IsProduction}
-use Rattle.ag_expr.specs.grammars.Accepted.{IsAccepted}
+use Rattle.ag_grammar.specs.declared.grammar.Item.{Item}
+use Rattle.ag_grammar.specs.declared.grammar.Production.{Production}
+use Rattle.ag_grammar.specs.grammars.AttributeGrammar.{Grammar, IsProduction}
+use Rattle.ag_grammar.specs.grammars.Accepted.{IsAccepted}
 use Rattle.llparse.specs.Ahead.{IsNullable, Predicts}
 use Rattle.llparse.specs.Comes.{next_in, AreFollow}
 use Rattle.llparse.specs.Edges.{node_in, AreFirst}

@@ -1,10 +1,10 @@
 -- Which refusals are true where a parser stops.
 use Rattle.std.proofs.Common.{◌≡◌, ℕ, ◌≤◌, Bool, List, length, reverse, slice_get, Some, refl, sym, subst, arith}
 use Rattle.std.proofs.lemmas.List.{length-reverse}
-use Rattle.ag_expr.specs.declared.grammar.Item.TheVariants as item
-use Rattle.ag_expr.specs.declared.grammar.Terminal.TheVariants.{Class}
-use Rattle.ag_expr.specs.grammars.AttributeGrammar.{Grammar, literal_text}
-use Rattle.ag_expr.specs.grammars.Tree.{most_depth}
+use Rattle.ag_grammar.specs.declared.grammar.Item.TheVariants as item
+use Rattle.ag_grammar.specs.declared.grammar.Terminal.TheVariants.{Class}
+use Rattle.ag_grammar.specs.grammars.AttributeGrammar.{Grammar, literal_text}
+use Rattle.ag_grammar.specs.grammars.Tree.{most_depth}
 use Rattle.ag_scan.specs.declared.token.Token.{Token}
 use Rattle.llparse.specs.Parsing.{task_of, IsRefused}
 use Rattle.llparse.specs.Sentences.{offset_at, words_of, IsStuckAt}

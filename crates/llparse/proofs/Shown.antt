@@ -1,10 +1,11 @@
 -- What a stack shows, and what is known of all words from those so far.
-use Rattle.std.proofs.Common.{◌≡◌, ℕ, suc, List, [], ◌∷◌, length, drop, refl, ap, sym, subst}
+use Rattle.std.proofs.Common.{◌≡◌, ℕ, suc, List, [], ◌∷◌, ◌++◌, length, take, drop, refl, ap, sym, subst}
 use Rattle.std.proofs.lemmas.List.{take-append-drop}
-use Rattle.ag_expr.specs.grammars.AttributeGrammar.{Grammar}
-use Rattle.ag_expr.specs.grammars.Tree.{Tree}
+use Rattle.ag_grammar.specs.grammars.AttributeGrammar.{Grammar}
+use Rattle.ag_grammar.specs.grammars.Tree.{Tree}
+use Rattle.ag_grammar.specs.grammars.Yield.{Lexeme}
 use Rattle.llparse.specs.Opened.{Open}
-use Rattle.llparse.specs.Parsing.{Task, After, Shows}
+use Rattle.llparse.specs.Parsing.{Shows}
 use Rattle.llparse.specs.Sentences.{IsTreeWith}
 use Rattle.llparse.specs.declared.parser.OpenNode.{OpenNode}
 
@@ -15,5 +16,5 @@ length-shows g (o ∷ os) [] h = absurd h
 length-shows g (o ∷ os) (f ∷ fs) h = ap suc (length-shows g os fs h.2)
 
 -- the words so far and those left are all words
-pub whole : (k : Task) (i : ℕ) (t : Tree) → IsTreeWith k.grammar k.words t → After k i (drop i k.words) t
-whole k i t p = subst (λ ws. IsTreeWith k.grammar ws t) (sym (take-append-drop i k.words)) p
+pub whole : (g : Grammar) (words : List Lexeme) (i : ℕ) (t : Tree) → IsTreeWith g words t → IsTreeWith g (take i words ++ drop i words) t
+whole g words i t is = subst (λ ws. IsTreeWith g ws t) (sym (take-append-drop i words)) is

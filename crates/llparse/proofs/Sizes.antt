@@ -1,8 +1,8 @@
 -- What is open and done is a part of each tree that completes it.
 use Rattle.std.proofs.Common.{◌≡◌, suc, ◌+◌, ◌≤◌, max, List, [], ◌∷◌, ◌++◌, length, refl, ap, sym, ◌∙◌, append_assoc, arith}
-use Rattle.ag_expr.specs.grammars.AttributeGrammar.{Grammar}
-use Rattle.ag_expr.specs.grammars.Tree.{Tree, leaf, node, Forest, none, more, depth_of, deepest, node_count, node_counts}
-use Rattle.ag_expr.specs.grammars.Yield.{Lexeme}
+use Rattle.ag_grammar.specs.grammars.AttributeGrammar.{Grammar}
+use Rattle.ag_grammar.specs.grammars.Tree.{Tree, leaf, node, Forest, none, more, depth_of, deepest, node_count, node_counts}
+use Rattle.ag_grammar.specs.grammars.Yield.{Lexeme}
 use Rattle.llparse.specs.Opened.{joined, Open, Continues, Completes}
 use Rattle.llparse.specs.Parsing.{post, posts, opened}
 

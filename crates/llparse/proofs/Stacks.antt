@@ -1,15 +1,15 @@
 -- What each step keeps true, over the stack of open nodes from its top.
 use Rattle.std.proofs.Common.{◌≡◌, ℕ, zero, suc, ◌+◌, ◌-◌, ◌*◌, ◌<◌, ◌≤◌, List, [], ◌∷◌, ◌++◌, length, drop, reverse, slice_get, Some, None, refl, ap, ◌∙◌, subst, arith}
 use Rattle.std.proofs.Math.Nat.{mul-suc, mul-le-mul_left}
-use Rattle.ag_expr.specs.declared.grammar.Item.TheVariants as item
-use Rattle.ag_expr.specs.declared.grammar.Item.{Item}
-use Rattle.ag_expr.specs.declared.grammar.Production.{Production}
-use Rattle.ag_expr.specs.declared.grammar.Terminal.TheVariants.{Literal, Class}
-use Rattle.ag_expr.specs.grammars.Accepted.{IsAccepted}
-use Rattle.ag_expr.specs.grammars.AttributeGrammar.{Grammar, literal_text}
-use Rattle.ag_expr.specs.grammars.Tree.{IsTokenText}
-use Rattle.ag_expr.specs.grammars.Yield as yields
-use Rattle.ag_expr.specs.grammars.Yield.{Lexeme}
+use Rattle.ag_grammar.specs.declared.grammar.Item.TheVariants as item
+use Rattle.ag_grammar.specs.declared.grammar.Item.{Item}
+use Rattle.ag_grammar.specs.declared.grammar.Production.{Production}
+use Rattle.ag_grammar.specs.declared.grammar.Terminal.TheVariants.{Literal, Class}
+use Rattle.ag_grammar.specs.grammars.Accepted.{IsAccepted}
+use Rattle.ag_grammar.specs.grammars.AttributeGrammar.{Grammar, literal_text}
+use Rattle.ag_grammar.specs.grammars.Tree.{IsTokenText}
+use Rattle.ag_grammar.specs.grammars.Yield as yields
+use Rattle.ag_grammar.specs.grammars.Yield.{Lexeme}
 use Rattle.treefile.specs.Device.{WhenHonest}
 use Rattle.llparse.specs.Ahead.{ahead_of}
 use Rattle.llparse.specs.Parsing.{Task, Reading, Asked, Between, Before, IsTooDeep, IsTooLarge, right_side, leaf_frame, node_frame, most, weight, steps_left}

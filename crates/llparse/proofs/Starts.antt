@@ -1,13 +1,13 @@
 -- What is asked at the beginning, and what opening a node keeps true.
 use Rattle.std.proofs.Common.{◌≡◌, ℕ, ◌+◌, ◌<◌, ◌≤◌, List, [], ◌∷◌, ◌++◌, length, drop, Option, Some, None, refl, ap, sym, ◌∙◌, subst, append-nil, arith}
-use Rattle.ag_expr.specs.declared.grammar.Item.TheVariants as item
-use Rattle.ag_expr.specs.declared.grammar.Item.{Item}
-use Rattle.ag_expr.specs.declared.grammar.Production.{Production}
-use Rattle.ag_expr.specs.grammars.Accepted.{IsAccepted}
-use Rattle.ag_expr.specs.grammars.AttributeGrammar.{Grammar}
-use Rattle.ag_expr.specs.grammars.Tree.{none, depth_of, node_count}
-use Rattle.ag_expr.specs.grammars.Yield as yields
-use Rattle.ag_expr.specs.grammars.Yield.{Lexeme, yield_of}
+use Rattle.ag_grammar.specs.declared.grammar.Item.TheVariants as item
+use Rattle.ag_grammar.specs.declared.grammar.Item.{Item}
+use Rattle.ag_grammar.specs.declared.grammar.Production.{Production}
+use Rattle.ag_grammar.specs.grammars.Accepted.{IsAccepted}
+use Rattle.ag_grammar.specs.grammars.AttributeGrammar.{Grammar}
+use Rattle.ag_grammar.specs.grammars.Tree.{none, depth_of, node_count}
+use Rattle.ag_grammar.specs.grammars.Yield as yields
+use Rattle.ag_grammar.specs.grammars.Yield.{Lexeme, yield_of}
 use Rattle.llparse.specs.Ahead.{ahead_of}
 use Rattle.llparse.specs.Opened.{open_at, IsStack}
 use Rattle.llparse.specs.Parsing.{Task, written, Reading, Asked, IsTooDeep, IsTooLarge, right_side}
@@ -15,7 +15,7 @@ use Rattle.llparse.specs.Sentences.{IsStuckAt}
 use Rattle.llparse.specs.Tables.{Choices, FitsGrammar, choice_of}
 use Rattle.llparse.specs.declared.parser.OpenNode.{OpenNode}
 use Rattle.llparse.proofs.Begins.{begins_asked}
-use Rattle.llparse.proofs.Shown.{length-shows, whole}
+use Rattle.llparse.proofs.Shown.{length-shows}
 use Rattle.llparse.proofs.Sizes as size
 use Rattle.llparse.proofs.Steps as step
 
@@ -73,17 +73,25 @@ module _ (k : Task) where
 
   -- a node that is opened counts, and stands below the others
   pub deep_node : (s : ℕ) (fs : List OpenNode) (i n : ℕ) (rs : List ℕ) → k.depth ≤ length fs → Asked k s fs i n rs → IsTooDeep k
-  deep_node s fs i n rs full a t p =
-      let w = a.complete (drop i k.words) t refl (whole k i t p) in
-      let same = length-shows g a.under fs a.shows in
-      let d = size.depth_under k.grammar a.under w.0 w.1 t w.4 in
-      let one : 1 ≤ depth_of w.0 = size.depth_some w.0 in
-      omega arith
+  deep_node s fs i n rs full a = (
+    i,
+    a.held.within,
+    λ rest t e p.
+        let w = a.complete rest t e p in
+        let same = length-shows g a.under fs a.shows in
+        let d = size.depth_under k.grammar a.under w.0 w.1 t w.4 in
+        let one : 1 ≤ depth_of w.0 = size.depth_some w.0 in
+        omega arith,
+  )
 
   pub large_node : (s : ℕ) (fs : List OpenNode) (i n : ℕ) (rs : List ℕ) → k.nodes ≤ n → Asked k s fs i n rs → IsTooLarge k
-  large_node s fs i n rs full a t p =
-      let w = a.complete (drop i k.words) t refl (whole k i t p) in
-      let counted = a.held.counted in
-      let d = size.count_under k.grammar a.under w.0 w.1 t w.4 in
-      let one : 1 ≤ node_count w.0 = size.count_some w.0 in
-      omega arith
+  large_node s fs i n rs full a = (
+    i,
+    a.held.within,
+    λ rest t e p.
+        let w = a.complete rest t e p in
+        let counted = a.held.counted in
+        let d = size.count_under k.grammar a.under w.0 w.1 t w.4 in
+        let one : 1 ≤ node_count w.0 = size.count_some w.0 in
+        omega arith,
+  )

@@ -1,12 +1,12 @@
 -- What each step of the parser does to the trees that complete what is open.
 use Rattle.std.proofs.Common.{◌≡◌, ◌↔◌, ℕ, List, [], ◌∷◌, ◌++◌, Some, None, slice_get, refl, ap, sym, ◌∙◌, subst, append_assoc, append-nil, arith}
-use Rattle.ag_expr.specs.declared.grammar.Item.TheVariants as item
-use Rattle.ag_expr.specs.declared.grammar.Item.{Item}
-use Rattle.ag_expr.specs.declared.grammar.Production.{Production}
-use Rattle.ag_expr.specs.declared.grammar.Terminal.TheVariants.{Literal, Class}
-use Rattle.ag_expr.specs.grammars.AttributeGrammar.{Grammar, stored_items, IsProduction, literal_text}
-use Rattle.ag_expr.specs.grammars.Tree.{IsTokenText, Tree, leaf, node, Forest, none, more, Fits, FitsAll}
-use Rattle.ag_expr.specs.grammars.Yield.{Lexeme, yield_along, yield_of}
+use Rattle.ag_grammar.specs.declared.grammar.Item.TheVariants as item
+use Rattle.ag_grammar.specs.declared.grammar.Item.{Item}
+use Rattle.ag_grammar.specs.declared.grammar.Production.{Production}
+use Rattle.ag_grammar.specs.declared.grammar.Terminal.TheVariants.{Literal, Class}
+use Rattle.ag_grammar.specs.grammars.AttributeGrammar.{Grammar, stored_items, IsProduction, literal_text}
+use Rattle.ag_grammar.specs.grammars.Tree.{IsTokenText, Tree, leaf, node, Forest, none, more, Fits, FitsAll}
+use Rattle.ag_grammar.specs.grammars.Yield.{Lexeme, yield_along, yield_of}
 use Rattle.llparse.specs.Ahead.{HasNoConflict, InFollow, at_end, Predicts, ahead_of}
 use Rattle.llparse.specs.Opened.{joined, Open, open_at, Continues, Completes, IsStack, Wants}
 use Rattle.llparse.specs.Sentences.{IsTreeWith}

@@ -1,10 +1,10 @@
 -- Values that give each leaf of a tree its text.
 use Rattle.std.proofs.Common.{ℕ, zero, suc, [], ◌∷◌, Option, Some, None, slice_get, refl}
 use Rattle.ag_value.specs.declared.value.Value.{Value, Text}
-use Rattle.ag_expr.specs.declared.grammar.Production.{Production}
-use Rattle.ag_expr.specs.grammars.AttributeGrammar.{Grammar}
-use Rattle.ag_expr.specs.grammars.Solution.{NoRule, RulesHold, Solves, SolvesAll, Valuation, at}
-use Rattle.ag_expr.specs.grammars.Tree.{Tree, Forest, leaf, node, none, more}
+use Rattle.ag_grammar.specs.declared.grammar.Production.{Production}
+use Rattle.ag_grammar.specs.grammars.AttributeGrammar.{Grammar}
+use Rattle.ag_grammar.specs.grammars.Solution.{NoRule, RulesHold, Solves, SolvesAll, Valuation, at}
+use Rattle.ag_grammar.specs.grammars.Tree.{Tree, Forest, leaf, node, none, more}
 
 abbrev mutual
   texts : Tree → Valuation

@@ -1,13 +1,13 @@
 -- A grammar without a conflict has at most one tree of a list of words.
 use Rattle.std.proofs.Common.{◌≡◌, ◌<◌, ℕ, List, [], ◌∷◌, ◌++◌, ◌⊎◌, inl, inr, refl, ap, sym, ◌∙◌, subst, append_assoc, arith, slice_get}
 use Rattle.std.proofs.lemmas.Option.{same_Some}
-use Rattle.ag_expr.specs.declared.grammar.Item.TheVariants as item
-use Rattle.ag_expr.specs.declared.grammar.Item.{Item}
-use Rattle.ag_expr.specs.declared.grammar.Production.{Production}
-use Rattle.ag_expr.specs.declared.grammar.Terminal.TheVariants.{Literal, Class}
-use Rattle.ag_expr.specs.grammars.AttributeGrammar.{Grammar, stored_items, IsProduction, literal_text}
-use Rattle.ag_expr.specs.grammars.Tree.{Tree, leaf, node, Forest, none, more, Fits, FitsAll}
-use Rattle.ag_expr.specs.grammars.Yield.{Lexeme, right_side, yield_along, yield_of}
+use Rattle.ag_grammar.specs.declared.grammar.Item.TheVariants as item
+use Rattle.ag_grammar.specs.declared.grammar.Item.{Item}
+use Rattle.ag_grammar.specs.declared.grammar.Production.{Production}
+use Rattle.ag_grammar.specs.declared.grammar.Terminal.TheVariants.{Literal, Class}
+use Rattle.ag_grammar.specs.grammars.AttributeGrammar.{Grammar, stored_items, IsProduction, literal_text}
+use Rattle.ag_grammar.specs.grammars.Tree.{Tree, leaf, node, Forest, none, more, Fits, FitsAll}
+use Rattle.ag_grammar.specs.grammars.Yield.{Lexeme, right_side, yield_along, yield_of}
 use Rattle.llparse.specs.declared.ahead.Ahead.{Ahead}
 use Rattle.llparse.specs.Ahead.{IsNullable, by_production, AreNullable, nothing, a_symbol, InFirst, of_production, InFirstOf, here, inside, later, InFollow, at_end, next, last, Predicts, HasNoConflict, ahead_of}
 

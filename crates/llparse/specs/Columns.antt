@@ -1,6 +1,6 @@
 -- What is kept while tables are filled, a look-ahead at a time (this project's).
 use Rattle.std.specs.Prelude.{ℕ, ◌≡◌, ◌<◌, ◌≤◌, ◌⊎◌, List, [], Option, Some, None, length, slice_index_or}
-use Rattle.ag_expr.specs.grammars.AttributeGrammar.{Grammar}
+use Rattle.ag_grammar.specs.grammars.AttributeGrammar.{Grammar}
 use Rattle.llparse.specs.Ahead.{IsConflict}
 use Rattle.llparse.specs.Edges.{IsKnownAhead}
 use Rattle.llparse.specs.Nodes.{place_of}

@@ -1,9 +1,9 @@
 -- What comes next along items, and what follows them.
 use Rattle.std.specs.Prelude.{ℕ, ◌≡◌, ◌<◌, ◌⊎◌, ◌↔◌, Bool, true, false, ◌&&◌, ◌||◌, List, [], ◌∷◌, length, Contains}
 use Rattle.std.specs.Global.{Vec}
-use Rattle.ag_expr.specs.declared.grammar.Item.{Item}
-use Rattle.ag_expr.specs.declared.grammar.Production.{Production}
-use Rattle.ag_expr.specs.grammars.AttributeGrammar.{Grammar}
+use Rattle.ag_grammar.specs.declared.grammar.Item.{Item}
+use Rattle.ag_grammar.specs.declared.grammar.Production.{Production}
+use Rattle.ag_grammar.specs.grammars.AttributeGrammar.{Grammar}
 use Rattle.llparse.specs.Ahead.{InFollow}
 use Rattle.llparse.specs.Edges.{node_in, HasEdge, IsEdge, OfSome}
 use Rattle.llparse.specs.Nodes.{node_by}

@@ -1,11 +1,11 @@
 -- What is noted as edges between nodes, and where that leads.
 use Rattle.std.specs.Prelude.{ℕ, ◌+◌, ◌≡◌, ◌<◌, ◌⊎◌, ◌↔◌, Bool, true, List, [], ◌∷◌, length, Contains, if◌then◌else◌}
-use Rattle.ag_expr.specs.declared.grammar.Item.TheVariants as item
-use Rattle.ag_expr.specs.declared.grammar.Item.{Item}
-use Rattle.ag_expr.specs.declared.grammar.Production.{Production}
-use Rattle.ag_expr.specs.declared.grammar.Terminal.TheVariants.{Literal, Class}
-use Rattle.ag_expr.specs.grammars.AttributeGrammar.{Grammar}
-use Rattle.ag_expr.specs.grammars.Accepted.{IsNamedItem, class_count}
+use Rattle.ag_grammar.specs.declared.grammar.Item.TheVariants as item
+use Rattle.ag_grammar.specs.declared.grammar.Item.{Item}
+use Rattle.ag_grammar.specs.declared.grammar.Production.{Production}
+use Rattle.ag_grammar.specs.declared.grammar.Terminal.TheVariants.{Literal, Class}
+use Rattle.ag_grammar.specs.grammars.AttributeGrammar.{Grammar}
+use Rattle.ag_grammar.specs.grammars.Accepted.{IsNamedItem, class_count}
 use Rattle.llparse.specs.Ahead.{InFirst}
 use Rattle.llparse.specs.Nodes.{node_of}
 use Rattle.llparse.specs.Nullable.{is_empty}

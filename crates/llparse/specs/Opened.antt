@@ -1,11 +1,11 @@
 -- What a parser has open, and which trees complete it (this project's).
 use Rattle.std.specs.Prelude.{◌≡◌, ℕ, List, [], ◌∷◌, ◌++◌}
-use Rattle.ag_expr.specs.declared.grammar.Item.TheVariants as item
-use Rattle.ag_expr.specs.declared.grammar.Item.{Item}
-use Rattle.ag_expr.specs.declared.grammar.Production.{Production}
-use Rattle.ag_expr.specs.grammars.AttributeGrammar.{Grammar, stored_items, IsProduction}
-use Rattle.ag_expr.specs.grammars.Tree.{Tree, node, Forest, none, more, Fits, FitsAll}
-use Rattle.ag_expr.specs.grammars.Yield.{Lexeme, yield_along, yield_of}
+use Rattle.ag_grammar.specs.declared.grammar.Item.TheVariants as item
+use Rattle.ag_grammar.specs.declared.grammar.Item.{Item}
+use Rattle.ag_grammar.specs.declared.grammar.Production.{Production}
+use Rattle.ag_grammar.specs.grammars.AttributeGrammar.{Grammar, stored_items, IsProduction}
+use Rattle.ag_grammar.specs.grammars.Tree.{Tree, node, Forest, none, more, Fits, FitsAll}
+use Rattle.ag_grammar.specs.grammars.Yield.{Lexeme, yield_along, yield_of}
 
 -- trees, and then others
 abbrev pub joined : Forest → Forest → Forest

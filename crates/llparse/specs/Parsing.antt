@@ -1,11 +1,11 @@
 -- What a parser keeps true while it runs (this project's).
 use Rattle.std.specs.Prelude.{◌≡◌, ℕ, Bool, suc, ◌+◌, ◌-◌, ◌*◌, ◌<◌, ◌≤◌, List, [], ◌∷◌, ◌++◌, length, take, drop, slice_get}
-use Rattle.ag_expr.specs.declared.grammar.Item.{Item}
-use Rattle.ag_expr.specs.declared.grammar.Production.{Production}
-use Rattle.ag_expr.specs.grammars.AttributeGrammar.{Grammar}
-use Rattle.ag_expr.specs.grammars.Tree.{Tree, leaf, node, Forest, none, more, depth_of, deepest, node_count, node_counts, most_depth, most_nodes}
-use Rattle.ag_expr.specs.grammars.Yield.{Lexeme}
-use Rattle.ag_expr.specs.grammars.Yield as yields
+use Rattle.ag_grammar.specs.declared.grammar.Item.{Item}
+use Rattle.ag_grammar.specs.declared.grammar.Production.{Production}
+use Rattle.ag_grammar.specs.grammars.AttributeGrammar.{Grammar}
+use Rattle.ag_grammar.specs.grammars.Tree.{Tree, leaf, node, Forest, none, more, depth_of, deepest, node_count, node_counts, most_depth, most_nodes}
+use Rattle.ag_grammar.specs.grammars.Yield.{Lexeme}
+use Rattle.ag_grammar.specs.grammars.Yield as yields
 use Rattle.ag_scan.specs.declared.token.Token.{Token}
 use Rattle.treefile.specs.Device.{WhenHonest}
 use Rattle.treefile.specs.Records.{token_body}
@@ -13,7 +13,7 @@ use Rattle.treefile.specs.TreeFile.{body_of, frame}
 use Rattle.treefile.specs.declared.body.Kind.TheVariants.{Node}
 use Rattle.llparse.specs.Ahead.{ahead_of}
 use Rattle.llparse.specs.Opened.{Open, open_at, Completes, Wants, IsStack, Stands}
-use Rattle.llparse.specs.Sentences.{IsTreeWith, IsStuckAt, words_of}
+use Rattle.llparse.specs.Sentences.{IsTreeWith, IsStuckAt, LeavesOnly, words_of}
 use Rattle.llparse.specs.declared.parse_fault.ParseFault.{ParseFault}
 use Rattle.llparse.specs.declared.parse_fault.ParseFault.TheVariants as fault
 use Rattle.llparse.specs.declared.parser.OpenNode.{OpenNode}
@@ -138,12 +138,12 @@ pub record IsParsed (k : Task) (count : ℕ) (bytes : List ℕ) : Type 0 where
   pub few : node_count tree ≤ k.nodes
   pub shallow : depth_of tree ≤ k.depth
 
--- each tree of a task's words is too deep, and has too many nodes
+-- a task's words leave only trees that are too deep, or that have too many nodes
 abbrev pub IsTooDeep : Task → Type 0
-IsTooDeep k = (t : Tree) → IsTreeWith k.grammar k.words t → k.depth < depth_of t
+IsTooDeep k = LeavesOnly k.grammar k.words (λ t. k.depth < depth_of t)
 
 abbrev pub IsTooLarge : Task → Type 0
-IsTooLarge k = (t : Tree) → IsTreeWith k.grammar k.words t → k.nodes < node_count t
+IsTooLarge k = LeavesOnly k.grammar k.words (λ t. k.nodes < node_count t)
 
 -- what a refusal says, where each token has this offset
 abbrev pub IsRefused : Task → (ℕ → ℕ) → ParseFault → Type 0

@@ -1,7 +1,7 @@
 -- What the sets of a grammar are, and which productions one look-ahead chooses.
 use Rattle.std.specs.Prelude.{ℕ, ◌≡◌, ◌+◌, ◌<◌, ◌≤◌, ◌⊎◌, ◌↔◌, Bool, true, List, Option, Some, None, length, slice_get, slice_index_or}
-use Rattle.ag_expr.specs.declared.grammar.Production.{Production}
-use Rattle.ag_expr.specs.grammars.AttributeGrammar.{Grammar, IsProduction}
+use Rattle.ag_grammar.specs.declared.grammar.Production.{Production}
+use Rattle.ag_grammar.specs.grammars.AttributeGrammar.{Grammar, IsProduction}
 use Rattle.llparse.specs.Ahead.{Predicts}
 use Rattle.llparse.specs.Comes.{AreFollowEdges}
 use Rattle.llparse.specs.Edges.{node_count, AreFirstEdges}

@@ -1,11 +1,11 @@
 -- What parsing a sentence answers: the tree that its tokens have and the file of it, or why it has none.
 use Rattle.std.specs.Prelude.{ℕ, ◌≡◌, ◌≤◌, ◌++◌, List, [], ◌∷◌, length, map, take, drop, slice_get, Some, None}
-use Rattle.ag_expr.specs.Lists.{Each}
-use Rattle.ag_expr.specs.grammars.AttributeGrammar.{Grammar}
-use Rattle.ag_expr.specs.grammars.Passes.{Passes}
-use Rattle.ag_expr.specs.grammars.Solution.{Valuation, NoRule, Solves}
-use Rattle.ag_expr.specs.grammars.Tree.{Tree, IsTreeOf}
-use Rattle.ag_expr.specs.grammars.Yield.{Lexeme, yield_of}
+use Rattle.ag_grammar.specs.Lists.{Each}
+use Rattle.ag_grammar.specs.grammars.AttributeGrammar.{Grammar}
+use Rattle.ag_grammar.specs.grammars.Passes.{Passes}
+use Rattle.ag_grammar.specs.grammars.Solution.{Valuation, NoRule, Solves}
+use Rattle.ag_grammar.specs.grammars.Tree.{Tree, IsTreeOf}
+use Rattle.ag_grammar.specs.grammars.Yield.{Lexeme, yield_of}
 use Rattle.ag_scan.specs.declared.token.Token.{Token}
 use Rattle.treefile.specs.Records.{IsFileOfTree}
 use Rattle.treefile.specs.TreeFile.{version_one}
@@ -45,6 +45,11 @@ pub record IsStuckAt (g : Grammar) (words : List Lexeme) (index : ℕ) : Type 0 
   pub within : index ≤ length words
   pub begins : (rest : List Lexeme) × (t : Tree) × IsTreeWith g (take index words ++ rest) t
   pub ends : (rest : List Lexeme) (t : Tree) → ahead_of rest ≡ ahead_of (drop index words) → IsTreeWith g (take index words ++ rest) t → ⊥
+
+-- Beyond: up to some index the words leave only such trees. Each tree whose words are those before the index, and behind
+-- them any that go on with the look-ahead there, is so. The words themselves go on so, and each tree of them is one.
+abbrev pub LeavesOnly : Grammar → List Lexeme → (Tree → Type 0) → Type 0
+LeavesOnly g words P = (i : ℕ) × (i ≤ length words) × ((rest : List Lexeme) (t : Tree) → ahead_of rest ≡ ahead_of (drop i words) → IsTreeWith g (take i words ++ rest) t → P t)
 
 -- an offset is that of the token that can't be taken, or of the last one where the sentence can't end
 abbrev pub IsUnexpectedAt : Grammar → List Token → ℕ → Type 0

@@ -1,9 +1,9 @@
 -- What tables are, and which conflict is the least.
 use Rattle.std.specs.Prelude.{ℕ, ◌≡◌, ◌<◌, ◌≤◌, ◌⊎◌, ◌↔◌, Bool, true, List, [], Option, Some, None, length, slice_index_or, nat_lt, if◌then◌else◌}
-use Rattle.ag_expr.specs.declared.grammar.Production.{Production}
-use Rattle.ag_expr.specs.declared.grammar.Terminal.TheVariants.{Literal, Class}
-use Rattle.ag_expr.specs.grammars.AttributeGrammar.{Grammar, IsProduction}
-use Rattle.ag_expr.specs.grammars.Accepted.{class_count}
+use Rattle.ag_grammar.specs.declared.grammar.Production.{Production}
+use Rattle.ag_grammar.specs.declared.grammar.Terminal.TheVariants.{Literal, Class}
+use Rattle.ag_grammar.specs.grammars.AttributeGrammar.{Grammar, IsProduction}
+use Rattle.ag_grammar.specs.grammars.Accepted.{class_count}
 use Rattle.llparse.specs.Ahead.{IsConflict, Predicts}
 use Rattle.llparse.specs.Nodes.{place_of}
 use Rattle.llparse.specs.declared.ahead.Ahead.{Ahead}

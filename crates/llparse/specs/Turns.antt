@@ -1,9 +1,9 @@
 -- What each step of a parser does (this project's).
 use Rattle.std.specs.Prelude.{◌≡◌, ℕ, ◌+◌, ◌≤◌, Bool, List, [], ◌∷◌, ◌++◌, length, reverse, slice_get, Option, Some, None}
-use Rattle.ag_expr.specs.declared.grammar.Item.{Item}
-use Rattle.ag_expr.specs.grammars.Accepted.{IsAccepted}
-use Rattle.ag_expr.specs.grammars.AttributeGrammar.{Grammar}
-use Rattle.ag_expr.specs.grammars.Tree.{most_depth, most_nodes}
+use Rattle.ag_grammar.specs.declared.grammar.Item.{Item}
+use Rattle.ag_grammar.specs.grammars.Accepted.{IsAccepted}
+use Rattle.ag_grammar.specs.grammars.AttributeGrammar.{Grammar}
+use Rattle.ag_grammar.specs.grammars.Tree.{most_depth, most_nodes}
 use Rattle.ag_scan.specs.Tokens.{FitAll}
 use Rattle.ag_scan.specs.Words.{vocabulary_of}
 use Rattle.ag_scan.specs.declared.token.Token.{Token}

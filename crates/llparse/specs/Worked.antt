@@ -1,11 +1,11 @@
 -- Examples: a grammar with a conflict, start L; symbol L syn out; L = L "x" .. L = "x" .. (its rules don't matter here), tables,
 -- and edges.
 use Rattle.std.specs.Prelude.{ℕ, List, [], ◌∷◌, Some, None}
-use Rattle.ag_expr.specs.declared.grammar.Item.TheVariants as item
-use Rattle.ag_expr.specs.declared.grammar.Item.{Item}
-use Rattle.ag_expr.specs.declared.grammar.Production.{Production}
-use Rattle.ag_expr.specs.declared.grammar.Terminal.TheVariants.{Literal}
-use Rattle.ag_expr.specs.grammars.AttributeGrammar.{Grammar}
+use Rattle.ag_grammar.specs.declared.grammar.Item.TheVariants as item
+use Rattle.ag_grammar.specs.declared.grammar.Item.{Item}
+use Rattle.ag_grammar.specs.declared.grammar.Production.{Production}
+use Rattle.ag_grammar.specs.declared.grammar.Terminal.TheVariants.{Literal}
+use Rattle.ag_grammar.specs.grammars.AttributeGrammar.{Grammar}
 use Rattle.llparse.specs.Tables.{Choices}
 
 -- a production of symbol 0 with this right side

@@ -1,6 +1,6 @@
 //! What a parser sees in front of it.
 
-use ag_expr::Terminal;
+use ag_grammar::Terminal;
 
 /// What comes next in a sentence (the textbook's look-ahead of one token).
 #[derive(Clone, Copy, Debug, PartialEq, Eq)]

@@ -1,7 +1,7 @@
 //! Which production one look-ahead chooses for each symbol, and the least two that conflict there.
 ghost use Rattle.std.specs.Prelude.{◌≡◌, ◌≤◌, ◌<◌, ℕ, true, length, slice_get};
 ghost use Rattle.std.specs.Prelude.{Some, IfOk};
-ghost use Rattle.ag_expr.specs.declared.grammar.Production.{Production as AProduction};
+ghost use Rattle.ag_grammar.specs.declared.grammar.Production.{Production as AProduction};
 ghost use Rattle.llparse.specs.Predicted.{AreFirstFrom, IsLeastFrom, PutsFirst, PutsLeast};
 
 use ag_value::NoMemory;

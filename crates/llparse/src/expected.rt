@@ -9,7 +9,7 @@ use crate::nodes::Sizes;
 use crate::parse_fault::ParseFault;
 use crate::parser::Parser;
 use crate::tokens::expect;
-use ag_expr::{Item, Terminal};
+use ag_grammar::{Item, Terminal};
 use ag_scan::Token;
 use ag_value::{NoMemory, Text};
 use normalform::Grammar;

@@ -2,7 +2,7 @@
 //! reached by them from a look-ahead.
 ghost use Rattle.std.specs.Prelude.{◌≡◌, ◌≤◌, ◌<◌, ◌+◌, ℕ, length, take, All, IfOk};
 ghost use Rattle.std.specs.Prelude.{OnOk};
-ghost use Rattle.ag_expr.specs.declared.grammar.Item.{Item as AnItem};
+ghost use Rattle.ag_grammar.specs.declared.grammar.Item.{Item as AnItem};
 ghost use Rattle.llparse.specs.Edges.{front, node_count, AddsEdges, AreFirst, AreFirstEdges};
 ghost use Rattle.llparse.specs.Edges.{HasEdge, IsEdge, IsKnownAhead, OfSome};
 ghost use Rattle.llparse.specs.Nullable.{AreNullableMarks};
@@ -13,7 +13,7 @@ use crate::ahead::Ahead;
 use crate::nodes::Sizes;
 use crate::nullable::is_empty;
 use crate::reach::reachable;
-use ag_expr::Item;
+use ag_grammar::Item;
 use ag_value::NoMemory;
 use normalform::Grammar;
 use std::alloc::Global;

@@ -14,7 +14,7 @@ use crate::first::{no_edges, note};
 use crate::nodes::Sizes;
 use crate::nullable::is_empty;
 use crate::reach::reachable;
-use ag_expr::Item;
+use ag_grammar::Item;
 use ag_value::NoMemory;
 use normalform::Grammar;
 use std::alloc::Global;

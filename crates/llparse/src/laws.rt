@@ -2,10 +2,10 @@
 //! nothing.
 
 ghost use Rattle.std.specs.Prelude.{◌≡◌, ◌∷◌, [], Some, None};
-ghost use Rattle.ag_expr.specs.declared.grammar.Terminal.TheVariants.{Class, Literal};
-ghost use Rattle.ag_expr.specs.grammars.Sample.{sample};
+ghost use Rattle.ag_grammar.specs.declared.grammar.Terminal.TheVariants.{Class, Literal};
+ghost use Rattle.ag_grammar.specs.grammars.Sample.{sample};
 ghost use Rattle.llparse.specs.Ahead.{HasNoConflict, IsConflict};
-ghost use Rattle.llparse.specs.Laws.{OneTree, TextsAreGiven};
+ghost use Rattle.llparse.specs.Laws.{OneTree, TextsAreGiven, WhatIsLeftIsSo};
 ghost use Rattle.llparse.specs.Nodes.{place_of};
 ghost use Rattle.llparse.specs.Reach.{InReach};
 ghost use Rattle.llparse.specs.Tables.{choice_of, IsChoice, IsLeastConflict};
@@ -15,6 +15,12 @@ ghost use Rattle.llparse.specs.declared.ahead.Ahead.TheVariants as ahead;
 /// A grammar without a conflict has at most one tree of a yield.
 pub fn one_tree()
     ensures { OneTree }
+{}
+
+/// Where words leave only trees beyond a limit, as behind P2 and P3, each tree of these words is
+/// beyond it.
+pub fn what_is_left_is_so()
+    ensures { WhatIsLeftIsSo }
 {}
 
 /// Each tree has values that give each of its leaves its text.

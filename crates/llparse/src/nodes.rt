@@ -1,11 +1,11 @@
 //! How the symbols and the look-aheads of a grammar are numbered.
 ghost use Rattle.std.specs.Prelude.{◌≡◌, ◌+◌, ◌<◌, true, length};
-ghost use Rattle.ag_expr.specs.grammars.Accepted.{IsAccepted};
+ghost use Rattle.ag_grammar.specs.grammars.Accepted.{IsAccepted};
 ghost use Rattle.llparse.specs.Nodes.{node_of, place_of};
 ghost use Rattle.llparse.specs.Tables.{is_known};
 
 use crate::ahead::Ahead;
-use ag_expr::{Item, Terminal};
+use ag_grammar::{Item, Terminal};
 use normalform::Grammar;
 
 /// How many classes there are: NAME, NUMBER and TEXT.

@@ -3,15 +3,15 @@
 ghost use Rattle.std.specs.Prelude.{◌≡◌, ◌<◌, ◌≤◌, ◌⊎◌, ℕ, true, false, length, take, All};
 ghost use Rattle.std.specs.Prelude.{Contains, IfOk, OnOk, slice_index_or};
 ghost use Rattle.std.specs.List.{list_all};
-ghost use Rattle.ag_expr.specs.declared.grammar.Item.TheVariants as an_item;
-ghost use Rattle.ag_expr.specs.declared.grammar.Item.{Item as AnItem};
-ghost use Rattle.ag_expr.specs.declared.grammar.Production.{Production as AProduction};
+ghost use Rattle.ag_grammar.specs.declared.grammar.Item.TheVariants as an_item;
+ghost use Rattle.ag_grammar.specs.declared.grammar.Item.{Item as AnItem};
+ghost use Rattle.ag_grammar.specs.declared.grammar.Production.{Production as AProduction};
 ghost use Rattle.llparse.specs.Ahead.{IsNullable};
 ghost use Rattle.llparse.specs.Nullable.{is_empty, IsItemBelow, IsSearch, IsSettled, Grows};
 ghost use Rattle.llparse.specs.Nullable.{AreNullableMarks, Notes};
 ghost use Rattle.llparse.specs.Reach.{is_marked, row, rows, turns_left};
 
-use ag_expr::Item;
+use ag_grammar::Item;
 use ag_value::NoMemory;
 use normalform::Grammar;
 use std::alloc::Global;

@@ -2,11 +2,11 @@
 ghost use Rattle.std.specs.Prelude.{◌≡◌, ◌≤◌, ◌<◌, ◌+◌, ◌∷◌, ◌++◌, [], ℕ, Bool, List, true, false};
 ghost use Rattle.std.specs.Prelude.{length, slice_get, reverse, MatchOption, Some, None};
 ghost use Rattle.std.specs.Prelude.{IfErr, IfOk, IfSome, IsErrOf, OnOk};
-ghost use Rattle.ag_expr.specs.declared.grammar.Item.TheVariants as item;
-ghost use Rattle.ag_expr.specs.declared.grammar.Terminal.TheVariants as terminal;
-ghost use Rattle.ag_expr.specs.grammars.Accepted.{most_items};
-ghost use Rattle.ag_expr.specs.grammars.AttributeGrammar.{Grammar as AGrammar};
-ghost use Rattle.ag_expr.specs.grammars.Tree.{IsTokenText, most_depth, most_nodes};
+ghost use Rattle.ag_grammar.specs.declared.grammar.Item.TheVariants as item;
+ghost use Rattle.ag_grammar.specs.declared.grammar.Terminal.TheVariants as terminal;
+ghost use Rattle.ag_grammar.specs.grammars.Accepted.{most_items};
+ghost use Rattle.ag_grammar.specs.grammars.AttributeGrammar.{Grammar as AGrammar};
+ghost use Rattle.ag_grammar.specs.grammars.Tree.{IsTokenText, most_depth, most_nodes};
 ghost use Rattle.treefile.specs.Device.{Persists, WhenHonest};
 ghost use Rattle.llparse.specs.Parsing.{leaf_frame, node_frame, right_side};
 ghost use Rattle.llparse.specs.Refusals.{IsWant};
@@ -16,18 +16,13 @@ ghost use Rattle.llparse.specs.Turns.{HasTables, HasTokens, Refuses, Writes};
 use crate::lookup::Tables;
 use crate::parse_fault::ParseFault;
 use crate::tokens::{expect, next_of, unexpected};
-use ag_expr::{Item, Terminal};
+use ag_grammar::limits::{MOST_DEPTH, MOST_NODES};
+use ag_grammar::{Item, Terminal};
 use ag_scan::Token;
 use ag_value::{NoMemory, Text, Value};
 use normalform::Grammar;
 use std::alloc::Global;
 use treefile::{Device, Kind, Writer};
-
-/// How deep a tree is at most.
-const MOST_DEPTH: usize = 256;
-
-/// How many stored nodes a tree has at most.
-const MOST_NODES: u32 = 65_536;
 
 /// An open node: its production, and how many items of its right side it is behind.
 #[derive(Clone, Copy, Debug, PartialEq, Eq)]

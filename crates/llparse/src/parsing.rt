@@ -1,15 +1,15 @@
 //! Parsing a sentence: the records of the one tree of its tokens are written as it goes, by one
 //! token of look-ahead and with a stack of its own.
 ghost use Rattle.std.specs.Prelude.{◌≡◌, ◌<◌, ◌+◌, ℕ, true, false, Err, IfErr, IfOk, IsErrOf, OnOk};
-ghost use Rattle.ag_expr.specs.grammars.Tree.{depth_of, node_count, IsWithinLimits, Tree};
-ghost use Rattle.ag_expr.specs.grammars.Tree.{most_depth, most_nodes};
+ghost use Rattle.ag_grammar.specs.grammars.Tree.{depth_of, node_count, IsWithinLimits, Tree};
+ghost use Rattle.ag_grammar.specs.grammars.Tree.{most_depth, most_nodes};
 ghost use Rattle.ag_scan.specs.Tokens.{FitAll};
 ghost use Rattle.ag_scan.specs.Words.{vocabulary_of};
 ghost use Rattle.treefile.specs.Device.{Persists, WhenHonest};
 ghost use Rattle.treefile.specs.TreeFile.{header, version_one};
 ghost use Rattle.treefile.specs.Writing.{Progress};
 ghost use Rattle.llparse.specs.Parsing.{task_of, IsParsed, IsRefused};
-ghost use Rattle.llparse.specs.Sentences.{offset_at, words_of, IsFirstFile, IsTreeWith};
+ghost use Rattle.llparse.specs.Sentences.{offset_at, words_of, IsFirstFile, IsTreeWith, LeavesOnly};
 ghost use Rattle.llparse.specs.Sentences.{IsUnexpectedAt};
 ghost use Rattle.llparse.specs.Tables.{FitsGrammar};
 
@@ -17,7 +17,7 @@ use crate::lookup::Tables;
 use crate::parse_fault::ParseFault;
 use crate::parser::{Parser, put_node};
 use crate::tokens::unexpected;
-use ag_expr::Item;
+use ag_grammar::Item;
 use ag_scan::Token;
 use normalform::Grammar;
 use std::alloc::Global;
@@ -79,7 +79,8 @@ fn run<D: Device>(
 /// token and for one frame.
 ///
 /// P1 Unexpected where no tree has these tokens; P2 TooDeep and P3 TooManyNodes where each that has
-/// them is beyond the limit; D1 Device where the device failed. A beginning of the file may have
+/// them is beyond the limit, and each that begins with some of them and goes on with the look-ahead
+/// behind these; D1 Device where the device failed. A beginning of the file may have
 /// been written then. D1 leaves the writer broken, and no other refusal does.
 pub fn parse<D: Device>(
     alloc: Global,
@@ -115,10 +116,10 @@ pub fn parse<D: Device>(
         → IsUnexpectedAt grammar.now tokens.now at }
     ensures none { (at : ℕ) (t : Tree) → result ≡ Err (ParseFault.Unexpected at)
         → IsTreeWith grammar.now (words_of tokens.now) t → ⊥ }
-    ensures deep { (t : Tree) → IsTreeWith grammar.now (words_of tokens.now) t
-        → IsErrOf result ParseFault.TooDeep → most_depth < depth_of t }
-    ensures large { (t : Tree) → IsTreeWith grammar.now (words_of tokens.now) t
-        → IsErrOf result ParseFault.TooManyNodes → most_nodes < node_count t }
+    ensures deep { IsErrOf result ParseFault.TooDeep
+        → LeavesOnly grammar.now (words_of tokens.now) (λ t. most_depth < depth_of t) }
+    ensures large { IsErrOf result ParseFault.TooManyNodes
+        → LeavesOnly grammar.now (words_of tokens.now) (λ t. most_nodes < node_count t) }
 
     // the writer is broken where the device failed, and for no other cause
     ensures breaks { IsErrOf result ParseFault.Device → writer.new.is_broken ≡ true }

@@ -9,7 +9,7 @@ use crate::first::{first, first_edges};
 use crate::follow::{follow, follow_edges, has};
 use crate::nodes::Sizes;
 use crate::nullable::{is_empty, nullable};
-use ag_expr::Item;
+use ag_grammar::Item;
 use ag_value::NoMemory;
 use normalform::Grammar;
 use std::alloc::Global;

@@ -9,7 +9,7 @@ ghost use Rattle.llparse.specs.declared.ahead.Ahead.TheVariants as look;
 
 use crate::ahead::Ahead;
 use crate::parse_fault::ParseFault;
-use ag_expr::Terminal;
+use ag_grammar::Terminal;
 use ag_scan::Token;
 use ag_value::Text;
 

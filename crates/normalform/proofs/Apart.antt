@@ -6,7 +6,7 @@ use Rattle.std.proofs.lemmas.List.Folds.{list_any_at, list_any_none}
 use Rattle.std.proofs.lemmas.List.Quantifiers.{all_pairs_push}
 use Rattle.std.proofs.lemmas.Option.{get_or_from_slice_get, slice_get_within, slice_get-get_or}
 use Rattle.std.specs.List.{list_any}
-use Rattle.ag_expr.specs.Lists.{DifferIn}
+use Rattle.ag_grammar.specs.Lists.{DifferIn}
 use Rattle.normalform.specs.declared.fault.NormalFault.{NormalFault}
 use Rattle.normalform.specs.Faults.{Place, first_wrong, places_along}
 use Rattle.normalform.proofs.Right.{both_right, together, is_right, right_is}

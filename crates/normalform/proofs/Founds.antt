@@ -1,8 +1,8 @@
 -- What the search for the first fault finds is the first.
 use Rattle.std.proofs.Common.{ℕ, ◌≡◌, ◌<◌, ◌++◌, length, Some, None, Option, Result, Ok, Err, IfOk, IfSome, All}
 use Rattle.std.proofs.lemmas.List.{length-map}
-use Rattle.ag_expr.specs.grammars.Accepted.{IsProductive, IsReached}
-use Rattle.ag_text.specs.declared.raw.RawGrammar.{RawGrammar}
+use Rattle.ag_grammar.specs.grammars.Accepted.{IsProductive, IsReached}
+use Rattle.ag_grammar.specs.declared.raw.RawGrammar.{RawGrammar}
 use Rattle.normalform.specs.declared.fault.NormalFault.TheVariants as fault
 use Rattle.normalform.specs.Faults.{first_wrong, unknown, doubled, start_places, naming_places, AreAll, in_productive, in_reached}
 use Rattle.normalform.specs.Found.{IsFoundAt}

@@ -3,10 +3,10 @@ use Rattle.std.proofs.Common.{ℕ, zero, suc, ◌≡◌, ◌-◌, ◌<◌, ◌�
 use Rattle.std.proofs.lemmas.Bool.{lt-ltb, le-leb}
 use Rattle.std.proofs.lemmas.Bool.Decides.{nat_tests}
 use Rattle.std.proofs.lemmas.List.{length-map}
-use Rattle.ag_expr.specs.declared.grammar.Symbol.{Symbol}
-use Rattle.ag_expr.specs.grammars.AttributeGrammar.{Kind, Synthesized, Inherited, symbol_kinds}
-use Rattle.ag_text.specs.declared.raw.RawSymbol.{RawSymbol}
-use Rattle.ag_text.specs.declared.raw.Named.{Named}
+use Rattle.ag_grammar.specs.declared.grammar.Symbol.{Symbol}
+use Rattle.ag_grammar.specs.grammars.AttributeGrammar.{Kind, Synthesized, Inherited, symbol_kinds}
+use Rattle.ag_grammar.specs.declared.raw.RawSymbol.{RawSymbol}
+use Rattle.ag_grammar.specs.declared.raw.Named.{Named}
 use Rattle.normalform.specs.Faults.{is_kind}
 use Rattle.normalform.specs.Numbers.{symbol_of, texts_of}
 

@@ -2,19 +2,19 @@
 use Rattle.std.proofs.Common.{ℕ, ◌≡◌, ◌<◌, true, List, [], ◌∷◌, ◌++◌, length, map, flat_map, Some, None, slice_get, bytes_eq, refl, ap, sym, ◌∙◌, subst}
 use Rattle.std.proofs.lemmas.List.{length-map, map-append}
 use Rattle.std.specs.List.{list_any}
-use Rattle.ag_expr.specs.Lists.{Each, DifferIn, Differ, AreRelated}
-use Rattle.ag_expr.specs.declared.grammar.Symbol.{Symbol}
-use Rattle.ag_expr.specs.declared.occurrence.Occ.{Occ}
-use Rattle.ag_expr.specs.grammars.Accepted.{IsNamed, IsNamedItem, IsNamedRule}
-use Rattle.ag_expr.specs.grammars.AttributeGrammar.{attribute_names, StandsFor}
-use Rattle.ag_expr.specs.language.Trees.{is_below}
-use Rattle.ag_text.specs.declared.raw.Named.{Named}
-use Rattle.ag_text.specs.declared.raw.RawGrammar.{RawGrammar}
-use Rattle.ag_text.specs.declared.raw.RawItem.{RawItem}
-use Rattle.ag_text.specs.declared.raw.RawItem.TheVariants as raw_item
-use Rattle.ag_text.specs.declared.raw.RawProduction.{RawProduction}
-use Rattle.ag_text.specs.declared.raw.RawRule.{RawRule}
-use Rattle.ag_text.specs.declared.raw.RawSymbol.{RawSymbol}
+use Rattle.ag_grammar.specs.Lists.{Each, DifferIn, Differ, AreRelated}
+use Rattle.ag_grammar.specs.declared.grammar.Symbol.{Symbol}
+use Rattle.ag_grammar.specs.declared.occurrence.Occ.{Occ}
+use Rattle.ag_grammar.specs.grammars.Accepted.{IsNamed, IsNamedItem, IsNamedRule}
+use Rattle.ag_grammar.specs.grammars.AttributeGrammar.{attribute_names, StandsFor}
+use Rattle.ag_grammar.specs.expressions.Trees.{is_below}
+use Rattle.ag_grammar.specs.declared.raw.Named.{Named}
+use Rattle.ag_grammar.specs.declared.raw.RawGrammar.{RawGrammar}
+use Rattle.ag_grammar.specs.declared.raw.RawItem.{RawItem}
+use Rattle.ag_grammar.specs.declared.raw.RawItem.TheVariants as raw_item
+use Rattle.ag_grammar.specs.declared.raw.RawProduction.{RawProduction}
+use Rattle.ag_grammar.specs.declared.raw.RawRule.{RawRule}
+use Rattle.ag_grammar.specs.declared.raw.RawSymbol.{RawSymbol}
 use Rattle.normalform.specs.declared.fault.NormalFault.TheVariants as fault
 use Rattle.normalform.specs.Faults.{first_wrong, name_place, item_places, occurrence_place, rule_places, unknown_in, unknown, doubled_names, doubled}
 use Rattle.normalform.specs.Numbers.{number_in, symbol_of, symbol_names, item_of, placed, names_at, target_of, rule_of, literals_of, numbered}

@@ -2,7 +2,6 @@ pub mod Accepting
 pub mod Apart
 pub mod First
 pub mod Founds
-pub mod FromTexts
 pub mod KindAt
 pub mod Listed
 pub mod Marks

@@ -3,10 +3,10 @@ use Rattle.std.proofs.Common.{◌||◌, ℕ, zero, suc, ◌≡◌, ◌⊎◌, in
 use Rattle.std.proofs.lemmas.Bool.Decides.{nat_tests}
 use Rattle.std.proofs.lemmas.Slice.Eq.{bytes_eq-Decides}
 use Rattle.std.specs.List.{list_any}
-use Rattle.ag_expr.specs.Lists.{Has}
-use Rattle.ag_text.specs.declared.raw.RawItem.{RawItem}
-use Rattle.ag_text.specs.declared.raw.RawItem.TheVariants as raw_item
-use Rattle.ag_text.specs.declared.raw.RawProduction.{RawProduction}
+use Rattle.ag_grammar.specs.Lists.{Has}
+use Rattle.ag_grammar.specs.declared.raw.RawItem.{RawItem}
+use Rattle.ag_grammar.specs.declared.raw.RawItem.TheVariants as raw_item
+use Rattle.ag_grammar.specs.declared.raw.RawProduction.{RawProduction}
 use Rattle.normalform.specs.Numbers.{number_in, with_text, with_item, with_production, literals_of, is_class}
 use Rattle.normalform.proofs.Apart.{Apart, Tells, apart_push, apart_differ, none_apart}
 use Rattle.normalform.proofs.Placing.{text_at}

@@ -2,7 +2,7 @@
 use Rattle.std.proofs.Common.{ℕ, ◌≡◌, nat_eq, ◌&&◌, ◌||◌, Bool, true, false, cond, List, [], ◌∷◌, ◌++◌, map, refl, ap, ◌∙◌, if◌then◌else◌}
 use Rattle.std.proofs.lemmas.List.{map_push}
 use Rattle.std.specs.List.{list_any}
-use Rattle.ag_expr.specs.declared.grammar.Target.{Target}
+use Rattle.ag_grammar.specs.declared.grammar.Target.{Target}
 use Rattle.normalform.specs.Faults.{same_target, with_target}
 
 abbrev pub target : ℕ × ℕ → Target

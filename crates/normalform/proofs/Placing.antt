@@ -5,17 +5,17 @@ use Rattle.std.proofs.lemmas.List.Sums.{passes_at_first}
 use Rattle.std.proofs.lemmas.Option.{slice_get-get_or, slice_get_within}
 use Rattle.std.proofs.lemmas.Slice.Eq.{bytes_eq-Decides}
 use Rattle.std.specs.List.{list_any}
-use Rattle.ag_expr.specs.declared.grammar.Item.{Item}
-use Rattle.ag_expr.specs.declared.grammar.Item.TheVariants as item
-use Rattle.ag_expr.specs.declared.grammar.Symbol.{Symbol}
-use Rattle.ag_expr.specs.declared.grammar.Target.{Target}
-use Rattle.ag_expr.specs.declared.grammar.Terminal.TheVariants.{Literal, Class}
-use Rattle.ag_expr.specs.declared.occurrence.Occ.{Occ}
-use Rattle.ag_expr.specs.grammars.AttributeGrammar.{Kind, Synthesized, Inherited, stored_items, item_at, item_names, item_kinds, symbol_kinds, symbol_names as names_of_symbol, HasKind, StandsFor}
-use Rattle.ag_text.specs.declared.raw.RawGrammar.{RawGrammar}
-use Rattle.ag_text.specs.declared.raw.RawItem.{RawItem}
-use Rattle.ag_text.specs.declared.raw.RawItem.TheVariants as raw_item
-use Rattle.ag_text.specs.declared.raw.RawProduction.{RawProduction}
+use Rattle.ag_grammar.specs.declared.grammar.Item.{Item}
+use Rattle.ag_grammar.specs.declared.grammar.Item.TheVariants as item
+use Rattle.ag_grammar.specs.declared.grammar.Symbol.{Symbol}
+use Rattle.ag_grammar.specs.declared.grammar.Target.{Target}
+use Rattle.ag_grammar.specs.declared.grammar.Terminal.TheVariants.{Literal, Class}
+use Rattle.ag_grammar.specs.declared.occurrence.Occ.{Occ}
+use Rattle.ag_grammar.specs.grammars.AttributeGrammar.{Kind, Synthesized, Inherited, stored_items, item_at, item_names, item_kinds, symbol_kinds, symbol_names as names_of_symbol, HasKind, StandsFor}
+use Rattle.ag_grammar.specs.declared.raw.RawGrammar.{RawGrammar}
+use Rattle.ag_grammar.specs.declared.raw.RawItem.{RawItem}
+use Rattle.ag_grammar.specs.declared.raw.RawItem.TheVariants as raw_item
+use Rattle.ag_grammar.specs.declared.raw.RawProduction.{RawProduction}
 use Rattle.normalform.specs.Faults.{is_kind, has_kind}
 use Rattle.normalform.specs.Numbers.{number_in, symbol_names, declared, item_of, stored_of, placed, names_at, target_of, numbered}
 use Rattle.normalform.proofs.Reduced.{symbols, produces, known, below_known}

@@ -5,22 +5,22 @@ use Rattle.std.proofs.lemmas.List.{length-map}
 use Rattle.std.proofs.lemmas.Option.{slice_get_within}
 use Rattle.std.specs.List.{list_any}
 use Rattle.std.proofs.lemmas.List.Elements.{All-append, All-nil, All-cons, All-head, All-tail}
-use Rattle.ag_expr.specs.Lists.{Has}
-use Rattle.ag_expr.specs.declared.grammar.Item.{Item}
-use Rattle.ag_expr.specs.declared.grammar.Item.TheVariants as item
-use Rattle.ag_expr.specs.declared.grammar.Production.{Production}
-use Rattle.ag_expr.specs.declared.grammar.Symbol.{Symbol}
-use Rattle.ag_expr.specs.grammars.Accepted.{IsProductive, AreProductive, by_production, nothing as no_item, a_symbol, a_word, IsReached, at_start, within}
-use Rattle.ag_expr.specs.grammars.AttributeGrammar.{Grammar}
-use Rattle.ag_text.specs.declared.raw.RawGrammar.{RawGrammar}
-use Rattle.ag_text.specs.declared.raw.RawItem.{RawItem}
-use Rattle.ag_text.specs.declared.raw.RawItem.TheVariants as raw_item
-use Rattle.ag_text.specs.declared.raw.RawProduction.{RawProduction}
+use Rattle.ag_grammar.specs.Lists.{Has}
+use Rattle.ag_grammar.specs.declared.grammar.Item.{Item}
+use Rattle.ag_grammar.specs.declared.grammar.Item.TheVariants as item
+use Rattle.ag_grammar.specs.declared.grammar.Production.{Production}
+use Rattle.ag_grammar.specs.declared.grammar.Symbol.{Symbol}
+use Rattle.ag_grammar.specs.grammars.Accepted.{IsProductive, AreProductive, by_production, nothing as no_item, a_symbol, a_word, IsReached, at_start, within}
+use Rattle.ag_grammar.specs.grammars.AttributeGrammar.{Grammar}
+use Rattle.ag_grammar.specs.declared.raw.RawGrammar.{RawGrammar}
+use Rattle.ag_grammar.specs.declared.raw.RawItem.{RawItem}
+use Rattle.ag_grammar.specs.declared.raw.RawItem.TheVariants as raw_item
+use Rattle.ag_grammar.specs.declared.raw.RawProduction.{RawProduction}
 use Rattle.normalform.specs.declared.clause.Clause.{Clause}
 use Rattle.normalform.specs.Clauses.{Follows, FollowAll, by_clause, nothing, one_more, body_of, clause_of, clauses_of, edge, edges_of, reaching}
 use Rattle.normalform.specs.Numbers.{number_in, symbol_of, symbol_names, item_of, literals_of, placed, production_of, numbered}
 use Rattle.normalform.proofs.Texts.{found}
-use Rattle.ag_text.specs.declared.raw.Named.{Named}
+use Rattle.ag_grammar.specs.declared.raw.Named.{Named}
 use Rattle.normalform.specs.declared.fault.NormalFault.TheVariants as fault
 use Rattle.normalform.specs.Faults.{first_wrong, name_place, item_places, rule_places, unknown_in, unknown, is_start, start_places}
 use Rattle.normalform.specs.Search.{IsClauseBelow}

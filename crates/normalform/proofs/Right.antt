@@ -1,7 +1,7 @@
 -- Lists of places without a wrong one, and elements of mapped and joined lists.
 use Rattle.std.proofs.Common.{ℕ, zero, suc, ◌≡◌, ◌+◌, Bool, true, false, List, [], ◌∷◌, ◌++◌, map, flat_map, Some, None, Option, slice_get, refl, ap, sym, ◌∙◌, arith}
 use Rattle.std.specs.Option.{option_or}
-use Rattle.ag_expr.specs.Lists.{Has}
+use Rattle.ag_grammar.specs.Lists.{Has}
 use Rattle.normalform.specs.declared.fault.NormalFault.{NormalFault}
 use Rattle.normalform.specs.Faults.{Place, first_wrong, places_along, after}
 use Rattle.normalform.proofs.Wrong.{wrong-append}

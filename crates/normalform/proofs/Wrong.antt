@@ -5,7 +5,7 @@ use Rattle.std.proofs.lemmas.List.Folds.{find-append}
 use Rattle.std.specs.List.{range_with_len}
 use Rattle.std.specs.Option.{option_map, option_or}
 use Rattle.normalform.specs.declared.fault.NormalFault.{NormalFault}
-use Rattle.ag_text.specs.declared.raw.Named.{Named}
+use Rattle.ag_grammar.specs.declared.raw.Named.{Named}
 use Rattle.normalform.specs.Faults.{Place, first_wrong, places_along, doubled_names, new_place, with_name}
 
 map_or : {X Y : Type 0} (f : X → Y) (a b : Option X) → option_map f (option_or a b) ≡ option_or (option_map f a) (option_map f b)

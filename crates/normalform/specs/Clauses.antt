@@ -1,10 +1,10 @@
 -- What follows from clauses (Dowling and Gallier 1984): a number follows where it is the head of a clause of whose body each
 -- number does. Which symbols are productive, and which are reached, are found in this way.
 use Rattle.std.specs.Prelude.{ℕ, map, flat_map, ◌≡◌, List, [], ◌∷◌, Some, slice_get}
-use Rattle.ag_expr.specs.declared.grammar.Symbol.{Symbol}
-use Rattle.ag_text.specs.declared.raw.RawItem.{RawItem}
-use Rattle.ag_text.specs.declared.raw.RawItem.TheVariants as raw_item
-use Rattle.ag_text.specs.declared.raw.RawProduction.{RawProduction}
+use Rattle.ag_grammar.specs.declared.grammar.Symbol.{Symbol}
+use Rattle.ag_grammar.specs.declared.raw.RawItem.{RawItem}
+use Rattle.ag_grammar.specs.declared.raw.RawItem.TheVariants as raw_item
+use Rattle.ag_grammar.specs.declared.raw.RawProduction.{RawProduction}
 use Rattle.normalform.specs.Numbers.{number_in, symbol_names}
 use Rattle.normalform.specs.declared.clause.Clause.{Clause}
 

@@ -3,24 +3,24 @@
 use Rattle.std.specs.Prelude.{All, ℕ, zero, suc, cond, fold, ◌⊎◌, ◌+◌, ◌≡◌, ◌<◌, ◌≤◌, nat_eq, nat_le, not, Bool, true, false, ◌&&◌, List, [], ◌∷◌, ◌++◌, length, map, flat_map, find, Option, Some, None, bytes_eq, slice_get}
 use Rattle.std.specs.List.{list_any, list_all, range_with_len}
 use Rattle.std.specs.Option.{option_map}
-use Rattle.ag_expr.specs.Lists.{Each}
-use Rattle.ag_expr.specs.declared.grammar.Item.{Item}
-use Rattle.ag_expr.specs.declared.grammar.Item.TheVariants as item
-use Rattle.ag_expr.specs.declared.grammar.Production.{Production}
-use Rattle.ag_expr.specs.declared.grammar.Rule.{Rule}
-use Rattle.ag_expr.specs.declared.grammar.Symbol.{Symbol}
-use Rattle.ag_expr.specs.declared.grammar.Target.{Target}
-use Rattle.ag_expr.specs.declared.occurrence.Occ.{Occ}
-use Rattle.ag_expr.specs.grammars.Accepted.{IsAccepted, IsProductive, IsReached, IsSeparator, class_count, out_name, most_symbols, most_attributes, most_productions, most_items, most_stored, most_literals, most_literal_bytes}
-use Rattle.ag_expr.specs.grammars.AttributeGrammar.{Kind, Synthesized, Inherited, attribute_names, item_kinds, given_kind, found_kind}
-use Rattle.ag_expr.specs.language.Trees.{is_below}
-use Rattle.ag_text.specs.declared.raw.Named.{Named}
-use Rattle.ag_text.specs.declared.raw.RawGrammar.{RawGrammar}
-use Rattle.ag_text.specs.declared.raw.RawItem.{RawItem}
-use Rattle.ag_text.specs.declared.raw.RawItem.TheVariants as raw_item
-use Rattle.ag_text.specs.declared.raw.RawProduction.{RawProduction}
-use Rattle.ag_text.specs.declared.raw.RawRule.{RawRule}
-use Rattle.ag_text.specs.declared.raw.RawSymbol.{RawSymbol}
+use Rattle.ag_grammar.specs.Lists.{Each}
+use Rattle.ag_grammar.specs.declared.grammar.Item.{Item}
+use Rattle.ag_grammar.specs.declared.grammar.Item.TheVariants as item
+use Rattle.ag_grammar.specs.declared.grammar.Production.{Production}
+use Rattle.ag_grammar.specs.declared.grammar.Rule.{Rule}
+use Rattle.ag_grammar.specs.declared.grammar.Symbol.{Symbol}
+use Rattle.ag_grammar.specs.declared.grammar.Target.{Target}
+use Rattle.ag_grammar.specs.declared.occurrence.Occ.{Occ}
+use Rattle.ag_grammar.specs.grammars.Accepted.{IsAccepted, IsProductive, IsReached, IsSeparator, class_count, out_name, most_symbols, most_attributes, most_productions, most_items, most_stored, most_literals, most_literal_bytes}
+use Rattle.ag_grammar.specs.grammars.AttributeGrammar.{Kind, Synthesized, Inherited, attribute_names, item_kinds, given_kind, found_kind}
+use Rattle.ag_grammar.specs.expressions.Trees.{is_below}
+use Rattle.ag_grammar.specs.declared.raw.Named.{Named}
+use Rattle.ag_grammar.specs.declared.raw.RawGrammar.{RawGrammar}
+use Rattle.ag_grammar.specs.declared.raw.RawItem.{RawItem}
+use Rattle.ag_grammar.specs.declared.raw.RawItem.TheVariants as raw_item
+use Rattle.ag_grammar.specs.declared.raw.RawProduction.{RawProduction}
+use Rattle.ag_grammar.specs.declared.raw.RawRule.{RawRule}
+use Rattle.ag_grammar.specs.declared.raw.RawSymbol.{RawSymbol}
 use Rattle.normalform.specs.declared.fault.LimitKind.TheVariants as limit
 use Rattle.normalform.specs.declared.fault.NormalFault.{NormalFault}
 use Rattle.normalform.specs.declared.fault.NormalFault.TheVariants as fault

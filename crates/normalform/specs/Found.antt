@@ -1,7 +1,7 @@
 -- What the search for faults finds: a fault, or the number of a symbol whose name is to be moved into one.
 use Rattle.std.specs.Prelude.{ℕ, ◌<◌, Option, Some, None, length}
-use Rattle.ag_text.specs.declared.raw.Named.{Named}
-use Rattle.ag_text.specs.declared.raw.RawGrammar.{RawGrammar}
+use Rattle.ag_grammar.specs.declared.raw.Named.{Named}
+use Rattle.ag_grammar.specs.declared.raw.RawGrammar.{RawGrammar}
 use Rattle.normalform.specs.declared.checking.Found.{Found}
 use Rattle.normalform.specs.declared.checking.Found.TheVariants as found
 use Rattle.normalform.specs.declared.fault.NormalFault.{NormalFault}

@@ -1,14 +1,13 @@
 -- What is true of raw grammars and their faults, and a worked example.
 use Rattle.std.specs.Prelude.{ℕ, ◌≡◌, List, [], ◌∷◌, All}
-use Rattle.ag_expr.specs.declared.grammar.Item.TheVariants as item
-use Rattle.ag_expr.specs.declared.grammar.Terminal.TheVariants.{Literal, Class}
-use Rattle.ag_expr.specs.grammars.Accepted.{IsAccepted}
-use Rattle.ag_text.specs.Grammar.{ReadsAsGrammar}
-use Rattle.ag_text.specs.declared.raw.Named.{Named}
-use Rattle.ag_text.specs.declared.raw.RawGrammar.{RawGrammar}
-use Rattle.ag_text.specs.declared.raw.RawItem.TheVariants as raw_item
-use Rattle.ag_text.specs.declared.raw.RawProduction.{RawProduction}
-use Rattle.ag_text.specs.declared.raw.RawSymbol.{RawSymbol}
+use Rattle.ag_grammar.specs.declared.grammar.Item.TheVariants as item
+use Rattle.ag_grammar.specs.declared.grammar.Terminal.TheVariants.{Literal, Class}
+use Rattle.ag_grammar.specs.grammars.Accepted.{IsAccepted}
+use Rattle.ag_grammar.specs.declared.raw.Named.{Named}
+use Rattle.ag_grammar.specs.declared.raw.RawGrammar.{RawGrammar}
+use Rattle.ag_grammar.specs.declared.raw.RawItem.TheVariants as raw_item
+use Rattle.ag_grammar.specs.declared.raw.RawProduction.{RawProduction}
+use Rattle.ag_grammar.specs.declared.raw.RawSymbol.{RawSymbol}
 use Rattle.normalform.specs.declared.fault.NormalFault.{NormalFault}
 use Rattle.normalform.specs.Faults.{IsFirstFault, HasNoFault, IsReadable, AreListedIn}
 use Rattle.normalform.specs.Numbers.{numbered}
@@ -24,10 +23,6 @@ OneFirstFault = (raw : RawGrammar) (f h : NormalFault) → IsFirstFault raw f �
 
 abbrev pub NoFirstFaultWithoutFault : Type 0
 NoFirstFaultWithoutFault = (raw : RawGrammar) (f : NormalFault) → IsFirstFault raw f → HasNoFault raw → ⊥
-
--- The literals and classes of what a text reads as are those that a text gives.
-abbrev pub TextsAreReadable : Type 0
-TextsAreReadable = (text : List ℕ) (raw : RawGrammar) → ReadsAsGrammar text raw → IsReadable raw
 
 -- The production S = "x" NAME "y" "x" S of one symbol S: the second "x" has the number of the first, and S the number 0.
 abbrev named : ℕ → Named

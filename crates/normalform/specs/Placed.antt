@@ -1,7 +1,7 @@
 -- What stands at a place, as the search for faults has it.
-use Rattle.ag_expr.specs.declared.grammar.Item.{Item}
-use Rattle.ag_expr.specs.declared.grammar.Item.TheVariants as item
-use Rattle.ag_expr.specs.declared.grammar.Terminal.TheVariants.{Class}
+use Rattle.ag_grammar.specs.declared.grammar.Item.{Item}
+use Rattle.ag_grammar.specs.declared.grammar.Item.TheVariants as item
+use Rattle.ag_grammar.specs.declared.grammar.Terminal.TheVariants.{Class}
 use Rattle.normalform.specs.declared.placed.Placed.{Placed}
 use Rattle.normalform.specs.declared.placed.Placed.TheVariants as placed
 

@@ -1,10 +1,10 @@
 -- Whether the literals and classes of a raw grammar are as a text gives them, as a test.
 use Rattle.std.specs.Prelude.{ℕ, Bool, true, ◌&&◌, not, nat_eq, nat_le, nat_lt, List, length, ◌||◌}
 use Rattle.std.specs.List.{list_all}
-use Rattle.ag_expr.specs.grammars.Accepted.{class_count}
-use Rattle.ag_text.specs.declared.raw.RawItem.{RawItem}
-use Rattle.ag_text.specs.declared.raw.RawItem.TheVariants as raw_item
-use Rattle.ag_text.specs.declared.raw.RawProduction.{RawProduction}
+use Rattle.ag_grammar.specs.grammars.Accepted.{class_count}
+use Rattle.ag_grammar.specs.declared.raw.RawItem.{RawItem}
+use Rattle.ag_grammar.specs.declared.raw.RawItem.TheVariants as raw_item
+use Rattle.ag_grammar.specs.declared.raw.RawProduction.{RawProduction}
 
 abbrev pub is_separator : ℕ → Bool
 is_separator b = nat_eq b 32 || nat_eq b 9 || nat_eq b 13 || nat_eq b 10

@@ -1,10 +1,10 @@
 //! The check of a raw grammar: the grammar that it is, or the first of its faults.
 ghost use Rattle.std.specs.Prelude.{◌≡◌, map, All, Some, None, IfOk, IfErr, IfSome};
-ghost use Rattle.ag_expr.specs.grammars.Accepted.{IsAccepted};
+ghost use Rattle.ag_grammar.specs.grammars.Accepted.{IsAccepted};
 ghost use Rattle.normalform.specs.Faults.{first_wrong, start_places, naming_places, rule_kinds};
 ghost use Rattle.normalform.specs.Faults.{further_places, IsReadable, HasNoFault, IsTrueOf};
 ghost use Rattle.normalform.specs.Faults.{IsFirstFault};
-ghost use Rattle.ag_expr.specs.grammars.Accepted.{IsProductive, IsReached};
+ghost use Rattle.ag_grammar.specs.grammars.Accepted.{IsProductive, IsReached};
 ghost use Rattle.normalform.specs.Clauses as spec;
 ghost use Rattle.normalform.specs.Faults.{AreAll};
 ghost use Rattle.normalform.specs.Found.{IsFound, IsFoundAt};
@@ -22,8 +22,7 @@ use crate::naming::{doubled, unknown};
 use crate::numbering::{classes_of, literal_texts, names_of, productions_of, start_of};
 use crate::rules::{doubled_rules, missing, not_found, not_given};
 use crate::search::first_left;
-use ag_expr::Production;
-use ag_text::{Named, RawGrammar, RawProduction, RawSymbol};
+use ag_grammar::{Named, Production, RawGrammar, RawProduction, RawSymbol};
 use ag_value::{Items, NoMemory, Text};
 use std::alloc::Global;
 

@@ -5,7 +5,7 @@ ghost use Rattle.normalform.specs.Clauses.{body_of, edges_of};
 ghost use Rattle.normalform.specs.Numbers.{symbol_names};
 
 use crate::declared::Declared;
-use ag_text::{RawItem, RawProduction};
+use ag_grammar::{RawItem, RawProduction};
 use ag_value::{Items, NoMemory};
 use std::alloc::Global;
 

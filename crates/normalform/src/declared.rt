@@ -3,13 +3,13 @@ ghost use Rattle.std.specs.Prelude.{◌≡◌, ◌++◌, length, map, bytes_eq, 
 ghost use Rattle.std.specs.Prelude.{ℕ, List, Some, None};
 ghost use Rattle.std.specs.Prelude.{slice_get, [], ◌∷◌, ◌≤◌, ◌-◌};
 ghost use Rattle.std.specs.List.{list_any, range_with_len};
-ghost use Rattle.ag_expr.specs.declared.grammar.Item.TheVariants as Item;
-ghost use Rattle.ag_expr.specs.declared.grammar.Symbol.{Symbol};
-ghost use Rattle.ag_expr.specs.grammars.AttributeGrammar.{attribute_names, lex_name};
-ghost use Rattle.ag_expr.specs.grammars.AttributeGrammar.{symbol_names as attributes_of};
-ghost use Rattle.ag_expr.specs.grammars.AttributeGrammar.{Synthesized, Inherited};
-ghost use Rattle.ag_expr.specs.grammars.AttributeGrammar.{symbol_kinds, item_kinds};
-ghost use Rattle.ag_expr.specs.grammars.AttributeGrammar.{given_kind, found_kind};
+ghost use Rattle.ag_grammar.specs.declared.grammar.Item.TheVariants as Item;
+ghost use Rattle.ag_grammar.specs.declared.grammar.Symbol.{Symbol};
+ghost use Rattle.ag_grammar.specs.grammars.AttributeGrammar.{attribute_names, lex_name};
+ghost use Rattle.ag_grammar.specs.grammars.AttributeGrammar.{symbol_names as attributes_of};
+ghost use Rattle.ag_grammar.specs.grammars.AttributeGrammar.{Synthesized, Inherited};
+ghost use Rattle.ag_grammar.specs.grammars.AttributeGrammar.{symbol_kinds, item_kinds};
+ghost use Rattle.ag_grammar.specs.grammars.AttributeGrammar.{given_kind, found_kind};
 ghost use Rattle.normalform.specs.Faults as spec;
 ghost use Rattle.normalform.specs.Faults.{has_kind, is_kind, given_at};
 ghost use Rattle.normalform.specs.Numbers.{declared};
@@ -19,8 +19,7 @@ ghost use Rattle.normalform.specs.Placed.{item_placed};
 
 use crate::names::Names;
 use crate::placed::Placed;
-use ag_expr::Occ;
-use ag_text::{Named, RawSymbol};
+use ag_grammar::{Named, Occ, RawSymbol};
 use ag_value::NoMemory;
 use std::alloc::Global;
 use std::marker::Model;
@@ -78,8 +77,8 @@ pub struct Declared<'t> {
 
 impl<'t> Model for Declared<'t> {
     ghost use Rattle.std.specs.Prelude.{◌≡◌, List, map};
-    ghost use Rattle.ag_expr.specs.declared.grammar.Symbol.{Symbol};
-    ghost use Rattle.ag_expr.specs.grammars.AttributeGrammar.{attribute_names, lex_name};
+    ghost use Rattle.ag_grammar.specs.declared.grammar.Symbol.{Symbol};
+    ghost use Rattle.ag_grammar.specs.grammars.AttributeGrammar.{attribute_names, lex_name};
     ghost use Rattle.normalform.specs.Numbers.{symbol_of, symbol_names};
 
     ghost Value = { List Symbol };

@@ -2,7 +2,7 @@
 ghost use Rattle.std.specs.Prelude.{◌≡◌};
 ghost use Rattle.normalform.specs.declared.fault.NormalFault.TheVariants as fault;
 
-use ag_text::Named;
+use ag_grammar::Named;
 use ag_value::NoMemory;
 
 /// A limit of a grammar. Several of them exceeded, the first in this order is told.

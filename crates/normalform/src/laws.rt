@@ -4,7 +4,7 @@
 ghost use Rattle.normalform.specs.Examples.{WorkedNames, WorkedRules};
 ghost use Rattle.normalform.specs.Laws.{AcceptedWithoutFault, NoFaultWhereAccepted};
 ghost use Rattle.normalform.specs.Laws.{OneFirstFault, NoFirstFaultWithoutFault};
-ghost use Rattle.normalform.specs.Laws.{TextsAreReadable, WorkedNumbers};
+ghost use Rattle.normalform.specs.Laws.{WorkedNumbers};
 
 /// Where a raw grammar has no fault, the grammar by numbers is accepted.
 #[tactic(auto, using(crate::proofs::Accepting::accepted_without_fault))]
@@ -27,12 +27,6 @@ pub fn one_first_fault()
 #[tactic(auto, using(crate::proofs::Accepting::first_excludes))]
 pub fn no_first_fault_without_fault()
     ensures { NoFirstFaultWithoutFault }
-{}
-
-/// The literals and classes of what a text reads as are those that a text gives, which `check` asks
-/// for.
-pub fn texts_are_readable()
-    ensures { TextsAreReadable }
 {}
 
 /// The numbers of a small grammar.

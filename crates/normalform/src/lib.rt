@@ -20,7 +20,7 @@ mod rules;
 mod search;
 mod targets;
 
-pub use ag_expr::{Item, Production, Rule, Symbol, Target, Terminal};
+pub use ag_grammar::{Item, Production, Rule, Symbol, Target, Terminal};
 pub use checking::check;
 pub use fault::{LimitKind, NormalFault};
 pub use grammar::Grammar;

@@ -11,30 +11,13 @@ use crate::declared::Declared;
 use crate::fault::{LimitKind, NormalFault};
 use crate::names::Names;
 use crate::placed::places_of;
-use ag_text::{RawItem, RawProduction, RawSymbol};
+use ag_grammar::limits::{
+    MOST_ATTRIBUTES, MOST_ITEMS, MOST_LITERAL_BYTES, MOST_LITERALS, MOST_PRODUCTIONS, MOST_STORED,
+    MOST_SYMBOLS,
+};
+use ag_grammar::{RawItem, RawProduction, RawSymbol};
 use ag_value::NoMemory;
 use std::alloc::Global;
-
-/// How many symbols there are at most.
-pub const MOST_SYMBOLS: usize = 256;
-
-/// How many attributes a symbol has at most.
-pub const MOST_ATTRIBUTES: usize = 16;
-
-/// How many productions there are at most.
-pub const MOST_PRODUCTIONS: usize = 512;
-
-/// How many items a right side has at most.
-pub const MOST_ITEMS: usize = 64;
-
-/// How many symbols and classes a right side has at most.
-pub const MOST_STORED: usize = 16;
-
-/// How many bytes a literal has at most.
-pub const MOST_LITERAL_BYTES: usize = 255;
-
-/// How many different literals there are at most.
-pub const MOST_LITERALS: usize = 1024;
 
 /// Lists the literals of a right side.
 fn list_literals<'t>(texts: &mut Names<'t>, items: &'t [RawItem]) -> Result<(), NoMemory>

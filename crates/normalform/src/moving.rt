@@ -3,8 +3,7 @@ ghost use Rattle.std.specs.Prelude.{◌≡◌, ◌<◌, length, map, IfOk};
 ghost use Rattle.normalform.specs.Faults.{IsNameAt};
 ghost use Rattle.normalform.specs.Numbers.{symbol_of, texts_of};
 
-use ag_expr::Symbol;
-use ag_text::{Named, RawSymbol};
+use ag_grammar::{Named, RawSymbol, Symbol};
 use ag_value::{Items, NoMemory, Text};
 use std::alloc::Global;
 

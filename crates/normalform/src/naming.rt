@@ -11,8 +11,7 @@ use crate::declared::Declared;
 use crate::fault::NormalFault;
 use crate::names::Names;
 use crate::placed::{Placed, places_of};
-use ag_expr::{Occ, occurrences};
-use ag_text::{Named, RawItem, RawProduction, RawRule, RawSymbol};
+use ag_grammar::{Named, Occ, RawItem, RawProduction, RawRule, RawSymbol, occurrences};
 use ag_value::NoMemory;
 use std::alloc::Global;
 

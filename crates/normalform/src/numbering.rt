@@ -10,8 +10,9 @@ use crate::declared::Declared;
 use crate::limits::literals_of;
 use crate::names::Names;
 use crate::placed::{Placed, places_of};
-use ag_expr::{Item, Occ, Production, Rule, Target, Terminal, occurrences};
-use ag_text::{RawItem, RawProduction, RawRule};
+use ag_grammar::{
+    Item, Occ, Production, RawItem, RawProduction, RawRule, Rule, Target, Terminal, occurrences,
+};
 use ag_value::{Items, NoMemory, Text};
 use std::alloc::Global;
 

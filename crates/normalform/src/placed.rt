@@ -5,7 +5,7 @@ ghost use Rattle.normalform.specs.Numbers.{placed};
 ghost use Rattle.normalform.specs.Placed.{item_placed};
 
 use crate::declared::Declared;
-use ag_text::{RawItem, RawProduction};
+use ag_grammar::{RawItem, RawProduction};
 use ag_value::NoMemory;
 use std::alloc::Global;
 

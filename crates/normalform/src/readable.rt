@@ -5,7 +5,7 @@ ghost use Rattle.normalform.specs.Faults.{IsReadable};
 ghost use Rattle.normalform.specs.Readable.{is_separator, readable_text, readable_item};
 ghost use Rattle.normalform.specs.Readable.{readable_in};
 
-use ag_text::{RawGrammar, RawItem, RawProduction};
+use ag_grammar::{RawGrammar, RawItem, RawProduction};
 
 /// A byte separates the words of a sentence.
 fn is_separator(byte: u8) -> bool

@@ -12,8 +12,7 @@ use crate::declared::Declared;
 use crate::fault::NormalFault;
 use crate::placed::{Placed, places_of};
 use crate::targets::Targets;
-use ag_expr::{Occ, occurrences};
-use ag_text::{RawProduction, RawRule};
+use ag_grammar::{Occ, RawProduction, RawRule, occurrences};
 use ag_value::NoMemory;
 use std::alloc::Global;
 

@@ -1,7 +1,7 @@
 //! The different targets of a production's rules, looked up by hash.
 ghost use Rattle.std.specs.Prelude.{◌≡◌, [], not, IfOk, OnOk};
 ghost use Rattle.std.specs.List.{list_any};
-ghost use Rattle.ag_expr.specs.declared.grammar.Target.{Target as Pair};
+ghost use Rattle.ag_grammar.specs.declared.grammar.Target.{Target as Pair};
 ghost use Rattle.normalform.specs.Faults.{same_target, with_target};
 
 use ag_value::NoMemory;
@@ -17,7 +17,7 @@ pub struct Targets {
 
 impl Model for Targets {
     ghost use Rattle.std.specs.Prelude.{List, map};
-    ghost use Rattle.ag_expr.specs.declared.grammar.Target.{Target};
+    ghost use Rattle.ag_grammar.specs.declared.grammar.Target.{Target};
 
     ghost Value = { List Target };
 

@@ -2,7 +2,7 @@
 use Rattle.std.proofs.Common.{ℕ, ◌≡◌, ◌≤◌, ◌+◌, ◌↔◌, ◌++◌, List, [], ◌∷◌, Some, slice_get, length, inl, inr, ap, ◌∙◌, sym, subst, arith}
 use Rattle.std.proofs.lemmas.Bool.{cases_eq}
 use Rattle.std.proofs.lemmas.Option.{slice_get_within}
-use Rattle.ag_expr.specs.Lists.{Has}
+use Rattle.ag_grammar.specs.Lists.{Has}
 use Rattle.passassign.specs.Dependencies.{OfEach, OfFront, Adds}
 use Rattle.passassign.proofs.Lists.{has_kept, has_put, has_cases}
 

@@ -1,13 +1,14 @@
 -- The certificate of the grammar whose productions need both directions.
 use Rattle.std.proofs.Common.{ℕ, ◌+◌, ◌≡◌, inl, inr, [], ◌∷◌, Some, slice_get, refl, ap, sym, subst, arith}
-use Rattle.ag_expr.specs.Lists.{Each, Differ}
-use Rattle.ag_expr.specs.declared.grammar.Production.{Production}
-use Rattle.ag_expr.specs.declared.grammar.Rule.{Rule}
-use Rattle.ag_expr.specs.declared.grammar.Target.{Target}
-use Rattle.ag_expr.specs.grammars.AttributeGrammar.{Synthesized}
-use Rattle.ag_expr.specs.grammars.Passes.{Direction, LeftToRight, RightToLeft}
-use Rattle.ag_expr.specs.grammars.Sample.{attribute, both_ways, copy_rule, s_name, production_r, production_back, rule_out, rule_first, rule_second}
-use Rattle.ag_expr.proofs.grammars.Members.{both, pair, each_more, differ_more}
+use Rattle.ag_grammar.specs.Lists.{Each, Differ}
+use Rattle.ag_grammar.specs.declared.grammar.Production.{Production}
+use Rattle.ag_grammar.specs.declared.grammar.Rule.{Rule}
+use Rattle.ag_grammar.specs.declared.grammar.Target.{Target}
+use Rattle.ag_grammar.specs.grammars.AttributeGrammar.{Synthesized}
+use Rattle.ag_grammar.specs.declared.direction.Direction.{Direction}
+use Rattle.ag_grammar.specs.declared.direction.Direction.TheVariants.{LeftToRight, RightToLeft}
+use Rattle.ag_grammar.specs.grammars.Sample.{attribute, both_ways, copy_rule, s_name, production_r, production_back, rule_out, rule_first, rule_second}
+use Rattle.ag_grammar.proofs.grammars.Members.{both, pair, each_more, differ_more}
 use Rattle.passassign.specs.Certificate.{Members, Strikes, IsGood, StrikesAll, IsCertificate}
 use Rattle.passassign.specs.Least.{IsAlternating}
 use Rattle.passassign.specs.Sample.{strike, strikes_by, both_ways_stuck, exchanged}

@@ -4,7 +4,7 @@ use Rattle.std.proofs.lemmas.Bool.{cases_eq}
 use Rattle.std.proofs.lemmas.Option.{slice_get_within}
 use Rattle.std.proofs.lemmas.List.{get_or-set_other, get_or-set_same, map-set}
 use Rattle.std.specs.Global.{Vec}
-use Rattle.ag_expr.specs.Lists.{Has}
+use Rattle.ag_grammar.specs.Lists.{Has}
 use Rattle.passassign.specs.Dependencies.{Adds, row_at, AreRows, AreRowsOfFront, PutsAt, Puts}
 use Rattle.passassign.specs.declared.dependency.Dependency.{Dependency}
 use Rattle.passassign.proofs.Adding.{adds_push, adds_none, adds_same}

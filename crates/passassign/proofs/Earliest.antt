@@ -1,14 +1,16 @@
 -- Passes that are made for two of the sample grammars.
 use Rattle.std.proofs.Common.{ℕ, zero, suc, ◌≡◌, ◌≤◌, inl, inr, List, [], ◌∷◌, Some, None, slice_get, length, refl, subst, sym, ◌∙◌, arith}
-use Rattle.ag_expr.specs.Lists.{Each}
-use Rattle.ag_expr.specs.declared.grammar.Production.{Production}
-use Rattle.ag_expr.specs.declared.grammar.Rule.{Rule}
-use Rattle.ag_expr.specs.declared.grammar.Target.{Target}
-use Rattle.ag_expr.specs.grammars.AttributeGrammar.{Synthesized, Inherited, symbol_kinds}
-use Rattle.ag_expr.specs.grammars.Passes.{Passes, Direction, LeftToRight, RightToLeft, IsBefore, direction_of}
-use Rattle.ag_expr.specs.grammars.Sample.{attribute, grammar_of, sample, copy_rule, zero_rule, s_name, production_r, production_a, rule_out, rule_first, rule_second, rule_s, sample_passes, later_passes}
-use Rattle.ag_expr.proofs.grammars.Members.{both, each_more, each_none, only}
-use Rattle.ag_expr.proofs.grammars.NumberSample.{accepted}
+use Rattle.ag_grammar.specs.Lists.{Each}
+use Rattle.ag_grammar.specs.declared.grammar.Production.{Production}
+use Rattle.ag_grammar.specs.declared.grammar.Rule.{Rule}
+use Rattle.ag_grammar.specs.declared.grammar.Target.{Target}
+use Rattle.ag_grammar.specs.grammars.AttributeGrammar.{Synthesized, Inherited, symbol_kinds}
+use Rattle.ag_grammar.specs.declared.direction.Direction.{Direction}
+use Rattle.ag_grammar.specs.declared.direction.Direction.TheVariants.{LeftToRight, RightToLeft}
+use Rattle.ag_grammar.specs.grammars.Passes.{Passes, IsBefore, direction_of}
+use Rattle.ag_grammar.specs.grammars.Sample.{attribute, grammar_of, sample, copy_rule, zero_rule, s_name, production_r, production_a, rule_out, rule_first, rule_second, rule_s, sample_passes, later_passes}
+use Rattle.ag_grammar.proofs.grammars.Members.{both, each_more, each_none, only}
+use Rattle.ag_grammar.proofs.grammars.NumberSample.{accepted}
 use Rattle.passassign.specs.Certificate.{Attributes, Strikes, IsReason, AreGood}
 use Rattle.passassign.specs.Least.{partial_of, IsAttribute, IsLeast}
 use Rattle.passassign.specs.Making.{IsOpen, AreFinished, IsPass, IsMade, start, passed}

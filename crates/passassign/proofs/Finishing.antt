@@ -5,13 +5,13 @@ use Rattle.std.proofs.lemmas.List.Sums.{count_by-le-length}
 use Rattle.std.proofs.lemmas.Option.{slice_get-get_or, slice_get_within}
 use Rattle.std.proofs.Math.ListN.{get_or-eq_default}
 use Rattle.std.specs.Global.{Vec}
-use Rattle.ag_expr.specs.Lists.{Has}
-use Rattle.ag_expr.specs.declared.grammar.Item.TheVariants as item
-use Rattle.ag_expr.specs.declared.grammar.Item.{Item}
-use Rattle.ag_expr.specs.grammars.AttributeGrammar.{Grammar, item_at}
-use Rattle.ag_expr.specs.grammars.Passes.{Direction}
+use Rattle.ag_grammar.specs.Lists.{Has}
+use Rattle.ag_grammar.specs.declared.grammar.Item.TheVariants as item
+use Rattle.ag_grammar.specs.declared.grammar.Item.{Item}
+use Rattle.ag_grammar.specs.grammars.AttributeGrammar.{Grammar, item_at, places_of}
+use Rattle.ag_grammar.specs.declared.direction.Direction.{Direction}
 use Rattle.passassign.specs.Certificate.{Strikes, IsOneOf, IsReason, IsGood}
-use Rattle.passassign.specs.Dependencies.{places_of, symbol_of, table_slot, dependency_of, head_of, AreRows, row_at}
+use Rattle.passassign.specs.Dependencies.{symbol_of, table_slot, dependency_of, head_of, AreRows, row_at}
 use Rattle.passassign.specs.Making.{IsOpen}
 use Rattle.passassign.specs.Searching.{struck_slot, IsOpenAt, IsBarred, IsStruckAt, IsOnStruck, IsReasoned, IsSettled, AreOf, IsSearch, Follows, ArePlaced, IsFinished}
 use Rattle.passassign.specs.Tables.{slot_of, state_at, is_marked, table_passes}

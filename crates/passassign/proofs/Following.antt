@@ -5,11 +5,12 @@ use Rattle.std.proofs.lemmas.Grind.{common_steps}
 use Rattle.std.proofs.lemmas.List.{get_or-set_other, get_or-set_same}
 use Rattle.std.proofs.lemmas.Option.{slice_get-get_or, slice_get_within}
 use Rattle.std.proofs.Math.ListN.{length-append, length-set}
-use Rattle.ag_expr.specs.Lists.{Has}
-use Rattle.ag_expr.specs.declared.grammar.Item.TheVariants as item
-use Rattle.ag_expr.specs.declared.grammar.Item.{Item}
-use Rattle.ag_expr.specs.grammars.AttributeGrammar.{Grammar, item_at}
-use Rattle.ag_expr.specs.grammars.Passes.{Direction, IsBefore}
+use Rattle.ag_grammar.specs.Lists.{Has}
+use Rattle.ag_grammar.specs.declared.grammar.Item.TheVariants as item
+use Rattle.ag_grammar.specs.declared.grammar.Item.{Item}
+use Rattle.ag_grammar.specs.grammars.AttributeGrammar.{Grammar, item_at}
+use Rattle.ag_grammar.specs.declared.direction.Direction.{Direction}
+use Rattle.ag_grammar.specs.grammars.Passes.{IsBefore}
 use Rattle.passassign.specs.Certificate.{Attributes, Strikes, IsOneOf, IsReason, IsGood, AreGood}
 use Rattle.passassign.specs.Dependencies.{symbol_of, table_slot}
 use Rattle.passassign.specs.Making.{IsOpen}

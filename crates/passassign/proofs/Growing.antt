@@ -1,7 +1,7 @@
 -- A list of strikes grows at its end.
 use Rattle.std.proofs.Common.{ℕ, ◌⊎◌, inl, inr, List, [], ◌∷◌, ◌++◌}
-use Rattle.ag_expr.specs.grammars.AttributeGrammar.{Grammar}
-use Rattle.ag_expr.specs.grammars.Passes.{Direction}
+use Rattle.ag_grammar.specs.grammars.AttributeGrammar.{Grammar}
+use Rattle.ag_grammar.specs.declared.direction.Direction.{Direction}
 use Rattle.passassign.specs.declared.stuck.Strike.{Strike}
 use Rattle.passassign.specs.Certificate.{Attributes, Strikes, IsGood, AreGood}
 use Rattle.passassign.specs.Least.{Partial}

@@ -2,6 +2,7 @@ pub mod Adding
 pub mod DependentRows
 mod BothWays
 mod Earliest
+pub mod Few
 mod Fewest
 pub mod Finally
 pub mod Finishing

@@ -4,15 +4,15 @@ use Rattle.std.proofs.lemmas.Bool.{lt-ltb}
 use Rattle.std.proofs.lemmas.Option.{slice_get_within}
 use Rattle.std.proofs.lemmas.List.{length-map}
 use Rattle.std.proofs.Math.ListN.{length-append}
-use Rattle.ag_expr.specs.declared.grammar.Item.TheVariants as item
-use Rattle.ag_expr.specs.declared.grammar.Item.{Item}
-use Rattle.ag_expr.specs.declared.grammar.Production.{Production}
-use Rattle.ag_expr.specs.declared.grammar.Rule.{Rule}
-use Rattle.ag_expr.specs.declared.grammar.Symbol.{Symbol}
-use Rattle.ag_expr.specs.declared.grammar.Target.{Target}
-use Rattle.ag_expr.specs.grammars.Accepted.{IsAccepted}
-use Rattle.ag_expr.specs.grammars.AttributeGrammar.{Grammar, Synthesized, Inherited, IsProduction, item_at, item_kinds, found_kind, given_kind, symbol_kinds, symbol_names}
-use Rattle.passassign.specs.Dependencies.{places_of, symbol_of, table_slot, IsDependency, AreDependencies}
+use Rattle.ag_grammar.specs.declared.grammar.Item.TheVariants as item
+use Rattle.ag_grammar.specs.declared.grammar.Item.{Item}
+use Rattle.ag_grammar.specs.declared.grammar.Production.{Production}
+use Rattle.ag_grammar.specs.declared.grammar.Rule.{Rule}
+use Rattle.ag_grammar.specs.declared.grammar.Symbol.{Symbol}
+use Rattle.ag_grammar.specs.declared.grammar.Target.{Target}
+use Rattle.ag_grammar.specs.grammars.Accepted.{IsAccepted}
+use Rattle.ag_grammar.specs.grammars.AttributeGrammar.{Grammar, Synthesized, Inherited, IsProduction, item_at, item_kinds, found_kind, given_kind, symbol_kinds, symbol_names, places_of}
+use Rattle.passassign.specs.Dependencies.{symbol_of, table_slot, IsDependency, AreDependencies}
 use Rattle.passassign.specs.Least.{IsAttribute}
 use Rattle.passassign.specs.Making.{IsOpen}
 use Rattle.passassign.specs.Searching.{AreOf, ArePlaced, struck_slot}
@@ -40,6 +40,10 @@ attribute_within g s a accepted is = go (slice_get g.symbols s) refl
           omega arith),
       slice_get_within g.symbols s x e,
     )
+
+-- two attributes of the same place and number are the same
+pub same_parts : (o t : Target) → o.place ≡ t.place → o.attr ≡ t.attr → o ≡ t
+same_parts o t e f = ap (λ j. record { place = j; attr = o.attr }) e ∙ ap (λ a. record { place = t.place; attr = a }) f
 
 -- two attributes have one slot only if they are the same
 pub slot_same : (s a t b : ℕ) → a < 16 → b < 16 → slot_of s a ≡ slot_of t b → (s ≡ t) × (a ≡ b)

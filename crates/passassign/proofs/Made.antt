@@ -1,6 +1,6 @@
 -- What the passes make is at most every legal partial assignment, and none of it is of a pass that isn't made yet.
 use Rattle.std.proofs.Common.{ℕ, suc, ◌≡◌, ◌<◌, ◌≤◌, [], Option, Some, None, refl, arith}
-use Rattle.ag_expr.specs.grammars.AttributeGrammar.{Grammar}
+use Rattle.ag_grammar.specs.grammars.AttributeGrammar.{Grammar}
 use Rattle.passassign.specs.Least.{Partial, IsLegalPartial}
 use Rattle.passassign.specs.Making.{IsOpen, IsMade, start, passed}
 use Rattle.passassign.proofs.Options.{some_none, one_pass}

@@ -1,7 +1,7 @@
 -- A pass by marks of what is struck.
 use Rattle.std.proofs.Common.{ℕ, ◌≡◌, List, [], Some, None, Bool, true, false, refl, ap, sym, ◌∙◌}
-use Rattle.ag_expr.specs.grammars.AttributeGrammar.{Grammar}
-use Rattle.ag_expr.specs.grammars.Passes.{direction_of}
+use Rattle.ag_grammar.specs.grammars.AttributeGrammar.{Grammar}
+use Rattle.ag_grammar.specs.grammars.Passes.{direction_of}
 use Rattle.passassign.specs.declared.stuck.Strike.{Strike}
 use Rattle.passassign.specs.Certificate.{Strikes, AreGood}
 use Rattle.passassign.specs.Least.{Partial, IsAttribute, IsOver}

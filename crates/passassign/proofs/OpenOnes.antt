@@ -1,7 +1,7 @@
 -- The attributes without a pass, as they are found in a table.
 use Rattle.std.proofs.Common.{ℕ, ◌≡◌, ◌<◌, ◌+◌, ◌/◌, ◌%◌, ◌⊎◌, ◌↔◌, ◌++◌, Bool, true, false, List, [], ◌∷◌, length, inl, inr, refl, ap, ◌∙◌, sym, subst, arith}
 use Rattle.std.proofs.lemmas.Bool.{cases_eq, cases_lt}
-use Rattle.ag_expr.specs.Lists.{Has}
+use Rattle.ag_grammar.specs.Lists.{Has}
 use Rattle.passassign.specs.Answer.{IsInDeclaredOrder}
 use Rattle.passassign.specs.Tables.{state_at, slot_of, is_open}
 use Rattle.passassign.specs.declared.table.State.{State}

@@ -1,12 +1,12 @@
 -- A pass of the program is one of the definitions'.
 use Rattle.std.proofs.Common.{ℕ, suc, ◌≡◌, ◌<◌, ◌+◌, ◌↔◌, Bool, true, false, cond, ◌&&◌, nat_lt, List, [], Some, None, length, refl, ap, ◌∙◌, sym, subst, add-one}
 use Rattle.std.proofs.lemmas.Bool.{lt-ltb, ltb-true, false≢true}
-use Rattle.ag_expr.specs.grammars.AttributeGrammar.{Grammar}
-use Rattle.ag_expr.specs.grammars.Passes.{direction_of, other}
+use Rattle.ag_grammar.specs.grammars.AttributeGrammar.{Grammar}
+use Rattle.ag_grammar.specs.grammars.Passes.{direction_of, other}
 use Rattle.passassign.specs.Least.{IsOver}
 use Rattle.passassign.specs.Making.{IsOpen, IsMade, IsPass, AreMarks, given_by, passed}
 use Rattle.passassign.specs.Progress.{IsProgress, IsNext, AreOpenIn}
-use Rattle.passassign.specs.Searching.{way, AreOf, IsSearch, IsFinished}
+use Rattle.passassign.specs.Searching.{AreOf, IsSearch, IsFinished}
 use Rattle.passassign.specs.Tables.{slot_of, state_at, state_of, given, after_pass, is_marked, table_passes}
 use Rattle.passassign.specs.declared.assigning.Progress.{Progress}
 use Rattle.passassign.specs.declared.dependency.Dependency.{Dependency}
@@ -94,7 +94,7 @@ module _ (old new : List State) (marks : List Bool) (k : ℕ) (after : (i : ℕ)
           ap given (after_of u a) ∙ given_after k (state_of old u a) (is_marked marks (slot_of u a)) ((of.table.there u a).1 i) ∙ ap (given_by k (given (state_of old u a))) (sym (hit_in u a lt)))
 
 pub next_made : (g : Grammar) (all : List Dependency) (old new : Progress) (xs : List Strike) (marks : List Bool) → ((i : ℕ) → state_at new.states.items i ≡ after_pass old.next (state_at old.states.items i) (is_marked marks i)) → length new.states.items ≡ length old.states.items → new.next ≡ old.next + 1
-    → way new.direction ≡ other (way old.direction) → IsSearch all (way old.direction) old.states.items xs marks → IsFinished all (way old.direction) old.states.items xs → IsProgress g all old → IsNext g all old new xs
+    → new.direction ≡ other old.direction → IsSearch all old.direction old.states.items xs marks → IsFinished all old.direction old.states.items xs → IsProgress g all old → IsNext g all old new xs
 next_made g all old new xs marks after len next turned s f p = record { progress = record { of = now; made = made; turned = turn }; pass = pass }
   where
     now : AreOf g all new.states.items
@@ -111,5 +111,5 @@ next_made g all old new xs marks after len next turned s f p = record { progress
     made : IsMade g new.next (table_passes new.states.items)
     made = subst (λ k. IsMade g k (table_passes new.states.items)) (sym one_more) (passed old.next (table_passes old.states.items) (table_passes new.states.items) xs p.made pass)
 
-    turn : way new.direction ≡ direction_of new.next
+    turn : new.direction ≡ direction_of new.next
     turn = turned ∙ ap other p.turned ∙ ap direction_of (sym one_more)

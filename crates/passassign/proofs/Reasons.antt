@@ -1,11 +1,11 @@
 -- A good strike stays one where there are more candidates and more is struck before it.
 use Rattle.std.proofs.Common.{ℕ, inl, inr, List, Option, Some, None}
-use Rattle.ag_expr.specs.declared.grammar.Item.TheVariants as item
-use Rattle.ag_expr.specs.declared.grammar.Item.{Item}
-use Rattle.ag_expr.specs.declared.grammar.Production.{Production}
-use Rattle.ag_expr.specs.declared.grammar.Target.{Target}
-use Rattle.ag_expr.specs.grammars.AttributeGrammar.{Grammar, item_at}
-use Rattle.ag_expr.specs.grammars.Passes.{Direction}
+use Rattle.ag_grammar.specs.declared.grammar.Item.TheVariants as item
+use Rattle.ag_grammar.specs.declared.grammar.Item.{Item}
+use Rattle.ag_grammar.specs.declared.grammar.Production.{Production}
+use Rattle.ag_grammar.specs.declared.grammar.Target.{Target}
+use Rattle.ag_grammar.specs.grammars.AttributeGrammar.{Grammar, item_at}
+use Rattle.ag_grammar.specs.declared.direction.Direction.{Direction}
 use Rattle.passassign.specs.declared.stuck.Strike.{Strike}
 use Rattle.passassign.specs.Certificate.{Attributes, Strikes, IsOneOf, IsReason, IsGood}
 

@@ -2,14 +2,15 @@
 use Rattle.std.proofs.Common.{ℕ, zero, suc, ◌≡◌, ◌<◌, ◌≤◌, ◌+◌, ◌/◌, ◌%◌, ◌↔◌, cond, List, [], ◌∷◌, None, length, inl, inr, refl, ap, ◌∙◌, sym, subst, arith, add-one}
 use Rattle.std.proofs.lemmas.Bool.{cases_order}
 use Rattle.std.proofs.lemmas.List.Sums.{sum_by-cons}
-use Rattle.ag_expr.specs.Lists.{Has, Differ}
-use Rattle.ag_expr.specs.grammars.AttributeGrammar.{Grammar}
-use Rattle.ag_expr.specs.grammars.Passes.{Direction, LeftToRight, RightToLeft, direction_of, other}
+use Rattle.ag_grammar.specs.Lists.{Has, Differ}
+use Rattle.ag_grammar.specs.grammars.AttributeGrammar.{Grammar}
+use Rattle.ag_grammar.specs.declared.direction.Direction.{Direction}
+use Rattle.ag_grammar.specs.declared.direction.Direction.TheVariants.{LeftToRight, RightToLeft}
+use Rattle.ag_grammar.specs.grammars.Passes.{direction_of, other}
 use Rattle.passassign.specs.Answer.{IsInDeclaredOrder, IsRefused}
 use Rattle.passassign.specs.Certificate.{Members, IsCertificate, stuck_of}
 use Rattle.passassign.specs.Making.{IsOpen, IsPass, AreIdle}
 use Rattle.passassign.specs.Progress.{IsProgress, IsNext, AreOpenIn, open_count}
-use Rattle.passassign.specs.Searching.{way}
 use Rattle.passassign.specs.Tables.{slot_of, state_at, state_of, given, is_open, table_passes}
 use Rattle.passassign.specs.declared.assigning.Progress.{Progress}
 use Rattle.passassign.specs.declared.dependency.Dependency.{Dependency}
@@ -102,10 +103,10 @@ module _ (g : Grammar) (all : List Dependency) (old new last : Progress) (first 
     idle = none_given;
   }
 
-  direction : way last.direction ≡ direction_of old.next
+  direction : last.direction ≡ direction_of old.next
   direction = two.progress.turned ∙ ap direction_of (next_two ∙ add-one new.next ∙ ap suc one_more) ∙ turned_twice (direction_of old.next)
 
-  module _ (c : Stuck) (strikes : c ≡ stuck_of (way last.direction) c.set first second) (members : (s a : ℕ) → Has c.set (s, a) ↔ ((a < 16) × (state_at last.states.items (slot_of s a) ≡ Open))) (ordered : IsInDeclaredOrder c.set) (some : 0 < open_count old.states.items) where
+  module _ (c : Stuck) (strikes : c ≡ stuck_of last.direction c.set first second) (members : (s a : ℕ) → Has c.set (s, a) ↔ ((a < 16) × (state_at last.states.items (slot_of s a) ≡ Open))) (ordered : IsInDeclaredOrder c.set) (some : 0 < open_count old.states.items) where
     open_members : (s a : ℕ) → Members c.set s a ↔ IsOpen g (table_passes old.states.items) s a
     open_members s a = (
       (λ h. let m = (members s a).0 h in open_there g all old.states.items before.of s a m.0 (kept (slot_of s a) m.1)),

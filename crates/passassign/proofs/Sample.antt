@@ -1,13 +1,14 @@
 -- Strikes in the sample grammars.
 use Rattle.std.proofs.Common.{ℕ, ◌≡◌, ◌≤◌, inl, inr, List, [], ◌∷◌, Option, Some, None, refl, arith}
-use Rattle.ag_expr.specs.declared.grammar.Item.TheVariants as item
-use Rattle.ag_expr.specs.declared.grammar.Item.{Item}
-use Rattle.ag_expr.specs.declared.grammar.Production.{Production}
-use Rattle.ag_expr.specs.declared.grammar.Rule.{Rule}
-use Rattle.ag_expr.specs.declared.grammar.Target.{Target}
-use Rattle.ag_expr.specs.grammars.AttributeGrammar.{Grammar, IsProduction, item_at}
-use Rattle.ag_expr.specs.grammars.Passes.{Direction, IsBefore}
-use Rattle.ag_expr.specs.grammars.Sample.{attribute, production_r, production_a, rule_out, rule_s}
+use Rattle.ag_grammar.specs.declared.grammar.Item.TheVariants as item
+use Rattle.ag_grammar.specs.declared.grammar.Item.{Item}
+use Rattle.ag_grammar.specs.declared.grammar.Production.{Production}
+use Rattle.ag_grammar.specs.declared.grammar.Rule.{Rule}
+use Rattle.ag_grammar.specs.declared.grammar.Target.{Target}
+use Rattle.ag_grammar.specs.grammars.AttributeGrammar.{Grammar, IsProduction, item_at}
+use Rattle.ag_grammar.specs.declared.direction.Direction.{Direction}
+use Rattle.ag_grammar.specs.grammars.Passes.{IsBefore}
+use Rattle.ag_grammar.specs.grammars.Sample.{attribute, production_r, production_a, rule_out, rule_s}
 use Rattle.passassign.specs.Certificate.{Attributes, Strikes, IsOneOf, IsReason, AreGood}
 use Rattle.passassign.specs.Sample.{strike}
 

@@ -5,8 +5,8 @@ use Rattle.std.proofs.lemmas.List.{get_or_append_left, get_or_push, map-append}
 use Rattle.std.proofs.lemmas.Option.{slice_get_past}
 use Rattle.std.proofs.Math.ListN.{get_or-eq_default, length-append}
 use Rattle.std.specs.Global.{Vec}
-use Rattle.ag_expr.specs.declared.grammar.Symbol.{Symbol}
-use Rattle.ag_expr.specs.grammars.AttributeGrammar.{attribute_names}
+use Rattle.ag_grammar.specs.declared.grammar.Symbol.{Symbol}
+use Rattle.ag_grammar.specs.grammars.AttributeGrammar.{attribute_names}
 use Rattle.passassign.specs.Rows.{numbers_of, passes_of}
 use Rattle.passassign.specs.Tables.{state_at, slot_of, given, attribute_count, AreRowsOfTable}
 use Rattle.passassign.specs.declared.table.State.{State}

@@ -1,14 +1,16 @@
 -- Assignments of all attributes, and grammars that have none.
 use Rattle.std.proofs.Common.{ℕ, zero, suc, ◌≡◌, ◌↔◌, inl, inr, List, [], ◌∷◌, Option, Some, None, slice_get, length, refl, sym, ◌∙◌, subst}
-use Rattle.ag_expr.specs.Lists.{Each}
-use Rattle.ag_expr.specs.declared.grammar.Item.TheVariants as item
-use Rattle.ag_expr.specs.declared.grammar.Item.{Item}
-use Rattle.ag_expr.specs.declared.grammar.Production.{Production}
-use Rattle.ag_expr.specs.declared.grammar.Terminal.TheVariants.{Literal, Class}
-use Rattle.ag_expr.specs.grammars.AttributeGrammar.{Grammar, item_at, item_kinds, given_kind, IsProduction, symbol_kinds}
-use Rattle.ag_expr.specs.grammars.Accepted.{IsComplete, IsNormal}
-use Rattle.ag_expr.specs.grammars.Passes.{Passes, Direction, RightToLeft, item_passes, HasPass, IsLegalFor, IsLegal}
-use Rattle.ag_expr.proofs.grammars.OneSolution.{counterpart}
+use Rattle.ag_grammar.specs.Lists.{Each}
+use Rattle.ag_grammar.specs.declared.grammar.Item.TheVariants as item
+use Rattle.ag_grammar.specs.declared.grammar.Item.{Item}
+use Rattle.ag_grammar.specs.declared.grammar.Production.{Production}
+use Rattle.ag_grammar.specs.declared.grammar.Terminal.TheVariants.{Literal, Class}
+use Rattle.ag_grammar.specs.grammars.AttributeGrammar.{Grammar, item_at, item_kinds, given_kind, IsProduction, symbol_kinds}
+use Rattle.ag_grammar.specs.grammars.Accepted.{IsComplete, IsNormal}
+use Rattle.ag_grammar.specs.declared.direction.Direction.{Direction}
+use Rattle.ag_grammar.specs.declared.direction.Direction.TheVariants.{RightToLeft}
+use Rattle.ag_grammar.specs.grammars.Passes.{Passes, item_passes, HasPass, IsLegalFor, IsLegal}
+use Rattle.ag_grammar.proofs.grammars.OneSolution.{counterpart}
 use Rattle.passassign.specs.declared.stuck.Strike.{Strike}
 use Rattle.passassign.specs.declared.stuck.Stuck.{Stuck}
 use Rattle.passassign.specs.Certificate.{Attributes, Members, Strikes, AreGood, IsCertificate}

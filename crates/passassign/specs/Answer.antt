@@ -1,7 +1,7 @@
 -- What `assign` answers.
 use Rattle.std.specs.Prelude.{ℕ, ◌≡◌, ◌<◌, ◌⊎◌, ◌↔◌, List, Some, slice_get}
-use Rattle.ag_expr.specs.grammars.AttributeGrammar.{Grammar}
-use Rattle.ag_expr.specs.grammars.Passes.{direction_of}
+use Rattle.ag_grammar.specs.grammars.AttributeGrammar.{Grammar}
+use Rattle.ag_grammar.specs.grammars.Passes.{direction_of}
 use Rattle.passassign.specs.declared.assigning.AssignFault.{AssignFault}
 use Rattle.passassign.specs.declared.assigning.AssignFault.TheVariants as fault
 use Rattle.passassign.specs.declared.stuck.Strike.{Strike}

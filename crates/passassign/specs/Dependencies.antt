@@ -1,20 +1,33 @@
 -- What depends on what in a production: its rules' targets on their arguments (Knuth 1968).
 use Rattle.std.specs.Prelude.{ℕ, ◌≡◌, ◌<◌, ◌⊎◌, ◌↔◌, List, [], ◌∷◌, Option, Some, None, map, slice_get, slice_index_or, length}
 use Rattle.std.specs.Global.{Vec}
-use Rattle.ag_expr.specs.Lists.{Has}
-use Rattle.ag_expr.specs.declared.grammar.Item.TheVariants as item
-use Rattle.ag_expr.specs.declared.grammar.Item.{Item}
-use Rattle.ag_expr.specs.declared.grammar.Production.{Production}
-use Rattle.ag_expr.specs.declared.grammar.Rule.{Rule}
-use Rattle.ag_expr.specs.declared.grammar.Target.{Target}
-use Rattle.ag_expr.specs.grammars.AttributeGrammar.{stored_items}
+use Rattle.ag_grammar.specs.Lists.{Has}
+use Rattle.ag_grammar.specs.declared.grammar.Item.TheVariants as item
+use Rattle.ag_grammar.specs.declared.grammar.Item.{Item}
+use Rattle.ag_grammar.specs.declared.grammar.Production.{Production}
+use Rattle.ag_grammar.specs.declared.grammar.Rule.{Rule}
+use Rattle.ag_grammar.specs.declared.grammar.Target.{Target}
+use Rattle.ag_grammar.specs.grammars.Accepted.{IsAccepted}
+use Rattle.ag_grammar.specs.grammars.AttributeGrammar.{Grammar, IsProduction, IsRule, places_of}
 use Rattle.passassign.specs.declared.stuck.Strike.{Strike}
 use Rattle.passassign.specs.declared.dependency.Dependency.{Dependency}
 use Rattle.passassign.specs.Tables.{slot_of}
 
--- what stands at the places of a production, from its left side on
-abbrev pub places_of : Production → List Item
-places_of q = item.Symbol q.left ∷ stored_items q.items
+-- the productions of an accepted grammar
+abbrev pub AreAccepted : List Production → Type 0
+AreAccepted productions = (g : Grammar) × IsAccepted g × (g.productions ≡ productions)
+
+-- a production of an accepted grammar
+abbrev pub IsAcceptedProduction : Production → Type 0
+IsAcceptedProduction q = (g : Grammar) × (p : ℕ) × IsAccepted g × IsProduction g p q
+
+-- the rules of such a production
+abbrev pub AreOfAccepted : List Rule → Type 0
+AreOfAccepted rules = (q : Production) × IsAcceptedProduction q × (q.rules ≡ rules)
+
+-- one of them
+abbrev pub IsOfAccepted : Rule → Type 0
+IsOfAccepted rule = (q : Production) × IsAcceptedProduction q × IsRule q rule
 
 -- the number of the symbol that an item is
 abbrev pub symbol_of : Option Item → Option ℕ

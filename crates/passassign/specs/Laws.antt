@@ -1,9 +1,10 @@
 -- What the laws state.
 use Rattle.std.specs.Prelude.{ℕ, ◌≡◌, ◌≤◌, ◌↔◌, List, [], ◌∷◌, ◌++◌, Some, None, slice_get, length, Bool}
-use Rattle.ag_expr.specs.Lists.{Has, Differ, Each}
-use Rattle.ag_expr.specs.grammars.AttributeGrammar.{Grammar, symbol_kinds}
-use Rattle.ag_expr.specs.grammars.Accepted.{IsComplete, IsNormal}
-use Rattle.ag_expr.specs.grammars.Passes.{Passes, Direction, IsLegal, direction_of}
+use Rattle.ag_grammar.specs.Lists.{Has, Differ, Each}
+use Rattle.ag_grammar.specs.grammars.AttributeGrammar.{Grammar, symbol_kinds}
+use Rattle.ag_grammar.specs.grammars.Accepted.{IsComplete, IsNormal}
+use Rattle.ag_grammar.specs.declared.direction.Direction.{Direction}
+use Rattle.ag_grammar.specs.grammars.Passes.{Passes, IsLegal, direction_of}
 use Rattle.passassign.specs.declared.stuck.Strike.{Strike}
 use Rattle.passassign.specs.declared.stuck.Stuck.{Stuck}
 use Rattle.passassign.specs.Certificate.{Members, Strikes, IsGood, AreGood, IsCertificate, stuck_of}

@@ -1,14 +1,14 @@
 -- Assignments of passes to some attributes alone, the least assignment, and which attributes no assignment can give a pass
 -- (after Jazayeri and Walter 1975).
 use Rattle.std.specs.Prelude.{ℕ, ◌≡◌, ◌≤◌, [], ◌∷◌, Option, Some, None, slice_get}
-use Rattle.ag_expr.specs.Lists.{Each}
-use Rattle.ag_expr.specs.declared.grammar.Item.TheVariants as item
-use Rattle.ag_expr.specs.declared.grammar.Item.{Item}
-use Rattle.ag_expr.specs.declared.grammar.Production.{Production}
-use Rattle.ag_expr.specs.declared.grammar.Target.{Target}
-use Rattle.ag_expr.specs.declared.grammar.Terminal.TheVariants.{Literal, Class}
-use Rattle.ag_expr.specs.grammars.AttributeGrammar.{Grammar, Kind, item_at, symbol_kinds}
-use Rattle.ag_expr.specs.grammars.Passes.{Passes, IsLegalFor, IsLegal}
+use Rattle.ag_grammar.specs.Lists.{Each}
+use Rattle.ag_grammar.specs.declared.grammar.Item.TheVariants as item
+use Rattle.ag_grammar.specs.declared.grammar.Item.{Item}
+use Rattle.ag_grammar.specs.declared.grammar.Production.{Production}
+use Rattle.ag_grammar.specs.declared.grammar.Target.{Target}
+use Rattle.ag_grammar.specs.declared.grammar.Terminal.TheVariants.{Literal, Class}
+use Rattle.ag_grammar.specs.grammars.AttributeGrammar.{Grammar, Kind, item_at, symbol_kinds}
+use Rattle.ag_grammar.specs.grammars.Passes.{Passes, IsLegalFor, IsLegal}
 
 -- A partial assignment: the pass of an attribute, by the numbers of its symbol and of itself, where it has one (this
 -- project's).

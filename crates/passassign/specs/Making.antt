@@ -1,7 +1,8 @@
 -- How passes are made one after the other, each with as many attributes as it can give.
 use Rattle.std.specs.Prelude.{ℕ, suc, ◌≡◌, ◌↔◌, List, [], Option, Some, None, Bool, true, false}
-use Rattle.ag_expr.specs.grammars.AttributeGrammar.{Grammar}
-use Rattle.ag_expr.specs.grammars.Passes.{Direction, direction_of}
+use Rattle.ag_grammar.specs.grammars.AttributeGrammar.{Grammar}
+use Rattle.ag_grammar.specs.declared.direction.Direction.{Direction}
+use Rattle.ag_grammar.specs.grammars.Passes.{direction_of}
 use Rattle.passassign.specs.declared.stuck.Strike.{Strike}
 use Rattle.passassign.specs.Certificate.{Attributes, Strikes, IsGood, AreGood}
 use Rattle.passassign.specs.Least.{Partial, IsAttribute}

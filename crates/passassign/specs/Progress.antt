@@ -1,10 +1,10 @@
 -- What holds between two passes.
 use Rattle.std.specs.Prelude.{ℕ, ◌≡◌, ◌<◌, List, count_by, length}
-use Rattle.ag_expr.specs.declared.grammar.Production.{Production}
-use Rattle.ag_expr.specs.declared.grammar.Symbol.{Symbol}
-use Rattle.ag_expr.specs.grammars.Accepted.{IsAccepted}
-use Rattle.ag_expr.specs.grammars.AttributeGrammar.{Grammar}
-use Rattle.ag_expr.specs.grammars.Passes.{direction_of}
+use Rattle.ag_grammar.specs.declared.grammar.Production.{Production}
+use Rattle.ag_grammar.specs.declared.grammar.Symbol.{Symbol}
+use Rattle.ag_grammar.specs.grammars.Accepted.{IsAccepted}
+use Rattle.ag_grammar.specs.grammars.AttributeGrammar.{Grammar}
+use Rattle.ag_grammar.specs.grammars.Passes.{direction_of}
 use Rattle.passassign.specs.declared.assigning.Progress.{Progress}
 use Rattle.passassign.specs.declared.dependency.Dependency.{Dependency}
 use Rattle.passassign.specs.declared.search.Dependencies.{Dependencies}
@@ -13,7 +13,7 @@ use Rattle.passassign.specs.declared.table.State.{State}
 use Rattle.passassign.specs.declared.table.State.TheVariants.{Open}
 use Rattle.passassign.specs.Dependencies.{AreRows}
 use Rattle.passassign.specs.Making.{IsMade, IsPass}
-use Rattle.passassign.specs.Searching.{way, AreOf, ArePlaced}
+use Rattle.passassign.specs.Searching.{AreOf, ArePlaced}
 use Rattle.passassign.specs.Tables.{state_at, is_open, table_passes}
 
 -- an accepted grammar with these symbols and productions
@@ -32,7 +32,7 @@ pub record AreReady (found : Dependencies) (count : ℕ) : Type 0 where
 pub record IsProgress (g : Grammar) (all : List Dependency) (p : Progress) : Type 0 where
   pub of : AreOf g all p.states.items
   pub made : IsMade g p.next (table_passes p.states.items)
-  pub turned : way p.direction ≡ direction_of p.next
+  pub turned : p.direction ≡ direction_of p.next
 
 -- how many attributes have no pass
 abbrev pub open_count : List State → ℕ

@@ -1,11 +1,11 @@
--- Examples: a certificate, and passes that are made, for the sample grammars of ag_expr and for one more. In that one a value
+-- Examples: a certificate, and passes that are made, for the sample grammars of ag_grammar and for one more. In that one a value
 -- goes from the first child to the second, so that pass 2, from left to right, is needed:
 --   R = A A { $0.out = $1.s; $1.i = 0; $2.i = $1.s; }
 --   A = "x" { $0.s = $0.i + 1; }
 use Rattle.std.specs.Prelude.{ℕ, zero, suc, List, [], ◌∷◌, None}
-use Rattle.ag_expr.specs.grammars.AttributeGrammar.{Grammar}
-use Rattle.ag_expr.specs.grammars.Passes.{Passes}
-use Rattle.ag_expr.specs.grammars.Sample.{attribute, copy_rule, zero_rule, rule_out, s_name, grammar_of}
+use Rattle.ag_grammar.specs.grammars.AttributeGrammar.{Grammar}
+use Rattle.ag_grammar.specs.grammars.Passes.{Passes}
+use Rattle.ag_grammar.specs.grammars.Sample.{attribute, copy_rule, zero_rule, rule_out, s_name, grammar_of}
 use Rattle.passassign.specs.declared.stuck.Strike.{Strike}
 use Rattle.passassign.specs.declared.stuck.Stuck.{Stuck}
 use Rattle.passassign.specs.Least.{Partial}

@@ -1,12 +1,10 @@
 -- What holds while a pass's strikes are looked for.
 use Rattle.std.specs.Prelude.{ℕ, ◌≡◌, ◌≤◌, ◌⊎◌, ◌↔◌, List, [], Option, Some, None, Bool, true, ◌&&◌, not, slice_get, count_by, length}
-use Rattle.ag_expr.specs.Lists.{Has}
-use Rattle.ag_expr.specs.grammars.Accepted.{IsAccepted}
-use Rattle.ag_expr.specs.grammars.AttributeGrammar.{Grammar}
-use Rattle.ag_expr.specs.grammars.Passes.{LeftToRight, RightToLeft, IsBefore}
-use Rattle.ag_expr.specs.grammars.Passes as passes
-use Rattle.passassign.specs.declared.direction.Direction.{Direction}
-use Rattle.passassign.specs.declared.direction.Direction.TheVariants as direction
+use Rattle.ag_grammar.specs.Lists.{Has}
+use Rattle.ag_grammar.specs.grammars.Accepted.{IsAccepted}
+use Rattle.ag_grammar.specs.grammars.AttributeGrammar.{Grammar}
+use Rattle.ag_grammar.specs.declared.direction.Direction.{Direction}
+use Rattle.ag_grammar.specs.grammars.Passes.{IsBefore}
 use Rattle.passassign.specs.declared.dependency.Dependency.{Dependency}
 use Rattle.passassign.specs.declared.search.Struck.{Struck}
 use Rattle.passassign.specs.declared.stuck.Strike.{Strike}
@@ -16,11 +14,6 @@ use Rattle.passassign.specs.Certificate.{AreGood}
 use Rattle.passassign.specs.Dependencies.{AreDependencies}
 use Rattle.passassign.specs.Making.{IsOpen, AreFinished}
 use Rattle.passassign.specs.Tables.{slot_of, state_at, is_open, is_marked, table_passes, IsTable}
-
--- the program's directions are those of the definitions
-abbrev pub way : Direction → passes.Direction
-way direction.LeftToRight = LeftToRight
-way direction.RightToLeft = RightToLeft
 
 -- the slot of what a strike strikes
 abbrev pub struck_slot : Strike → ℕ
@@ -37,7 +30,7 @@ IsOpenAt states (Some k) = state_at states k ≡ Open
 
 -- An argument keeps a dependency's target out of a pass, whatever is struck: it is at the target's own child and has no pass
 -- yet, or it is at a child that is visited later.
-abbrev pub IsBarred : passes.Direction → List State → Dependency → Type 0
+abbrev pub IsBarred : Direction → List State → Dependency → Type 0
 IsBarred d states u = (1 ≤ u.place) × (1 ≤ u.from) × (((u.from ≡ u.place) × IsOpenAt states u.argument) ⊎ IsBefore d u.place u.from)
 
 -- what a slot has is struck
@@ -50,7 +43,7 @@ IsOnStruck xs None = ⊥
 IsOnStruck xs (Some k) = IsStruckAt xs k
 
 -- Why the target of a dependency is struck.
-pub record IsReasoned (all : List Dependency) (d : passes.Direction) (states : List State) (xs : List Strike) (u : Dependency) : Type 0 where
+pub record IsReasoned (all : List Dependency) (d : Direction) (states : List State) (xs : List Strike) (u : Dependency) : Type 0 where
   pub among : Has all u
   pub target : u.target ≡ struck_slot u.strike
   pub why : IsBarred d states u ⊎ IsOnStruck xs u.argument
@@ -66,7 +59,7 @@ pub record AreOf (g : Grammar) (all : List Dependency) (states : List State) : T
   pub table : IsTable g.symbols states
 
 -- What holds of strikes and marks of what they strike.
-pub record IsSearch (all : List Dependency) (d : passes.Direction) (states : List State) (xs : List Strike) (marks : List Bool) : Type 0 where
+pub record IsSearch (all : List Dependency) (d : Direction) (states : List State) (xs : List Strike) (marks : List Bool) : Type 0 where
   pub len : length marks ≡ length states
   pub count : length xs ≡ count_by (λ b. b) marks
   pub marked : (k : ℕ) → (is_marked marks k ≡ true) ↔ IsStruckAt xs k
@@ -83,14 +76,14 @@ pub record Grows (xs ys : List Strike) (old new : List Bool) : Type 0 where
 pub record Follows (states : List State) (P : Dependency → Type 0) (xs ys : List Strike) (old new : List Bool) : Type 0 where
   pub grows : Grows xs ys old new
   pub settled : (u : Dependency) → P u → IsSettled states new u
-  pub search : (all : List Dependency) (d : passes.Direction) → ((u : Dependency) → P u → IsReasoned all d states xs u) → IsSearch all d states xs old → IsSearch all d states ys new
+  pub search : (all : List Dependency) (d : Direction) → ((u : Dependency) → P u → IsReasoned all d states xs u) → IsSearch all d states xs old → IsSearch all d states ys new
 
 -- the dependencies' targets are what their strikes strike
 abbrev pub ArePlaced : List Dependency → Type 0
 ArePlaced all = (u : Dependency) → Has all u → u.target ≡ struck_slot u.strike
 
 -- No other attribute can be struck.
-abbrev pub IsFinished : List Dependency → passes.Direction → List State → List Strike → Type 0
+abbrev pub IsFinished : List Dependency → Direction → List State → List Strike → Type 0
 IsFinished all d states xs = (g : Grammar) → AreOf g all states → AreFinished g d (IsOpen g (table_passes states)) xs
 
 -- the same of the program's strikes and marks
@@ -98,5 +91,5 @@ abbrev pub GoesOn : List State → (Dependency → Type 0) → Struck → Struck
 GoesOn states P old new = Follows states P old.strikes.items new.strikes.items old.marks.items new.marks.items
 
 -- the program's strikes and marks are those of a search
-abbrev pub IsSearched : List Dependency → passes.Direction → List State → Struck → Type 0
+abbrev pub IsSearched : List Dependency → Direction → List State → Struck → Type 0
 IsSearched all d states found = IsSearch all d states found.strikes.items found.marks.items

@@ -1,7 +1,7 @@
 -- The table in which the program notes what the passes made so far say of each attribute.
 use Rattle.std.specs.Prelude.{ℕ, ◌≡◌, ◌+◌, ◌*◌, ◌<◌, ◌↔◌, List, Option, Some, None, Bool, true, false, cond, nat_lt, slice_get, slice_index_or, length, unwrap_or}
-use Rattle.ag_expr.specs.declared.grammar.Symbol.{Symbol}
-use Rattle.ag_expr.specs.grammars.AttributeGrammar.{Kind, symbol_names, symbol_kinds}
+use Rattle.ag_grammar.specs.declared.grammar.Symbol.{Symbol}
+use Rattle.ag_grammar.specs.grammars.AttributeGrammar.{Kind, symbol_names, symbol_kinds}
 use Rattle.passassign.specs.declared.table.State.{State}
 use Rattle.passassign.specs.declared.table.State.TheVariants.{Absent, Open, Given}
 use Rattle.passassign.specs.Least.{Partial}

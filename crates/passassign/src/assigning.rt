@@ -1,25 +1,24 @@
 //! The least assignment of passes, one pass after the other.
 
 ghost use Rattle.std.specs.Prelude.{ℕ, ◌≡◌, ◌+◌, ◌<◌, ◌≤◌, ◌↔◌, IfErr, IfOk, OnOk, length};
-ghost use Rattle.ag_expr.specs.Lists.{Each, Has};
-ghost use Rattle.ag_expr.specs.grammars.AttributeGrammar.{Grammar as Plain, attribute_names};
+ghost use Rattle.ag_grammar.specs.Lists.{Each, Has};
+ghost use Rattle.ag_grammar.specs.grammars.AttributeGrammar.{Grammar as Plain, attribute_names};
 ghost use Rattle.passassign.specs.Answer.{IsInDeclaredOrder, IsFault};
 ghost use Rattle.passassign.specs.Certificate.{stuck_of};
+ghost use Rattle.passassign.specs.Dependencies.{AreAccepted};
 ghost use Rattle.passassign.specs.Least.{IsLeast};
 ghost use Rattle.passassign.specs.Progress.{AreOpenIn, AreReady, IsLeft, IsNext, IsProgress};
 ghost use Rattle.passassign.specs.Progress.{IsWith, open_count};
 ghost use Rattle.passassign.specs.Rows.{passes_of, AreFew};
-ghost use Rattle.passassign.specs.Searching.{way};
 ghost use Rattle.passassign.specs.Tables.{slot_of, state_at};
 ghost use Rattle.passassign.specs.declared.assigning.AssignFault.TheVariants as fault;
 ghost use Rattle.passassign.specs.declared.table.State.TheVariants.{Open};
 
 use crate::assignment::Assignment;
-use crate::direction::Direction;
 use crate::search::{Dependencies, search};
 use crate::stuck::{Strike, Stuck};
 use crate::table::{State, count_open, give, open_all, open_ones, rows};
-use ag_expr::{Production, Symbol};
+use ag_grammar::{Direction, Production, Symbol};
 use ag_value::{Items, NoMemory};
 use normalform::Grammar;
 use std::alloc::Global;
@@ -29,9 +28,7 @@ use std::alloc::Global;
 pub enum AssignFault {
     /// A1: no assignment is legal, with any number of passes.
     Stuck(Stuck),
-    /// A growth was refused, or a list of rules or of a rule's arguments has more than 65,536
-    /// members, so that a strike has no number for one. No text that a grammar is read from is
-    /// long enough for that.
+    /// A growth was refused.
     NoMemory,
 }
 
@@ -90,7 +87,7 @@ fn left_of(
 ) -> Result<Stuck, NoMemory>
     requires { length progress.now.states.items ≤ 4096 }
     ensures strikes { IfOk result (λ c.
-        c ≡ stuck_of (way progress.now.direction) c.set first.items second.items) }
+        c ≡ stuck_of progress.now.direction c.set first.items second.items) }
     ensures all { IfOk result (λ c. (s a : ℕ) → Has c.set (s, a)
         ↔ (a < 16) × (state_at progress.now.states.items (slot_of s a) ≡ Open)) }
     ensures ordered { IfOk result (λ c. IsInDeclaredOrder c.set) }
@@ -154,6 +151,7 @@ pub(crate) fn assign_all(
     symbols: &[Symbol],
     productions: &[Production],
 ) -> Result<Assignment, AssignFault>
+    requires accepted { AreAccepted productions.now }
     requires count { length symbols.now ≤ 256 }
     requires attributes { Each (λ s. length (attribute_names s) ≤ 16) symbols.now }
     ensures least { IfOk result (λ m. (g : Plain)

@@ -1,16 +1,19 @@
 //! What the targets of a production's rules depend on, and which of them depend on an attribute.
 
-ghost use Rattle.std.specs.Prelude.{◌≡◌, ◌<◌, ◌↔◌, ◌++◌, ◌∷◌, [], ℕ, length, IfOk, OnOk, slice_get};
-ghost use Rattle.ag_expr.specs.Lists.{Has};
-ghost use Rattle.ag_expr.specs.grammars.AttributeGrammar.{stored_items};
-ghost use Rattle.passassign.specs.Dependencies.{places_of, symbol_of, table_slot, dependency_of};
+ghost use Rattle.std.specs.Prelude.{◌≡◌, ◌<◌, ◌≤◌, ◌↔◌, ◌++◌, ◌∷◌, [], ℕ, length, IfOk, OnOk, slice_get};
+ghost use Rattle.ag_grammar.specs.Lists.{Has};
+ghost use Rattle.ag_grammar.specs.expressions.Occurrences.{AreDifferent};
+ghost use Rattle.ag_grammar.specs.grammars.AttributeGrammar.{places_of};
+ghost use Rattle.passassign.specs.Dependencies.{symbol_of, table_slot, dependency_of};
 ghost use Rattle.passassign.specs.Dependencies.{OfEach, Adds, IsByArgument, IsByRule};
 ghost use Rattle.passassign.specs.Dependencies.{IsByProduction, AreDependencies};
 ghost use Rattle.passassign.specs.Dependencies.{AreRows, Puts, PutsAt, row_at};
+ghost use Rattle.passassign.specs.Dependencies.{AreAccepted, IsAcceptedProduction};
+ghost use Rattle.passassign.specs.Dependencies.{AreOfAccepted, IsOfAccepted};
 
 use crate::stuck::Strike;
 use crate::table::slot;
-use ag_expr::{Item, Production, Rule, Target, Terminal};
+use ag_grammar::{Item, Production, Rule, Target, occurrences};
 use ag_value::NoMemory;
 use std::alloc::Global;
 
@@ -27,41 +30,6 @@ pub(crate) struct Dependency {
     pub argument: Option<usize>,
     /// The argument's place.
     pub from: u16,
-}
-
-/// An index as the number that a strike has.
-fn numbered(index: usize) -> Result<u16, NoMemory>
-    ensures { IfOk result (λ n. n ≡ index) }
-{
-    if index > 65535 {
-        return Err(NoMemory::NoMemory);
-    }
-    Ok(index as u16)
-}
-
-/// Puts an item at the end of a list if it has a place.
-fn put_place(places: &mut Vec<Item>, item: Item) -> Result<(), NoMemory>
-    ensures { OnOk result (places.new.items ≡ places.old.items ++ stored_items (item ∷ [])) }
-{
-    match item {
-        Item::Symbol(_) => places.push(item)?,
-        Item::Terminal(Terminal::Class(_)) => places.push(item)?,
-        Item::Terminal(Terminal::Literal(_)) => {}
-    }
-    Ok(())
-}
-
-/// What stands at the places of a production, from its left side on. NoMemory where a growth was
-/// refused.
-pub fn all_places(alloc: Global, production: &Production) -> Result<Vec<Item>, NoMemory>
-    ensures { IfOk result (λ places. places.items ≡ places_of production.now) }
-{
-    let mut places = Vec::new(alloc);
-    places.push(Item::Symbol(production.left))?;
-    for item in production.items.as_slice() {
-        put_place(&mut places, *item)?;
-    }
-    Ok(places)
 }
 
 /// The symbol at a place, if one stands there.
@@ -115,14 +83,24 @@ fn put_arguments(
     place: u16,
     args: &[Target],
 ) -> Result<(), NoMemory>
+    requires few { length args.now ≤ 65536 }
     ensures { OnOk result (Adds (OfEach (IsByArgument places.now head place) args.now)
         found.old.items found.new.items) }
 {
     for (index, argument) in args.iter().enumerate() {
-        let arg = numbered(index)?;
-        found.push(by_argument(places, head, place, arg, *argument))?;
+        found.push(by_argument(places, head, place, index as u16, *argument))?;
     }
     Ok(())
+}
+
+/// Lends the arguments of a rule: there is one for each of the different occurrences in its
+/// expression.
+fn arguments(rule: &Rule) -> &[Target]
+    ensures lent { result.now ≡ rule.now.args }
+    ensures different { AreDifferent rule.now.expr.1 }
+{
+    let _different = occurrences(&rule.expr);
+    rule.args.as_slice()
 }
 
 /// Puts the dependencies of a rule at the end of a list.
@@ -133,6 +111,7 @@ fn put_rule(
     number: u16,
     rule: &Rule,
 ) -> Result<(), NoMemory>
+    requires accepted { IsOfAccepted rule.now }
     ensures { OnOk result (Adds (IsByRule places.now production number rule.now)
         found.old.items found.new.items) }
 {
@@ -146,7 +125,7 @@ fn put_rule(
                 rule: number,
                 arg: 0,
             };
-            put_arguments(found, places, head, target.place, rule.args.as_slice())?;
+            put_arguments(found, places, head, target.place, arguments(rule))?;
             Ok(())
         }
         None => Ok(()),
@@ -160,11 +139,12 @@ fn put_rules(
     production: u16,
     rules: &[Rule],
 ) -> Result<(), NoMemory>
+    requires accepted { AreOfAccepted rules.now }
     ensures { OnOk result (Adds (OfEach (IsByRule places.now production) rules.now)
         found.old.items found.new.items) }
 {
     for (index, rule) in rules.iter().enumerate() {
-        put_rule(found, places, production, numbered(index)?, rule)?;
+        put_rule(found, places, production, index as u16, rule)?;
     }
     Ok(())
 }
@@ -176,10 +156,11 @@ fn put_production(
     number: u16,
     production: &Production,
 ) -> Result<(), NoMemory>
+    requires accepted { IsAcceptedProduction production.now }
     ensures { OnOk result (Adds (IsByProduction number production.now)
         found.old.items found.new.items) }
 {
-    let places = all_places(alloc, production)?;
+    let places = production.places(alloc)?;
     put_rules(
         found,
         places.as_slice(),
@@ -194,11 +175,12 @@ pub(crate) fn all_dependencies(
     alloc: Global,
     productions: &[Production],
 ) -> Result<Vec<Dependency>, NoMemory>
+    requires accepted { AreAccepted productions.now }
     ensures { IfOk result (λ all. AreDependencies productions.now all.items) }
 {
     let mut found = Vec::new(alloc);
     for (index, production) in productions.iter().enumerate() {
-        put_production(alloc, &mut found, numbered(index)?, production)?;
+        put_production(alloc, &mut found, index as u16, production)?;
     }
     Ok(found)
 }

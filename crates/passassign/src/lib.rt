@@ -4,7 +4,6 @@
 mod assigning;
 mod assignment;
 mod dependency;
-mod direction;
 pub mod laws;
 pub mod samples;
 mod search;
@@ -13,5 +12,4 @@ mod table;
 
 pub use assigning::{AssignFault, assign};
 pub use assignment::Assignment;
-pub use dependency::all_places;
 pub use stuck::{Strike, Stuck};

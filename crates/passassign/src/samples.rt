@@ -1,7 +1,7 @@
 //! Examples of the definitions, each a law.
 
-ghost use Rattle.ag_expr.specs.grammars.Passes.{IsLegal};
-ghost use Rattle.ag_expr.specs.grammars.Sample.{sample, sample_passes, later_passes, both_ways};
+ghost use Rattle.ag_grammar.specs.grammars.Passes.{IsLegal};
+ghost use Rattle.ag_grammar.specs.grammars.Sample.{sample, sample_passes, later_passes, both_ways};
 ghost use Rattle.passassign.specs.Certificate.{IsCertificate};
 ghost use Rattle.passassign.specs.Least.{partial_of, IsLeast, IsAlternating};
 ghost use Rattle.passassign.specs.Making.{IsMade};

@@ -1,17 +1,16 @@
 //! What a pass can't give: attributes are struck one after the other, until no other can be.
 
 ghost use Rattle.std.specs.Prelude.{ℕ, ◌≡◌, ◌↔◌, [], false, IfOk, IsTrue, OnOk, length};
-ghost use Rattle.ag_expr.specs.Lists.{Has};
-ghost use Rattle.passassign.specs.Dependencies.{AreDependencies, AreRows, row_at};
-ghost use Rattle.passassign.specs.Searching.{way, is_due, IsOpenAt, IsBarred, GoesOn};
+ghost use Rattle.ag_grammar.specs.Lists.{Has};
+ghost use Rattle.passassign.specs.Dependencies.{AreAccepted, AreDependencies, AreRows, row_at};
+ghost use Rattle.passassign.specs.Searching.{is_due, IsOpenAt, IsBarred, GoesOn};
 ghost use Rattle.passassign.specs.Searching.{IsSearched, IsFinished, ArePlaced};
 ghost use Rattle.passassign.specs.Tables.{is_marked};
 
 use crate::dependency::{Dependency, all_dependencies, rows_of};
-use crate::direction::Direction;
 use crate::stuck::Strike;
 use crate::table::{State, has_mark, has_none, look_up, slot};
-use ag_expr::Production;
+use ag_grammar::{Direction, Production};
 use ag_value::NoMemory;
 use std::alloc::Global;
 
@@ -29,6 +28,7 @@ impl Dependencies {
         productions: &[Production],
         count: usize,
     ) -> Result<Dependencies, NoMemory>
+        requires accepted { AreAccepted productions.now }
         ensures all { IfOk result (λ found. AreDependencies productions.now found.all.items) }
         ensures len { IfOk result (λ found. length found.rows.items ≡ count) }
         ensures rows { IfOk result (λ found. AreRows found.all.items found.rows.items) }
@@ -90,7 +90,7 @@ fn is_without_pass(states: &[State], slot: Option<usize>) -> bool
 /// A dependency keeps its target out of a pass, whatever is struck: the argument is at a child that
 /// is visited later, or is an attribute of the target's own child that has no pass yet.
 fn is_barred(direction: Direction, states: &[State], one: Dependency) -> bool
-    ensures { IsTrue result ↔ IsBarred (way direction) states.now one }
+    ensures { IsTrue result ↔ IsBarred direction states.now one }
 {
     if one.place == 0 || one.from == 0 {
         return false;
@@ -110,7 +110,7 @@ fn strike_barred(
 ) -> Result<(), NoMemory>
     requires { length struck.old.marks.items ≡ length states.now }
     ensures { OnOk result (GoesOn states.now
-        (λ u. (u ≡ one) × IsBarred (way direction) states.now u) struck.old struck.new) }
+        (λ u. (u ≡ one) × IsBarred direction states.now u) struck.old struck.new) }
 {
     if is_barred(direction, states, one) {
         strike(states, one, struck)?;
@@ -127,7 +127,7 @@ fn strike_all_barred(
 ) -> Result<(), NoMemory>
     requires { length struck.old.marks.items ≡ length states.now }
     ensures { OnOk result (GoesOn states.now
-        (λ u. Has all.now u × IsBarred (way direction) states.now u) struck.old struck.new) }
+        (λ u. Has all.now u × IsBarred direction states.now u) struck.old struck.new) }
 {
     for one in all {
         strike_barred(direction, states, *one, struck)?;
@@ -175,9 +175,9 @@ pub(crate) fn search(
     requires rows { AreRows dependencies.now.all.items dependencies.now.rows.items }
     requires placed { ArePlaced dependencies.now.all.items }
     ensures search { IfOk result
-        (IsSearched dependencies.now.all.items (way direction) states.now) }
+        (IsSearched dependencies.now.all.items direction states.now) }
     ensures finished { IfOk result (λ struck.
-        IsFinished dependencies.now.all.items (way direction) states.now struck.strikes.items) }
+        IsFinished dependencies.now.all.items direction states.now struck.strikes.items) }
 {
     let mut struck = no_strikes(alloc, states.len())?;
     strike_all_barred(direction, states, dependencies.all.as_slice(), &mut struck)?;

@@ -3,20 +3,18 @@
 ghost use Rattle.std.specs.Prelude.{ℕ, ◌≡◌, ◌+◌, ◌*◌, ◌/◌, ◌%◌, ◌^◌, ◌<◌, ◌≤◌, ◌↔◌, ◌++◌};
 ghost use Rattle.std.specs.Prelude.{[], ◌∷◌, count_by, length};
 ghost use Rattle.std.specs.Prelude.{true, false, IfOk, OnOk, Some, slice_get, unwrap_or};
-ghost use Rattle.ag_expr.specs.Lists.{Each, Has};
-ghost use Rattle.ag_expr.specs.grammars.AttributeGrammar.{attribute_names};
+ghost use Rattle.ag_grammar.specs.Lists.{Each, Has};
+ghost use Rattle.ag_grammar.specs.grammars.AttributeGrammar.{attribute_names};
 ghost use Rattle.passassign.specs.Answer.{IsInDeclaredOrder};
 ghost use Rattle.passassign.specs.Rows.{numbers_of};
 ghost use Rattle.passassign.specs.Tables.{slot_of, state_at, first_state, given, is_open};
 ghost use Rattle.passassign.specs.Tables.{after_pass, is_marked, AreRowsOfTable, IsFirstTable};
 ghost use Rattle.passassign.specs.declared.table.State.TheVariants.{Open};
 
-use ag_expr::Symbol;
+use ag_grammar::Symbol;
+use ag_grammar::limits::MOST_ATTRIBUTES;
 use ag_value::NoMemory;
 use std::alloc::Global;
-
-/// How many slots of a table each symbol has: the most attributes that one may have.
-pub(crate) const SLOTS: usize = 16;
 
 /// What is known of a slot of the table.
 #[derive(Clone, Copy, Debug, PartialEq, Eq)]
@@ -33,7 +31,7 @@ pub(crate) enum State {
 pub(crate) fn slot(symbol: u16, attr: u16) -> usize
     ensures { result ≡ slot_of symbol attr }
 {
-    symbol as usize * SLOTS + attr as usize
+    symbol as usize * MOST_ATTRIBUTES + attr as usize
 }
 
 /// What a table has in a slot.
@@ -77,18 +75,10 @@ fn open_symbol(states: &mut Vec<State>, count: usize) -> Result<(), NoMemory>
     ensures put { OnOk result ((a : ℕ) → a < 16
         → state_at states.new.items (length states.old.items + a) ≡ first_state count a) }
 {
-    for attr in 0..SLOTS {
+    for attr in 0..MOST_ATTRIBUTES {
         states.push(state_at_first(attr, count))?;
     }
     Ok(())
-}
-
-/// How many attributes a symbol has.
-fn count_of(symbol: &Symbol) -> usize
-    requires { length (attribute_names symbol.now) ≤ 16 }
-    ensures { result ≡ length (attribute_names symbol.now) }
-{
-    symbol.syn.as_slice().len() + symbol.inh.as_slice().len()
 }
 
 /// The table of all attributes, none of which has a pass.
@@ -98,7 +88,7 @@ pub(crate) fn open_all(alloc: Global, symbols: &[Symbol]) -> Result<Vec<State>, 
 {
     let mut states = Vec::new(alloc);
     for symbol in symbols {
-        open_symbol(&mut states, count_of(symbol))?;
+        open_symbol(&mut states, symbol.attribute_count())?;
     }
     Ok(states)
 }
@@ -141,7 +131,12 @@ pub(crate) fn rows(
 {
     let mut rows = Vec::new(alloc);
     for (index, symbol) in symbols.iter().enumerate() {
-        rows.push(row(alloc, states, index * SLOTS, count_of(symbol))?)?;
+        rows.push(row(
+            alloc,
+            states,
+            index * MOST_ATTRIBUTES,
+            symbol.attribute_count(),
+        )?)?;
     }
     Ok(rows)
 }
@@ -154,7 +149,10 @@ fn put_open(found: &mut Vec<(u16, u16)>, state: State, slot: usize) -> Result<()
     ensures other { OnOk result (is_open state ≡ false → found.new.items ≡ found.old.items) }
 {
     if has_none(state) {
-        found.push(((slot / SLOTS) as u16, (slot % SLOTS) as u16))?;
+        found.push((
+            (slot / MOST_ATTRIBUTES) as u16,
+            (slot % MOST_ATTRIBUTES) as u16,
+        ))?;
     }
     Ok(())
 }

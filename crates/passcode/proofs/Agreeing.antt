@@ -2,15 +2,16 @@
 use Rattle.std.proofs.Common.{ℕ, zero, suc, ◌≡◌, ◌+◌, ◌<◌, ◌≤◌, ◌↔◌, List, [], ◌∷◌, Option, Some, None, slice_get, get_or, length, inl, inr, refl, ap, ◌∙◌, sym, subst, arith}
 use Rattle.std.proofs.lemmas.Bool.{cases_eq, cases_lt}
 use Rattle.std.proofs.lemmas.Option.{slice_get_within, slice_get-get_or}
-use Rattle.ag_expr.specs.Lists.{Has}
-use Rattle.ag_expr.specs.declared.grammar.Item.TheVariants as item
-use Rattle.ag_expr.specs.declared.grammar.Item.{Item}
-use Rattle.ag_expr.specs.declared.grammar.Production.{Production}
-use Rattle.ag_expr.specs.declared.grammar.Rule.{Rule}
-use Rattle.ag_expr.specs.declared.grammar.Target.{Target}
-use Rattle.ag_expr.specs.declared.grammar.Terminal.TheVariants.{Literal, Class}
-use Rattle.ag_expr.specs.grammars.AttributeGrammar.{item_at}
-use Rattle.ag_expr.specs.grammars.Passes.{Passes, HasPass, Direction, MayUse, direction_of, item_passes}
+use Rattle.ag_grammar.specs.Lists.{Has}
+use Rattle.ag_grammar.specs.declared.grammar.Item.TheVariants as item
+use Rattle.ag_grammar.specs.declared.grammar.Item.{Item}
+use Rattle.ag_grammar.specs.declared.grammar.Production.{Production}
+use Rattle.ag_grammar.specs.declared.grammar.Rule.{Rule}
+use Rattle.ag_grammar.specs.declared.grammar.Target.{Target}
+use Rattle.ag_grammar.specs.declared.grammar.Terminal.TheVariants.{Literal, Class}
+use Rattle.ag_grammar.specs.grammars.AttributeGrammar.{item_at}
+use Rattle.ag_grammar.specs.declared.direction.Direction.{Direction}
+use Rattle.ag_grammar.specs.grammars.Passes.{Passes, HasPass, MayUse, direction_of, item_passes}
 use Rattle.passcode.specs.declared.instr.Instr.{Instr}
 use Rattle.passcode.specs.declared.instr.Instr.TheVariants as instr
 use Rattle.passcode.specs.declared.table.Given.{Given}
@@ -18,7 +19,7 @@ use Rattle.passcode.specs.Agreement.{StandsOnceIf, Precedes, StandsBefore, HasPl
 use Rattle.passcode.specs.Listing.{rank, key_of, first_key, giving_key, AreRising, IsMadeOf, IsPart, IsGenerated}
 use Rattle.passcode.specs.Order.{IsInOrder}
 use Rattle.passcode.specs.Tables.{IsPlanned, IsTable}
-use Rattle.passassign.specs.Dependencies.{places_of}
+use Rattle.ag_grammar.specs.grammars.AttributeGrammar.{places_of}
 use Rattle.passcode.proofs.Directions.{rank_before, rank_few}
 use Rattle.passcode.proofs.Members.{IsOfRule, Belongs, belongs_rule, few, small, set_is, part_belongs, belongs_part}
 use Rattle.passcode.proofs.Parts.{giving_has}

@@ -1,26 +1,9 @@
--- The direction of a pass by its parity, and the place that comes at a turn.
-use Rattle.std.proofs.Common.{ℕ, zero, suc, ◌≡◌, ◌+◌, ◌-◌, ◌%◌, ◌<◌, ◌≤◌, ◌⊎◌, inl, inr, refl, ap, sym, arith}
-use Rattle.ag_expr.specs.grammars.Passes.{Direction, LeftToRight, RightToLeft, other, direction_of, IsBefore}
+-- The ranks of places in a direction, and the place that comes at a turn.
+use Rattle.std.proofs.Common.{ℕ, ◌≡◌, ◌+◌, ◌<◌, ◌≤◌, arith}
+use Rattle.ag_grammar.specs.declared.direction.Direction.{Direction}
+use Rattle.ag_grammar.specs.declared.direction.Direction.TheVariants.{LeftToRight, RightToLeft}
+use Rattle.ag_grammar.specs.grammars.Passes.{IsBefore}
 use Rattle.passcode.specs.Listing.{rank, first_key, place_at}
-
-pub parity : (k : ℕ) → ((k % 2 ≡ 0) × (direction_of k ≡ LeftToRight)) ⊎ ((k % 2 ≡ 1) × (direction_of k ≡ RightToLeft))
-parity zero = inl (refl, refl)
-parity (suc k) = elim (parity k) [
-  | inl h ↦ (let e = h.0 in inr (omega arith, ap other h.1))
-  | inr h ↦ (let e = h.0 in inl (omega arith, ap other h.1))
-]
-
-pub place_even : (k count turn : ℕ) → k % 2 ≡ 0 → turn ≡ place_at (direction_of k) count turn
-place_even k count turn e = elim (parity k) [
-  | inl h ↦ ap (λ d. place_at d count turn) (sym h.1)
-  | inr h ↦ (let f = h.0 in absurd (omega arith))
-]
-
-pub place_odd : (k count turn : ℕ) → (k % 2 ≡ 0 → ⊥) → count - turn ≡ place_at (direction_of k) count turn
-place_odd k count turn e = elim (parity k) [
-  | inl h ↦ absurd (e h.0)
-  | inr h ↦ ap (λ d. place_at d count turn) (sym h.1)
-]
 
 -- a place that comes before another in a direction has the lower rank
 pub rank_before : (d : Direction) (i j : ℕ) → i ≤ 16 → IsBefore d i j → rank d i < rank d j

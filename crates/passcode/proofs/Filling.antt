@@ -5,20 +5,18 @@ use Rattle.std.proofs.lemmas.Bool.{cases_eq, lt-ltb, ltb-true}
 use Rattle.std.proofs.lemmas.List.{get_or-set_other, get_or-set_same}
 use Rattle.std.proofs.lemmas.List.Sums.{sum_by-set}
 use Rattle.std.proofs.lemmas.Option.{slice_get_within}
-use Rattle.ag_expr.specs.declared.grammar.Item.TheVariants as item
-use Rattle.ag_expr.specs.declared.grammar.Item.{Item}
-use Rattle.ag_expr.specs.declared.grammar.Production.{Production}
-use Rattle.ag_expr.specs.declared.grammar.Rule.{Rule}
-use Rattle.ag_expr.specs.declared.grammar.Target.{Target}
-use Rattle.ag_expr.specs.grammars.Passes.{Passes, HasPass, item_passes}
-use Rattle.passassign.specs.Dependencies.{places_of}
+use Rattle.ag_grammar.specs.declared.grammar.Item.TheVariants as item
+use Rattle.ag_grammar.specs.declared.grammar.Item.{Item}
+use Rattle.ag_grammar.specs.declared.grammar.Production.{Production}
+use Rattle.ag_grammar.specs.declared.grammar.Rule.{Rule}
+use Rattle.ag_grammar.specs.declared.grammar.Target.{Target}
+use Rattle.ag_grammar.specs.grammars.Passes.{Passes, HasPass, item_passes}
+use Rattle.ag_grammar.specs.grammars.AttributeGrammar.{places_of}
 use Rattle.passcode.specs.declared.table.Given.{Given}
 use Rattle.passcode.specs.Agreement.{IsRuleAt}
 use Rattle.passcode.specs.Tables.{slot_of, slot_at, given_at, HasPassAt, IsPlanned, IsTableBelow}
+use Rattle.passassign.proofs.Linked.{same_parts}
 use Rattle.passcode.proofs.Passes.{passes_at, passes_from, place_is}
-
-pub same_parts : (o t : Target) → o.place ≡ t.place → o.attr ≡ t.attr → o ≡ t
-same_parts o t e f = ap (λ j. record { place = j; attr = o.attr }) e ∙ ap (λ a. record { place = t.place; attr = a }) f
 
 pub given_in : (table : List (Option Given)) (j a : ℕ) → a < 16 → given_at table j a ≡ slot_at table (slot_of j a)
 given_in table j a lt = ap (λ b. cond b (slot_at table (slot_of j a)) None) (lt-ltb a 16 lt)

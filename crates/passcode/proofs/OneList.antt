@@ -2,13 +2,15 @@
 use Rattle.std.proofs.Common.{ℕ, zero, suc, ◌≡◌, ◌+◌, ◌<◌, ◌≤◌, ◌⊎◌, ◌↔◌, List, [], ◌∷◌, Some, slice_get, inl, inr, refl, ap, ◌∙◌, sym, subst, arith}
 use Rattle.std.proofs.lemmas.Bool.{cases_eq, cases_lt}
 use Rattle.std.proofs.lemmas.Option.{slice_get_within}
-use Rattle.ag_expr.specs.Lists.{Has}
-use Rattle.ag_expr.specs.declared.grammar.Item.TheVariants as item
-use Rattle.ag_expr.specs.declared.grammar.Production.{Production}
-use Rattle.ag_expr.specs.declared.grammar.Rule.{Rule}
-use Rattle.ag_expr.specs.declared.grammar.Target.{Target}
-use Rattle.ag_expr.specs.grammars.AttributeGrammar.{item_at}
-use Rattle.ag_expr.specs.grammars.Passes.{Passes, Direction, LeftToRight, RightToLeft, IsBefore, direction_of}
+use Rattle.ag_grammar.specs.Lists.{Has}
+use Rattle.ag_grammar.specs.declared.grammar.Item.TheVariants as item
+use Rattle.ag_grammar.specs.declared.grammar.Production.{Production}
+use Rattle.ag_grammar.specs.declared.grammar.Rule.{Rule}
+use Rattle.ag_grammar.specs.declared.grammar.Target.{Target}
+use Rattle.ag_grammar.specs.grammars.AttributeGrammar.{item_at}
+use Rattle.ag_grammar.specs.declared.direction.Direction.{Direction}
+use Rattle.ag_grammar.specs.declared.direction.Direction.TheVariants.{LeftToRight, RightToLeft}
+use Rattle.ag_grammar.specs.grammars.Passes.{Passes, IsBefore, direction_of}
 use Rattle.passcode.specs.declared.instr.Instr.{Instr}
 use Rattle.passcode.specs.declared.instr.Instr.TheVariants as instr
 use Rattle.passcode.specs.Agreement.{HasPlace, IsChild, giving, instruction_of, IsListFor}
@@ -17,7 +19,7 @@ use Rattle.passcode.specs.Listing.{rank, key_of, first_key, AreRising}
 use Rattle.passcode.specs.Order.{IsInOrder}
 use Rattle.passcode.specs.Tables.{IsPlanned}
 use Rattle.passcode.proofs.Directions.{rank_before, rank_few}
-use Rattle.passcode.proofs.Filling.{same_parts}
+use Rattle.passassign.proofs.Linked.{same_parts}
 use Rattle.passcode.proofs.Members.{IsOfRule, Belongs, few, small, set_is}
 use Rattle.passcode.proofs.Planned.{planned}
 

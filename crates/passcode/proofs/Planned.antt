@@ -1,14 +1,14 @@
 -- What an accepted grammar and a legal assignment tell of a production.
 use Rattle.std.proofs.Common.{ℕ, zero, suc, ◌≡◌, ◌<◌, [], ◌∷◌, Option, Some, None, slice_get, get_or, length, refl, subst, arith}
 use Rattle.std.proofs.lemmas.Option.{slice_get_within, slice_get-get_or}
-use Rattle.ag_expr.specs.declared.grammar.Item.TheVariants as item
-use Rattle.ag_expr.specs.declared.grammar.Item.{Item}
-use Rattle.ag_expr.specs.declared.grammar.Production.{Production}
-use Rattle.ag_expr.specs.declared.grammar.Rule.{Rule}
-use Rattle.ag_expr.specs.declared.grammar.Terminal.TheVariants.{Literal, Class}
-use Rattle.ag_expr.specs.grammars.Accepted.{IsAccepted}
-use Rattle.ag_expr.specs.grammars.AttributeGrammar.{Grammar, Kind, Synthesized, Inherited, HasKind, item_at, item_kinds, symbol_kinds, given_kind, IsProduction}
-use Rattle.ag_expr.specs.grammars.Passes.{Passes, IsLegal}
+use Rattle.ag_grammar.specs.declared.grammar.Item.TheVariants as item
+use Rattle.ag_grammar.specs.declared.grammar.Item.{Item}
+use Rattle.ag_grammar.specs.declared.grammar.Production.{Production}
+use Rattle.ag_grammar.specs.declared.grammar.Rule.{Rule}
+use Rattle.ag_grammar.specs.declared.grammar.Terminal.TheVariants.{Literal, Class}
+use Rattle.ag_grammar.specs.grammars.Accepted.{IsAccepted}
+use Rattle.ag_grammar.specs.grammars.AttributeGrammar.{Grammar, Kind, Synthesized, Inherited, HasKind, item_at, item_kinds, symbol_kinds, given_kind, IsProduction}
+use Rattle.ag_grammar.specs.grammars.Passes.{Passes, IsLegal}
 use Rattle.passassign.proofs.Linked.{attribute_within}
 use Rattle.passcode.specs.Tables.{IsPlanned, IsPlannedRule}
 

@@ -2,7 +2,7 @@
 use Rattle.std.proofs.Common.{ℕ, ◌≡◌, ◌+◌, ◌<◌, ◌≤◌, ◌⊎◌, ◌↔◌, ◌++◌, List, [], ◌∷◌, Some, slice_get, inl, inr, ap, sym, subst, arith}
 use Rattle.std.proofs.lemmas.Bool.{cases_eq}
 use Rattle.std.proofs.lemmas.Option.{slice_get_within}
-use Rattle.ag_expr.specs.grammars.Passes.{Direction}
+use Rattle.ag_grammar.specs.declared.direction.Direction.{Direction}
 use Rattle.passassign.proofs.Adding.{adds_push, adds_same, adds_none}
 use Rattle.passassign.proofs.Lists.{get_push_cases}
 use Rattle.passcode.specs.declared.instr.Instr.{Instr}

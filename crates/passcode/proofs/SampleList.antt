@@ -1,12 +1,13 @@
 -- A list for the first production of the first sample grammar.
 use Rattle.std.proofs.Common.{ℕ, zero, suc, ◌≡◌, ◌<◌, ◌≤◌, ◌⊎◌, ◌++◌, List, [], ◌∷◌, Some, slice_get, inl, inr, refl, ap, ◌∙◌, sym, subst, arith}
-use Rattle.ag_expr.specs.Lists.{Has}
-use Rattle.ag_expr.specs.declared.grammar.Item.TheVariants as item
-use Rattle.ag_expr.specs.declared.grammar.Rule.{Rule}
-use Rattle.ag_expr.specs.declared.grammar.Target.{Target}
-use Rattle.ag_expr.specs.grammars.Passes.{IsLegal, RightToLeft}
-use Rattle.ag_expr.specs.grammars.Sample.{sample, sample_passes, rule_out, rule_first, rule_second}
-use Rattle.ag_expr.proofs.grammars.NumberSample.{accepted}
+use Rattle.ag_grammar.specs.Lists.{Has}
+use Rattle.ag_grammar.specs.declared.grammar.Item.TheVariants as item
+use Rattle.ag_grammar.specs.declared.grammar.Rule.{Rule}
+use Rattle.ag_grammar.specs.declared.grammar.Target.{Target}
+use Rattle.ag_grammar.specs.declared.direction.Direction.TheVariants.{RightToLeft}
+use Rattle.ag_grammar.specs.grammars.Passes.{IsLegal}
+use Rattle.ag_grammar.specs.grammars.Sample.{sample, sample_passes, rule_out, rule_first, rule_second}
+use Rattle.ag_grammar.proofs.grammars.NumberSample.{accepted}
 use Rattle.passcode.specs.declared.instr.Instr.{Instr}
 use Rattle.passcode.specs.declared.instr.Instr.TheVariants as instr
 use Rattle.passcode.specs.Agreement.{IsListFor, HasPlace, IsRuleAt}

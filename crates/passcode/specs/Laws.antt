@@ -1,9 +1,9 @@
 -- What the law states.
 use Rattle.std.specs.Prelude.{ℕ, ◌≡◌, List}
-use Rattle.ag_expr.specs.declared.grammar.Production.{Production}
-use Rattle.ag_expr.specs.grammars.Accepted.{IsAccepted}
-use Rattle.ag_expr.specs.grammars.AttributeGrammar.{Grammar, IsProduction}
-use Rattle.ag_expr.specs.grammars.Passes.{Passes, IsLegal}
+use Rattle.ag_grammar.specs.declared.grammar.Production.{Production}
+use Rattle.ag_grammar.specs.grammars.Accepted.{IsAccepted}
+use Rattle.ag_grammar.specs.grammars.AttributeGrammar.{Grammar, IsProduction}
+use Rattle.ag_grammar.specs.grammars.Passes.{Passes, IsLegal}
 use Rattle.passcode.specs.declared.instr.Instr.{Instr}
 use Rattle.passcode.specs.Agreement.{IsListFor}
 use Rattle.passcode.specs.Order.{IsInOrder}

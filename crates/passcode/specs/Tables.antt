@@ -1,13 +1,13 @@
 -- The table of a production's rules by what they give a value, and what is known of a production for which code is made.
 use Rattle.std.specs.Prelude.{ℕ, ◌≡◌, ◌+◌, ◌*◌, ◌≤◌, ◌<◌, List, Option, Some, None, cond, nat_lt, slice_get, slice_index_or, length}
-use Rattle.ag_expr.specs.Lists.{Each, DifferIn}
-use Rattle.ag_expr.specs.declared.grammar.Item.TheVariants as item
-use Rattle.ag_expr.specs.declared.grammar.Item.{Item}
-use Rattle.ag_expr.specs.declared.grammar.Production.{Production}
-use Rattle.ag_expr.specs.declared.grammar.Rule.{Rule}
-use Rattle.ag_expr.specs.declared.grammar.Target.{Target}
-use Rattle.ag_expr.specs.grammars.AttributeGrammar.{item_at, stored_items}
-use Rattle.ag_expr.specs.grammars.Passes.{Passes, HasPass, IsLegalFor, item_passes}
+use Rattle.ag_grammar.specs.Lists.{Each, DifferIn}
+use Rattle.ag_grammar.specs.declared.grammar.Item.TheVariants as item
+use Rattle.ag_grammar.specs.declared.grammar.Item.{Item}
+use Rattle.ag_grammar.specs.declared.grammar.Production.{Production}
+use Rattle.ag_grammar.specs.declared.grammar.Rule.{Rule}
+use Rattle.ag_grammar.specs.declared.grammar.Target.{Target}
+use Rattle.ag_grammar.specs.grammars.AttributeGrammar.{item_at, stored_items}
+use Rattle.ag_grammar.specs.grammars.Passes.{Passes, HasPass, IsLegalFor, item_passes}
 use Rattle.passcode.specs.declared.table.Given.{Given}
 use Rattle.passcode.specs.Agreement.{IsRuleAt}
 

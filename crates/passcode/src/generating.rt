@@ -1,7 +1,7 @@
 //! The code of a grammar under an assignment.
 
 ghost use Rattle.std.specs.Prelude.{ℕ, ◌≡◌, ◌+◌, IfOk, Some, List, length, slice_get};
-ghost use Rattle.ag_expr.specs.grammars.Passes.{IsLegal};
+ghost use Rattle.ag_grammar.specs.grammars.Passes.{IsLegal};
 ghost use Rattle.passassign.specs.Rows.{passes_of};
 ghost use Rattle.passcode.specs.Agreement.{Agrees};
 ghost use Rattle.passcode.specs.Listing.{IsGenerated};
@@ -15,10 +15,10 @@ use crate::code::Code;
 use crate::instr::Instr;
 use crate::listing::list_of;
 use crate::table::rule_table;
-use ag_expr::Production;
+use ag_grammar::Production;
 use ag_value::NoMemory;
 use normalform::Grammar;
-use passassign::{Assignment, all_places};
+use passassign::Assignment;
 use std::alloc::Global;
 
 /// The lists of a production, for so many passes.
@@ -34,7 +34,7 @@ fn lists_of(
         → slice_get (row_of lists.items) i ≡ Some xs
         → IsGenerated (passes_of assignment.now) production.now (i + 1) xs) }
 {
-    let places = all_places(alloc, production)?;
+    let places = production.places(alloc)?;
     let table = rule_table(alloc, production, places.as_slice(), assignment)?;
     let mut lists = Vec::new(alloc);
     for before in 0..passes {

@@ -1,7 +1,8 @@
 //! The list of instructions of one production in one pass.
 
 ghost use Rattle.std.specs.Prelude.{◌≡◌, ◌+◌, ◌<◌, ◌≤◌, IfOk, OnOk, length};
-ghost use Rattle.ag_expr.specs.grammars.Passes.{Direction, direction_of};
+ghost use Rattle.ag_grammar.specs.declared.direction.Direction.{Direction as TheDirection};
+ghost use Rattle.ag_grammar.specs.grammars.Passes.{direction_of};
 ghost use Rattle.passcode.specs.Agreement.{giving};
 ghost use Rattle.passcode.specs.Listing.{Extends, IsGivenBy, GivesAt, IsGoOf, IsVisit};
 ghost use Rattle.passcode.specs.Listing.{IsVisitBefore, IsPart, IsMadeOf, place_at, first_key};
@@ -9,7 +10,7 @@ ghost use Rattle.passcode.specs.Listing.{giving_key, last_key};
 
 use crate::instr::Instr;
 use crate::table::{Given, look_up};
-use ag_expr::Item;
+use ag_grammar::{Direction, Item};
 use ag_value::NoMemory;
 use std::alloc::Global;
 
@@ -67,7 +68,7 @@ fn put_all_given(
 
 /// Puts the `Go` of a place at the end of a list, where a declared symbol stands there.
 fn put_go(list: &mut Vec<Instr>, place: u16, item: Item) -> Result<(), NoMemory>
-    ensures { OnOk result ((d : Direction) → Extends d (IsGoOf item place)
+    ensures { OnOk result ((d : TheDirection) → Extends d (IsGoOf item place)
         (first_key d place + 17) (first_key d place + 18) list.old.items list.new.items) }
 {
     match item {
@@ -97,16 +98,19 @@ fn put_visit(
     Ok(())
 }
 
-/// The place that comes at a turn of a pass, the first at turn 1, where there are places below a
+/// The place that comes at a turn of a direction, the first at turn 1, where there are places below a
 /// number.
-fn place_of(pass: u16, count: usize, turn: usize) -> usize
+fn place_of(direction: Direction, count: usize, turn: usize) -> usize
     requires first { 1 ≤ turn }
     requires last { turn < count }
-    ensures place { result ≡ place_at (direction_of pass) count turn }
+    ensures place { result ≡ place_at direction count turn }
     ensures least { 1 ≤ result }
     ensures most { result < count }
 {
-    if pass % 2 == 0 { turn } else { count - turn }
+    match direction {
+        Direction::LeftToRight => turn,
+        Direction::RightToLeft => count - turn,
+    }
 }
 
 /// The instructions of all places of the right side.
@@ -122,9 +126,10 @@ fn visits(
         (IsVisitBefore (direction_of pass) table.now pass places.now (length places.now))
         last_key list.items) }
 {
+    let direction = Direction::of_pass(pass);
     let mut list = Vec::new(alloc);
     for turn in 1..places.len() {
-        let place = place_of(pass, places.len(), turn);
+        let place = place_of(direction, places.len(), turn);
         put_visit(&mut list, table, pass, place as u16, places[place])?;
     }
     Ok(list)

@@ -1,12 +1,12 @@
 //! Examples of the definitions, each a law.
 
-ghost use Rattle.ag_expr.specs.grammars.Sample.{sample_passes};
+ghost use Rattle.ag_grammar.specs.grammars.Sample.{sample_passes};
 ghost use Rattle.passcode.specs.Agreement.{IsListFor};
 ghost use Rattle.passcode.specs.Order.{IsInOrder};
 ghost use Rattle.passcode.specs.Sample.{sample_production, sample_list, forward_list, late_list};
 ghost use Rattle.passcode.specs.Sample.{undefined_list};
 
-use ag_expr::samples::sample_legal;
+use ag_grammar::samples::sample_legal;
 
 /// A list for the first production of the first sample keeps the four rules,
 #[tactic(auto, using(crate::proofs::SampleList::agrees))]

@@ -1,17 +1,15 @@
 //! The rules of a production by what they give a value, each with its pass.
 
 ghost use Rattle.std.specs.Prelude.{ℕ, ◌≡◌, ◌≤◌, ◌*◌, ◌+◌, IfOk, count_by, is_some, length};
-ghost use Rattle.passassign.specs.Dependencies.{places_of};
+ghost use Rattle.ag_grammar.specs.grammars.AttributeGrammar.{places_of};
 ghost use Rattle.passassign.specs.Rows.{passes_of};
 ghost use Rattle.passcode.specs.Tables.{HasPassAt, IsPlanned, IsTable, given_at, slot_at};
 
-use ag_expr::{Item, Production, Target};
+use ag_grammar::limits::MOST_ATTRIBUTES;
+use ag_grammar::{Item, Production, Target};
 use ag_value::NoMemory;
 use passassign::Assignment;
 use std::alloc::Global;
-
-/// How many slots of a table each place has: the most attributes that a symbol may have.
-pub(crate) const SLOTS: usize = 16;
 
 /// The rule that gives an attribute its value, and the attribute's pass.
 #[derive(Clone, Copy, Debug, PartialEq, Eq)]
@@ -24,7 +22,7 @@ pub(crate) struct Given {
 fn slot(place: u16, attr: u16) -> usize
     ensures { result ≡ place * 16 + attr }
 {
-    place as usize * SLOTS + attr as usize
+    place as usize * MOST_ATTRIBUTES + attr as usize
 }
 
 /// What a table has of an attribute at a place.
@@ -32,7 +30,7 @@ pub(crate) fn look_up(table: &[Option<Given>], place: u16, attr: u16) -> Option<
     ensures { result ≡ given_at table.now place attr }
 {
     let slot = slot(place, attr);
-    if (attr as usize) < SLOTS && slot < table.len() {
+    if (attr as usize) < MOST_ATTRIBUTES && slot < table.len() {
         table[slot]
     } else {
         None
@@ -58,7 +56,7 @@ fn empty_table(alloc: Global, places: usize) -> Result<Vec<Option<Given>>, NoMem
     ensures none { IfOk result (λ table. (k : ℕ) → slot_at table.items k ≡ None) }
 {
     let mut table = Vec::new(alloc);
-    for _ in 0..places * SLOTS {
+    for _ in 0..places * MOST_ATTRIBUTES {
         table.push(None)?;
     }
     Ok(table)

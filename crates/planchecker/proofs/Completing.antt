@@ -3,14 +3,15 @@
 use Rattle.std.proofs.Common.{ℕ, zero, suc, ◌≡◌, ◌+◌, ◌<◌, ◌≤◌, ◌⊎◌, ◌↔◌, ◌++◌, List, [], ◌∷◌, Option, Some, None, slice_get, length, inl, inr, refl, ap, ◌∙◌, sym, subst, arith}
 use Rattle.std.proofs.lemmas.Bool.{cases_eq}
 use Rattle.std.proofs.lemmas.Option.{slice_get_within}
-use Rattle.ag_expr.specs.Lists.{Has}
-use Rattle.ag_expr.specs.declared.grammar.Item.TheVariants as item
-use Rattle.ag_expr.specs.declared.grammar.Item.{Item}
-use Rattle.ag_expr.specs.declared.grammar.Production.{Production}
-use Rattle.ag_expr.specs.declared.grammar.Rule.{Rule}
-use Rattle.ag_expr.specs.declared.grammar.Target.{Target}
-use Rattle.ag_expr.specs.grammars.AttributeGrammar.{IsArgument, item_at, stored_items}
-use Rattle.ag_expr.specs.grammars.Passes.{Passes, HasPass, MayUse, Direction, direction_of, item_passes}
+use Rattle.ag_grammar.specs.Lists.{Has}
+use Rattle.ag_grammar.specs.declared.grammar.Item.TheVariants as item
+use Rattle.ag_grammar.specs.declared.grammar.Item.{Item}
+use Rattle.ag_grammar.specs.declared.grammar.Production.{Production}
+use Rattle.ag_grammar.specs.declared.grammar.Rule.{Rule}
+use Rattle.ag_grammar.specs.declared.grammar.Target.{Target}
+use Rattle.ag_grammar.specs.grammars.AttributeGrammar.{IsArgument, item_at, stored_items}
+use Rattle.ag_grammar.specs.declared.direction.Direction.{Direction}
+use Rattle.ag_grammar.specs.grammars.Passes.{Passes, HasPass, MayUse, direction_of, item_passes}
 use Rattle.passcode.specs.declared.instr.Instr.{Instr}
 use Rattle.passcode.specs.declared.instr.Instr.TheVariants as instr
 use Rattle.passcode.specs.Agreement.{StandsBefore, HasPlace, IsChild, giving, instruction_of, IsAtHand, IsListFor}
@@ -18,7 +19,7 @@ use Rattle.passcode.specs.Listing.{rank, key_of, first_key, giving_key}
 use Rattle.passcode.specs.Tables.{IsPlanned}
 use Rattle.passcode.proofs.Agreeing.{reach, has_item, has_symbol}
 use Rattle.passcode.proofs.Directions.{rank_before, rank_few}
-use Rattle.passcode.proofs.Filling.{same_parts}
+use Rattle.passassign.proofs.Linked.{same_parts}
 use Rattle.passcode.proofs.Members.{IsOfRule, Belongs, belongs_rule, few, small, set_is}
 use Rattle.passcode.proofs.Parts.{giving_has}
 use Rattle.planchecker.specs.Following.{AreGiven, IsOwnRule, IsReady, IsDue}

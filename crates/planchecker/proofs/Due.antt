@@ -2,13 +2,13 @@
 use Rattle.std.proofs.Common.{ℕ, zero, suc, ◌≡◌, ◌+◌, ◌<◌, ◌≤◌, ◌↔◌, List, Some, slice_get, get_or, length, inl, inr, refl, ap, ◌∙◌, sym, subst, arith}
 use Rattle.std.proofs.lemmas.Bool.{cases_eq, cases_lt}
 use Rattle.std.proofs.lemmas.Option.{slice_get_within, slice_get-get_or}
-use Rattle.ag_expr.specs.Lists.{Has}
-use Rattle.ag_expr.specs.declared.grammar.Item.TheVariants as item
-use Rattle.ag_expr.specs.declared.grammar.Production.{Production}
-use Rattle.ag_expr.specs.declared.grammar.Rule.{Rule}
-use Rattle.ag_expr.specs.declared.grammar.Target.{Target}
-use Rattle.ag_expr.specs.grammars.AttributeGrammar.{IsArgument}
-use Rattle.ag_expr.specs.grammars.Passes.{Passes, HasPass}
+use Rattle.ag_grammar.specs.Lists.{Has}
+use Rattle.ag_grammar.specs.declared.grammar.Item.TheVariants as item
+use Rattle.ag_grammar.specs.declared.grammar.Production.{Production}
+use Rattle.ag_grammar.specs.declared.grammar.Rule.{Rule}
+use Rattle.ag_grammar.specs.declared.grammar.Target.{Target}
+use Rattle.ag_grammar.specs.grammars.AttributeGrammar.{IsArgument}
+use Rattle.ag_grammar.specs.grammars.Passes.{Passes, HasPass}
 use Rattle.passcode.specs.declared.instr.Instr.{Instr}
 use Rattle.passcode.specs.declared.instr.Instr.TheVariants as instr
 use Rattle.passcode.specs.Agreement.{Precedes, StandsBefore, HasPlace, IsChild, giving, instruction_of, IsGiving, IsRuleAt, VisitsPlaces, GivesTargets, IsAtHand, Ends, IsListFor}

@@ -1,7 +1,7 @@
 -- Why nothing is wrong with an assignment and code that are made for it.
 use Rattle.std.proofs.Common.{ℕ, ◌≡◌, ◌+◌, ◌-◌, List, Some, slice_get, subst, arith}
-use Rattle.ag_expr.specs.grammars.AttributeGrammar.{Grammar}
-use Rattle.ag_expr.specs.grammars.Passes.{Passes}
+use Rattle.ag_grammar.specs.grammars.AttributeGrammar.{Grammar}
+use Rattle.ag_grammar.specs.grammars.Passes.{Passes}
 use Rattle.passassign.specs.Rows.{passes_of}
 use Rattle.passcode.specs.Agreement.{Agrees}
 use Rattle.passcode.specs.Rows.{Lists, lists_of}

@@ -1,11 +1,11 @@
 -- Which instruction may stand at an index of a list, by those in front of it: what any list that keeps the rules of agreement
 -- has there (this project's).
 use Rattle.std.specs.Prelude.{ℕ, ◌≡◌, ◌≤◌, List}
-use Rattle.ag_expr.specs.declared.grammar.Production.{Production}
-use Rattle.ag_expr.specs.declared.grammar.Rule.{Rule}
-use Rattle.ag_expr.specs.declared.grammar.Target.{Target}
-use Rattle.ag_expr.specs.grammars.AttributeGrammar.{IsArgument}
-use Rattle.ag_expr.specs.grammars.Passes.{Passes, HasPass, IsBefore, direction_of}
+use Rattle.ag_grammar.specs.declared.grammar.Production.{Production}
+use Rattle.ag_grammar.specs.declared.grammar.Rule.{Rule}
+use Rattle.ag_grammar.specs.declared.grammar.Target.{Target}
+use Rattle.ag_grammar.specs.grammars.AttributeGrammar.{IsArgument}
+use Rattle.ag_grammar.specs.grammars.Passes.{Passes, HasPass, IsBefore, direction_of}
 use Rattle.passcode.specs.declared.instr.Instr.{Instr}
 use Rattle.passcode.specs.declared.instr.Instr.TheVariants as instr
 use Rattle.passcode.specs.Agreement.{StandsBefore, HasPlace, IsChild, IsRuleAt, IsAtHand, instruction_of}

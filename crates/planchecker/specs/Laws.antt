@@ -1,10 +1,10 @@
 -- What the laws state.
 use Rattle.std.specs.Prelude.{ℕ, ◌↔◌, List}
-use Rattle.ag_expr.specs.Lists.{Has}
-use Rattle.ag_expr.specs.declared.grammar.Production.{Production}
-use Rattle.ag_expr.specs.grammars.Accepted.{IsAccepted}
-use Rattle.ag_expr.specs.grammars.AttributeGrammar.{Grammar, IsProduction}
-use Rattle.ag_expr.specs.grammars.Passes.{Passes, IsLegal}
+use Rattle.ag_grammar.specs.Lists.{Has}
+use Rattle.ag_grammar.specs.declared.grammar.Production.{Production}
+use Rattle.ag_grammar.specs.grammars.Accepted.{IsAccepted}
+use Rattle.ag_grammar.specs.grammars.AttributeGrammar.{Grammar, IsProduction}
+use Rattle.ag_grammar.specs.grammars.Passes.{Passes, IsLegal}
 use Rattle.passassign.specs.Rows.{passes_of, AreFew}
 use Rattle.passcode.specs.declared.instr.Instr.{Instr}
 use Rattle.passcode.specs.declared.instr.Instr.TheVariants as instr

@@ -1,7 +1,7 @@
 -- Plans: an assignment and code that fit a grammar.
 use Rattle.std.specs.Prelude.{ℕ, List}
-use Rattle.ag_expr.specs.grammars.AttributeGrammar.{Grammar}
-use Rattle.ag_expr.specs.grammars.Passes.{IsLegal}
+use Rattle.ag_grammar.specs.grammars.AttributeGrammar.{Grammar}
+use Rattle.ag_grammar.specs.grammars.Passes.{IsLegal}
 use Rattle.passassign.specs.Rows.{passes_of}
 use Rattle.passcode.specs.Agreement.{Agrees}
 use Rattle.passcode.specs.Rows.{Lists}

@@ -1,8 +1,8 @@
 -- The shape of rows of passes and of lists, part by part.
 use Rattle.std.specs.Prelude.{ℕ, ◌≡◌, ◌≤◌, List, slice_get, length}
-use Rattle.ag_expr.specs.Lists.{Each}
-use Rattle.ag_expr.specs.declared.grammar.Symbol.{Symbol}
-use Rattle.ag_expr.specs.grammars.AttributeGrammar.{symbol_kinds}
+use Rattle.ag_grammar.specs.Lists.{Each}
+use Rattle.ag_grammar.specs.declared.grammar.Symbol.{Symbol}
+use Rattle.ag_grammar.specs.grammars.AttributeGrammar.{symbol_kinds}
 use Rattle.passassign.specs.Rows.{most_passes, passes_of}
 use Rattle.passcode.specs.Rows.{Lists}
 

@@ -1,10 +1,10 @@
 //! Whether what is said to show that a grammar has no legal assignment does so.
 
 ghost use Rattle.std.specs.Prelude.{ℕ, ◌≡◌, ◌↔◌, IsTrue, Some, slice_get, take};
-ghost use Rattle.ag_expr.specs.Lists.{Differ};
-ghost use Rattle.ag_expr.specs.declared.grammar.Item.TheVariants as item;
-ghost use Rattle.ag_expr.specs.grammars.AttributeGrammar.{item_at};
-ghost use Rattle.ag_expr.specs.grammars.Passes.{direction_of};
+ghost use Rattle.ag_grammar.specs.Lists.{Differ};
+ghost use Rattle.ag_grammar.specs.declared.grammar.Item.TheVariants as item;
+ghost use Rattle.ag_grammar.specs.grammars.AttributeGrammar.{item_at};
+ghost use Rattle.ag_grammar.specs.grammars.Passes.{direction_of};
 ghost use Rattle.passassign.specs.Certificate.{IsCertificate, IsGood, IsOneOf, IsReason, Members};
 ghost use Rattle.passassign.specs.Certificate.{Strikes, StrikesAll};
 ghost use Rattle.passassign.specs.Least.{IsAlternating};
@@ -12,7 +12,7 @@ ghost use Rattle.passassign.specs.declared.stuck.Strike.{Strike as TheStrike};
 ghost use Rattle.passassign.specs.declared.stuck.Stuck.{Stuck as TheStuck};
 ghost use Rattle.planchecker.specs.Striking.{IsNext};
 
-use crate::places::{is_before, item_of};
+use ag_grammar::Direction;
 use normalform::{Grammar, Item, Production, Target};
 use passassign::laws::certified_is_refused;
 use passassign::{Strike, Stuck};
@@ -87,7 +87,7 @@ fn is_reason(
     ensures { IsTrue result ↔ IsReason (direction_of pass) (Members set.now) struck.now
         production.now place argument }
 {
-    let item = item_of(production, argument.place);
+    let item = production.item_at(argument.place);
     if is_item_struck(struck, item, argument.attr) {
         return true;
     }
@@ -97,14 +97,14 @@ fn is_reason(
     if argument.place == place {
         return is_item_among(set, item, argument.attr);
     }
-    is_before(pass, place, argument.place)
+    Direction::of_pass(pass).is_before(place, argument.place)
 }
 
 /// A declared symbol stands at a place of a production.
 fn is_symbol(production: &Production, place: u16, symbol: u16) -> bool
     ensures { IsTrue result ↔ (item_at production.now place ≡ Some (item.Symbol symbol)) }
 {
-    match item_of(production, place) {
+    match production.item_at(place) {
         Some(Item::Symbol(found)) => found == symbol,
         Some(Item::Terminal(_)) => false,
         None => false,

@@ -1,10 +1,10 @@
 //! Which instruction of a list is the first that can't stand where it does.
 
 ghost use Rattle.std.specs.Prelude.{ℕ, ◌≡◌, ◌<◌, ◌≤◌, ◌↔◌, IsTrue, Some, length, slice_get};
-ghost use Rattle.ag_expr.specs.Lists.{Has};
-ghost use Rattle.ag_expr.specs.declared.grammar.Target.{Target as TheTarget};
-ghost use Rattle.ag_expr.specs.grammars.AttributeGrammar.{stored_items};
-ghost use Rattle.ag_expr.specs.grammars.Passes.{HasPass};
+ghost use Rattle.ag_grammar.specs.Lists.{Has};
+ghost use Rattle.ag_grammar.specs.declared.grammar.Target.{Target as TheTarget};
+ghost use Rattle.ag_grammar.specs.grammars.AttributeGrammar.{stored_items};
+ghost use Rattle.ag_grammar.specs.grammars.Passes.{HasPass};
 ghost use Rattle.passassign.specs.Rows.{passes_of};
 ghost use Rattle.passcode.specs.Agreement.{HasPlace, IsAtHand, IsChild, StandsBefore};
 ghost use Rattle.passcode.specs.Agreement.{instruction_of};
@@ -17,13 +17,14 @@ ghost use Rattle.planchecker.specs.Following.{IsReady};
 
 use crate::legality::pass_of;
 use crate::listed::stands_before;
-use crate::places::{is_before, item_of};
+use ag_grammar::Direction;
+use ag_grammar::limits::MOST_STORED;
 use normalform::{Item, Production, Rule, Target};
 use passassign::Assignment;
 use passcode::{Instr, instruction};
 
-/// The first number that no place of a right side has: there are at most 16 places.
-const PLACES_END: u16 = 17;
+/// The first number that no place of a right side has.
+const PLACES_END: u16 = MOST_STORED as u16 + 1;
 
 /// An attribute at a place has this pass.
 fn has_pass(assignment: &Assignment, production: &Production, target: Target, pass: u16) -> bool
@@ -42,7 +43,7 @@ fn is_place(production: &Production, place: u16) -> bool
     if place == 0 {
         return false;
     }
-    match item_of(production, place) {
+    match production.item_at(place) {
         Some(_) => true,
         None => false,
     }
@@ -55,7 +56,7 @@ fn is_child(production: &Production, place: u16) -> bool
     if place == 0 {
         return false;
     }
-    match item_of(production, place) {
+    match production.item_at(place) {
         Some(Item::Symbol(_)) => true,
         Some(Item::Terminal(_)) => false,
         None => false,
@@ -87,7 +88,9 @@ fn are_put_before(
     ensures { IsTrue result ↔ ArePutBefore production.now pass list.now end place }
 {
     for other in 1..PLACES_END {
-        if is_before(pass, other, place) && !is_put(production, list, end, other) {
+        if Direction::of_pass(pass).is_before(other, place)
+            && !is_put(production, list, end, other)
+        {
             return false;
         }
     }

@@ -1,16 +1,15 @@
 //! Which rule of a grammar an assignment does not allow.
 
 ghost use Rattle.std.specs.Prelude.{ℕ, ◌≡◌, ◌↔◌, IsTrue, Some, slice_get};
-ghost use Rattle.ag_expr.specs.Lists.{Each};
-ghost use Rattle.ag_expr.specs.grammars.AttributeGrammar.{item_at};
-ghost use Rattle.ag_expr.specs.grammars.Passes.{HasPass, MayUse, Passes, item_passes};
-ghost use Rattle.ag_expr.specs.declared.grammar.Item.TheVariants.{Terminal as TheTerminal};
+ghost use Rattle.ag_grammar.specs.Lists.{Each};
+ghost use Rattle.ag_grammar.specs.grammars.AttributeGrammar.{item_at};
+ghost use Rattle.ag_grammar.specs.grammars.Passes.{HasPass, MayUse, Passes, item_passes};
+ghost use Rattle.ag_grammar.specs.declared.grammar.Item.TheVariants.{Terminal as TheTerminal};
 ghost use Rattle.passassign.specs.Rows.{numbers_of, passes_of};
 ghost use Rattle.planchecker.specs.First.{IsFirstOrNone};
 ghost use Rattle.planchecker.specs.Legality.{AreAllowed, IsAllowed, IsIllegalOrNone};
 
-use crate::places::{is_before, item_of};
-use ag_expr::Terminal;
+use ag_grammar::{Direction, Terminal};
 use normalform::{Item, Production, Rule, Target};
 use passassign::Assignment;
 
@@ -49,7 +48,7 @@ pub(crate) fn pass_of(
         (item_passes (passes_of assignment.now) (item_at production.now target.place))
         target.attr }
 {
-    match item_of(production, target.place) {
+    match production.item_at(target.place) {
         Some(Item::Symbol(symbol)) => pass_at(assignment.rows(), symbol, target.attr),
         Some(Item::Terminal(terminal)) => pass_of_terminal(terminal, target.attr),
         None => None,
@@ -61,7 +60,7 @@ pub(crate) fn pass_of(
 fn may_use(pass: u16, place: u16, from: u16, used: u16) -> bool
     ensures { IsTrue result ↔ MayUse pass place from used }
 {
-    if place == 0 || from == 0 || is_before(pass, from, place) {
+    if place == 0 || from == 0 || Direction::of_pass(pass).is_before(from, place) {
         return used <= pass;
     }
     from == place && used < pass

@@ -7,10 +7,8 @@ mod following;
 pub mod laws;
 mod legality;
 mod listed;
-mod places;
 mod plan;
 mod shape;
 
 pub use certificate::check_stuck;
-pub use places::item_of;
 pub use plan::{Plan, PlanFault, check_plan};

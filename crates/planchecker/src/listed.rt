@@ -1,7 +1,7 @@
 //! Which instructions stand in a list in front of an index.
 
 ghost use Rattle.std.specs.Prelude.{◌≡◌, ◌≤◌, ◌↔◌, IsTrue, length};
-ghost use Rattle.ag_expr.specs.Lists.{Has};
+ghost use Rattle.ag_grammar.specs.Lists.{Has};
 ghost use Rattle.passcode.specs.Agreement.{StandsBefore};
 
 use passcode::Instr;

@@ -1,8 +1,8 @@
 //! A plan for a grammar: an assignment of passes, and code that agrees with it.
 
 ghost use Rattle.std.specs.Prelude.{ℕ, ◌≡◌, ◌≤◌, IfErr, IfOk, OnOk, length};
-ghost use Rattle.ag_expr.specs.grammars.AttributeGrammar.{Grammar as Plain};
-ghost use Rattle.ag_expr.specs.grammars.Passes.{IsLegal};
+ghost use Rattle.ag_grammar.specs.grammars.AttributeGrammar.{Grammar as Plain};
+ghost use Rattle.ag_grammar.specs.grammars.Passes.{IsLegal};
 ghost use Rattle.passassign.specs.Rows.{passes_of};
 ghost use Rattle.passcode.specs.Shape.{HasShape};
 ghost use Rattle.planchecker.specs.Agreeing.{IsDisagreementOrNone};
@@ -45,7 +45,7 @@ pub struct Plan {
 
 impl Model for Plan {
     ghost use Rattle.std.specs.Prelude.{ℕ, List};
-    ghost use Rattle.ag_expr.specs.grammars.AttributeGrammar.{Grammar as Plain};
+    ghost use Rattle.ag_grammar.specs.grammars.AttributeGrammar.{Grammar as Plain};
     ghost use Rattle.passcode.specs.Rows.{Lists};
     ghost use Rattle.planchecker.specs.Plans.{IsPlan};
 

@@ -1,8 +1,8 @@
 //! Whether an assignment and code have the shape of a grammar.
 
 ghost use Rattle.std.specs.Prelude.{ℕ, ◌≡◌, ◌≤◌, ◌↔◌, IsTrue, length, slice_get};
-ghost use Rattle.ag_expr.specs.Lists.{Each};
-ghost use Rattle.ag_expr.specs.grammars.AttributeGrammar.{attribute_names, symbol_kinds};
+ghost use Rattle.ag_grammar.specs.Lists.{Each};
+ghost use Rattle.ag_grammar.specs.grammars.AttributeGrammar.{attribute_names, symbol_kinds};
 ghost use Rattle.passassign.specs.Rows.{most_passes, numbers_of, passes_of};
 ghost use Rattle.passcode.specs.Rows.{row_of, rows_of};
 ghost use Rattle.passcode.specs.Shape.{HasShape};

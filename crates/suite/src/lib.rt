@@ -1,11 +1,12 @@
-//! The tests of the library crates, over their public calls. A crate that has tests is proved a
-//! second time with them, so the tests of all libraries stand in this one, which has no other code.
+//! The tests that are no rows of data: cursors, devices that lie or fail, files, and memory that is
+//! refused. A crate that has tests is proved a second time with them, so those of the libraries below
+//! the translator stand in this one, which has no other code. Rows of data are in the crate `cases`.
 #![tactic(auto)]
 
 #[cfg(test)]
-mod all_values;
+mod blocks;
 #[cfg(test)]
-mod expressions;
+mod cursors;
 #[cfg(test)]
 mod files;
 #[cfg(test)]
@@ -14,5 +15,3 @@ mod reading_back;
 mod tree_files;
 #[cfg(test)]
 mod turning;
-#[cfg(test)]
-mod values;

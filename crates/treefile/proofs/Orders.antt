@@ -1,7 +1,9 @@
 -- The two orders of a tree's bodies, and that a list is that of one tree at most.
 use Rattle.std.proofs.Common.{◌≡◌, ℕ, List, [], ◌∷◌, ◌++◌, Option, Some, reverse, refl, ap, sym, ◌∙◌, append_assoc}
 use Rattle.std.proofs.lemmas.List.{reverse-append, reverse-reverse}
-use Rattle.ag_expr.specs.grammars.Passes.{Direction, LeftToRight, RightToLeft, other}
+use Rattle.ag_grammar.specs.declared.direction.Direction.{Direction}
+use Rattle.ag_grammar.specs.declared.direction.Direction.TheVariants.{LeftToRight, RightToLeft}
+use Rattle.ag_grammar.specs.grammars.Passes.{other}
 use Rattle.treefile.specs.Orders.{AreRanked, BodyForest, BodyTree, IsRanked, branch, joined, more, none, postfix, postfix_all, prefix, prefix_all, tree_count}
 
 -- what is joined in one direction is joined the other way round after a reversal

@@ -7,11 +7,13 @@ use Rattle.std.proofs.lemmas.List.Elements.{All-append, All-cons, All-nil}
 use Rattle.ag_value.specs.declared.value.Value.{Value, Text}
 use Rattle.ag_value.specs.Spelling.{spelling_of}
 use Rattle.ag_value.specs.Well.{IsWell}
-use Rattle.ag_expr.specs.declared.grammar.Production.{Production}
-use Rattle.ag_expr.specs.grammars.AttributeGrammar.{Grammar}
-use Rattle.ag_expr.specs.grammars.Passes.{Direction, LeftToRight, RightToLeft, Passes, direction_of, other}
-use Rattle.ag_expr.specs.grammars.Solution.{AtEachNodeOf, IsWellOn, NoRule, Solves, SolvesAll, Valuation, WellAt, children, left_passes, rest}
-use Rattle.ag_expr.specs.grammars.Tree.{Forest, Tree, leaf, more, node, none}
+use Rattle.ag_grammar.specs.declared.grammar.Production.{Production}
+use Rattle.ag_grammar.specs.grammars.AttributeGrammar.{Grammar}
+use Rattle.ag_grammar.specs.declared.direction.Direction.{Direction}
+use Rattle.ag_grammar.specs.declared.direction.Direction.TheVariants.{LeftToRight, RightToLeft}
+use Rattle.ag_grammar.specs.grammars.Passes.{Passes, direction_of, other}
+use Rattle.ag_grammar.specs.grammars.Solution.{AtEachNodeOf, IsWellOn, NoRule, Solves, SolvesAll, Valuation, WellAt, children, left_passes, rest}
+use Rattle.ag_grammar.specs.grammars.Tree.{Forest, Tree, leaf, more, node, none}
 use Rattle.std.specs.List.{flat_map}
 use Rattle.std.specs.Int.{w16, to_be_bytes}
 use Rattle.treefile.specs.declared.body.Kind.{Kind}

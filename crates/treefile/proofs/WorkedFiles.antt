@@ -1,8 +1,8 @@
 -- The files of two sentences, worked out.
 use Rattle.std.proofs.Common.{◌≡◌, refl}
 use Rattle.ag_value.proofs.Layers.{spellings}
-use Rattle.ag_expr.specs.grammars.Sample.{token_sample, token_tree}
-use Rattle.ag_expr.specs.grammars.Solution.{Valuation}
+use Rattle.ag_grammar.specs.grammars.Sample.{token_sample, token_tree}
+use Rattle.ag_grammar.specs.grammars.Solution.{Valuation}
 use Rattle.treefile.specs.Records.{file_of_tree}
 use Rattle.treefile.specs.TreeFile.{version_one}
 use Rattle.treefile.specs.Worked.{binary, binary_passes, file_of_iffy, iffy_passes, pass_0_of_one, pass_1_of_one, pass_2_of_one, tree_of_one, values_of_one}

@@ -1,6 +1,7 @@
 -- Trees whose nodes are bodies, and the two orders in which a list has the bodies of a tree.
 use Rattle.std.specs.Prelude.{◌≡◌, ℕ, suc, ◌+◌, max, List, [], ◌∷◌, ◌++◌, Option, Some, refl}
-use Rattle.ag_expr.specs.grammars.Passes.{Direction, LeftToRight, RightToLeft}
+use Rattle.ag_grammar.specs.declared.direction.Direction.{Direction}
+use Rattle.ag_grammar.specs.declared.direction.Direction.TheVariants.{LeftToRight, RightToLeft}
 
 mutual
   -- A node has its body and one tree for each child, from left to right (this project's).

@@ -1,11 +1,11 @@
 -- The records of a tree's nodes, and the file that a pass leaves of a tree. All of this is this project's.
 use Rattle.std.specs.Prelude.{◌≡◌, ℕ, suc, ◌≤◌, nat_le, List, [], ◌∷◌, ◌++◌, slice_get, length, if◌then◌else◌}
 use Rattle.ag_value.specs.declared.value.Value.{Value, Text}
-use Rattle.ag_expr.specs.grammars.AttributeGrammar.{Grammar}
-use Rattle.ag_expr.specs.grammars.Tree as tree
-use Rattle.ag_expr.specs.grammars.Tree.{Tree, Forest}
-use Rattle.ag_expr.specs.grammars.Passes.{Passes, direction_of}
-use Rattle.ag_expr.specs.grammars.Solution.{Valuation, children, rest, left_passes, IsWellOn, NoRule, Solves}
+use Rattle.ag_grammar.specs.grammars.AttributeGrammar.{Grammar}
+use Rattle.ag_grammar.specs.grammars.Tree as tree
+use Rattle.ag_grammar.specs.grammars.Tree.{Tree, Forest}
+use Rattle.ag_grammar.specs.grammars.Passes.{Passes, direction_of}
+use Rattle.ag_grammar.specs.grammars.Solution.{Valuation, children, rest, left_passes, IsWellOn, NoRule, Solves}
 use Rattle.treefile.specs.declared.body.Kind.TheVariants.{Node, Token}
 use Rattle.treefile.specs.Orders.{BodyTree, BodyForest, branch, none, more, postfix}
 use Rattle.treefile.specs.TreeFile.{Version, body_of, file}

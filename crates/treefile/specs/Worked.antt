@@ -4,15 +4,15 @@
 -- Symbols and productions are numbered from 0 in this order. The rules are left out, since no file depends on them.
 use Rattle.std.specs.Prelude.{ℕ, zero, suc, List, [], ◌∷◌, ◌++◌, codes, pos}
 use Rattle.ag_value.specs.declared.value.Value.{Value, Num, Text}
-use Rattle.ag_expr.specs.declared.grammar.Item.{Item}
-use Rattle.ag_expr.specs.declared.grammar.Item.TheVariants as item
-use Rattle.ag_expr.specs.declared.grammar.Production.{Production}
-use Rattle.ag_expr.specs.declared.grammar.Symbol.{Symbol}
-use Rattle.ag_expr.specs.declared.grammar.Terminal.TheVariants.{Literal}
-use Rattle.ag_expr.specs.grammars.AttributeGrammar.{Grammar}
-use Rattle.ag_expr.specs.grammars.Passes.{Passes}
-use Rattle.ag_expr.specs.grammars.Solution.{Valuation, graft}
-use Rattle.ag_expr.specs.grammars.Tree.{Tree, node, none, more}
+use Rattle.ag_grammar.specs.declared.grammar.Item.{Item}
+use Rattle.ag_grammar.specs.declared.grammar.Item.TheVariants as item
+use Rattle.ag_grammar.specs.declared.grammar.Production.{Production}
+use Rattle.ag_grammar.specs.declared.grammar.Symbol.{Symbol}
+use Rattle.ag_grammar.specs.declared.grammar.Terminal.TheVariants.{Literal}
+use Rattle.ag_grammar.specs.grammars.AttributeGrammar.{Grammar}
+use Rattle.ag_grammar.specs.grammars.Passes.{Passes}
+use Rattle.ag_grammar.specs.grammars.Solution.{Valuation, graft}
+use Rattle.ag_grammar.specs.grammars.Tree.{Tree, node, none, more}
 
 -- a symbol of these names
 abbrev pub symbol_of : List ℕ → List (List ℕ) → List (List ℕ) → Symbol

@@ -20,6 +20,6 @@ pub use fuse::FuseDevice;
 pub use laws::{files_are_read_back, frames_are_read, headers_are_told, last_is_read, records_fit};
 pub use layout::{HEADER_BYTES, LENGTH_BYTES};
 pub use memory::MemDevice;
-pub use reading::{FrameFault, begins_tree_file, bytes_at, fits_before, last_body};
+pub use reading::{FrameFault, fits_before, last_body, pass_in};
 pub use tree_laws::{lists_tell_trees, orders_turn_round, trees_are_read_back, worked_files};
 pub use writing::{WriteFault, Writer};

@@ -1,10 +1,12 @@
 //! Reading the last record of a tree file: where the file ends, the length of the last body stands.
 
-ghost use Rattle.std.specs.Prelude.{◌≡◌, ◌+◌, ◌<◌, ◌≤◌, ◌⊎◌, ◌^◌, length, IfErr, IfOk, IsErrOf};
-ghost use Rattle.std.specs.Prelude.{IsTrue, slice_range};
-ghost use Rattle.treefile.specs.Device.{LeavesContent, Persists, TakesNoMemory, WhenHonest};
-ghost use Rattle.treefile.specs.Ending.{Told, body_before, fits_before, greatest_body};
-ghost use Rattle.treefile.specs.Ending.{header_bytes, is_tree_file, last_body_of, least_body};
+ghost use Rattle.std.specs.Prelude.{◌≡◌, ◌+◌, ◌<◌, ◌≤◌, ◌⊎◌, ◌^◌, length, take, IfErr, IfOk};
+ghost use Rattle.std.specs.Prelude.{IsErrOf, IsTrue, OnOk, nat_eq, slice_range};
+ghost use Rattle.std.specs.List.{starts_with};
+ghost use Rattle.treefile.specs.Backward.{pass_in};
+ghost use Rattle.treefile.specs.Device.{LeavesContent, Persists, WhenHonest};
+ghost use Rattle.treefile.specs.Ending.{IsBytes, Told, body_before, fits_before, greatest_body};
+ghost use Rattle.treefile.specs.Ending.{header_bytes, last_body_of, least_body};
 ghost use Rattle.treefile.specs.Ending.{length_bytes, number_before};
 ghost use Rattle.treefile.specs.Faults.{frame_fault_of};
 ghost use Rattle.treefile.specs.TreeFile.{version_one};
@@ -46,26 +48,44 @@ impl From<AllocError> for FrameFault {
     }
 }
 
-/// Whether a device with so many bytes has a header, and its first four bytes are those of a tree
-/// file. Takes no memory.
+/// The number of the pass in the header of a tree file, which a device with so many bytes may have.
+/// Takes no memory.
+///
+/// B1 NotATreeFile where there are fewer than 6 bytes or the first four are not `AGT1`. D1 Device
+/// where the call of the device failed.
 #[tactic(auto, unfolding(crate::specs::Ending::is_tree_file))]
-pub fn begins_tree_file<D: Device>(device: &mut D, end: u64) -> Result<bool, DeviceFault>
+pub fn pass_in<D: Device>(device: &mut D, end: u64) -> Result<u16, FrameFault>
     requires { WhenHonest (D.is_honest device.old) (end ≡ length (D.content device.old)) }
-    ensures found { WhenHonest (D.is_honest device.old)
-        (IfOk result (λ found. found ≡ is_tree_file version_one (D.content device.old))) }
-    ensures room { IfOk result (λ found. IsTrue found → header_bytes ≤ end) }
-    ensures memory { TakesNoMemory result }
+    // The number, and B1, exactly as the content has them
+    ensures told { WhenHonest (D.is_honest device.old)
+        (Told (λ pass. pass) result (pass_in version_one (D.content device.old))) }
+    ensures bytes { WhenHonest (D.is_honest device.old)
+        (OnOk result (IsBytes (take header_bytes (D.content device.old)))) }
+    ensures room { OnOk result (header_bytes ≤ end) }
+    ensures memory { IsErrOf result FrameFault.NoMemory → ⊥ }
     ensures content { LeavesContent (D.is_honest device.old)
         (D.content device.old) (D.content device.new) }
     ensures persists { Persists (D.is_honest device.old) (D.is_honest device.new)
-        (D.failures device.old) (D.failures device.new) (IsErrOf result DeviceFault.Failed) }
+        (D.failures device.old) (D.failures device.new) (IsErrOf result FrameFault.Device) }
 {
     if end < HEADER_BYTES {
-        return Ok(false);
+        return Err(FrameFault::NotATreeFile);
     }
-    let mut first = [0; 4];
-    device.read_at(0, &mut first)?;
-    Ok(first == MAGIC)
+    let mut header = [0; HEADER_BYTES as usize];
+    device.read_at(0, &mut header)?;
+    if !has_magic(&header) {
+        return Err(FrameFault::NotATreeFile);
+    }
+    let [_, _, _, _, high, low] = header;
+    Ok(u16::from_be_bytes([high, low]))
+}
+
+/// Whether bytes begin as those of a tree file.
+fn has_magic(bytes: &[u8]) -> bool
+    ensures found { result ≡ starts_with nat_eq bytes.now version_one.magic }
+    ensures bytes { IsBytes bytes.now }
+{
+    bytes.starts_with(&MAGIC)
 }
 
 /// The number in the four bytes before an offset.
@@ -98,7 +118,7 @@ pub fn fits_before(at: u64, length: u64) -> bool
 
 /// So many bytes of a device from an offset on. Takes memory for them.
 #[tactic(auto, using(std::proofs::lemmas::List::take_at))]
-pub fn bytes_at<D: Device>(
+fn bytes_at<D: Device>(
     alloc: Global,
     device: &mut D,
     at: u64,
@@ -162,8 +182,6 @@ pub fn last_body<D: Device>(alloc: Global, device: &mut D) -> Result<Vec<u8>, Fr
         (D.failures device.old) (D.failures device.new) (IsErrOf result FrameFault.Device) }
 {
     let end = device.len()?;
-    if !begins_tree_file(device, end)? {
-        return Err(FrameFault::NotATreeFile);
-    }
+    pass_in(device, end)?;
     body_before(alloc, device, end)
 }

@@ -1,11 +1,12 @@
 //! What is true of the definitions of trees of bodies and of their files alone.
 
 ghost use Rattle.std.specs.Prelude.{◌≡◌, ◌++◌, ℕ, List, Option, All, length, reverse};
-ghost use Rattle.ag_expr.specs.grammars.AttributeGrammar.{Grammar};
-ghost use Rattle.ag_expr.specs.grammars.Passes.{Direction, Passes, direction_of, other};
-ghost use Rattle.ag_expr.specs.grammars.Sample.{token_sample, token_tree};
-ghost use Rattle.ag_expr.specs.grammars.Solution.{Valuation};
-ghost use Rattle.ag_expr.specs.grammars.Tree.{Tree};
+ghost use Rattle.ag_grammar.specs.grammars.AttributeGrammar.{Grammar};
+ghost use Rattle.ag_grammar.specs.declared.direction.Direction.{Direction};
+ghost use Rattle.ag_grammar.specs.grammars.Passes.{Passes, direction_of, other};
+ghost use Rattle.ag_grammar.specs.grammars.Sample.{token_sample, token_tree};
+ghost use Rattle.ag_grammar.specs.grammars.Solution.{Valuation};
+ghost use Rattle.ag_grammar.specs.grammars.Tree.{Tree};
 ghost use Rattle.treefile.specs.Backward.{ReadsBack};
 ghost use Rattle.treefile.specs.Ending.{IsBody, IsUsable};
 ghost use Rattle.treefile.specs.Orders.{BodyTree, IsRanked, postfix, prefix};

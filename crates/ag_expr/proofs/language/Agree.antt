@@ -8,10 +8,10 @@ use Rattle.ag_expr.specs.declared.parser.Precedence.TheVariants as precedence
 use Rattle.ag_expr.specs.declared.names.Call.{Call}
 use Rattle.ag_expr.specs.declared.names.Call.TheVariants as call
 use Rattle.ag_expr.specs.declared.token.Punctuation.TheVariants as punctuation
-use Rattle.ag_expr.specs.declared.node.Operator.{Operator}
-use Rattle.ag_expr.specs.declared.node.Node.{Node}
-use Rattle.ag_expr.specs.declared.node.Node.TheVariants as node
-use Rattle.ag_expr.specs.declared.occurrence.Occ.{Occ}
+use Rattle.ag_grammar.specs.declared.node.Operator.{Operator}
+use Rattle.ag_grammar.specs.declared.node.Node.{Node}
+use Rattle.ag_grammar.specs.declared.node.Node.TheVariants as node
+use Rattle.ag_grammar.specs.declared.occurrence.Occ.{Occ}
 use Rattle.ag_expr.specs.language.Ending.{Ending}
 use Rattle.ag_expr.specs.language.Ending as ending
 use Rattle.ag_expr.specs.language.Names.{Names, is_keyword}

@@ -6,12 +6,12 @@ use Rattle.std.specs.Prelude.{option_map}
 use Rattle.ag_value.specs.declared.value.Value.{Value}
 use Rattle.ag_expr.specs.declared.names.Call.{Call}
 use Rattle.ag_expr.specs.declared.names.Call.TheVariants as call
-use Rattle.ag_expr.specs.declared.node.Operator.{Operator}
-use Rattle.ag_expr.specs.declared.node.Node.{Node, roll-Node}
-use Rattle.ag_expr.specs.declared.node.Node.TheVariants as node
-use Rattle.ag_expr.specs.declared.node.Node.TheOpen.{Node-F}
-use Rattle.ag_expr.specs.declared.node.Node.TheFolds.{fold-roll-Node, map-Node}
-use Rattle.ag_expr.specs.declared.occurrence.Occ.{Occ}
+use Rattle.ag_grammar.specs.declared.node.Operator.{Operator}
+use Rattle.ag_grammar.specs.declared.node.Node.{Node, roll-Node}
+use Rattle.ag_grammar.specs.declared.node.Node.TheVariants as node
+use Rattle.ag_grammar.specs.declared.node.Node.TheOpen.{Node-F}
+use Rattle.ag_grammar.specs.declared.node.Node.TheFolds.{fold-roll-Node, map-Node}
+use Rattle.ag_grammar.specs.declared.occurrence.Occ.{Occ}
 use Rattle.ag_expr.specs.declared.parser.Precedence.{Precedence}
 use Rattle.ag_expr.specs.language.Names.{Names, last_from, place_in, is_reserved}
 use Rattle.ag_expr.specs.language.Occurrences.{is_of, position_of}
@@ -19,8 +19,9 @@ use Rattle.ag_expr.specs.language.Syntax as syntax
 use Rattle.ag_expr.specs.language.Syntax.{Many, none, more, further, gives, token_as, ◌or◌, precedences, chained, operand_of, takes_one, IsOther, IsChain, IsRanked, IsNext, AreSome, AreNone, IsList, AreArguments, IsCall, IsLet, IsIf, IsAtom, IsWhole, IsExpr, IsExprIn}
 use Rattle.ag_expr.specs.language.Token.{Token}
 use Rattle.ag_expr.specs.language.Token as token
-use Rattle.ag_expr.specs.language.Trees.{is_below, is_within, below_step, all_pass, each_passes}
+use Rattle.ag_grammar.specs.expressions.Trees.{is_below, is_within, below_step, all_pass, each_passes}
 use Rattle.ag_expr.proofs.language.Numbered.{within}
+use Rattle.ag_grammar.proofs.expressions.Within.{Each, Within, both, rolled, in_chain, in_list, literal_within, occurrence_within}
 
 -- ---- what holds of all that a language spells
 
@@ -46,11 +47,6 @@ or_holds {A} {P} {L} {M} x y = record { of = one }
     one ts a (inl is) = x.of ts a is
     one ts a (inr is) = y.of ts a is
 
--- of each of a list
-abbrev pub Each : {A : Type 0} → (A → Type 0) → List A → Type 0
-Each P [] = Unit {0}
-Each P (x ∷ xs) = P x × Each P xs
-
 each-append : {A : Type 0} (P : A → Type 0) (xs ys : List A) → Each P xs → Each P ys → Each P (xs ++ ys)
 each-append P [] ys h g = g
 each-append P (x ∷ xs) ys h g = (h.0, each-append P xs ys h.1 g)
@@ -64,40 +60,10 @@ further_holds P one found {L} x h = record { of = λ ts all (xs, are, le, same).
 
 -- ---- trees
 
--- one level of a tree at a time
-pub layer : (n : ℕ) (x : Node-F Node) (bound : ℕ) → is_within n (roll-Node x) bound ≡ below_step n (map-Node Node (ℕ → Bool) (is_within n) x) bound
-layer n x bound = ap (λ (f : ℕ → Bool). f bound) (fold-roll-Node (ℕ → Bool) (below_step n) x)
-
-abbrev pub Within : ℕ → ℕ → Node → Type 0
-Within n bound e = is_within n e bound ≡ true
-
-both : (a b : Bool) → a ≡ true → b ≡ true → (a && b) ≡ true
-both a b p q = rw (p, q) refl
-
 module _ (n bound : ℕ) where
-  rolled : (x : Node-F Node) (e : Node) → roll-Node x ≡ e → below_step n (map-Node Node (ℕ → Bool) (is_within n) x) bound ≡ true → Within n bound e
-  rolled x e is h = ap (λ e. is_within n e bound) (sym is) ∙ layer n x bound ∙ h
-
-  pub in_chain : (first : Node) (others : List (Operator × Node)) → Within n bound first → Each (λ p. Within n bound p.1) others → Within n bound (chained first others)
-  in_chain first [] here all = here
-  in_chain first (x ∷ xs) here all = rolled (Node-F.Chain first (x ∷ xs)) _ (node.rolls-Chain first (x ∷ xs)) (both _ _ here (operands (x ∷ xs) all))
-    where
-      operands : (xs : List (Operator × Node)) → Each (λ p. Within n bound p.1) xs → all_pass bound (map (λ p. (p.0, is_within n p.1)) xs) ≡ true
-      operands [] all = refl
-      operands (x ∷ xs) all = both _ _ all.0 (operands xs all.1)
-
-  in_list : (items : List Node) → Each (Within n bound) items → Within n bound (node.List items)
-  in_list items all = rolled (Node-F.List items) _ (node.rolls-List items) (each items all)
-    where
-      each : (xs : List Node) → Each (Within n bound) xs → each_passes bound (map (is_within n) xs) ≡ true
-      each [] all = refl
-      each (x ∷ xs) all = both _ _ all.0 (each xs all.1)
-
-  pub literal_within : (v : Value) → Within n bound (node.Literal v)
-  literal_within v = rolled (Node-F.Literal v) _ (node.rolls-Literal v) refl
-
-  pub occurrence_within : (k : ℕ) → nat_lt k n ≡ true → Within n bound (node.Occurrence k)
-  occurrence_within k h = rolled (Node-F.Occurrence k) _ (node.rolls-Occurrence k) h
+  chained_within : (first : Node) (others : List (Operator × Node)) → Within n bound first → Each (λ p. Within n bound p.1) others → Within n bound (chained first others)
+  chained_within first [] here all = here
+  chained_within first (x ∷ xs) here all = in_chain n bound first (x ∷ xs) here all
 
 -- ---- bound names
 
@@ -146,7 +112,7 @@ module _ (listed : List Occ) where
   ranked_within bound x [] = x
   ranked_within bound x (k ∷ ks) =
       let inner = ranked_within bound x ks in
-      then_holds inner (λ first h. then_holds (further_holds (λ p. Within n bound p.1) (takes_one k) [] (other_within bound k inner) tt) (λ others all. gives_holds (Within n bound) (chained first others) (in_chain n bound first others h all)))
+      then_holds inner (λ first h. then_holds (further_holds (λ p. Within n bound p.1) (takes_one k) [] (other_within bound k inner) tt) (λ others all. gives_holds (Within n bound) (chained first others) (chained_within n bound first others h all)))
 
   module _ (inner : Names → List Token → Node → Type 0) (x : (scope : Names) → Holds (Within n (length scope)) (inner scope)) (scope : Names) where
     abbrev W : Node → Type 0

@@ -1,12 +1,14 @@
 -- A map that follows a list follows it on with one more occurrence in both.
-use Rattle.std.proofs.Common.{ℕ, ◌≡◌, ◌+◌, Bool, true, false, cond, ◌||◌, List, [], ◌∷◌, ◌++◌, length, Option, Some, None, position, nat_lt, is_some, IfSome, ◌<◌, subst, refl, ap, sym, ◌∙◌, arith}
+use Rattle.std.proofs.Common.{ℕ, ◌≡◌, ◌+◌, Bool, true, false, cond, ◌||◌, List, [], ◌∷◌, ◌++◌, length, Option, Some, None, position, nat_lt, get_or, is_some, IfSome, ◌<◌, subst, refl, ap, sym, ◌∙◌, arith}
 use Rattle.std.proofs.lemmas.Bool.{ltb-true, eq-eqb}
 use Rattle.std.proofs.lemmas.Slice.Eq.{bytes_eq-Decides}
 use Rattle.std.proofs.lemmas.Iterator.Adapters.{position_from-zero}
-use Rattle.std.proofs.lemmas.List.Folds.{list_any-append}
+use Rattle.std.proofs.lemmas.List.Folds.{list_any-append, list_any_at}
+use Rattle.std.proofs.lemmas.List.Quantifiers.{all_pairs_push}
 use Rattle.std.specs.HashMap.{HashMap, get, Updates}
 use Rattle.std.specs.List.{list_any, position_from, position_or_len}
-use Rattle.ag_expr.specs.declared.occurrence.Occ.{Occ}
+use Rattle.ag_grammar.specs.declared.occurrence.Occ.{Occ}
+use Rattle.ag_grammar.specs.expressions.Occurrences.{AreApart, AreDifferent}
 use Rattle.ag_expr.specs.language.Occurrences.{is_of, position_of, listed_with, listed_with_all}
 use Rattle.ag_expr.specs.language.Numbers.{Key, same_key, Follows}
 use Rattle.ag_expr.proofs.language.Listing.{listed_alike}
@@ -133,3 +135,17 @@ follows_pushed numbers new listed kept pushed key number at attr none follows sa
     let more' : pushed ≡ listed ++ at_key key at ∷ [] = rw (same, name) at more in
     let P : List Occ → Type 0 = λ occurrences. Follows new occurrences in
     subst P (sym more') (follows_on numbers new listed key at none follows updates')
+
+-- one of a place and a name that are not listed is another one than each that is
+pub pushed_apart : (listed kept pushed : List Occ) (place at : ℕ) (attr name : List ℕ) → list_any (is_of place attr) listed ≡ false → AreDifferent listed → kept ≡ listed → pushed ≡ kept ++ record { place = place; attr = name; at = at } ∷ [] → name ≡ attr
+    → AreDifferent pushed
+pushed_apart listed kept pushed place at attr name none different same more is =
+    let one : Occ = record { place = place; attr = attr; at = at } in
+    let pushed_is : pushed ≡ listed ++ one ∷ [] = rw (same, is) at more in
+    subst AreDifferent (sym pushed_is) (all_pairs_push AreApart listed one different (λ i d below. apart (get_or listed i d) (list_any_at (is_of place attr) listed i d below)))
+  where
+    apart : (x : Occ) → (is_of place attr x ≡ true → list_any (is_of place attr) listed ≡ true) → AreApart x (record { place = place; attr = attr; at = at })
+    apart x found here named =
+        let same : is_of place attr x ≡ true = rw (here, named) (is_own place attr x.at) in
+        let bad : true ≡ false = sym (found same) ∙ none in
+        let no_such : ⊥ = cc in absurd no_such

@@ -11,7 +11,7 @@ use Rattle.ag_expr.specs.declared.token.Token as lent
 use Rattle.ag_expr.specs.declared.fault.TokenFault.{TokenFault}
 use Rattle.ag_expr.specs.declared.fault.TokenFault.TheVariants as token_fault
 use Rattle.ag_expr.specs.declared.fault.ExprFault.TheVariants as fault
-use Rattle.ag_expr.specs.declared.occurrence.Occ.{Occ}
+use Rattle.ag_grammar.specs.declared.occurrence.Occ.{Occ}
 use Rattle.ag_expr.specs.language.Names.{Names}
 use Rattle.ag_expr.specs.language.Tokens.{width, is_within}
 use Rattle.ag_expr.specs.language.Lexing.{token_from, token_of, GivesToken, IsTooLarge}

@@ -7,8 +7,8 @@ use Rattle.std.proofs.lemmas.Str.{IsUtf8-drop}
 use Rattle.std.proofs.lemmas.List.{length-drop}
 use Rattle.ag_expr.specs.declared.fault.ExprFault.{ExprFault}
 use Rattle.ag_expr.specs.declared.fault.ExprFault.TheVariants as fault
-use Rattle.ag_expr.specs.declared.node.Node.{Node}
-use Rattle.ag_expr.specs.declared.occurrence.Occ.{Occ}
+use Rattle.ag_grammar.specs.declared.node.Node.{Node}
+use Rattle.ag_grammar.specs.declared.occurrence.Occ.{Occ}
 use Rattle.ag_expr.specs.language.Ending.{Ending, offset_of}
 use Rattle.ag_expr.specs.language.Ending as ending
 use Rattle.ag_expr.specs.language.Expression.{max_levels, ReadsAsExpr, ReadsAsNone, IsRefused, IsAt, Says, begins_expression}

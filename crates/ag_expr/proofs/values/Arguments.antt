@@ -2,7 +2,7 @@
 use Rattle.std.proofs.Common.{◌≡◌, [], ◌∷◌, Option, Some, None, refl}
 use Rattle.ag_value.specs.declared.value.ErrorCode.{ErrorCode}
 use Rattle.ag_value.specs.declared.value.Value.{Value}
-use Rattle.ag_expr.specs.values.Arguments.{fault_of, first_fault, leftmost}
+use Rattle.ag_grammar.specs.values.Arguments.{fault_of, first_fault, leftmost}
 
 parts : (f g : Option ErrorCode) → first_fault f g ≡ None → (f ≡ None) × (g ≡ None)
 parts None g h = (refl, h)

@@ -11,7 +11,7 @@ use Rattle.std.specs.declared.cmp.Ordering.{Ordering}
 use Rattle.std.specs.declared.cmp.Ordering.TheVariants.{Less, Equal, Greater}
 use Rattle.ag_value.specs.declared.value.Value.{Value}
 use Rattle.ag_value.specs.Well.{is_before, is_rising, key_of}
-use Rattle.ag_expr.specs.values.Tables.{IsPlace, with_pair}
+use Rattle.ag_grammar.specs.values.Tables.{IsPlace, with_pair}
 
 abbrev Pair : Type 0
 Pair = List ℕ × Value

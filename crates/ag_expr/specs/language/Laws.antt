@@ -1,7 +1,7 @@
 -- What the laws of the expression language state.
 use Rattle.std.specs.Prelude.{◌≡◌, ◌↔◌, ◌++◌, List, [], ℕ, Some, None, Ok, Err}
-use Rattle.ag_expr.specs.declared.node.Node.{Node}
-use Rattle.ag_expr.specs.declared.occurrence.Occ.{Occ}
+use Rattle.ag_grammar.specs.declared.node.Node.{Node}
+use Rattle.ag_grammar.specs.declared.occurrence.Occ.{Occ}
 use Rattle.ag_expr.specs.language.Expression.{ReadsAsExpr}
 use Rattle.ag_expr.specs.language.Lexing.{token_from}
 use Rattle.ag_expr.specs.declared.fault.ExprFault.{ExprFault}

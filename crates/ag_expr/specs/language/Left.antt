@@ -12,7 +12,7 @@ use Rattle.ag_expr.specs.declared.fault.ExprFault.{ExprFault}
 use Rattle.ag_expr.specs.declared.fault.ExprFault.TheVariants as fault
 use Rattle.ag_expr.specs.declared.fault.TokenFault.{TokenFault}
 use Rattle.ag_expr.specs.declared.fault.TokenFault.TheVariants as token_fault
-use Rattle.ag_expr.specs.declared.occurrence.Occ.{Occ}
+use Rattle.ag_grammar.specs.declared.occurrence.Occ.{Occ}
 use Rattle.ag_expr.specs.language.Lexing.{token_from, GivesToken}
 use Rattle.ag_expr.specs.language.Occurrences.{all_occurrences, listed_with_all, position_of}
 use Rattle.ag_expr.specs.language.Names.{Names}

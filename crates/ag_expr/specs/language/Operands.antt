@@ -8,9 +8,9 @@ use Rattle.ag_expr.specs.declared.operand.Held.{Held}
 use Rattle.ag_expr.specs.declared.operand.Held.TheVariants as held
 use Rattle.ag_expr.specs.declared.operand.Operand.{Operand}
 use Rattle.ag_expr.specs.declared.operand.Operand.TheVariants as operand
-use Rattle.ag_expr.specs.declared.node.Node.{Node}
-use Rattle.ag_expr.specs.language.Evaluation.{bound_value}
-use Rattle.ag_expr.specs.language.Trees.{each_passes, is_within}
+use Rattle.ag_grammar.specs.declared.node.Node.{Node}
+use Rattle.ag_grammar.specs.expressions.Evaluation.{bound_value}
+use Rattle.ag_grammar.specs.expressions.Trees.{each_passes, is_within}
 
 -- the value, lent or owned
 abbrev pub held_value : Held → Value

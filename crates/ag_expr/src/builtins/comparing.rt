@@ -2,8 +2,8 @@
 
 ghost use Rattle.std.specs.Prelude.{◌≡◌};
 ghost use Rattle.ag_value.specs.Well.{IsWell};
-ghost use Rattle.ag_expr.specs.values.Arguments.{truth};
-ghost use Rattle.ag_expr.specs.values.Operators.{compared, ordered};
+ghost use Rattle.ag_grammar.specs.values.Arguments.{truth};
+ghost use Rattle.ag_grammar.specs.values.Operators.{compared, ordered};
 
 use ag_value::{ErrorCode, Value, same};
 

@@ -1,7 +1,7 @@
 //! The rule that the leftmost error among arguments is the value.
 
 ghost use Rattle.std.specs.Prelude.{◌≡◌, ◌∷◌, [], map};
-ghost use Rattle.ag_expr.specs.values.Arguments.{fault_of, leftmost};
+ghost use Rattle.ag_grammar.specs.values.Arguments.{fault_of, leftmost};
 
 use ag_value::{ErrorCode, Value};
 
@@ -16,7 +16,7 @@ pub fn fault_of(value: &Value) -> Option<ErrorCode>
 }
 
 /// The leftmost error among the values of arguments, if one is an error.
-#[tactic(auto, unfolding(crate::specs::values::Arguments::leftmost))]
+#[tactic(auto, unfolding(ag_grammar::specs::values::Arguments::leftmost))]
 fn leftmost(arguments: &[&Value]) -> Option<ErrorCode>
     ensures { result ≡ leftmost (map (λ a. a.now) arguments.now) }
 {

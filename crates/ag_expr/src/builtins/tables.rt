@@ -6,10 +6,10 @@ ghost use Rattle.std.specs.Prelude.{IfOk, MatchResult};
 ghost use Rattle.ag_value.specs.Measure.{depth_of, max_weight, weight_of};
 ghost use Rattle.ag_value.specs.Well.{IsWell, is_item, is_rising, key_of};
 ghost use Rattle.ag_value.specs.declared.value.Value.TheVariants as value;
-ghost use Rattle.ag_expr.specs.values.Arguments.{fault_of};
-ghost use Rattle.ag_expr.specs.values.Fitting.{fit};
-ghost use Rattle.ag_expr.specs.values.Tables.{IsPlace, got_from, had_by, has_key, keys_of};
-ghost use Rattle.ag_expr.specs.values.Tables.{pair_with, put_in, with_pair};
+ghost use Rattle.ag_grammar.specs.values.Arguments.{fault_of};
+ghost use Rattle.ag_grammar.specs.values.Fitting.{fit};
+ghost use Rattle.ag_grammar.specs.values.Tables.{IsPlace, got_from, had_by, has_key, keys_of};
+ghost use Rattle.ag_grammar.specs.values.Tables.{pair_with, put_in, with_pair};
 
 use crate::builtins::comparing::truth;
 use crate::measured::Measured;
@@ -74,7 +74,7 @@ pub fn has(table: &Value, key: &Value) -> Value
 
 /// `put(t, k, v)`: the table grows by the pair, or the key has the value from then on. Takes memory
 /// for the growth.
-#[tactic(auto, using(crate::proofs::values::Wells::short))]
+#[tactic(auto, using(ag_grammar::proofs::values::Wells::short))]
 pub fn put(
     alloc: Global,
     table: Measured,

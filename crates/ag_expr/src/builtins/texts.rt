@@ -3,9 +3,9 @@
 ghost use Rattle.std.specs.Prelude.{◌≡◌, ◌++◌, ◌-◌, ◌^◌, length, min, string_bytes, IfOk};
 ghost use Rattle.std.specs.List.{flat_map, join_by, list_all};
 ghost use Rattle.ag_value.specs.Well.{IsWell};
-ghost use Rattle.ag_expr.specs.values.Fitting.{fit};
-ghost use Rattle.ag_expr.specs.values.Lists.{concatenated};
-ghost use Rattle.ag_expr.specs.values.Texts.{bytes_of, is_text, joined_by, joined_texts};
+ghost use Rattle.ag_grammar.specs.values.Fitting.{fit};
+ghost use Rattle.ag_grammar.specs.values.Lists.{concatenated};
+ghost use Rattle.ag_grammar.specs.values.Texts.{bytes_of, is_text, joined_by, joined_texts};
 ghost use Rattle.ag_value.specs.declared.value.Value.TheVariants as value;
 
 use crate::measured::Measured;

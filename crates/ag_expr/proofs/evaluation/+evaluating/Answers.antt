@@ -1,12 +1,12 @@
 use Rattle.std.proofs.Common.{◌≡◌, ◌∙◌, ◌++◌, ◌∷◌, [], List, ap, length, map, refl, rules, subst, sym, true}
 use Rattle.std.specs.Result.{IfOk, OnOk}
 use Rattle.ag_value.specs.declared.value.Value.{Value}
-use Rattle.ag_expr.specs.declared.node.Node.{Node, the_lemmas}
-use Rattle.ag_expr.specs.declared.node.Operator.{Operator}
-use Rattle.ag_expr.specs.language.Evaluation.{Meaning, chain_value, value_in}
+use Rattle.ag_grammar.specs.declared.node.Node.{Node, the_lemmas}
+use Rattle.ag_grammar.specs.declared.node.Operator.{Operator}
+use Rattle.ag_grammar.specs.expressions.Evaluation.{Meaning, chain_value, value_in}
 use Rattle.ag_expr.specs.language.Operands.{held_value, operand_value}
-use Rattle.ag_expr.specs.language.Trees.{all_below, is_within}
-use Rattle.ag_expr.proofs.language.Trees.{body_below, chain_below, chain_is, operand_below}
+use Rattle.ag_grammar.specs.expressions.Trees.{all_below, is_within}
+use Rattle.ag_grammar.proofs.expressions.Trees.{body_below, chain_below, chain_is, operand_below}
 use Rattle.ag_expr.proofs.evaluation.+evaluating.Goals as goal
 
 pub chain_of-operand_of-requires : goal.chain_of-operand_of-requires
@@ -41,9 +41,11 @@ operand_of-returns-in_ok-value-in-Chain-clause-value g t c =
     ∙ sym (chain_is c.args.node.now c.in-Chain.first c.in-Chain.others env s c.in-Chain.is) in
     subst (λ (v : Value). OnOk c.chain_of.result (IfOk c.chain_of.result (λ o. operand_value c.chain_of.new.scope o ≡ v))) is c.chain_of.ensures.value
 
-pub operand_of-operand_of-requires-in-Let-2 : goal.operand_of-operand_of-requires-in-Let-2
-operand_of-operand_of-requires-in-Let-2 g t c = λ κs le.
+pub operand_of-body_of-requires : goal.operand_of-body_of-requires
+operand_of-body_of-requires g t c = λ κs le.
     let n = length c.args.expr.now.1 in
-    let more = c.in_ok-bind-in-Let.ensures ∙ ap (λ (s : List Value). s ++ held_value c.in_ok-held-in-Let.held ∷ []) c.in_ok-operand_of-in-Let.ensures.stays in
-    let below : is_within n c.get-in-Let-2.result.now (length c.bind.new.self) ≡ true = rw c.get-in-Let-2.ensures (body_below n c.args.node.now c.in-Let.definition c.in-Let.body c.args.scope.now c.bind.new.self (held_value c.in_ok-held-in-Let.held) c.in-Let.is c.requires.below more) in
-    (search (rules, the_lemmas), (le, (below, (c.requires.lends, c.requires.well))))
+    let s = c.operand_of-in-Let.new.scope in
+    let v = operand_value s c.in_ok-definition-in-Let.definition in
+    let more : s ++ v ∷ [] ≡ c.args.scope.now ++ v ∷ [] = ap (λ (b : List Value). b ++ v ∷ []) c.in_ok-definition-in-Let.ensures.stays in
+    let below : is_within n c.get-in-Let-2.result.now (length (s ++ v ∷ [])) ≡ true = rw c.get-in-Let-2.ensures (body_below n c.args.node.now c.in-Let.definition c.in-Let.body c.args.scope.now (s ++ v ∷ []) v c.in-Let.is c.requires.below more) in
+    (search (rules, the_lemmas), (le, (c.in_ok-definition-in-Let.ensures.within, (below, (c.requires.lends, c.requires.well)))))

@@ -1,11 +1,11 @@
 use Rattle.std.proofs.Common.{◌≡◌, ◌++◌, length, drop, map, true}
 use Rattle.ag_value.specs.declared.value.Value.TheVariants as value
-use Rattle.ag_expr.specs.language.Evaluation.{chain_value, item_values, value_in}
+use Rattle.ag_grammar.specs.expressions.Evaluation.{chain_value, item_values, value_in}
 use Rattle.ag_expr.specs.language.Operands.{IsIn, each_within, operand_value}
-use Rattle.ag_expr.specs.language.Trees.{all_below}
-use Rattle.ag_expr.specs.values.Arguments.{fault_or, leftmost}
-use Rattle.ag_expr.specs.values.Fitting.{fit}
-use Rattle.ag_expr.specs.values.Lists.{listed}
+use Rattle.ag_grammar.specs.expressions.Trees.{all_below}
+use Rattle.ag_grammar.specs.values.Arguments.{fault_or, leftmost}
+use Rattle.ag_grammar.specs.values.Fitting.{fit}
+use Rattle.ag_grammar.specs.values.Lists.{listed}
 use Rattle.ag_expr.proofs.evaluation.+evaluating.Given as goal
 
 abbrev pub invariant-chain_of-loop-other : goal.invariant-chain_of-loop-other

@@ -1,6 +1,6 @@
 use Rattle.std.proofs.Common.{◌≡◌, ◌∙◌, true, [], length, sym, subst}
 use Rattle.ag_expr.specs.language.Left.{everything}
-use Rattle.ag_expr.specs.language.Trees.{is_below}
+use Rattle.ag_grammar.specs.expressions.Trees.{is_below}
 use Rattle.ag_expr.proofs.language.Agree.{expr_exact}
 use Rattle.ag_expr.proofs.language.Below.{expr_below}
 use Rattle.ag_expr.proofs.language.Texts.{refused_within, refused_behind, read_all}
@@ -15,10 +15,10 @@ returns-in_err-occurrences c =
     refused_behind c.args.cursor _ _ _ _ c.from_residual-in_err-occurrences.ensures.1 c.in_ok-node.ensures.0 more.0 more.1
 
 pub returns : goal.returns
-returns c = read_all c.args.cursor _ _ _ c.in_ok-node.ensures.0 c.in_ok-occurrences.ensures.reads (c.in_ok-occurrences.ensures.listed ∙ c.in_ok-node.ensures.1)
+returns c = rw c.new.ensures (read_all c.args.cursor _ _ _ c.in_ok-node.ensures.0 c.in_ok-occurrences.ensures.reads (c.in_ok-occurrences.ensures.listed ∙ c.in_ok-node.ensures.1))
 
-pub invariant_of-result : goal.invariant_of-result
-invariant_of-result c =
+pub new-requires-clause-below : goal.new-requires-clause-below
+new-requires-clause-below c =
     let all = everything c.args.cursor in
     let listed = c.in_ok-occurrences.ensures.listed ∙ c.in_ok-node.ensures.1 in
     subst (λ os. is_below (length os) c.in_ok-node.node ≡ true) (sym listed) (expr_below all 64 _ _ ((expr_exact all 64 []).sound _ _ _ c.in_ok-node.ensures.0).2)

@@ -1,5 +1,5 @@
 use Rattle.std.proofs.Common.{◌≤◌, List, ℕ, length, IsUtf8, chars, sym, subst, arith}
-use Rattle.ag_expr.specs.grammars.Tree.{most_token_bytes}
+use Rattle.ag_grammar.specs.grammars.Tree.{most_token_bytes}
 use Rattle.ag_scan.specs.Cutting.{front_of}
 use Rattle.ag_scan.specs.Tokens.{TakesToken}
 use Rattle.ag_scan.specs.Words.{over}

@@ -3,7 +3,7 @@ use Rattle.std.proofs.lemmas.Iterator.{YieldsList-from_slice, YieldsList-from_zi
 use Rattle.std.proofs.lemmas.Iterator.Consumers.{YieldsList-at, YieldsList-end, YieldsList-from_enumerate}
 use Rattle.std.specs.Global.{Vec}
 use Rattle.std.specs.List.{enumerate_from}
-use Rattle.ag_expr.specs.declared.grammar.Production.{Production}
+use Rattle.ag_grammar.specs.declared.grammar.Production.{Production}
 use Rattle.passcode.specs.Rows.{Lists, row_of}
 use Rattle.passcode.specs.declared.instr.Instr.{Instr}
 use Rattle.agoutput.proofs.Loops.{shown_all, through}

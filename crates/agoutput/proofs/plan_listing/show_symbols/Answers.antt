@@ -2,7 +2,7 @@ use Rattle.std.proofs.Common.{List, ℕ, ◌∙◌, ◌++◌, ap, string_bytes}
 use Rattle.std.proofs.lemmas.Iterator.{YieldsList-from_slice, YieldsList-from_zip}
 use Rattle.std.proofs.lemmas.Iterator.Consumers.{YieldsList-at, YieldsList-end}
 use Rattle.std.specs.Global.{Vec}
-use Rattle.ag_expr.specs.declared.grammar.Symbol.{Symbol}
+use Rattle.ag_grammar.specs.declared.grammar.Symbol.{Symbol}
 use Rattle.agoutput.proofs.Loops.{shown_all, through}
 use Rattle.agoutput.specs.Listings.{symbol_text}
 use Rattle.agoutput.proofs.plan_listing.show_symbols.Goals as goal

@@ -2,7 +2,7 @@ use Rattle.std.proofs.Common.{rules, ◌≡◌, ◌∷◌, [], zero, suc, decima
 use Rattle.std.proofs.lemmas.Fmt.{decimal_digit}
 use Rattle.agoutput.specs.Sample.{sample_plan, sample_rows}
 use Rattle.agoutput.specs.Listings.{plan_text}
-use Rattle.ag_expr.specs.grammars.Sample.{sample}
+use Rattle.ag_grammar.specs.grammars.Sample.{sample}
 use Rattle.passassign.specs.Rows.{AreAtMost}
 use Rattle.agoutput.proofs.samples.sample_passes_listed.Goals as goal
 

@@ -1,5 +1,5 @@
 use Rattle.std.proofs.Common.{◌+◌, None, ap, subst, length, get_or, List}
-use Rattle.ag_expr.specs.declared.grammar.Production.{Production}
+use Rattle.ag_grammar.specs.declared.grammar.Production.{Production}
 use Rattle.llparse.specs.Columns.{IsLeastBelow}
 use Rattle.llparse.proofs.Columns.{fits, free_of, least_of, same_least}
 use Rattle.llparse.proofs.building.tables.Goals as goal

@@ -1,5 +1,5 @@
 use Rattle.std.proofs.Common.{Some, ap, ◌∙◌}
-use Rattle.ag_expr.specs.declared.grammar.Item.TheVariants as item
+use Rattle.ag_grammar.specs.declared.grammar.Item.TheVariants as item
 use Rattle.llparse.proofs.Turning as turn
 use Rattle.llparse.proofs.expected.go_on.Goals as goal
 

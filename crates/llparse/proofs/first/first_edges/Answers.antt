@@ -1,6 +1,6 @@
 use Rattle.std.proofs.Common.{◌≤◌, ◌≡◌, ◌<◌, length, arith, ap, ◌∙◌, get_or, List}
 use Rattle.std.proofs.lemmas.List.Elements.{Contains-get_or}
-use Rattle.ag_expr.specs.declared.grammar.Production.{Production}
+use Rattle.ag_grammar.specs.declared.grammar.Production.{Production}
 use Rattle.llparse.specs.Edges.{IsFirstEdge}
 use Rattle.llparse.specs.Reach.{is_marked}
 use Rattle.llparse.proofs.Edges.{noted_iff}

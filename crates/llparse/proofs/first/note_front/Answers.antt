@@ -1,6 +1,6 @@
 use Rattle.std.proofs.Common.{◌∙◌, subst, take_all}
 use Rattle.llparse.specs.Reach.{rows}
-use Rattle.ag_expr.specs.declared.grammar.Item.{Item}
+use Rattle.ag_grammar.specs.declared.grammar.Item.{Item}
 use Rattle.llparse.specs.Edges.{Adds, HasEdge, IsEdge, OfSome}
 use Rattle.llparse.specs.Nodes.{node_of}
 use Rattle.llparse.proofs.Edges.{adds_more}

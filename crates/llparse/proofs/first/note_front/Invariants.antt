@@ -1,5 +1,5 @@
 use Rattle.std.proofs.Common.{◌≡◌, take, length}
-use Rattle.ag_expr.specs.declared.grammar.Item.{Item}
+use Rattle.ag_grammar.specs.declared.grammar.Item.{Item}
 use Rattle.llparse.specs.Edges.{Adds, HasEdge, IsEdge, OfSome}
 use Rattle.llparse.specs.Nodes.{node_of}
 use Rattle.llparse.specs.Reach.{rows}

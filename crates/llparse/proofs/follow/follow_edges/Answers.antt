@@ -1,5 +1,5 @@
 use Rattle.std.proofs.Common.{◌≡◌, ◌<◌, ◌≤◌, length, arith, ap, ◌∙◌, get_or, List}
-use Rattle.ag_expr.specs.declared.grammar.Production.{Production}
+use Rattle.ag_grammar.specs.declared.grammar.Production.{Production}
 use Rattle.llparse.specs.Comes.{IsFollowEdge}
 use Rattle.llparse.specs.Reach.{is_marked}
 use Rattle.llparse.proofs.Edges.{noted_iff}

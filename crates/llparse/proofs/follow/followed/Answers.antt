@@ -1,5 +1,5 @@
 use Rattle.std.proofs.Common.{◌≡◌, ◌<◌, ◌≤◌, length, arith, ap, ◌∙◌, get_or, List, Contains}
-use Rattle.ag_expr.specs.declared.grammar.Production.{Production}
+use Rattle.ag_grammar.specs.declared.grammar.Production.{Production}
 use Rattle.llparse.specs.Comes.{IsFollowed}
 use Rattle.llparse.specs.Reach.{is_marked}
 use Rattle.llparse.proofs.Edges.{contains_none, noted_iff}

@@ -1,5 +1,5 @@
 use Rattle.std.proofs.Common.{◌≡◌, ◌+◌, ◌-◌, ◌<◌, ◌∙◌, arith, false, true, length}
-use Rattle.ag_expr.specs.declared.grammar.Item.{Item}
+use Rattle.ag_grammar.specs.declared.grammar.Item.{Item}
 use Rattle.llparse.specs.Comes.{all_empty}
 use Rattle.llparse.specs.Edges.{IsEdge}
 use Rattle.llparse.specs.Nodes.{node_of}

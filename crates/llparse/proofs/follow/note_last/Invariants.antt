@@ -1,5 +1,5 @@
 use Rattle.std.proofs.Common.{◌≡◌, drop, length}
-use Rattle.ag_expr.specs.declared.grammar.Item.{Item}
+use Rattle.ag_grammar.specs.declared.grammar.Item.{Item}
 use Rattle.llparse.specs.Comes.{all_empty, OfRest}
 use Rattle.llparse.specs.Edges.{Adds, HasEdge, IsEdge}
 use Rattle.llparse.specs.Nodes.{node_of}

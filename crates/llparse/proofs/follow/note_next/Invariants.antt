@@ -1,5 +1,5 @@
 use Rattle.std.proofs.Common.{ℕ, ◌≡◌, drop, false, Contains}
-use Rattle.ag_expr.specs.declared.grammar.Item.{Item}
+use Rattle.ag_grammar.specs.declared.grammar.Item.{Item}
 use Rattle.llparse.specs.Comes.{next_in, OfRest}
 use Rattle.llparse.specs.Edges.{Adds}
 use Rattle.llparse.specs.Nodes.{node_of}

@@ -1,5 +1,5 @@
 use Rattle.std.proofs.Common.{ℕ, Contains, take}
-use Rattle.ag_expr.specs.declared.grammar.Item.TheVariants as item
+use Rattle.ag_grammar.specs.declared.grammar.Item.TheVariants as item
 use Rattle.llparse.specs.Nullable.{Notes}
 use Rattle.llparse.specs.Reach.{row, rows}
 use Rattle.llparse.proofs.nullable.note_all.Given as goal

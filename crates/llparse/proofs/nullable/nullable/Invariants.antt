@@ -1,5 +1,5 @@
 use Rattle.std.proofs.Common.{ℕ, ◌≡◌, ◌<◌, length, get_or}
-use Rattle.ag_expr.specs.declared.grammar.Production.{Production}
+use Rattle.ag_grammar.specs.declared.grammar.Production.{Production}
 use Rattle.llparse.specs.Nullable.{IsSearch, IsSettled}
 use Rattle.llparse.specs.Reach.{turns_left}
 use Rattle.llparse.proofs.nullable.nullable.Given as goal

@@ -1,6 +1,6 @@
 use Rattle.std.proofs.Common.{◌<◌, length, arith, ap, sym, ◌∙◌, get_or, List}
 use Rattle.std.proofs.lemmas.List.{length-map}
-use Rattle.ag_expr.specs.declared.grammar.Production.{Production}
+use Rattle.ag_grammar.specs.declared.grammar.Production.{Production}
 use Rattle.std.proofs.lemmas.List.Elements.{All-nil}
 use Rattle.llparse.proofs.Nullables.{items_below, noted_productions}
 use Rattle.llparse.proofs.Reaching.{rows_empty}

@@ -1,7 +1,7 @@
 use Rattle.std.proofs.Common.{ℕ, ◌≡◌, ◌<◌, All, Contains, length, get_or, []}
 use Rattle.std.specs.Global.{Vec}
-use Rattle.ag_expr.specs.declared.grammar.Production.{Production}
-use Rattle.ag_expr.specs.declared.grammar.Item.TheVariants as item
+use Rattle.ag_grammar.specs.declared.grammar.Production.{Production}
+use Rattle.ag_grammar.specs.declared.grammar.Item.TheVariants as item
 use Rattle.llparse.specs.Reach.{row, rows}
 use Rattle.llparse.proofs.nullable.uses.Given as goal
 

@@ -1,6 +1,6 @@
 -- What the loop of `attributes` keeps.
 use Rattle.std.proofs.Common.{◌≡◌, map, take}
-use Rattle.ag_expr.specs.grammars.AttributeGrammar.{attribute_names}
+use Rattle.ag_grammar.specs.grammars.AttributeGrammar.{attribute_names}
 use Rattle.normalform.specs.Numbers.{symbol_of}
 use Rattle.normalform.proofs.declared.attributes.Given as goal
 

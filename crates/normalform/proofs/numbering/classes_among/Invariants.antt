@@ -2,7 +2,7 @@
 use Rattle.std.proofs.Common.{◌≡◌, take, filter, ℕ}
 use Rattle.normalform.specs.Numbers.{is_class}
 use Rattle.std.specs.List.{list_any}
-use Rattle.ag_text.specs.declared.raw.RawProduction.{RawProduction}
+use Rattle.ag_grammar.specs.declared.raw.RawProduction.{RawProduction}
 use Rattle.normalform.proofs.numbering.classes_among.Given as goal
 
 abbrev pub invariant-loop-class : goal.invariant-loop-class

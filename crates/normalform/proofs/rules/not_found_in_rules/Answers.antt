@@ -1,6 +1,6 @@
 -- The goals of `not_found_in_rules` that are left.
 use Rattle.std.proofs.Common.{map}
-use Rattle.ag_text.specs.declared.raw.RawRule.{RawRule}
+use Rattle.ag_grammar.specs.declared.raw.RawRule.{RawRule}
 use Rattle.normalform.specs.Faults.{found_place}
 use Rattle.normalform.specs.Placed.{item_placed}
 use Rattle.normalform.proofs.Wrong.{wrong_here, wrong_past}

@@ -1,6 +1,6 @@
 -- What the loop of `not_found_in_rules` keeps.
 use Rattle.std.proofs.Common.{◌≡◌, drop, map, flat_map}
-use Rattle.ag_text.specs.declared.raw.RawRule.{RawRule}
+use Rattle.ag_grammar.specs.declared.raw.RawRule.{RawRule}
 use Rattle.normalform.specs.Placed.{item_placed}
 use Rattle.normalform.specs.Faults.{first_wrong, found_place}
 use Rattle.normalform.proofs.rules.not_found_in_rules.Given as goal

@@ -1,5 +1,5 @@
 use Rattle.std.proofs.Common.{◌≡◌, ◌+◌, ◌*◌, ◌≤◌, length}
-use Rattle.ag_expr.specs.grammars.AttributeGrammar.{Grammar}
+use Rattle.ag_grammar.specs.grammars.AttributeGrammar.{Grammar}
 use Rattle.passassign.specs.Progress.{AreReady, IsProgress, IsWith, open_count}
 use Rattle.passassign.specs.Rows.{most_passes}
 use Rattle.passassign.proofs.assigning.assign_all.Given as goal

@@ -1,5 +1,5 @@
 use Rattle.std.proofs.Common.{ℕ, ◌≡◌, ◌<◌, ◌↔◌, List, subst, sym}
-use Rattle.ag_expr.specs.Lists.{Has}
+use Rattle.ag_grammar.specs.Lists.{Has}
 use Rattle.passassign.specs.Tables.{state_at, slot_of}
 use Rattle.passassign.specs.declared.table.State.{State}
 use Rattle.passassign.specs.declared.table.State.TheVariants.{Open}

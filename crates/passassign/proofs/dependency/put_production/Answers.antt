@@ -1,6 +1,9 @@
-use Rattle.std.proofs.Common.{◌∙◌, subst}
+use Rattle.std.proofs.Common.{◌∙◌, subst, sym}
 use Rattle.passassign.specs.Dependencies.{OfEach, IsByRule, Adds}
 use Rattle.passassign.proofs.dependency.put_production.Goals as goal
+
+pub put_rules-requires : goal.put_rules-requires
+put_rules-requires c = record { accepted = (c.args.production.now, c.requires.accepted, sym c.as_slice-2.ensures) }
 
 pub returns : goal.returns
 returns c =

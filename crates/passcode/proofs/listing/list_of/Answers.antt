@@ -1,4 +1,4 @@
-use Rattle.ag_expr.specs.grammars.Passes.{direction_of}
+use Rattle.ag_grammar.specs.grammars.Passes.{direction_of}
 use Rattle.passcode.proofs.Parts.{list_made}
 use Rattle.passcode.proofs.listing.list_of.Goals as goal
 

@@ -1,5 +1,5 @@
 use Rattle.std.proofs.Common.{◌+◌}
-use Rattle.ag_expr.specs.grammars.Passes.{direction_of}
+use Rattle.ag_grammar.specs.grammars.Passes.{direction_of}
 use Rattle.passcode.specs.Listing.{IsGivenBy, giving_key}
 use Rattle.passcode.proofs.Rising.{extends_more}
 use Rattle.passcode.proofs.listing.put_all_given.Goals as goal

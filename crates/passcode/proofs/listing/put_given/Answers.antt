@@ -1,5 +1,5 @@
 use Rattle.std.proofs.Common.{sym}
-use Rattle.ag_expr.specs.grammars.Passes.{direction_of}
+use Rattle.ag_grammar.specs.grammars.Passes.{direction_of}
 use Rattle.passcode.proofs.Parts.{given_pushed}
 use Rattle.passcode.proofs.listing.put_given.Goals as goal
 

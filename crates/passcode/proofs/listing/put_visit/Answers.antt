@@ -1,4 +1,4 @@
-use Rattle.ag_expr.specs.grammars.Passes.{direction_of}
+use Rattle.ag_grammar.specs.grammars.Passes.{direction_of}
 use Rattle.passcode.proofs.Parts.{visit_made}
 use Rattle.passcode.proofs.listing.put_visit.Goals as goal
 

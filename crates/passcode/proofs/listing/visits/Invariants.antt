@@ -1,5 +1,5 @@
 use Rattle.std.proofs.Common.{length}
-use Rattle.ag_expr.specs.grammars.Passes.{direction_of}
+use Rattle.ag_grammar.specs.grammars.Passes.{direction_of}
 use Rattle.passcode.specs.Listing.{IsMadeOf, IsVisitBefore, first_key, place_at}
 use Rattle.passcode.proofs.listing.visits.Given as goal
 

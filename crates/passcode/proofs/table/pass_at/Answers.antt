@@ -1,5 +1,5 @@
 use Rattle.std.proofs.lemmas.Option.{slice_get_within}
-use Rattle.ag_expr.specs.declared.grammar.Item.TheVariants as item
+use Rattle.ag_grammar.specs.declared.grammar.Item.TheVariants as item
 use Rattle.passassign.specs.Rows.{passes_of}
 use Rattle.passcode.proofs.Passes.{symbol_pass, pass_of_symbol, pass_of_token, has_row}
 use Rattle.passcode.proofs.table.pass_at.Goals as goal

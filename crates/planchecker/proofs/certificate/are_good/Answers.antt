@@ -1,6 +1,6 @@
 use Rattle.std.proofs.Common.{get_or, take}
 use Rattle.std.proofs.lemmas.Option.{slice_get-get_or}
-use Rattle.ag_expr.specs.grammars.Passes.{direction_of}
+use Rattle.ag_grammar.specs.grammars.Passes.{direction_of}
 use Rattle.passassign.specs.Certificate.{Members}
 use Rattle.passassign.specs.declared.stuck.Strike.{Strike}
 use Rattle.planchecker.specs.Striking.{IsNext}

@@ -1,5 +1,5 @@
 use Rattle.std.proofs.Common.{take}
-use Rattle.ag_expr.specs.grammars.Passes.{direction_of}
+use Rattle.ag_grammar.specs.grammars.Passes.{direction_of}
 use Rattle.passassign.specs.Certificate.{Members}
 use Rattle.planchecker.specs.Striking.{IsNext}
 use Rattle.planchecker.proofs.Loops.{Front}

@@ -1,4 +1,4 @@
-use Rattle.ag_expr.specs.grammars.Passes.{direction_of}
+use Rattle.ag_grammar.specs.grammars.Passes.{direction_of}
 use Rattle.passassign.specs.Certificate.{Members}
 use Rattle.planchecker.proofs.Loops.{is_no, is_yes, says_no}
 use Rattle.planchecker.proofs.Strikes.{good_each}

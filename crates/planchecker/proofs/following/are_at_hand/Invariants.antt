@@ -1,4 +1,4 @@
-use Rattle.ag_expr.specs.declared.grammar.Target.{Target}
+use Rattle.ag_grammar.specs.declared.grammar.Target.{Target}
 use Rattle.passassign.specs.Rows.{passes_of}
 use Rattle.passcode.specs.Agreement.{IsAtHand}
 use Rattle.planchecker.proofs.Loops.{Front}

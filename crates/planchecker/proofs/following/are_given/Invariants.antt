@@ -1,6 +1,6 @@
 use Rattle.std.proofs.Common.{◌≡◌}
-use Rattle.ag_expr.specs.declared.grammar.Rule.{Rule}
-use Rattle.ag_expr.specs.grammars.Passes.{HasPass}
+use Rattle.ag_grammar.specs.declared.grammar.Rule.{Rule}
+use Rattle.ag_grammar.specs.grammars.Passes.{HasPass}
 use Rattle.passassign.specs.Rows.{passes_of}
 use Rattle.passcode.specs.Agreement.{StandsBefore, instruction_of}
 use Rattle.planchecker.proofs.Loops.{Front}

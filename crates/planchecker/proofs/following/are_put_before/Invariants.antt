@@ -1,5 +1,5 @@
 use Rattle.std.proofs.Common.{ℕ, ◌<◌}
-use Rattle.ag_expr.specs.grammars.Passes.{IsBefore, direction_of}
+use Rattle.ag_grammar.specs.grammars.Passes.{IsBefore, direction_of}
 use Rattle.passcode.specs.declared.instr.Instr.TheVariants as instr
 use Rattle.passcode.specs.Agreement.{HasPlace, StandsBefore}
 use Rattle.planchecker.proofs.following.are_put_before.Given as goal

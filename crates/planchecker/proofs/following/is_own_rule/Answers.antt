@@ -1,14 +1,14 @@
 use Rattle.std.proofs.Common.{ℕ, ◌≡◌, List, Some, slice_get, sym, subst, ◌∙◌}
-use Rattle.ag_expr.specs.Lists.{Has}
-use Rattle.ag_expr.specs.declared.grammar.Production.{Production}
-use Rattle.ag_expr.specs.declared.grammar.Rule.{Rule}
-use Rattle.ag_expr.specs.declared.grammar.Target.{Target}
-use Rattle.ag_expr.specs.grammars.AttributeGrammar.{IsArgument}
-use Rattle.ag_expr.specs.grammars.Passes.{Passes}
+use Rattle.ag_grammar.specs.Lists.{Has}
+use Rattle.ag_grammar.specs.declared.grammar.Production.{Production}
+use Rattle.ag_grammar.specs.declared.grammar.Rule.{Rule}
+use Rattle.ag_grammar.specs.declared.grammar.Target.{Target}
+use Rattle.ag_grammar.specs.grammars.AttributeGrammar.{IsArgument}
+use Rattle.ag_grammar.specs.grammars.Passes.{Passes}
 use Rattle.passassign.specs.Rows.{passes_of}
 use Rattle.passcode.specs.declared.instr.Instr.{Instr}
 use Rattle.passcode.specs.Agreement.{IsAtHand}
-use Rattle.passcode.proofs.Filling.{same_parts}
+use Rattle.passassign.proofs.Linked.{same_parts}
 use Rattle.passcode.proofs.Slices.{read_at}
 use Rattle.planchecker.specs.Following.{IsOwnRule}
 use Rattle.planchecker.proofs.Loops.{is_yes}

@@ -5,7 +5,7 @@ use Rattle.passcode.specs.Shape.{HasShape}
 use Rattle.planchecker.specs.First.{EachAt}
 use Rattle.planchecker.specs.Legality.{AreAllowed, IsFirstIllegal}
 use Rattle.planchecker.proofs.Checked.{agrees_of, legal_of}
-use Rattle.planchecker.proofs.FewRules.{few_rules}
+use Rattle.passassign.proofs.Few.{few_rules}
 use Rattle.planchecker.proofs.Loops.{is_yes}
 use Rattle.planchecker.proofs.plan.check_plan.Goals as goal
 

@@ -1,5 +1,5 @@
 use Rattle.std.proofs.Common.{ℕ, ◌<◌, length, slice_get}
-use Rattle.ag_expr.specs.grammars.AttributeGrammar.{symbol_kinds}
+use Rattle.ag_grammar.specs.grammars.AttributeGrammar.{symbol_kinds}
 use Rattle.passassign.specs.Rows.{numbers_of, passes_of}
 use Rattle.planchecker.specs.Shapes.{IsRow}
 use Rattle.planchecker.proofs.shape.are_rows.Given as goal

@@ -1,6 +1,6 @@
 use Rattle.std.proofs.Common.{ap, ◌∙◌}
-use Rattle.ag_expr.specs.values.Arguments.{truth}
-use Rattle.ag_expr.proofs.values.Same.{decided}
+use Rattle.ag_grammar.specs.values.Arguments.{truth}
+use Rattle.ag_grammar.proofs.values.Same.{decided}
 use Rattle.ag_expr.proofs.builtins.comparing.equal.Goals as goal
 
 pub returns-clause-value : goal.returns-clause-value

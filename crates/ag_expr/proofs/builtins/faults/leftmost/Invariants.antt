@@ -1,5 +1,5 @@
 use Rattle.std.proofs.Common.{◌≡◌, drop, map}
-use Rattle.ag_expr.specs.values.Arguments.{leftmost}
+use Rattle.ag_grammar.specs.values.Arguments.{leftmost}
 use Rattle.ag_expr.proofs.builtins.faults.leftmost.Given as goal
 
 abbrev pub invariant-loop-argument : goal.invariant-loop-argument

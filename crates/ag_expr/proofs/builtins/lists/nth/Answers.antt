@@ -2,8 +2,8 @@ use mir.Syntax.{w64}
 use mir.Val.{of_z, to_z}
 use Rattle.std.proofs.Common.{ap, sym, ◌∙◌}
 use Rattle.std.specs.Prelude.{option_copied}
-use Rattle.ag_expr.specs.values.Lists.{item_at}
-use Rattle.ag_expr.proofs.values.Wells.{well_nth}
+use Rattle.ag_grammar.specs.values.Lists.{item_at}
+use Rattle.ag_grammar.proofs.values.Wells.{well_nth}
 use Rattle.ag_expr.proofs.builtins.lists.nth.Goals as goal
 
 pub returns-in-Some-clause-well : goal.returns-in-Some-clause-well

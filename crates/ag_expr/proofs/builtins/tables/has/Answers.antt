@@ -1,4 +1,4 @@
-use Rattle.ag_expr.proofs.values.Tables.{rising_table}
+use Rattle.ag_grammar.proofs.values.Tables.{rising_table}
 use Rattle.ag_expr.proofs.builtins.tables.has.Goals as goal
 
 pub pair_with-requires : goal.pair_with-requires

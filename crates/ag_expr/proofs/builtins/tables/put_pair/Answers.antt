@@ -4,10 +4,10 @@ use Rattle.std.specs.List.{insert}
 use Rattle.ag_value.specs.Well.{IsWell, is_item}
 use Rattle.ag_value.specs.declared.value.Value.{Value}
 use Rattle.ag_value.specs.declared.value.Value.TheVariants as value
-use Rattle.ag_expr.specs.values.Tables.{IsPlace, has_key}
-use Rattle.ag_expr.proofs.values.Growing.{item_of}
+use Rattle.ag_grammar.specs.values.Tables.{IsPlace, has_key}
+use Rattle.ag_grammar.proofs.values.Growing.{item_of}
 use Rattle.ag_expr.proofs.values.Putting.{fits-inserted, inserts, item_with}
-use Rattle.ag_expr.proofs.values.Tables.{rising_table}
+use Rattle.ag_grammar.proofs.values.Tables.{rising_table}
 use Rattle.ag_expr.proofs.builtins.tables.put_pair.Goals as goal
 
 pub place_of-place-requires : goal.place_of-place-requires

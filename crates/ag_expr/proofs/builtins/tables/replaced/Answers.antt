@@ -1,6 +1,6 @@
 use Rattle.std.proofs.Common.{◌∙◌, ap}
 use Rattle.ag_value.specs.declared.value.Value.TheVariants as value
-use Rattle.ag_expr.specs.values.Fitting.{fit}
+use Rattle.ag_grammar.specs.values.Fitting.{fit}
 use Rattle.ag_expr.proofs.values.Putting.{item_set, replaced_is}
 use Rattle.ag_expr.proofs.builtins.tables.replaced.Goals as goal
 

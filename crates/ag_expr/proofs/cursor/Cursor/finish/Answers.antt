@@ -21,4 +21,4 @@ returns-clause-reads c =
 pub returns-clause-listed : goal.returns-clause-listed
 returns-clause-listed c =
     let wide = ap (λ s. width s.1.1) (sym c.self.view_is) ∙ c.self.invariant.rest_wide in
-    c.into_list.ensures ∙ ap (λ s. s.0) c.self.view_is ∙ sym (all_listed c.args.self (wide ∙ eqb-true _ _ (sym c.if-not-is_empty.ensures)))
+    c.into_list.ensures.listed ∙ ap (λ s. s.0) c.self.view_is ∙ sym (all_listed c.args.self (wide ∙ eqb-true _ _ (sym c.if-not-is_empty.ensures)))

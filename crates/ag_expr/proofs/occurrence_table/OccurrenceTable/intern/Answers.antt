@@ -1,5 +1,5 @@
 use Rattle.std.proofs.Common.{◌∙◌, refl, sym}
-use Rattle.ag_expr.proofs.language.Numbered.{listed_where, unlisted_where, number_pushed, follows_pushed}
+use Rattle.ag_expr.proofs.language.Numbered.{listed_where, unlisted_where, number_pushed, follows_pushed, pushed_apart}
 use Rattle.ag_expr.proofs.occurrence_table.OccurrenceTable.intern.Goals as goal
 
 pub returns-in-Some-clause-lists : goal.returns-in-Some-clause-lists
@@ -8,8 +8,10 @@ returns-in-Some-clause-lists c = rw (listed_where c.args.self.now c.args.place c
 pub invariant_of-self-2 : goal.invariant_of-self-2
 invariant_of-self-2 c =
     let none = rw (← c.self.view_is) at (unlisted_where c.args.self.now c.args.place c.args.attr.now (sym c.in_default.ensures)) in
-    let name = c.from_string-copied.ensures ∙ c.in_ok-from_str.ensures.ok in
-    follows_pushed c.self.inside.numbers c.insert.new.self c.self.inside.listed.items c.reserve.new.self.items c.push_reserved.new.self.items (c.args.place, c.args.attr) c.len-number.result c.args.at c.from_string-copied.result none c.self.invariant c.in_ok-reserve.ensures.items c.len-number.ensures.value c.in_ok-insert.ensures.updates c.push_reserved.ensures.items name
+    let name = c.from_string-copied.ensures ∙ c.in_ok-from_str.ensures.ok in (
+      follows_pushed c.self.inside.numbers c.insert.new.self c.self.inside.listed.items c.reserve.new.self.items c.push_reserved.new.self.items (c.args.place, c.args.attr) c.len-number.result c.args.at c.from_string-copied.result none c.self.invariant.0 c.in_ok-reserve.ensures.items c.len-number.ensures.value c.in_ok-insert.ensures.updates c.push_reserved.ensures.items name,
+      pushed_apart c.self.inside.listed.items c.reserve.new.self.items c.push_reserved.new.self.items c.args.place c.args.at c.args.attr.now c.from_string-copied.result none c.self.invariant.1 c.in_ok-reserve.ensures.items c.push_reserved.ensures.items name,
+    )
 
 pub returns-clause-lists : goal.returns-clause-lists
 returns-clause-lists c =

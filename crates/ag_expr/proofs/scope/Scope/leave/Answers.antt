@@ -1,6 +1,6 @@
 use Rattle.std.proofs.Common.{◌≡◌, ◌≢◌, ◌<◌, ◌++◌, ◌∷◌, [], length, ap, arith, subst, sym, ◌∙◌}
 use Rattle.std.specs.Option.{option_to_list}
-use Rattle.ag_expr.specs.language.Evaluation.{bound_value}
+use Rattle.ag_grammar.specs.expressions.Evaluation.{bound_value}
 use Rattle.ag_expr.specs.language.Operands.{IsIn, held_value, operand_value}
 use Rattle.ag_expr.proofs.language.Bindings.{seen_stays}
 use Rattle.ag_expr.proofs.scope.Scope.leave.Goals as goal

@@ -1,5 +1,5 @@
 use Rattle.std.proofs.Common.{◌∙◌, ap, get_or, List}
-use Rattle.ag_expr.specs.declared.grammar.Production.{Production}
+use Rattle.ag_grammar.specs.declared.grammar.Production.{Production}
 use Rattle.llparse.proofs.Nullables.{waits_at}
 use Rattle.llparse.proofs.nullable.Search.advance.Goals as goal
 

@@ -1,5 +1,5 @@
 use Rattle.std.proofs.Common.{ℕ, ◌≡◌, ◌≤◌, ◌⊎◌, get_or, Contains, take, length}
-use Rattle.ag_expr.specs.declared.grammar.Production.{Production}
+use Rattle.ag_grammar.specs.declared.grammar.Production.{Production}
 use Rattle.llparse.specs.Nullable.{IsSearch, IsSettled}
 use Rattle.llparse.specs.Reach.{turns_left}
 use Rattle.llparse.proofs.nullable.Search.visit_all.Given as goal

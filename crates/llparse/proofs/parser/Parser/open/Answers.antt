@@ -1,7 +1,7 @@
 use Rattle.std.proofs.Common.{◌≡◌, ◌+◌, ◌<◌, length, drop, reverse, Some, None, ap, sym, ◌∙◌, subst, arith}
 use Rattle.std.proofs.lemmas.List.{length-reverse}
 use Rattle.std.proofs.lemmas.Result.{err_from_is_err_and}
-use Rattle.ag_expr.specs.grammars.Tree.{most_depth, most_nodes}
+use Rattle.ag_grammar.specs.grammars.Tree.{most_depth, most_nodes}
 use Rattle.llparse.specs.Ahead.{ahead_of}
 use Rattle.llparse.specs.Parsing.{task_of, Between}
 use Rattle.llparse.specs.Sentences.{words_of}

@@ -1,7 +1,7 @@
 use Rattle.std.proofs.Common.{◌+◌, ◌<◌, length, drop, reverse, arith}
 use Rattle.std.proofs.lemmas.List.{length-reverse}
 use Rattle.std.proofs.lemmas.Result.{err_from_is_err_and}
-use Rattle.ag_expr.specs.grammars.Tree.{most_depth}
+use Rattle.ag_grammar.specs.grammars.Tree.{most_depth}
 use Rattle.ag_scan.specs.Words.{vocabulary_of}
 use Rattle.llparse.specs.Parsing.{task_of}
 use Rattle.llparse.specs.Sentences.{words_of}

@@ -1,6 +1,6 @@
 use Rattle.std.proofs.Common.{◌∷◌, ap, ◌+◌, drop, reverse, ◌∙◌}
 use Rattle.std.proofs.lemmas.Result.{err_from_is_err_and}
-use Rattle.ag_expr.specs.declared.grammar.Terminal.TheVariants.{Literal}
+use Rattle.ag_grammar.specs.declared.grammar.Terminal.TheVariants.{Literal}
 use Rattle.ag_scan.specs.Words.{vocabulary_of}
 use Rattle.llparse.specs.Parsing.{task_of}
 use Rattle.llparse.specs.Sentences.{words_of}

@@ -1,6 +1,6 @@
 use Rattle.std.proofs.Common.{◌≡◌, ◌<◌, length, arith, ap, ◌∙◌, get_or, List}
 use Rattle.std.proofs.lemmas.Option.{slice_get_within}
-use Rattle.ag_expr.specs.declared.grammar.Production.{Production}
+use Rattle.ag_grammar.specs.declared.grammar.Production.{Production}
 use Rattle.llparse.specs.Reach.{is_marked}
 use Rattle.llparse.proofs.Predictions.{predicted_more, predicts_at}
 use Rattle.llparse.proofs.predict.Sets.predicted.Goals as goal

@@ -1,6 +1,6 @@
 use Rattle.std.proofs.Common.{ℕ, ◌≡◌, ◌<◌, ◌↔◌, length, true}
-use Rattle.ag_expr.specs.declared.grammar.Production.{Production}
-use Rattle.ag_expr.specs.grammars.AttributeGrammar.{IsProduction}
+use Rattle.ag_grammar.specs.declared.grammar.Production.{Production}
+use Rattle.ag_grammar.specs.grammars.AttributeGrammar.{IsProduction}
 use Rattle.llparse.specs.Ahead.{Predicts}
 use Rattle.llparse.specs.Reach.{is_marked}
 use Rattle.llparse.proofs.predict.Sets.predicted.Given as goal

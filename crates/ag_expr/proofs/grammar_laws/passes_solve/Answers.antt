@@ -1,5 +1,0 @@
-use Rattle.ag_expr.proofs.grammars.Kept.{passes_solve}
-use Rattle.ag_expr.proofs.grammar_laws.passes_solve.Goals as goal
-
-pub returns : goal.returns
-returns c = passes_solve

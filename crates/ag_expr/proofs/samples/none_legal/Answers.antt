@@ -1,5 +1,0 @@
-use Rattle.ag_expr.proofs.grammars.Refused.{none_legal}
-use Rattle.ag_expr.proofs.samples.none_legal.Goals as goal
-
-pub returns : goal.returns
-returns c = none_legal

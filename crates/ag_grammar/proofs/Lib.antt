@@ -1,0 +1,3 @@
+pub mod expressions
+pub mod grammars
+pub mod values

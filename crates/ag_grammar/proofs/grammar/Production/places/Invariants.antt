@@ -1,0 +1,6 @@
+use Rattle.std.proofs.Common.{◌≡◌, ◌++◌, drop}
+use Rattle.ag_grammar.specs.grammars.AttributeGrammar.{places_of, stored_items}
+use Rattle.ag_grammar.proofs.grammar.Production.places.Given as goal
+
+abbrev pub invariant-loop-item : goal.invariant-loop-item
+invariant-loop-item l = l.places.items ++ stored_items (drop l.item-index l.self.items) ≡ places_of l.self

@@ -1,0 +1,13 @@
+-- Lemmas on attribute grammars.
+pub mod Children
+pub mod Directions
+pub mod Inherited
+pub mod Kept
+pub mod Members
+pub mod NumberSample
+pub mod OneSolution
+pub mod Productive
+pub mod Refused
+pub mod Rules
+pub mod TokenSample
+pub mod Translated

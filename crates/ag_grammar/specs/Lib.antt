@@ -1,0 +1,4 @@
+pub mod expressions
+pub mod grammars
+pub mod Lists
+pub mod values

@@ -1,0 +1,60 @@
+-- The value of an expression. All of this is this project's.
+use Rattle.std.specs.Prelude.{ℕ, ◌<◌, List, [], ◌∷◌, ◌++◌, Option, Some, None, slice_get}
+use Rattle.ag_value.specs.declared.value.ErrorCode.TheVariants.{Kind}
+use Rattle.ag_value.specs.declared.value.Value.{Value}
+use Rattle.ag_value.specs.declared.value.Value.TheVariants as value
+use Rattle.ag_value.specs.Well.{IsWell}
+use Rattle.ag_grammar.specs.declared.node.Operator.{Operator}
+use Rattle.ag_grammar.specs.declared.node.Node.{Node}
+use Rattle.ag_grammar.specs.declared.node.Node.TheFolds.{fold-Node}
+use Rattle.ag_grammar.specs.declared.node.Node.TheOpen.{Node-F}
+use Rattle.ag_grammar.specs.values.Calls.{called, called_with, chosen, put}
+use Rattle.ag_grammar.specs.values.Fitting.{fit}
+use Rattle.ag_grammar.specs.values.Lists.{listed}
+use Rattle.ag_grammar.specs.values.Operators.{applied}
+
+-- what a tree gives for the values of its occurrences and those of the names bound around it, the outermost first
+abbrev pub Meaning : Type 0
+Meaning = (ℕ → Value) → List Value → Value
+
+-- a chain from the left: each step's left argument is the value so far
+abbrev pub chain_value : (ℕ → Value) → List Value → Value → List (Operator × Meaning) → Value
+chain_value env bound so_far [] = so_far
+chain_value env bound so_far (x ∷ xs) = chain_value env bound (applied x.0 so_far (x.1 env bound)) xs
+
+-- the values of the items of a list
+abbrev pub item_values : (ℕ → Value) → List Value → List Meaning → List Value
+item_values env bound [] = []
+item_values env bound (x ∷ xs) = x env bound ∷ item_values env bound xs
+
+-- the value of a bound name; a tree of an expression names no other
+abbrev pub bound_value : Option Value → Value
+bound_value (Some v) = v
+bound_value None = value.Fault Kind
+
+-- One level of a tree, with the meaning of each operand in its place. The value of a name's definition, which may be an error, stands for
+-- the name in the body.
+abbrev pub value_step : Node-F Meaning → Meaning
+value_step (Node-F.Literal v) env bound = fit v
+value_step (Node-F.Occurrence k) env bound = env k
+value_step (Node-F.Bound k) env bound = bound_value (slice_get bound k)
+value_step (Node-F.Chain first others) env bound = chain_value env bound (first env bound) others
+value_step (Node-F.Let e f) env bound = f env (bound ++ e env bound ∷ [])
+value_step (Node-F.If c e f) env bound = chosen (c env bound) (e env bound) (f env bound)
+value_step (Node-F.Unary call a) env bound = called call (a env bound)
+value_step (Node-F.Binary call a b) env bound = called_with call (a env bound) (b env bound)
+value_step (Node-F.Put t k v) env bound = put (t env bound) (k env bound) (v env bound)
+value_step (Node-F.List items) env bound = listed (item_values env bound items)
+value_step Node-F.EmptyTable env bound = value.Table []
+
+-- the value of a tree where `env` gives the value of each occurrence, and further values are bound around it
+abbrev pub value_in : Node → Meaning
+value_in = fold-Node Meaning value_step
+
+-- the value of a whole expression, with no name bound around it
+abbrev pub value_of : Node → (ℕ → Value) → Value
+value_of e env = value_in e env []
+
+-- the first n values are well
+pub record AreWell (n : ℕ) (env : ℕ → Value) : Type 0 where
+  pub well : (k : ℕ) → k < n → IsWell (env k)

@@ -1,0 +1,42 @@
+-- Which trees are those of expressions: the numbers of occurrences and bound names stand for something. All of this is this project's.
+use Rattle.std.specs.Prelude.{ℕ, suc, Bool, true, ◌&&◌, nat_lt, List, [], ◌∷◌, map}
+use Rattle.ag_grammar.specs.declared.node.Operator.{Operator}
+use Rattle.ag_grammar.specs.declared.node.Node.{Node}
+use Rattle.ag_grammar.specs.declared.node.Node.TheFolds.{fold-Node}
+use Rattle.ag_grammar.specs.declared.node.Node.TheOpen.{Node-F}
+
+-- every operand of a chain passes, and every item of a list, with so many names bound around them
+abbrev pub all_pass : ℕ → List (Operator × (ℕ → Bool)) → Bool
+all_pass bound [] = true
+all_pass bound (x ∷ xs) = x.1 bound && all_pass bound xs
+
+abbrev pub each_passes : ℕ → List (ℕ → Bool) → Bool
+each_passes bound [] = true
+each_passes bound (x ∷ xs) = x bound && each_passes bound xs
+
+-- one level of a tree, with so many names bound around it
+abbrev pub below_step : ℕ → Node-F (ℕ → Bool) → ℕ → Bool
+below_step n (Node-F.Literal v) bound = true
+below_step n (Node-F.Occurrence k) bound = nat_lt k n
+below_step n (Node-F.Bound k) bound = nat_lt k bound
+below_step n (Node-F.Chain first others) bound = first bound && all_pass bound others
+below_step n (Node-F.Let e f) bound = e bound && f (suc bound)
+below_step n (Node-F.If c e f) bound = c bound && (e bound && f bound)
+below_step n (Node-F.Unary call a) bound = a bound
+below_step n (Node-F.Binary call a b) bound = a bound && b bound
+below_step n (Node-F.Put t k v) bound = t bound && (k bound && v bound)
+below_step n (Node-F.List items) bound = each_passes bound items
+below_step n Node-F.EmptyTable bound = true
+
+-- In the tree the number of every occurrence is below n, and that of every bound name below how many are bound around it, which are
+-- `bound` around the whole.
+abbrev pub is_within : ℕ → Node → ℕ → Bool
+is_within n = fold-Node (ℕ → Bool) (below_step n)
+
+-- and so where none is bound around it
+abbrev pub is_below : ℕ → Node → Bool
+is_below n e = is_within n e 0
+
+-- and so in every operand of a chain
+abbrev pub all_below : ℕ → ℕ → List (Operator × Node) → Bool
+all_below n bound others = all_pass bound (map (λ p. (p.0, is_within n p.1)) others)

@@ -1,0 +1,145 @@
+-- Which grammars are accepted.
+use Rattle.std.specs.Prelude.{ℕ, ◌≡◌, ◌≤◌, ◌<◌, ◌⊎◌, List, [], ◌∷◌, Some, slice_get, length, true}
+use Rattle.ag_grammar.specs.Lists.{AreRelated, Has, Each, Differ, DifferIn}
+use Rattle.ag_grammar.specs.expressions.Trees.{is_below}
+use Rattle.ag_grammar.specs.declared.grammar.Item.TheVariants as item
+use Rattle.ag_grammar.specs.declared.grammar.Item.{Item}
+use Rattle.ag_grammar.specs.declared.grammar.Production.{Production}
+use Rattle.ag_grammar.specs.declared.grammar.Rule.{Rule}
+use Rattle.ag_grammar.specs.declared.grammar.Symbol.{Symbol}
+use Rattle.ag_grammar.specs.declared.grammar.Target.{Target}
+use Rattle.ag_grammar.specs.declared.grammar.Terminal.TheVariants.{Literal, Class}
+use Rattle.ag_grammar.specs.declared.grammar.Terminal.{Terminal}
+use Rattle.ag_grammar.specs.declared.limits.TheConstants.{CLASS_COUNT, MOST_ATTRIBUTES, MOST_ITEMS, MOST_LITERALS, MOST_LITERAL_BYTES, MOST_PRODUCTIONS, MOST_STORED, MOST_SYMBOLS}
+use Rattle.ag_grammar.specs.grammars.AttributeGrammar.{attribute_names, Grammar, stored_items, IsProduction, IsRule, Kind, HasKind, StandsFor, given_kind, found_kind}
+
+-- The limits of a grammar (this project's): how many symbols there are at most,
+abbrev pub most_symbols : ℕ
+most_symbols = MOST_SYMBOLS
+
+-- attributes of a symbol,
+abbrev pub most_attributes : ℕ
+most_attributes = MOST_ATTRIBUTES
+
+-- productions,
+abbrev pub most_productions : ℕ
+most_productions = MOST_PRODUCTIONS
+
+-- items on a right side,
+abbrev pub most_items : ℕ
+most_items = MOST_ITEMS
+
+-- stored items on a right side,
+abbrev pub most_stored : ℕ
+most_stored = MOST_STORED
+
+-- different literals,
+abbrev pub most_literals : ℕ
+most_literals = MOST_LITERALS
+
+-- and bytes of a literal.
+abbrev pub most_literal_bytes : ℕ
+most_literal_bytes = MOST_LITERAL_BYTES
+
+-- how many classes there are: NAME, NUMBER and TEXT (this project's)
+abbrev pub class_count : ℕ
+class_count = CLASS_COUNT
+
+-- the name `out`, as bytes
+abbrev pub out_name : List ℕ
+out_name = 111 ∷ 117 ∷ 116 ∷ []
+
+-- No list is longer than its limit, and no literal is empty (this project's).
+pub record IsWithinGrammarLimits (g : Grammar) : Type 0 where
+  pub symbol_count : length g.symbols ≤ most_symbols
+  pub attribute_count : Each (λ s. length (attribute_names s) ≤ most_attributes) g.symbols
+  pub production_count : length g.productions ≤ most_productions
+  pub item_count : Each (λ q. length q.items ≤ most_items) g.productions
+  pub stored_count : Each (λ q. length (stored_items q.items) ≤ most_stored) g.productions
+  pub literal_count : length g.literals ≤ most_literals
+  pub literal_bytes : Each (λ x. (1 ≤ length x) × (length x ≤ most_literal_bytes)) g.literals
+
+-- Space, tab, CR and LF separate the words of a sentence (this project's).
+abbrev pub IsSeparator : ℕ → Type 0
+IsSeparator b = (b ≡ 32) ⊎ (b ≡ 9) ⊎ (b ≡ 13) ⊎ (b ≡ 10)
+
+-- An item's number stands for a symbol, a literal or a class in use.
+abbrev pub IsNamedItem : Grammar → Item → Type 0
+IsNamedItem g (item.Symbol s) = s < length g.symbols
+IsNamedItem g (item.Terminal (Literal l)) = l < length g.literals
+IsNamedItem g (item.Terminal (Class c)) = Has g.classes c
+
+-- A terminal stands in a production.
+abbrev pub IsInUse : Grammar → Terminal → Type 0
+IsInUse g a = (p : ℕ) × (q : Production) × IsProduction g p q × Has q.items (item.Terminal a)
+
+-- A rule's target is there, whichever its kind. Each occurrence in its expression's tree is one of the listed ones, and
+-- there are as many arguments as these, in their order, each being what its occurrence stands for (Knuth 1968).
+pub record IsNamedRule (g : Grammar) (q : Production) (r : Rule) : Type 0 where
+  pub target : (k : Kind) × HasKind g q r.target k
+  pub listed : is_below (length r.expr.1) r.expr.0 ≡ true
+  pub arguments : AreRelated (StandsFor g q) r.expr.1 r.args
+
+-- Each number stands for what there is, no name, literal or class is there twice, each literal and class stands in a
+-- production, and no literal has a separator (this project's).
+pub record IsNamed (g : Grammar) : Type 0 where
+  pub symbols_differ : DifferIn (λ s. s.name) g.symbols
+  pub attributes_differ : Each (λ s. Differ (attribute_names s)) g.symbols
+  pub literals_differ : Differ g.literals
+  pub literals_used : (l : ℕ) → l < length g.literals → IsInUse g (Literal l)
+  pub without_separators : Each (Each (λ b. IsSeparator b → ⊥)) g.literals
+  pub classes_differ : Differ g.classes
+  pub classes_known : Each (λ c. c < class_count) g.classes
+  pub classes_used : Each (λ c. IsInUse g (Class c)) g.classes
+  pub left_sides : Each (λ q. q.left < length g.symbols) g.productions
+  pub items_named : Each (λ q. Each (IsNamedItem g) q.items) g.productions
+  pub rules_named : Each (λ q. Each (IsNamedRule g q) q.rules) g.productions
+
+-- the number of the start symbol's `out`
+abbrev pub IsOut : Grammar → ℕ → Type 0
+IsOut g a = (s : Symbol) × (slice_get g.symbols g.start ≡ Some s) × (slice_get s.syn a ≡ Some out_name)
+
+-- The start symbol has no inherited attribute (Knuth 1968), and a synthesized one named `out` (this project's).
+pub record IsStart (g : Grammar) : Type 0 where
+  pub symbol : Symbol
+  pub declared : slice_get g.symbols g.start ≡ Some symbol
+  pub plain : symbol.inh ≡ []
+  pub out : Has symbol.syn out_name
+
+-- Complete: a production has exactly one rule for each synthesized attribute of its left side and each inherited one of its
+-- right side, and no other rule (Knuth 1968).
+pub record IsComplete (g : Grammar) (q : Production) : Type 0 where
+  pub all : (o : Target) → HasKind g q o (given_kind o.place) → (r : Rule) × IsRule q r × (r.target ≡ o)
+  pub single : DifferIn (λ r. r.target) q.rules
+  pub no_other : Each (λ r. HasKind g q r.target (given_kind r.target.place)) q.rules
+
+-- Normal: a rule's arguments are what the production's own rules don't give, inherited attributes of its left side and
+-- synthesized ones of its right side (this project's).
+abbrev pub IsNormal : Grammar → Production → Type 0
+IsNormal g q = Each (λ r. Each (λ o. HasKind g q o (found_kind o.place)) r.args) q.rules
+
+-- A symbol derives a list of terminals: it has a production of whose items each declared one does (the textbook).
+mutual
+  pub data IsProductive (g : Grammar) : ℕ → Type 0 where
+    by_production : (p : ℕ) (q : Production) {s : ℕ} → IsProduction g p q → q.left ≡ s → AreProductive g q.items → IsProductive g s
+
+  pub data AreProductive (g : Grammar) : List Item → Type 0 where
+    nothing : AreProductive g []
+    a_symbol : {s : ℕ} {xs : List Item} → IsProductive g s → AreProductive g xs → AreProductive g (item.Symbol s ∷ xs)
+    a_word : {a : Terminal} {xs : List Item} → AreProductive g xs → AreProductive g (item.Terminal a ∷ xs)
+
+-- A symbol is reached: it is the start symbol, or stands in a production of one that is reached (the textbook).
+pub data IsReached (g : Grammar) : ℕ → Type 0 where
+  at_start : IsReached g g.start
+  within : (p : ℕ) (q : Production) {s : ℕ} → IsProduction g p q → IsReached g q.left → Has q.items (item.Symbol s) → IsReached g s
+
+-- An accepted grammar: named, complete (Knuth 1968), normal, reduced, which is that each symbol is productive and reachable
+-- (the textbook), and within the limits (this project's).
+pub record IsAccepted (g : Grammar) : Type 0 where
+  pub named : IsNamed g
+  pub start : IsStart g
+  pub complete : Each (IsComplete g) g.productions
+  pub normal : Each (IsNormal g) g.productions
+  pub productive : (s : ℕ) → s < length g.symbols → IsProductive g s
+  pub reachable : (s : ℕ) → s < length g.symbols → IsReached g s
+  pub limits : IsWithinGrammarLimits g

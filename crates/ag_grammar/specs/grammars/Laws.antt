@@ -1,0 +1,32 @@
+-- What the laws state.
+use Rattle.std.specs.Prelude.{ℕ, ◌≡◌, ◌≤◌, ◌↔◌}
+use Rattle.ag_value.specs.declared.value.Value.{Value}
+use Rattle.ag_grammar.specs.Lists.{Each}
+use Rattle.ag_grammar.specs.declared.grammar.Item.TheVariants as item
+use Rattle.ag_grammar.specs.declared.grammar.Item.{Item}
+use Rattle.ag_grammar.specs.grammars.AttributeGrammar.{Grammar}
+use Rattle.ag_grammar.specs.grammars.Accepted.{IsStart, IsComplete, IsNormal, IsProductive, IsAccepted}
+use Rattle.ag_grammar.specs.grammars.Tree.{Tree, IsTreeOf, Fits}
+use Rattle.ag_grammar.specs.grammars.Passes.{Passes, HasPass, IsLegalFor, IsLegal}
+use Rattle.ag_grammar.specs.grammars.Solution.{Valuation, Solves, AnyRule, OfPass, Same, AnyPass, IsTranslation}
+
+-- A symbol derives a list of terminals exactly where there is a tree of it.
+abbrev pub ProductiveByTrees : Type 0
+ProductiveByTrees = (g : Grammar) (s : ℕ) → IsProductive g s ↔ ((t : Tree) × Fits g (item.Symbol s) t)
+
+-- Any two solutions on a tree are the same, where each production is complete and normal, the start symbol has no inherited
+-- attribute and there is a legal assignment.
+abbrev pub OneSolution : Type 0
+OneSolution = (g : Grammar) (m : Passes) (t : Tree) (v w : Valuation) → IsStart g → Each (IsComplete g) g.productions → Each (IsNormal g) g.productions → IsLegal g m → IsTreeOf g t → Solves AnyRule g t v → Solves AnyRule g t w → Same AnyPass g m t v w
+
+-- So a tree has one translation at most.
+abbrev pub OneTranslation : Type 0
+OneTranslation = (g : Grammar) (m : Passes) (t : Tree) (v w : Valuation) (x y : Value) → IsAccepted g → IsLegal g m → IsTreeOf g t → Solves AnyRule g t v → Solves AnyRule g t w → IsTranslation g v x → IsTranslation g w y → x ≡ y
+
+-- The equations of a pass stay true where the values of the passes so far are kept.
+abbrev pub EquationsKept : Type 0
+EquationsKept = (g : Grammar) (m : Passes) (k j : ℕ) (x : Item) (t : Tree) (v w : Valuation) → Each (IsLegalFor (HasPass m)) g.productions → k ≤ j → Fits g x t → Same (λ p. p ≤ j) g m t v w → Solves (OfPass m k) g t v → Solves (OfPass m k) g t w
+
+-- Values that meet the equations of each pass are a solution, where each target has a pass.
+abbrev pub PassesSolve : Type 0
+PassesSolve = (g : Grammar) (m : Passes) (t : Tree) (v : Valuation) → Each (λ q. Each (λ r. (k : ℕ) × HasPass m q r.target k) q.rules) g.productions → ((k : ℕ) → Solves (OfPass m k) g t v) → Solves AnyRule g t v

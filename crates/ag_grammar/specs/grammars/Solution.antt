@@ -1,0 +1,114 @@
+-- Values of the attributes at the nodes of a tree, and which of them solve a grammar's equations (Knuth 1968).
+use Rattle.std.specs.Prelude.{ℕ, zero, suc, ◌≡◌, List, [], ◌∷◌, Option, Some, None, slice_get}
+use Rattle.ag_value.specs.declared.value.Value.{Value, Text}
+use Rattle.ag_value.specs.Well.{IsWell}
+use Rattle.ag_grammar.specs.expressions.Evaluation.{value_of}
+use Rattle.ag_grammar.specs.declared.grammar.Production.{Production}
+use Rattle.ag_grammar.specs.declared.grammar.Rule.{Rule}
+use Rattle.ag_grammar.specs.declared.grammar.Target.{Target}
+use Rattle.ag_grammar.specs.grammars.AttributeGrammar.{Grammar, IsRule}
+use Rattle.ag_grammar.specs.grammars.Accepted.{IsOut}
+use Rattle.ag_grammar.specs.grammars.Passes.{Passes, HasPass}
+use Rattle.ag_grammar.specs.grammars.Tree.{Tree, Forest, leaf, node, none, more}
+
+-- A valuation gives each attribute instance a value: the path of child numbers from 0 that leads from the root to the node,
+-- and the attribute's number (Knuth 1968). What it gives to instances that a tree hasn't doesn't matter.
+abbrev pub Valuation : Type 0
+Valuation = List ℕ → ℕ → Value
+
+-- the values in the child of a number
+abbrev pub below : ℕ → Valuation → Valuation
+below i v path = v (i ∷ path)
+
+-- the values in each child
+abbrev pub children : Valuation → ℕ → Valuation
+children v i = below i v
+
+-- the values in each child after the first
+abbrev pub rest : (ℕ → Valuation) → ℕ → Valuation
+rest vs i = vs (suc i)
+
+-- the value of an attribute at a place: place 0 is the node itself, 1, 2, .. are its children
+abbrev pub at : Valuation → ℕ → ℕ → Value
+at v zero a = v [] a
+at v (suc i) a = v (i ∷ []) a
+
+-- the values of a node over those in its children
+abbrev pub graft : (ℕ → Value) → (ℕ → Valuation) → Valuation
+graft f ws [] = f
+graft f ws (i ∷ path) = ws i path
+
+-- An environment gives each occurrence of a rule's expression the value of the attribute that it stands for.
+abbrev pub Lends : Rule → (ℕ → ℕ → Value) → (ℕ → Value) → Type 0
+Lends r e env = (k : ℕ) (o : Target) → slice_get r.args k ≡ Some o → env k ≡ e o.place o.attr
+
+-- A rule holds: its target has its expression's value over the values that its occurrences stand for (Knuth 1968).
+abbrev pub Holds : Rule → (ℕ → ℕ → Value) → Type 0
+Holds r e = (env : ℕ → Value) → Lends r e env → e r.target.place r.target.attr ≡ value_of r.expr.0 env
+
+-- each rule of a production that is of a kind holds
+abbrev pub RulesHold : (Production → Rule → Type 0) → Option Production → (ℕ → ℕ → Value) → Type 0
+RulesHold W None e = Unit {0}
+RulesHold W (Some q) e = (r : Rule) → IsRule q r → W q r → Holds r e
+
+-- A valuation solves the rules of a kind on a tree: the attribute of each leaf is its text, and at each node the rules of
+-- its production that are of the kind hold (Knuth 1968, where the kind is any).
+abbrev mutual
+  pub Solves : (Production → Rule → Type 0) → Grammar → Tree → Valuation → Type 0
+  Solves W g (leaf c x) v = v [] 0 ≡ Text x
+  Solves W g (node p ts) v = RulesHold W (slice_get g.productions p) (at v) × SolvesAll W g ts (children v)
+
+  pub SolvesAll : (Production → Rule → Type 0) → Grammar → Forest → (ℕ → Valuation) → Type 0
+  SolvesAll W g none vs = Unit {0}
+  SolvesAll W g (more t ts) vs = Solves W g t (vs 0) × SolvesAll W g ts (rest vs)
+
+-- any rule
+abbrev pub AnyRule : Production → Rule → Type 0
+AnyRule q r = Unit {0}
+
+-- no rule: what is solved is then only that each leaf has its text
+abbrev pub NoRule : Production → Rule → Type 0
+NoRule q r = ⊥
+
+-- the rules whose target is of pass k
+abbrev pub OfPass : Passes → ℕ → Production → Rule → Type 0
+OfPass m k q r = HasPass m q r.target k
+
+-- the passes of the attributes of a production's left side
+abbrev pub left_passes : Passes → Option Production → List ℕ
+left_passes m None = []
+left_passes m (Some q) = m q.left
+
+-- At each node and leaf of a tree a relation holds between the passes of its attributes and what two valuations give them.
+abbrev mutual
+  pub AtEachNode : (List ℕ → (ℕ → Value) → (ℕ → Value) → Type 0) → Grammar → Passes → Tree → Valuation → Valuation → Type 0
+  AtEachNode R g m (leaf c x) v w = R (0 ∷ []) (v []) (w [])
+  AtEachNode R g m (node p ts) v w = R (left_passes m (slice_get g.productions p)) (v []) (w []) × AtEachNodeOf R g m ts (children v) (children w)
+
+  pub AtEachNodeOf : (List ℕ → (ℕ → Value) → (ℕ → Value) → Type 0) → Grammar → Passes → Forest → (ℕ → Valuation) → (ℕ → Valuation) → Type 0
+  AtEachNodeOf R g m none vs ws = Unit {0}
+  AtEachNodeOf R g m (more t ts) vs ws = AtEachNode R g m t (vs 0) (ws 0) × AtEachNodeOf R g m ts (rest vs) (rest ws)
+
+-- the values of the attributes with these passes are the same where the pass is of a kind
+abbrev pub SameAt : (ℕ → Type 0) → List ℕ → (ℕ → Value) → (ℕ → Value) → Type 0
+SameAt W ps e f = (a p : ℕ) → slice_get ps a ≡ Some p → W p → e a ≡ f a
+
+-- Two valuations are the same on a tree at the attributes whose pass is of a kind.
+abbrev pub Same : (ℕ → Type 0) → Grammar → Passes → Tree → Valuation → Valuation → Type 0
+Same W = AtEachNode (SameAt W)
+
+-- the values of the attributes with these passes are well where the pass is of a kind
+abbrev pub WellAt : (ℕ → Type 0) → List ℕ → (ℕ → Value) → (ℕ → Value) → Type 0
+WellAt W ps e f = (a p : ℕ) → slice_get ps a ≡ Some p → W p → IsWell (e a)
+
+-- What a valuation gives on a tree to the attributes whose pass is of a kind is well. Of other instances nothing is said.
+abbrev pub IsWellOn : (ℕ → Type 0) → Grammar → Passes → Tree → Valuation → Type 0
+IsWellOn W g m t v = AtEachNode (WellAt W) g m t v v
+
+-- any pass: with an assignment for each attribute this compares all values of the tree
+abbrev pub AnyPass : ℕ → Type 0
+AnyPass p = Unit {0}
+
+-- The translation: the value of the root's `out` (this project's).
+abbrev pub IsTranslation : Grammar → Valuation → Value → Type 0
+IsTranslation g v x = (a : ℕ) × IsOut g a × (v [] a ≡ x)

@@ -1,0 +1,47 @@
+-- What the calls and `if` give for the values of their arguments. All of this is this project's.
+use Rattle.std.specs.Prelude.{zero, suc, pos, negsuc, [], ◌∷◌}
+use Rattle.ag_value.specs.declared.value.ErrorCode.TheVariants.{Kind}
+use Rattle.ag_value.specs.declared.value.Value.{Value, out-Value}
+use Rattle.ag_value.specs.declared.value.Value.TheOpen.{Value-F}
+use Rattle.ag_value.specs.declared.value.Value.TheVariants as value
+use Rattle.ag_grammar.specs.declared.node.BinaryCall.{BinaryCall}
+use Rattle.ag_grammar.specs.declared.node.BinaryCall.TheVariants as binary
+use Rattle.ag_grammar.specs.declared.node.UnaryCall.{UnaryCall}
+use Rattle.ag_grammar.specs.declared.node.UnaryCall.TheVariants as unary
+use Rattle.ag_grammar.specs.values.Arguments.{or_else, strict, tested}
+use Rattle.ag_grammar.specs.values.Lists.{appended, length_of, nth_of}
+use Rattle.ag_grammar.specs.values.Numbers.{decimal_of, number_of}
+use Rattle.ag_grammar.specs.values.Tables.{got_from, had_by, keys_of, put_in}
+use Rattle.ag_grammar.specs.values.Texts.{joined_by}
+
+-- a call of one argument
+abbrev pub called : UnaryCall → Value → Value
+called unary.Len a = strict (a ∷ []) (length_of a)
+called unary.Text n = strict (n ∷ []) (decimal_of n)
+called unary.Number t = strict (t ∷ []) (number_of t)
+called unary.Keys t = strict (t ∷ []) (keys_of t)
+called unary.IsError v = tested v
+
+-- a call of two arguments
+abbrev pub called_with : BinaryCall → Value → Value → Value
+called_with binary.Nth l i = strict (l ∷ i ∷ []) (nth_of l i)
+called_with binary.Append l v = strict (l ∷ v ∷ []) (appended l v)
+called_with binary.Join l s = strict (l ∷ s ∷ []) (joined_by l s)
+called_with binary.Get t k = strict (t ∷ k ∷ []) (got_from t k)
+called_with binary.Has t k = strict (t ∷ k ∷ []) (had_by t k)
+called_with binary.OrElse v w = or_else v w
+
+-- `put(t, k, v)`
+abbrev pub put : Value → Value → Value → Value
+put t k v = strict (t ∷ k ∷ v ∷ []) (put_in t k v)
+
+-- `if c then e else f`: c's error where it is one, the error for a kind where it is no number; f's value where it is 0, else e's
+abbrev pub chosen_at : Value-F Value → Value → Value → Value
+chosen_at (Value-F.Num (pos zero)) e f = f
+chosen_at (Value-F.Num (pos (suc n))) e f = e
+chosen_at (Value-F.Num (negsuc n)) e f = e
+chosen_at (Value-F.Fault code) e f = value.Fault code
+chosen_at c e f = value.Fault Kind
+
+abbrev pub chosen : Value → Value → Value → Value
+chosen c e f = chosen_at (out-Value c) e f

@@ -1,0 +1,33 @@
+-- Laws of what operations give.
+use Rattle.std.specs.Prelude.{◌≡◌, ◌↔◌, ◌<◌, ◌≤◌, pos}
+use Rattle.ag_value.specs.declared.value.ErrorCode.TheVariants.{Big, Deep}
+use Rattle.ag_value.specs.declared.value.Value.{Value}
+use Rattle.ag_value.specs.declared.value.Value.TheVariants as value
+use Rattle.ag_value.specs.Measure.{depth_of, max_depth, max_weight, weight_of}
+use Rattle.ag_value.specs.Well.{IsWell}
+use Rattle.ag_grammar.specs.values.Fitting.{fit}
+use Rattle.ag_grammar.specs.values.Operators.{compared}
+use Rattle.ag_grammar.specs.values.Tables.{got_from, keys_of}
+
+-- What is too deep is the error `deep`, also where it is too heavy besides;
+abbrev pub DeepComesFirst : Type 0
+DeepComesFirst = (v : Value) → max_depth < depth_of v → fit v ≡ value.Fault Deep
+
+-- what is too heavy alone is the error `big`;
+abbrev pub BigComesNext : Type 0
+BigComesNext = (v : Value) → depth_of v ≤ max_depth → max_weight < weight_of v → fit v ≡ value.Fault Big
+
+-- and all else stays.
+abbrev pub WhatFitsStays : Type 0
+WhatFitsStays = (v : Value) → depth_of v ≤ max_depth → weight_of v ≤ max_weight → fit v ≡ v
+
+-- `==` is 1 exactly where two well values are the same.
+abbrev pub SameIsOne : Type 0
+SameIsOne = (v w : Value) → IsWell v → IsWell w → (compared v w ≡ value.Num (pos 1)) ↔ (v ≡ w)
+
+-- What `keys` and `get` give is well without more.
+abbrev pub KeysAreWell : Type 0
+KeysAreWell = (table : Value) → IsWell table → IsWell (keys_of table)
+
+abbrev pub GotIsWell : Type 0
+GotIsWell = (table key : Value) → IsWell table → IsWell (got_from table key)

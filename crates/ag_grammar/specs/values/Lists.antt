@@ -1,0 +1,56 @@
+-- Operations on lists, and those that texts, lists and tables share. All of this is this project's.
+use Rattle.std.specs.Prelude.{ℤ, pos, negsuc, List, [], ◌∷◌, ◌++◌, length, Option, Some, None, slice_get}
+use Rattle.ag_value.specs.declared.value.ErrorCode.TheVariants.{Kind, Index}
+use Rattle.ag_value.specs.declared.value.Value.{Value, out-Value}
+use Rattle.ag_value.specs.declared.value.Value.TheOpen.{Value-F}
+use Rattle.ag_value.specs.declared.value.Value.TheVariants as value
+use Rattle.ag_grammar.specs.values.Arguments.{strict}
+use Rattle.ag_grammar.specs.values.Fitting.{fit}
+
+-- `[a, ..]`
+abbrev pub listed : List Value → Value
+listed items = strict items (fit (value.List items))
+
+-- `len(a)`: the bytes of a text, the items of a list, the pairs of a table
+abbrev pub length_at : Value-F Value → Value
+length_at (Value-F.Text text) = value.Num (pos (length text))
+length_at (Value-F.List items) = value.Num (pos (length items))
+length_at (Value-F.Table pairs) = value.Num (pos (length pairs))
+length_at v = value.Fault Kind
+
+abbrev pub length_of : Value → Value
+length_of v = length_at (out-Value v)
+
+-- `a ++ b`: two texts or two lists
+abbrev pub concatenated_at : Value-F Value → Value-F Value → Value
+concatenated_at (Value-F.Text left) (Value-F.Text right) = fit (value.Text (left ++ right))
+concatenated_at (Value-F.List left) (Value-F.List right) = fit (value.List (left ++ right))
+concatenated_at left right = value.Fault Kind
+
+abbrev pub concatenated : Value → Value → Value
+concatenated left right = concatenated_at (out-Value left) (out-Value right)
+
+-- the item at a place from 0
+abbrev pub item_at : List Value → ℤ → Option Value
+item_at items (pos i) = slice_get items i
+item_at items (negsuc i) = None
+
+abbrev pub item_or_fault : Option Value → Value
+item_or_fault (Some item) = item
+item_or_fault None = value.Fault Index
+
+-- `nth(l, i)`
+abbrev pub nth_at : Value-F Value → Value-F Value → Value
+nth_at (Value-F.List items) (Value-F.Num i) = item_or_fault (item_at items i)
+nth_at list i = value.Fault Kind
+
+abbrev pub nth_of : Value → Value → Value
+nth_of list i = nth_at (out-Value list) (out-Value i)
+
+-- `append(l, v)`
+abbrev pub appended_at : Value-F Value → Value → Value
+appended_at (Value-F.List items) item = fit (value.List (items ++ item ∷ []))
+appended_at list item = value.Fault Kind
+
+abbrev pub appended : Value → Value → Value
+appended list item = appended_at (out-Value list) item

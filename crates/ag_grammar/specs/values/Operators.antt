@@ -1,0 +1,41 @@
+-- What the operators give for two values. All of this is this project's.
+use Rattle.std.specs.Prelude.{◌+ℤ◌, ◌-ℤ◌, ◌*ℤ◌, int_lt, [], ◌∷◌, bytes_eq}
+use Rattle.ag_value.specs.declared.value.ErrorCode.TheVariants.{Kind}
+use Rattle.ag_value.specs.declared.value.Value.{Value, out-Value}
+use Rattle.ag_value.specs.declared.value.Value.TheOpen.{Value-F}
+use Rattle.ag_value.specs.declared.value.Value.TheVariants as value
+use Rattle.ag_value.specs.Spelling.{spelling_of}
+use Rattle.ag_value.specs.Well.{is_before}
+use Rattle.ag_grammar.specs.declared.node.Operator.{Operator}
+use Rattle.ag_grammar.specs.declared.node.Operator.TheVariants as operator
+use Rattle.ag_grammar.specs.values.Arguments.{strict, truth}
+use Rattle.ag_grammar.specs.values.Lists.{concatenated}
+use Rattle.ag_grammar.specs.values.Numbers.{number_value, of_numbers, quotient, remainder}
+
+-- `a == b`, of any kinds: 1 where they are the same value. No two well values have one spelling.
+abbrev pub compared : Value → Value → Value
+compared left right = truth (bytes_eq (spelling_of left) (spelling_of right))
+
+-- `a < b`: two numbers, or two texts by their bytes
+abbrev pub ordered_at : Value-F Value → Value-F Value → Value
+ordered_at (Value-F.Num m) (Value-F.Num n) = truth (int_lt m n)
+ordered_at (Value-F.Text s) (Value-F.Text t) = truth (is_before s t)
+ordered_at left right = value.Fault Kind
+
+abbrev pub ordered : Value → Value → Value
+ordered left right = ordered_at (out-Value left) (out-Value right)
+
+-- what an operator gives for two values that are no errors
+abbrev pub operated : Operator → Value → Value → Value
+operated operator.Equal left right = compared left right
+operated operator.Less left right = ordered left right
+operated operator.Join left right = concatenated left right
+operated operator.Add left right = of_numbers (λ m n. number_value (m +ℤ n)) left right
+operated operator.Subtract left right = of_numbers (λ m n. number_value (m -ℤ n)) left right
+operated operator.Multiply left right = of_numbers (λ m n. number_value (m *ℤ n)) left right
+operated operator.Divide left right = of_numbers quotient left right
+operated operator.Remainder left right = of_numbers remainder left right
+
+-- what it gives for any two values
+abbrev pub applied : Operator → Value → Value → Value
+applied o left right = strict (left ∷ right ∷ []) (operated o left right)

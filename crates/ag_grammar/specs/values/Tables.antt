@@ -1,0 +1,68 @@
+-- Operations on tables. All of this is this project's.
+use Rattle.std.specs.Prelude.{◌≡◌, ℕ, suc, Bool, true, false, List, ◌∷◌, ◌++◌, map, filter, find, take, drop, slice_get, Option, Some, None, bytes_eq}
+use Rattle.ag_value.specs.declared.value.ErrorCode.TheVariants.{Kind, Key}
+use Rattle.ag_value.specs.declared.value.Value.{Value, out-Value}
+use Rattle.ag_value.specs.declared.value.Value.TheOpen.{Value-F}
+use Rattle.ag_value.specs.declared.value.Value.TheVariants as value
+use Rattle.ag_value.specs.Well.{is_before}
+use Rattle.ag_grammar.specs.values.Arguments.{truth}
+use Rattle.ag_grammar.specs.values.Fitting.{fit}
+
+-- the pair with a key
+abbrev pub pair_with : List ℕ → List (List ℕ × Value) → Option (List ℕ × Value)
+pair_with key pairs = find (λ p. bytes_eq p.0 key) pairs
+
+-- the pairs in the order of their keys, where the key has the value and all else stays
+abbrev pub with_pair : List ℕ → Value → List (List ℕ × Value) → List (List ℕ × Value)
+with_pair key v pairs = filter (λ p. is_before p.0 key) pairs ++ (key, v) ∷ filter (λ p. is_before key p.0) pairs
+
+-- `put(t, k, v)`
+abbrev pub put_at : Value-F Value → Value-F Value → Value → Value
+put_at (Value-F.Table pairs) (Value-F.Text key) v = fit (value.Table (with_pair key v pairs))
+put_at table key v = value.Fault Kind
+
+abbrev pub put_in : Value → Value → Value → Value
+put_in table key v = put_at (out-Value table) (out-Value key) v
+
+abbrev pub value_or_fault : Option (List ℕ × Value) → Value
+value_or_fault (Some p) = p.1
+value_or_fault None = value.Fault Key
+
+-- `get(t, k)`
+abbrev pub get_at : Value-F Value → Value-F Value → Value
+get_at (Value-F.Table pairs) (Value-F.Text key) = value_or_fault (pair_with key pairs)
+get_at table key = value.Fault Kind
+
+abbrev pub got_from : Value → Value → Value
+got_from table key = get_at (out-Value table) (out-Value key)
+
+abbrev pub is_there : Option (List ℕ × Value) → Bool
+is_there (Some p) = true
+is_there None = false
+
+-- `has(t, k)`
+abbrev pub has_at : Value-F Value → Value-F Value → Value
+has_at (Value-F.Table pairs) (Value-F.Text key) = truth (is_there (pair_with key pairs))
+has_at table key = value.Fault Kind
+
+abbrev pub had_by : Value → Value → Value
+had_by table key = has_at (out-Value table) (out-Value key)
+
+-- `keys(t)`: in order
+abbrev pub keys_at : Value-F Value → Value
+keys_at (Value-F.Table pairs) = value.List (map (λ p. value.Text p.0) pairs)
+keys_at v = value.Fault Kind
+
+abbrev pub keys_of : Value → Value
+keys_of table = keys_at (out-Value table)
+
+-- the pair has the key, where there is a pair
+abbrev pub has_key : List ℕ → Option (List ℕ × Value) → Bool
+has_key key (Some p) = bytes_eq p.0 key
+has_key key None = false
+
+-- the place of a key in a table: how many pairs have a key before it; the pair there has the key, or no pair has
+pub record IsPlace (key : List ℕ) (pairs : List (List ℕ × Value)) (i : ℕ) : Type 0 where
+  pub front : filter (λ p. is_before p.0 key) pairs ≡ take i pairs
+  pub stands : has_key key (slice_get pairs i) ≡ true → (filter (λ q. is_before key q.0) pairs ≡ drop (suc i) pairs) × (pair_with key pairs ≡ slice_get pairs i)
+  pub belongs : has_key key (slice_get pairs i) ≡ false → (filter (λ q. is_before key q.0) pairs ≡ drop i pairs) × (pair_with key pairs ≡ None)

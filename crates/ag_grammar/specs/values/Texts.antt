@@ -1,0 +1,36 @@
+-- Operations on texts. All of this is this project's.
+use Rattle.std.specs.Prelude.{ℕ, Bool, true, false, List, [], if◌then◌else◌}
+use Rattle.std.specs.List.{join_by, list_all}
+use Rattle.ag_value.specs.declared.value.ErrorCode.TheVariants.{Kind}
+use Rattle.ag_value.specs.declared.value.Value.{Value, out-Value}
+use Rattle.ag_value.specs.declared.value.Value.TheOpen.{Value-F}
+use Rattle.ag_value.specs.declared.value.Value.TheVariants as value
+use Rattle.ag_grammar.specs.values.Fitting.{fit}
+
+-- whether a value is a text
+abbrev pub is_text_at : Value-F Value → Bool
+is_text_at (Value-F.Text text) = true
+is_text_at v = false
+
+abbrev pub is_text : Value → Bool
+is_text v = is_text_at (out-Value v)
+
+-- the bytes of a text, and none of another value
+abbrev pub bytes_at : Value-F Value → List ℕ
+bytes_at (Value-F.Text text) = text
+bytes_at v = []
+
+abbrev pub bytes_of : Value → List ℕ
+bytes_of v = bytes_at (out-Value v)
+
+-- texts with a separator between neighbours, else the error for a kind
+abbrev pub joined_texts : List Value → List ℕ → Value
+joined_texts items separator = if list_all is_text items then fit (value.Text (join_by bytes_of separator items)) else value.Fault Kind
+
+-- `join(l, s)`
+abbrev pub joined_at : Value-F Value → Value-F Value → Value
+joined_at (Value-F.List items) (Value-F.Text separator) = joined_texts items separator
+joined_at list separator = value.Fault Kind
+
+abbrev pub joined_by : Value → Value → Value
+joined_by list separator = joined_at (out-Value list) (out-Value separator)

@@ -1,0 +1,33 @@
+//! Laws about the definitions alone.
+
+ghost use Rattle.ag_grammar.specs.grammars.Laws.{ProductiveByTrees, OneSolution, OneTranslation};
+ghost use Rattle.ag_grammar.specs.grammars.Laws.{EquationsKept, PassesSolve};
+
+/// A symbol derives a list of terminals exactly where there is a tree of it.
+#[tactic(auto, using(crate::proofs::grammars::Productive::by_trees))]
+pub fn productive_by_trees()
+    ensures { ProductiveByTrees }
+{}
+
+/// Any two solutions on a tree of a complete and normal grammar with a legal assignment of passes
+/// are the same.
+#[tactic(auto, using(crate::proofs::grammars::OneSolution::one_solution))]
+pub fn one_solution()
+    ensures { OneSolution }
+{}
+
+/// A tree of an accepted grammar with a legal assignment has one translation at most.
+pub fn one_translation()
+    ensures { OneTranslation }
+{}
+
+/// The equations of a pass stay true where the values of the passes so far are kept.
+#[tactic(auto, using(crate::proofs::grammars::Kept::equations_kept))]
+pub fn equations_kept()
+    ensures { EquationsKept }
+{}
+
+/// Values that meet the equations of each pass are a solution.
+pub fn passes_solve()
+    ensures { PassesSolve }
+{}

@@ -1,0 +1,26 @@
+//! Attribute grammars as data of the program (Knuth 1968): expressions as trees, symbols, productions
+//! and rules, grammars as they stand in a text, and directions of passes. What they mean is defined
+//! over these types: the value of an expression, the trees of a grammar, their solutions, and which
+//! assignments of passes are legal.
+#![tactic(auto)]
+
+mod direction;
+mod expression;
+mod grammar;
+pub mod grammar_laws;
+pub mod limits;
+mod literal;
+mod node;
+mod occurrence;
+mod parts;
+mod raw;
+pub mod samples;
+pub mod value_laws;
+
+pub use direction::Direction;
+pub use expression::{Expr, occurrences};
+pub use grammar::{Item, Production, Rule, Symbol, Target, Terminal};
+pub use literal::Literal;
+pub use node::{BinaryCall, Node, Operator, UnaryCall};
+pub use occurrence::Occ;
+pub use raw::{Named, RawGrammar, RawItem, RawProduction, RawRule, RawSymbol};

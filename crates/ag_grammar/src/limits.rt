@@ -1,0 +1,35 @@
+//! The limits of grammars, trees and plans, by name (this project's): contracts, code and messages
+//! take them from here.
+
+/// How many symbols a grammar has at most.
+pub const MOST_SYMBOLS: usize = 256;
+
+/// How many attributes a symbol has at most.
+pub const MOST_ATTRIBUTES: usize = 16;
+
+/// How many productions a grammar has at most.
+pub const MOST_PRODUCTIONS: usize = 512;
+
+/// How many items a right side has at most.
+pub const MOST_ITEMS: usize = 64;
+
+/// How many items with a place a right side has at most.
+pub const MOST_STORED: usize = 16;
+
+/// How many different literals a grammar has at most.
+pub const MOST_LITERALS: usize = 1_024;
+
+/// How many bytes a literal has at most.
+pub const MOST_LITERAL_BYTES: usize = 255;
+
+/// How many classes of tokens there are: 0 is NAME, 1 is NUMBER, 2 is TEXT.
+pub const CLASS_COUNT: u16 = 3;
+
+/// How many bytes the text of a token has at most.
+pub const MOST_TOKEN_BYTES: usize = 65_535;
+
+/// The depth that a tree has at most; a leaf's is 1.
+pub const MOST_DEPTH: usize = 256;
+
+/// How many stored nodes a tree has at most.
+pub const MOST_NODES: u32 = 65_536;

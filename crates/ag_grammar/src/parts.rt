@@ -1,0 +1,112 @@
+//! What stands at the places of a production, and the attributes of a symbol.
+
+ghost use Rattle.std.specs.Prelude.{◌≡◌, ◌≤◌, ◌↔◌, ◌∷◌, List, IfOk, IfSome, IsTrue, None, Some, cond};
+ghost use Rattle.std.specs.Prelude.{length, slice_get};
+ghost use Rattle.ag_grammar.specs.declared.grammar.Item.{Item as TheItem};
+ghost use Rattle.ag_grammar.specs.grammars.AttributeGrammar.{attribute_names, item_at, places_of};
+ghost use Rattle.ag_grammar.specs.grammars.AttributeGrammar.{Inherited, stored_items, symbol_kinds};
+ghost use Rattle.ag_grammar.specs.grammars.Accepted.{most_attributes};
+
+use crate::grammar::{Item, Production, Symbol, Terminal};
+use ag_value::NoMemory;
+use std::alloc::Global;
+
+impl Item {
+    /// Whether it has a place: declared symbols and classes have one, literals none (this project's).
+    pub fn has_place(self) -> bool
+        ensures { (xs : List TheItem) → stored_items (self ∷ xs)
+            ≡ cond result (self ∷ stored_items xs) (stored_items xs) }
+    {
+        match self {
+            Item::Symbol(_) => true,
+            Item::Terminal(Terminal::Class(_)) => true,
+            Item::Terminal(Terminal::Literal(_)) => false,
+        }
+    }
+}
+
+/// The item of this index among those that have a place.
+fn stored_at(items: &[Item], index: usize) -> Option<Item>
+    ensures { result ≡ slice_get (stored_items items.now) index }
+{
+    let mut left = index;
+    for item in items {
+        if item.has_place() {
+            if left == 0 {
+                return Some(*item);
+            }
+            left -= 1;
+        }
+    }
+    None
+}
+
+impl Production {
+    /// What stands at a place, if there is such a place: at place 0 the symbol of the left side, and
+    /// from 1 on the items of the right side that have a place, from left to right.
+    ///
+    /// Takes no memory; reads the right side up to the place.
+    pub fn item_at(&self, place: u16) -> Option<Item>
+        ensures { result ≡ item_at self.now place }
+    {
+        if place == 0 {
+            return Some(Item::Symbol(self.left));
+        }
+        stored_at(self.items.as_slice(), place as usize - 1)
+    }
+
+    /// What stands at each place, from 0 on. Takes memory for the list.
+    pub fn places(&self, alloc: Global) -> Result<Vec<Item>, NoMemory>
+        ensures { IfOk result (λ places. places.items ≡ places_of self.now) }
+    {
+        let mut places = Vec::new(alloc);
+        places.push(Item::Symbol(self.left))?;
+        for item in self.items.as_slice() {
+            if item.has_place() {
+                places.push(*item)?;
+            }
+        }
+        Ok(places)
+    }
+}
+
+impl Symbol {
+    /// How many attributes it has.
+    pub fn attribute_count(&self) -> usize
+        requires { length (attribute_names self.now) ≤ most_attributes }
+        ensures { result ≡ length (attribute_names self.now) }
+    {
+        self.syn.as_slice().len() + self.inh.as_slice().len()
+    }
+
+    /// The name of the attribute of a number, if there is one: the synthesized attributes come first,
+    /// in declared order, and then the inherited ones.
+    pub fn attribute_name(&self, attr: u16) -> Option<&str>
+        ensures some { IfSome result (λ name. slice_get (attribute_names self.now) attr ≡ Some name.now) }
+        ensures none { result ≡ None → slice_get (attribute_names self.now) attr ≡ None }
+    {
+        let synthesized = self.syn.as_slice();
+        let number = attr as usize;
+        let name = if number < synthesized.len() {
+            synthesized.get(number)
+        } else {
+            self.inh.as_slice().get(number - synthesized.len())
+        };
+        match name {
+            Some(name) => Some(name.as_str()),
+            None => None,
+        }
+    }
+
+    /// Whether the attribute of a number is an inherited one.
+    pub fn is_inherited(&self, attr: u16) -> bool
+        ensures { IsTrue result ↔ (slice_get (symbol_kinds (Some self.now)) attr ≡ Some Inherited) }
+    {
+        let number = attr as usize;
+        let synthesized = self.syn.as_slice().len();
+        if number < synthesized {
+            return false;
+        }
+        number - synthesized < self.inh.as_slice().len()
+    }
+}

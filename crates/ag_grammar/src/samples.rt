@@ -1,0 +1,168 @@
+//! Examples of the definitions, each a law.
+
+ghost use Rattle.std.specs.Prelude.{ℕ, ◌≡◌, [], ◌∷◌, pos};
+ghost use Rattle.ag_value.specs.declared.value.Value.{Num, Text};
+ghost use Rattle.ag_grammar.specs.declared.grammar.Terminal.TheVariants.{Literal, Class};
+ghost use Rattle.ag_grammar.specs.grammars.Accepted.{IsAccepted, IsComplete, IsNormal, IsProductive};
+ghost use Rattle.ag_grammar.specs.grammars.Accepted.{IsReached};
+ghost use Rattle.ag_grammar.specs.grammars.Tree.{node, none, more, IsTreeOf, depth_of, node_count};
+ghost use Rattle.ag_grammar.specs.grammars.Tree.{IsWithinLimits, most_depth, most_nodes};
+ghost use Rattle.ag_grammar.specs.grammars.Yield.{yield_of};
+ghost use Rattle.ag_grammar.specs.grammars.Passes.{IsLegal, Passes};
+ghost use Rattle.ag_grammar.specs.grammars.Solution.{Solves, AnyRule, IsTranslation};
+ghost use Rattle.ag_grammar.specs.grammars.Sample.{bare, both_ways, doubled, sample, without_out};
+ghost use Rattle.ag_grammar.specs.grammars.Sample.{production_r, rule_out, rule_first, rule_second};
+ghost use Rattle.ag_grammar.specs.grammars.Sample.{rule_inherited, later_passes, endless};
+ghost use Rattle.ag_grammar.specs.grammars.Sample.{with_unreached, sample_tree, sample_values};
+ghost use Rattle.ag_grammar.specs.grammars.Sample.{sample_passes, token_sample, token_tree};
+ghost use Rattle.ag_grammar.specs.grammars.Sample.{token_values, iffy};
+
+/// The first grammar is accepted.
+#[tactic(auto, using(crate::proofs::grammars::NumberSample::accepted))]
+pub fn sample_accepted()
+    ensures { IsAccepted sample }
+{}
+
+/// Without the rule for `out` of the left side its first production is not complete.
+#[tactic(auto, using(crate::proofs::grammars::NumberSample::missing))]
+pub fn rule_missing()
+    ensures { IsComplete without_out (production_r (rule_first ∷ rule_second ∷ [])) → ⊥ }
+{}
+
+/// Without that rule the grammar is not accepted.
+#[tactic(auto, using(crate::proofs::grammars::NumberSample::refused))]
+pub fn missing_refused()
+    ensures { IsAccepted without_out → ⊥ }
+{}
+
+/// With the rule for the second child's `i` twice it is not accepted.
+#[tactic(auto, using(crate::proofs::grammars::NumberSample::doubled_refused))]
+pub fn doubled_refused()
+    ensures { IsAccepted doubled → ⊥ }
+{}
+
+/// With a rule whose expression has an occurrence, but without its argument, it is not accepted.
+#[tactic(auto, using(crate::proofs::grammars::NumberSample::bare_refused))]
+pub fn bare_refused()
+    ensures { IsAccepted bare → ⊥ }
+{}
+
+/// Its tree of `x x` is one of the grammar.
+#[tactic(auto, using(crate::proofs::grammars::NumberSample::fits))]
+pub fn sample_fits()
+    ensures { IsTreeOf sample sample_tree }
+{}
+
+/// That tree has depth 2 and 3 nodes, and is within the limits.
+pub fn sample_size()
+    ensures depth { depth_of sample_tree ≡ 2 }
+    ensures nodes { node_count sample_tree ≡ 3 }
+    ensures limits { IsWithinLimits most_depth most_nodes sample_tree }
+{}
+
+/// It yields the literal `x` twice.
+pub fn sample_yield()
+    ensures { yield_of sample sample_tree ≡ (Literal 0, 120 ∷ []) ∷ (Literal 0, 120 ∷ []) ∷ [] }
+{}
+
+/// The values with 2 for `out` solve the grammar on it.
+#[tactic(auto, using(crate::proofs::grammars::NumberSample::solved))]
+pub fn sample_solved()
+    ensures { Solves AnyRule sample sample_tree (sample_values 2) }
+{}
+
+/// The same values with 1 for `out` do not.
+#[tactic(auto, using(crate::proofs::grammars::NumberSample::unsolved))]
+pub fn sample_unsolved()
+    ensures { Solves AnyRule sample sample_tree (sample_values 1) → ⊥ }
+{}
+
+/// The translation is 2.
+#[tactic(auto, using(crate::proofs::grammars::NumberSample::translation))]
+pub fn sample_translation()
+    ensures { IsTranslation sample (sample_values 2) (Num (pos 2)) }
+{}
+
+/// The first pass for all attributes is a legal assignment.
+pub fn sample_legal()
+    ensures { IsLegal sample sample_passes }
+{}
+
+/// With `$2.i = $1.i` its first production is not normal.
+#[tactic(auto, using(crate::proofs::grammars::Refused::not_normal))]
+pub fn not_normal()
+    ensures { IsNormal sample (production_r (rule_out ∷ rule_first ∷ rule_inherited ∷ [])) → ⊥ }
+{}
+
+/// A node of `R = A A` with one child is no tree of the grammar.
+#[tactic(auto, using(crate::proofs::grammars::Refused::child_missing))]
+pub fn child_missing()
+    ensures { IsTreeOf sample (node 0 (more (node 1 none) none)) → ⊥ }
+{}
+
+/// The second pass for all attributes is not legal: from left to right the first child comes before
+/// what its `i` uses.
+#[tactic(auto, using(crate::proofs::grammars::Refused::not_legal))]
+pub fn not_legal()
+    ensures { IsLegal sample later_passes → ⊥ }
+{}
+
+/// With a production more, in which the first child's `s` goes into the second, no assignment is
+/// legal, whatever the number of passes: each direction is wrong for one of the two productions.
+pub fn none_legal()
+    ensures { (m : Passes) → IsLegal both_ways m → ⊥ }
+{}
+
+/// A symbol with the production `R = R` alone derives no list of terminals.
+#[tactic(auto, using(crate::proofs::grammars::Refused::not_productive))]
+pub fn not_productive()
+    ensures { IsProductive endless 0 → ⊥ }
+{}
+
+/// A symbol that stands on no right side, and is not the start symbol, is not reached.
+#[tactic(auto, using(crate::proofs::grammars::Refused::not_reached))]
+pub fn not_reached()
+    ensures { IsReached with_unreached 2 → ⊥ }
+{}
+
+/// The second grammar, with a token, is accepted.
+#[tactic(auto, using(crate::proofs::grammars::TokenSample::accepted))]
+pub fn token_accepted()
+    ensures { IsAccepted token_sample }
+{}
+
+/// The tree of `iffy if`, with a token, is one of the second grammar.
+#[tactic(auto, using(crate::proofs::grammars::TokenSample::fits))]
+pub fn token_fits()
+    ensures { IsTreeOf token_sample token_tree }
+{}
+
+/// A token is a node: that tree has depth 2 and 2 nodes.
+pub fn token_size()
+    ensures depth { depth_of token_tree ≡ 2 }
+    ensures nodes { node_count token_tree ≡ 2 }
+{}
+
+/// It yields the name `iffy` and then the literal `if`.
+pub fn token_yield()
+    ensures { yield_of token_sample token_tree
+        ≡ (Class 0, iffy) ∷ (Literal 0, 105 ∷ 102 ∷ []) ∷ [] }
+{}
+
+/// The name for `out` solves the grammar on it.
+#[tactic(auto, using(crate::proofs::grammars::TokenSample::solved))]
+pub fn token_solved()
+    ensures { Solves AnyRule token_sample token_tree (token_values iffy) }
+{}
+
+/// The empty text does not.
+#[tactic(auto, using(crate::proofs::grammars::TokenSample::unsolved))]
+pub fn token_unsolved()
+    ensures { Solves AnyRule token_sample token_tree (token_values []) → ⊥ }
+{}
+
+/// The translation is the name.
+#[tactic(auto, using(crate::proofs::grammars::TokenSample::translation))]
+pub fn token_translation()
+    ensures { IsTranslation token_sample (token_values iffy) (Text iffy) }
+{}

@@ -1,0 +1,102 @@
+//! Laws of the values of expressions, each the contract of a function that does nothing, and
+//! examples worked out by hand.
+
+ghost use Rattle.std.specs.Prelude.{◌≡◌, ◌∷◌, [], ℕ, neg_ℤ, negsuc, pos, codes};
+ghost use Rattle.ag_value.specs.declared.value.ErrorCode.TheVariants as code;
+ghost use Rattle.ag_value.specs.declared.value.Value.{Value as AttributeValue};
+ghost use Rattle.ag_value.specs.declared.value.Value.TheVariants as value;
+ghost use Rattle.ag_grammar.specs.declared.node.BinaryCall.TheVariants as binary;
+ghost use Rattle.ag_grammar.specs.declared.node.Operator.TheVariants as operator;
+ghost use Rattle.ag_grammar.specs.declared.node.UnaryCall.TheVariants as unary;
+ghost use Rattle.ag_grammar.specs.expressions.Evaluation.{value_of};
+ghost use Rattle.ag_grammar.specs.values.Calls.{called, called_with, chosen};
+ghost use Rattle.ag_grammar.specs.values.Laws.{BigComesNext, DeepComesFirst, WhatFitsStays};
+ghost use Rattle.ag_grammar.specs.values.Laws.{GotIsWell, KeysAreWell, SameIsOne};
+ghost use Rattle.ag_grammar.specs.values.Lists.{listed};
+ghost use Rattle.ag_grammar.specs.values.Operators.{applied};
+ghost use Rattle.ag_grammar.specs.values.Tables.{put_in, with_pair};
+ghost use Rattle.ag_grammar.specs.values.Worked.{bound_error, least, number, other_branch, two_keys};
+
+/// A value beyond both limits is the error for its depth, beyond one the error for that one, and
+/// within both itself.
+pub fn a_value_beyond_the_limits_is_an_error()
+    ensures deep { DeepComesFirst }
+    ensures big { BigComesNext }
+    ensures fits { WhatFitsStays }
+{}
+
+/// Two well values are the same exactly where `==` is 1.
+pub fn equality_tells_values_apart()
+    ensures { SameIsOne }
+{}
+
+/// What `keys` and `get` give of a well table is within the limits without more.
+pub fn parts_of_a_table_are_well()
+    ensures keys { KeysAreWell }
+    ensures got { GotIsWell }
+{}
+
+/// The leftmost error of two comes before a kind, and a kind before an operation's own error.
+pub fn worked_errors()
+    ensures leftmost { applied operator.Add (value.Fault code.Index) (value.Fault code.Key)
+        ≡ value.Fault code.Index }
+    ensures before_kind { applied operator.Add (value.Text (codes "a")) (value.Fault code.Divide)
+        ≡ value.Fault code.Divide }
+    ensures kind_by_zero { applied operator.Divide (value.Text (codes "a")) (number 0)
+        ≡ value.Fault code.Kind }
+    ensures kind_at_place { called_with binary.Nth (value.Text (codes "a")) (number 9)
+        ≡ value.Fault code.Kind }
+    ensures item { listed (number 1 ∷ value.Fault code.Divide ∷ value.Fault code.Index ∷ [])
+        ≡ value.Fault code.Divide }
+    ensures either { called_with binary.OrElse (number 7) (value.Fault code.Key) ≡ number 7 }
+    ensures other { called_with binary.OrElse (value.Fault code.Key) (number 7) ≡ number 7 }
+    ensures condition { (e f : AttributeValue)
+        → chosen (value.Text (codes "a")) e f ≡ value.Fault code.Kind }
+    ensures bound { (env : ℕ → AttributeValue) → value_of bound_error env ≡ number 1 }
+    ensures branch { (env : ℕ → AttributeValue) → value_of other_branch env ≡ number 2 }
+{}
+
+/// Numbers at the ends of their range, and signs of quotients and remainders.
+pub fn worked_numbers()
+    ensures quotient { applied operator.Divide (value.Num (negsuc 6)) (number 4)
+        ≡ value.Num (negsuc 0) }
+    ensures remainder { applied operator.Remainder (value.Num (negsuc 6)) (number 4)
+        ≡ value.Num (negsuc 2) }
+    ensures least_quotient { applied operator.Divide (value.Num least) (value.Num (negsuc 0))
+        ≡ value.Fault code.Overflow }
+    ensures least_remainder { applied operator.Remainder (value.Num least) (value.Num (negsuc 0))
+        ≡ number 0 }
+    ensures zeros { called unary.Number (value.Text (codes "-007")) ≡ value.Num (negsuc 6) }
+    ensures zero { called unary.Number (value.Text (codes "-0")) ≡ number 0 }
+    ensures least_spelled { called unary.Number (value.Text (codes "-9223372036854775808"))
+        ≡ value.Num least }
+    ensures too_large { called unary.Number (value.Text (codes "9223372036854775808"))
+        ≡ value.Fault code.Number }
+    ensures sign_alone { called unary.Number (value.Text (codes "-")) ≡ value.Fault code.Number }
+    ensures plus { called unary.Number (value.Text (codes "+5")) ≡ value.Fault code.Number }
+    ensures empty { called unary.Number (value.Text []) ≡ value.Fault code.Number }
+    // an Arabic digit one, in UTF-8
+    ensures other_digits { called unary.Number (value.Text (217 ∷ 161 ∷ []))
+        ≡ value.Fault code.Number }
+{}
+
+/// Texts by their bytes, lists by places from 0, tables by their keys.
+pub fn worked_parts()
+    // an `ä` in UTF-8
+    ensures bytes { called unary.Len (value.Text (195 ∷ 164 ∷ [])) ≡ number 2 }
+    ensures order { applied operator.Less (value.Text (codes "z")) (value.Text (195 ∷ 164 ∷ []))
+        ≡ number 1 }
+    ensures kinds { applied operator.Equal (number 1) (value.Text (codes "1")) ≡ number 0 }
+    ensures below { called_with binary.Nth (value.List (number 5 ∷ [])) (value.Num (negsuc 0))
+        ≡ value.Fault code.Index }
+    ensures behind { called_with binary.Nth (value.List (number 5 ∷ [])) (number 1)
+        ≡ value.Fault code.Index }
+    ensures first { called_with binary.Nth (value.List (number 5 ∷ [])) (number 0) ≡ number 5 }
+    ensures absent { called_with binary.Get (value.Table two_keys) (value.Text (codes "c"))
+        ≡ value.Fault code.Key }
+    ensures found { called_with binary.Get (value.Table two_keys) (value.Text (codes "b"))
+        ≡ number 2 }
+    ensures sorted { with_pair (codes "a") (number 1) ((codes "b", number 2) ∷ []) ≡ two_keys }
+    ensures again { with_pair (codes "b") (number 3) two_keys
+        ≡ (codes "a", number 1) ∷ (codes "b", number 3) ∷ [] }
+{}

@@ -1,0 +1,6 @@
+-- The goal of `texts_are_readable` that is left.
+use Rattle.aggen.proofs.FromTexts as from_texts
+use Rattle.aggen.proofs.laws.texts_are_readable.Goals as goal
+
+pub returns : goal.returns
+returns c = from_texts.texts_are_readable

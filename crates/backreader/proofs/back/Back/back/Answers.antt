@@ -1,0 +1,118 @@
+use Rattle.std.proofs.Common.{rules, ◌≡◌, ◌+◌, None, Some, Ok, Err, length, ℕ, List, Bor, refl, sym, ap, subst, ◌∙◌, arith}
+use Rattle.std.specs.Option.{option_map}
+use Rattle.backreader.specs.Place.{IsLarge, Place, Progress, progress_after}
+use Rattle.backreader.specs.Windows.{taken, unread}
+use Rattle.backreader.proofs.Standing.{told_as_well}
+use Rattle.treefile.proofs.Frames.{length_part}
+use Rattle.treefile.specs.Backward.{before_frame, next_before}
+use Rattle.treefile.specs.Ending.{Told}
+use Rattle.treefile.specs.TreeFile.{version_one}
+use Rattle.treefile.specs.declared.reading.FrameFault.{FrameFault}
+use Rattle.treefile.specs.declared.reading.FrameFault.TheVariants.{NoMemory}
+use Rattle.backreader.proofs.back.Back.back.Goals as goal
+
+-- the header ends there
+pub returns-in-Ok-None : goal.returns-in-Ok-None
+returns-in-Ok-None g c =
+    let content = g.D.Device.content c.args.device.now in
+    let at_is : c.self.inside.window.at ≡ c.args.self.now.progress.at = ap (λ (place : Place). place.progress.at) c.self.view_is in
+    let unbroken : c.args.self.now.progress.fault ≡ None = sym (ap (λ (place : Place). place.progress.fault) c.self.view_is) ∙ c.in_default.is in
+    let stays : c.next.new.self.at ≡ c.self.inside.window.at = rw c.in-Ok-None.field-0-is at c.in-Ok-None.ensures.none in
+    let now : ℕ → Progress = λ (k : ℕ). record { pass = c.self.inside.pass; at = k; records = c.self.inside.records; fault = c.self.inside.fault } in (
+      (
+        refl,
+        (λ _. tt),
+        record {
+          over = λ h. record { window = c.in-Ok-None.ensures.stand h; header = (c.requires h).header };
+          progress = ap now stays ∙ ap (λ (place : Place). place.progress) c.self.view_is;
+          want = search rules;
+        },
+      ),
+      record {
+        after = tt;
+        told = λ e honest. subst (λ (k : ℕ). next_before version_one content k ≡ Ok None) at_is (rw c.in-Ok-None.field-0-is at (c.in-Ok-None.ensures.told honest));
+        memory = search rules;
+        body = search rules;
+        room = search rules;
+        file = search rules;
+        broken = rw unbroken tt;
+        content = search rules;
+        persists = search rules;
+      },
+    )
+
+-- a body is lent
+pub returns-in-Ok-Some : goal.returns-in-Ok-Some
+returns-in-Ok-Some g c =
+    let content = g.D.Device.content c.args.device.now in
+    let body = c.taken.result.now in
+    let count = c.in-Ok-Some.length in
+    let new = c.next.new.self in
+    let at_is : c.self.inside.window.at ≡ c.args.self.now.progress.at = ap (λ (place : Place). place.progress.at) c.self.view_is in
+    let unbroken : c.args.self.now.progress.fault ≡ None = sym (ap (λ (place : Place). place.progress.fault) c.self.view_is) ∙ c.in_default.is in
+    let within = rw c.in-Ok-Some.field-0-is at c.in-Ok-Some.ensures.within in
+    let moved = rw c.in-Ok-Some.field-0-is at c.in-Ok-Some.ensures.moved in
+    let least = rw c.in-Ok-Some.field-0-is at c.in-Ok-Some.ensures.least in
+    let greatest = rw c.in-Ok-Some.field-0-is at c.in-Ok-Some.ensures.greatest in
+    let long : length body ≡ count = ap length c.taken.ensures ∙ length_part new.buffer.items new.to (new.to + count) (omega arith) (omega (arith, within)) ∙ omega arith in
+    let here : new.at ≡ before_frame c.self.inside.window.at body = omega (arith, moved, long) in
+    let now : ℕ → Progress = λ (k : ℕ). record { pass = c.self.inside.pass; at = k; records = c.self.inside.records + 1; fault = c.self.inside.fault } in (
+      (
+        refl,
+        (λ _. tt),
+        record {
+          over = λ h. record { window = c.in-Ok-Some.ensures.stand h; header = (c.requires h).header };
+          progress = ap now here ∙ ap (λ (place : Place). progress_after place.progress (Ok (Some body))) c.self.view_is;
+          want = search rules;
+        },
+      ),
+      record {
+        after = tt;
+        told = λ e honest. subst (λ (k : ℕ). next_before version_one content k ≡ Ok (Some body)) at_is ((rw c.in-Ok-Some.field-0-is at (c.in-Ok-Some.ensures.told honest)) ∙ ap (λ (b : List ℕ). Ok (Some b)) (sym c.taken.ensures));
+        memory = search rules;
+        body = record { least = omega (arith, least, long); greatest = omega (arith, greatest, long) };
+        room = omega (arith, moved, long, at_is);
+        file = search rules;
+        broken = rw unbroken tt;
+        content = search rules;
+        persists = search rules;
+      },
+    )
+
+-- a refusal
+pub returns-in-Err : goal.returns-in-Err
+returns-in-Err g c =
+    let content = g.D.Device.content c.args.device.now in
+    let fault = c.in-Err.fault in
+    let at_is : c.self.inside.window.at ≡ c.args.self.now.progress.at = ap (λ (place : Place). place.progress.at) c.self.view_is in
+    let unbroken : c.args.self.now.progress.fault ≡ None = sym (ap (λ (place : Place). place.progress.fault) c.self.view_is) ∙ c.in_default.is in
+    let then : Progress = record { pass = c.self.inside.pass; at = c.self.inside.window.at; records = c.self.inside.records; fault = c.self.inside.fault } in
+    let now : ℕ → Progress = λ (k : ℕ). record { pass = c.self.inside.pass; at = k; records = c.self.inside.records; fault = c.for_good-self-inside.result } in
+    let after : now c.next.new.self.at ≡ progress_after then (Err fault) = ap now c.in-Err.ensures.kept ∙ c.for_good-self-inside.ensures then c.in_default.is in (
+      (
+        refl,
+        (λ _. tt),
+        record {
+          over = λ h. record { window = c.in-Err.ensures.stand h; header = (c.requires h).header };
+          progress = after ∙ ap (λ (place : Place). progress_after place.progress (Err fault)) c.self.view_is;
+          want = λ is.
+              let same : fault ≡ NoMemory = cc in
+              let window : unread c.next.new.self ≡ unread c.self.inside.window = c.in-Err.ensures.want (ap Err same) in
+              let progress : now c.next.new.self.at ≡ then = after ∙ ap (λ (f : FrameFault). progress_after then (Err f)) same in
+              (λ t. record { window = window t; progress = progress t }) ∙ c.self.view_is;
+        },
+      ),
+      record {
+        after = tt;
+        told = λ e honest. subst (λ (k : ℕ). Told (option_map (λ (body : Bor (List ℕ)). body.now)) (Err fault) (next_before version_one content k)) at_is (told_as_well (option_map (taken c.next.new.self)) (option_map (λ (body : Bor (List ℕ)). body.now)) fault (next_before version_one content c.self.inside.window.at) (c.in-Err.ensures.told honest));
+        memory = λ e honest is.
+            let same : fault ≡ NoMemory = cc in
+            subst (λ (k : ℕ). IsLarge (next_before version_one content k)) at_is (c.in-Err.ensures.memory honest (ap Err same));
+        body = search rules;
+        room = search rules;
+        file = search rules;
+        broken = rw unbroken tt;
+        content = search rules;
+        persists = search rules;
+      },
+    )

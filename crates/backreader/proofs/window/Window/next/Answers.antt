@@ -1,0 +1,24 @@
+use Rattle.std.proofs.Common.{◌≡◌, ◌-◌, true, List, ℕ, slice_range, rules, sym, subst, ◌∙◌}
+use Rattle.backreader.proofs.Standing.{same_stand}
+use Rattle.backreader.specs.Place.{StandBefore}
+use Rattle.backreader.specs.Windows.{unread}
+use Rattle.backreader.proofs.window.Window.next.Goals as goal
+
+-- for want of memory what was read is forgotten
+pub returns-then-is_err-clause-stand : goal.returns-then-is_err-clause-stand
+returns-then-is_err-clause-stand g c honest =
+    let content = g.D.Device.content c.args.device.now in
+    let old = c.args.self.now in
+    let new = c.grow.new.self in
+    let place : new.at ≡ old.at = c.grow.ensures.at ∙ c.in_ok-length.ensures.at in
+    let forgotten : slice_range new.buffer.items (new.to - (old.to - old.from)) new.to ≡ unread old = search rules in
+    subst (λ (k : ℕ). StandBefore content k (slice_range new.buffer.items (new.to - (old.to - old.from)) new.to)) (sym place) (same_stand content (unread old) _ old.at forgotten (c.requires honest))
+
+-- a body was taken
+pub returns-clause-stand : goal.returns-clause-stand
+returns-clause-stand g c honest =
+    let content = g.D.Device.content c.args.device.now in
+    let same : g.D.Device.content c.length_before.new.device ≡ content = c.in_ok-length.ensures.content honest in
+    let is : g.D.Device.is_honest c.length_before.new.device ≡ true = c.in_ok-length.ensures.persists.honest ∙ honest in
+    let loaded : StandBefore content c.load.new.self.at (unread c.load.new.self) = subst (λ (bytes : List ℕ). StandBefore bytes c.load.new.self.at (unread c.load.new.self)) same (c.in_ok-load.ensures.stand is) in
+    c.take.ensures.stand content loaded

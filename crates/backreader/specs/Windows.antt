@@ -1,0 +1,16 @@
+-- What the buffer of a reader has. All of this is this project's.
+use Rattle.std.specs.Prelude.{◌≡◌, ℕ, ◌+◌, ◌-◌, ◌≤◌, List, slice_range}
+use Rattle.backreader.specs.declared.window.Window.{Window}
+
+-- the bytes that were read and not yet taken
+abbrev pub unread : Window → List ℕ
+unread window = slice_range window.buffer.items window.from window.to
+
+-- so many of the bytes that were taken last
+abbrev pub taken : Window → ℕ → List ℕ
+taken window count = slice_range window.buffer.items window.to (window.to + count)
+
+-- the last of the bytes that were read and not yet taken are those that there were before
+pub record Keeps (old now : Window) : Type 0 where
+  pub more : old.to - old.from ≤ now.to - now.from
+  pub last : slice_range now.buffer.items (now.to - (old.to - old.from)) now.to ≡ unread old

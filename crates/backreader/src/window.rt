@@ -1,0 +1,300 @@
+//! The bytes of a device that stand before an offset, read by blocks from its end on.
+
+ghost use Rattle.std.specs.Prelude.{◌≡◌, ◌≤◌, ◌<◌, ◌+◌, ◌-◌, ℕ, List, [], Ok, Err, length, min, vec_len};
+ghost use Rattle.std.specs.Prelude.{drop, slice_range, IfNone, IfOk, IfSome, IsErrOf, OnErr, OnOk};
+ghost use Rattle.std.specs.Option.{option_map};
+ghost use Rattle.backreader.specs.Place.{IsLarge, StandBefore, buffer_bytes};
+ghost use Rattle.treefile.specs.Backward.{next_before};
+ghost use Rattle.treefile.specs.Device.{LeavesContent, Persists, TakesNoMemory, WhenHonest};
+ghost use Rattle.treefile.specs.Ending.{IsBytes, Told, body_before, greatest_body, header_bytes};
+ghost use Rattle.treefile.specs.Ending.{least_body, length_bytes, number_before};
+ghost use Rattle.treefile.specs.TreeFile.{version_one};
+ghost use Rattle.treefile.specs.declared.reading.FrameFault.TheVariants.{Damaged};
+
+use std::alloc::{AllocError, Global};
+use treefile::{Device, DeviceFault, FrameFault, HEADER_BYTES, LENGTH_BYTES, fits_before};
+
+/// How many bytes a buffer has at first.
+const BUFFER: usize = 4096;
+
+/// How many bytes the length behind a body has.
+const LENGTH: usize = LENGTH_BYTES as usize;
+
+/// The bytes of a device that stand before an offset, as far as they were read: those of a buffer
+/// from one place to another. Before them the buffer is free, and behind them stand the bytes that
+/// were taken last. The buffer has room for the least block, and for the greatest frame at most.
+#[derive(Drop)]
+pub(crate) struct Window {
+    buffer: Vec<u8>,
+    from: usize,
+    to: usize,
+    at: u64,
+    ghost ordered: { from ≤ to },
+    ghost within: { to ≤ vec_len buffer },
+    ghost roomy: { buffer_bytes ≤ vec_len buffer },
+    ghost narrow: { vec_len buffer ≤ greatest_body version_one + length_bytes },
+    ghost behind: { to - from + header_bytes ≤ at },
+}
+
+impl Window {
+    ghost use Rattle.backreader.specs.Windows.{Keeps, taken, unread};
+
+    /// No bytes before an offset, in a buffer of 4,096. Takes memory for it.
+    pub(crate) fn new(alloc: Global, at: u64) -> Result<Window, AllocError>
+        requires { header_bytes ≤ at }
+        ensures at { IfOk result (λ window. window.at ≡ at) }
+        ensures unread { IfOk result (λ window. unread window ≡ []) }
+    {
+        let buffer = vec![in alloc; 0; BUFFER]?;
+        let to = buffer.len();
+        Ok(Window {
+            buffer,
+            from: to,
+            to,
+            at,
+        })
+    }
+
+    /// The offset before which the bytes stand.
+    pub(crate) fn at(&self) -> u64
+        ensures { result ≡ self.now.at }
+    {
+        self.at
+    }
+
+    /// Takes the bytes of the frame that ends at the offset. The length of its body; `None` where
+    /// the header ends there.
+    ///
+    /// B2 Damaged where no frame ends there. D1 Device where a call of the device failed. Takes
+    /// memory for a frame that has more bytes than the buffer, and for want of it is as before.
+    #[tactic(auto, unfolding(treefile::specs::Backward::next_before))]
+    pub(crate) fn next<D: Device>(&mut self, device: &mut D) -> Result<Option<usize>, FrameFault>
+        requires { WhenHonest (D.is_honest device.old)
+            (StandBefore (D.content device.old) self.old.at (unread self.old)) }
+        ensures told { WhenHonest (D.is_honest device.old) (Told (option_map (taken self.new)) result
+            (next_before version_one (D.content device.old) self.old.at)) }
+        ensures memory { WhenHonest (D.is_honest device.old)
+            (IsErrOf result FrameFault.NoMemory →
+            IsLarge (next_before version_one (D.content device.old) self.old.at)) }
+        ensures stand { WhenHonest (D.is_honest device.old)
+            (StandBefore (D.content device.old) self.new.at (unread self.new)) }
+        ensures moved { IfOk result (λ found. IfSome found
+            (λ count. self.new.at + count + length_bytes ≡ self.old.at)) }
+        ensures none { IfOk result (λ found. IfNone found (self.new.at ≡ self.old.at)) }
+        ensures kept { OnErr result (self.new.at ≡ self.old.at) }
+        ensures want { IsErrOf result FrameFault.NoMemory → unread self.new ≡ unread self.old }
+        ensures within { IfOk result (λ found. IfSome found
+            (λ count. self.new.to + count ≤ vec_len self.new.buffer)) }
+        ensures least { IfOk result (λ found. IfSome found (λ count. least_body ≤ count)) }
+        ensures greatest { IfOk result (λ found. IfSome found
+            (λ count. count ≤ greatest_body version_one)) }
+        ensures file { IsErrOf result FrameFault.NotATreeFile → ⊥ }
+        ensures content { LeavesContent (D.is_honest device.old)
+            (D.content device.old) (D.content device.new) }
+        ensures persists { Persists (D.is_honest device.old) (D.is_honest device.new)
+            (D.failures device.old) (D.failures device.new) (IsErrOf result FrameFault.Device) }
+    {
+        if self.at == HEADER_BYTES {
+            return Ok(None);
+        }
+        let unread = self.to - self.from;
+        let Some(length) = self.length_before(device)? else {
+            return Err(FrameFault::Damaged(self.at));
+        };
+        if self.grow(length + LENGTH).is_err() {
+            // what was read since is read again by the next call
+            self.from = self.to - unread;
+            return Err(FrameFault::NoMemory);
+        }
+        self.load(device, length + LENGTH)?;
+        self.take(length);
+        Ok(Some(length))
+    }
+
+    /// Lends so many of the bytes that were taken last.
+    pub(crate) fn taken(&self, count: usize) -> &[u8]
+        requires { self.now.to + count ≤ vec_len self.now.buffer }
+        ensures { result.now ≡ taken self.now count }
+    {
+        &self.buffer[self.to..self.to + count]
+    }
+
+    /// The length of the body whose frame ends at the offset; `None` where none does.
+    #[tactic(auto, unfolding(treefile::specs::Ending::body_before))]
+    fn length_before<D: Device>(&mut self, device: &mut D) -> Result<Option<usize>, DeviceFault>
+        requires { WhenHonest (D.is_honest device.old)
+            (StandBefore (D.content device.old) self.old.at (unread self.old)) }
+        ensures found { WhenHonest (D.is_honest device.old)
+            (IfOk result (λ found. IfSome found
+            (λ count. body_before version_one (D.content device.old) self.old.at
+            ≡ Ok (slice_range (D.content device.old)
+            (self.old.at - length_bytes - count) (self.old.at - length_bytes))))) }
+        ensures none { WhenHonest (D.is_honest device.old)
+            (IfOk result (λ found. IfNone found
+            (body_before version_one (D.content device.old) self.old.at
+            ≡ Err (Damaged self.old.at)))) }
+        ensures room { IfOk result (λ found. IfSome found
+            (λ count. header_bytes + count + length_bytes ≤ self.old.at)) }
+        ensures least { IfOk result (λ found. IfSome found (λ count. least_body ≤ count)) }
+        ensures greatest { IfOk result (λ found. IfSome found
+            (λ count. count ≤ greatest_body version_one)) }
+        ensures stand { WhenHonest (D.is_honest device.old)
+            (StandBefore (D.content device.old) self.new.at (unread self.new)) }
+        ensures kept { Keeps self.old self.new }
+        ensures at { self.new.at ≡ self.old.at }
+        ensures memory { TakesNoMemory result }
+        ensures content { LeavesContent (D.is_honest device.old)
+            (D.content device.old) (D.content device.new) }
+        ensures persists { Persists (D.is_honest device.old) (D.is_honest device.new)
+            (D.failures device.old) (D.failures device.new) (IsErrOf result DeviceFault.Failed) }
+    {
+        if self.at < HEADER_BYTES + LENGTH_BYTES {
+            return Ok(None);
+        }
+        self.load(device, LENGTH)?;
+        let length = self.number();
+        if fits_before(self.at, u64::from(length)) {
+            Ok(Some(length as usize))
+        } else {
+            Ok(None)
+        }
+    }
+
+    /// The number in the last four bytes.
+    fn number(&self) -> u32
+        requires { length_bytes ≤ self.now.to - self.now.from }
+        ensures { (content : List ℕ) → StandBefore content self.now.at (unread self.now) →
+            result ≡ number_before content self.now.at }
+    {
+        let mut number = [0; 4];
+        number.copy_from_slice(&self.buffer[self.to - LENGTH..self.to]);
+        u32::from_be_bytes(number)
+    }
+
+    /// Takes the last frame, whose body has so many bytes.
+    fn take(&mut self, length: usize)
+        requires { length + length_bytes ≤ self.old.to - self.old.from }
+        ensures body { (content : List ℕ) →
+            StandBefore content self.old.at (unread self.old) → taken self.new length
+            ≡ slice_range content
+            (self.old.at - length_bytes - length) (self.old.at - length_bytes) }
+        ensures stand { (content : List ℕ) →
+            StandBefore content self.old.at (unread self.old) →
+            StandBefore content self.new.at (unread self.new) }
+        ensures buffer { self.new.buffer ≡ self.old.buffer }
+        ensures to { self.new.to + length + length_bytes ≡ self.old.to }
+        ensures at { self.new.at + length + length_bytes ≡ self.old.at }
+    {
+        self.to -= length + LENGTH;
+        self.at -= (length + LENGTH) as u64;
+    }
+
+    /// Makes the buffer have so many bytes at least. Takes memory where it has fewer.
+    fn grow(&mut self, count: usize) -> Result<(), AllocError>
+        requires { count ≤ greatest_body version_one + length_bytes }
+        ensures room { OnOk result (count ≤ vec_len self.new.buffer) }
+        ensures large { OnErr result (buffer_bytes < count) }
+        ensures same { OnErr result (self.new.buffer.items ≡ self.old.buffer.items) }
+        ensures unread { unread self.new ≡ unread self.old }
+        ensures from { self.new.from ≡ self.old.from }
+        ensures to { self.new.to ≡ self.old.to }
+        ensures at { self.new.at ≡ self.old.at }
+    {
+        if self.buffer.len() < count {
+            self.buffer.resize(count, 0)?;
+        }
+        Ok(())
+    }
+
+    /// Reads on where there are fewer bytes than so many. Asks for a buffer that has room for them,
+    /// and for so many bytes between the header and the offset.
+    fn load<D: Device>(&mut self, device: &mut D, count: usize) -> Result<(), DeviceFault>
+        requires room { count ≤ vec_len self.old.buffer }
+        requires behind { header_bytes + count ≤ self.old.at }
+        requires stand { WhenHonest (D.is_honest device.old)
+            (StandBefore (D.content device.old) self.old.at (unread self.old)) }
+        ensures enough { OnOk result (count ≤ self.new.to - self.new.from) }
+        ensures stand { WhenHonest (D.is_honest device.old)
+            (StandBefore (D.content device.old) self.new.at (unread self.new)) }
+        ensures kept { Keeps self.old self.new }
+        ensures at { self.new.at ≡ self.old.at }
+        ensures memory { TakesNoMemory result }
+        ensures content { LeavesContent (D.is_honest device.old)
+            (D.content device.old) (D.content device.new) }
+        ensures persists { Persists (D.is_honest device.old) (D.is_honest device.new)
+            (D.failures device.old) (D.failures device.new) (IsErrOf result DeviceFault.Failed) }
+    {
+        if count <= self.to - self.from {
+            return Ok(());
+        }
+        self.fill(device)
+    }
+
+    /// Moves the bytes to the end of the buffer, and reads those before them: as many as are free,
+    /// or up to the header. After a failure there are as many as before.
+    fn fill<D: Device>(&mut self, device: &mut D) -> Result<(), DeviceFault>
+        requires { WhenHonest (D.is_honest device.old)
+            (StandBefore (D.content device.old) self.old.at (unread self.old)) }
+        ensures full { OnOk result (self.new.to - self.new.from
+            ≡ min (vec_len self.old.buffer) (self.old.at - header_bytes)) }
+        ensures stand { WhenHonest (D.is_honest device.old)
+            (StandBefore (D.content device.old) self.new.at (unread self.new)) }
+        ensures kept { Keeps self.old self.new }
+        ensures at { self.new.at ≡ self.old.at }
+        ensures memory { TakesNoMemory result }
+        ensures content { LeavesContent (D.is_honest device.old)
+            (D.content device.old) (D.content device.new) }
+        ensures persists { Persists (D.is_honest device.old) (D.is_honest device.new)
+            (D.failures device.old) (D.failures device.new) (IsErrOf result DeviceFault.Failed) }
+    {
+        self.slide();
+        let (from, count) = (self.from, self.to - self.from);
+        let ahead = self.at - HEADER_BYTES - count as u64;
+        let free = ahead.min(from as u64) as usize;
+        let start = self.at - (count + free) as u64;
+        read_part(device, start, self.buffer.as_mut_slice(), from - free, from)?;
+        self.from = from - free;
+        Ok(())
+    }
+
+    /// Moves the bytes to the end of the buffer.
+    fn slide(&mut self)
+        ensures unread { unread self.new ≡ unread self.old }
+        ensures room { vec_len self.new.buffer ≡ vec_len self.old.buffer }
+        ensures end { self.new.to ≡ vec_len self.old.buffer }
+        ensures count { self.new.to - self.new.from ≡ self.old.to - self.old.from }
+        ensures at { self.new.at ≡ self.old.at }
+    {
+        let end = self.buffer.len();
+        let from = end - (self.to - self.from);
+        self.buffer.copy_within(self.from..self.to, from);
+        self.from = from;
+        self.to = end;
+    }
+}
+
+/// Reads the bytes of a device from an offset on into a part of a buffer.
+fn read_part<D: Device>(
+    device: &mut D,
+    at: u64,
+    buffer: &mut [u8],
+    from: usize,
+    to: usize,
+) -> Result<(), DeviceFault>
+    requires ordered { from ≤ to }
+    requires within { to ≤ length buffer.old }
+    requires there { WhenHonest (D.is_honest device.old)
+        (at + (to - from) ≤ length (D.content device.old)) }
+    ensures read { WhenHonest (D.is_honest device.old) (OnOk result (slice_range buffer.new from to
+        ≡ slice_range (D.content device.old) at (at + (to - from)))) }
+    ensures behind { drop to buffer.new ≡ drop to buffer.old }
+    ensures bytes { IsBytes buffer.new }
+    ensures length { length buffer.new ≡ length buffer.old }
+    ensures memory { TakesNoMemory result }
+    ensures content { LeavesContent (D.is_honest device.old)
+        (D.content device.old) (D.content device.new) }
+    ensures persists { Persists (D.is_honest device.old) (D.is_honest device.new)
+        (D.failures device.old) (D.failures device.new) (IsErrOf result DeviceFault.Failed) }
+{
+    device.read_at(at, &mut buffer[from..to])
+}

@@ -1,0 +1,172 @@
+//! What is told of the text of a grammar.
+
+use ag_grammar::{Named, RawGrammar, RawItem, RawProduction, RawRule, RawSymbol, occurrences};
+use ag_text::{expected_at, read_grammar};
+use aggen::{BuildFault, grammar_of, print_code, print_plan};
+use normalform::{Grammar, NormalFault, Production};
+use rows::Mistake;
+use std::alloc::{AllocError, Global};
+
+/// What is read of a text, or its fault.
+pub fn read_told(alloc: Global, text: &[u8]) -> Result<String, Mistake> {
+    match read_grammar(alloc, text) {
+        Ok(raw) => Ok(raw_shown(alloc, &raw)?),
+        Err(fault) => Ok(format!(in alloc; "{fault:?}")?),
+    }
+}
+
+/// A raw grammar, with a line for each symbol and each production.
+fn raw_shown(alloc: Global, raw: &RawGrammar) -> Result<String, AllocError> {
+    let mut told = format!(in alloc; "start {} at {}", raw.start.name.as_str(), raw.start.at)?;
+    for symbol in raw.symbols.as_slice() {
+        show_symbol(&mut told, symbol)?;
+    }
+    for production in raw.productions.as_slice() {
+        show_production(&mut told, production)?;
+    }
+    Ok(told)
+}
+
+fn show_symbol(told: &mut String, symbol: &RawSymbol) -> Result<(), AllocError> {
+    write!(told, "\nsymbol {} syn", symbol.name.name.as_str())?;
+    show_names(told, symbol.syn.as_slice())?;
+    told.push_str(" inh")?;
+    show_names(told, symbol.inh.as_slice())
+}
+
+fn show_names(told: &mut String, names: &[Named]) -> Result<(), AllocError> {
+    for name in names {
+        write!(told, " {}", name.name.as_str())?;
+    }
+    Ok(())
+}
+
+fn show_production(told: &mut String, production: &RawProduction) -> Result<(), AllocError> {
+    write!(told, "\n{} =", production.left.name.as_str())?;
+    for item in production.items.as_slice() {
+        match item {
+            RawItem::Name(name) => write!(told, " {}", name.name.as_str())?,
+            RawItem::Literal(text) => write!(told, " {:?}", text.as_str())?,
+            RawItem::Class(number) => write!(told, " class {number}")?,
+        }
+    }
+    for rule in production.rules.as_slice() {
+        show_rule(told, rule)?;
+    }
+    Ok(())
+}
+
+fn show_rule(told: &mut String, rule: &RawRule) -> Result<(), AllocError> {
+    let target = &rule.target;
+    write!(
+        told,
+        "; {}.{} at {}",
+        target.place,
+        target.attr.as_str(),
+        target.at
+    )?;
+    for occurrence in occurrences(&rule.expr) {
+        let attr = occurrence.attr.as_str();
+        write!(
+            told,
+            ", of {}.{attr} at {}",
+            occurrence.place, occurrence.at
+        )?;
+    }
+    Ok(())
+}
+
+/// What could stand where a text is refused.
+pub fn could_told(alloc: Global, text: &str) -> Result<String, Mistake> {
+    match read_grammar(alloc, text.as_bytes()) {
+        Ok(_) => Err(Mistake::Unfit),
+        Err(fault) => {
+            let found = expected_at(alloc, text, fault)?;
+            Ok(format!(in alloc; "{found:?}")?)
+        }
+    }
+}
+
+/// The grammar of a text, which is accepted.
+pub fn grammar(alloc: Global, text: &str) -> Result<Grammar, Mistake> {
+    match grammar_of(alloc, text.as_bytes()) {
+        Ok(grammar) => Ok(grammar),
+        Err(_) => Err(Mistake::Unfit),
+    }
+}
+
+/// What a fault of a symbol is called, with the symbol's name.
+fn with_name(alloc: Global, fault: &str, symbol: &Named) -> Result<String, AllocError> {
+    format!(in alloc; "{fault} {} at {}", symbol.name.as_str(), symbol.at)
+}
+
+/// A fault, with the name of the symbol that it tells.
+pub fn shown_fault(alloc: Global, fault: &NormalFault) -> Result<String, AllocError> {
+    match fault {
+        NormalFault::Unproductive(symbol) => with_name(alloc, "Unproductive", symbol),
+        NormalFault::Unreachable(symbol) => with_name(alloc, "Unreachable", symbol),
+        _ => format!(in alloc; "{fault:?}"),
+    }
+}
+
+/// Whether a text's grammar is accepted, or its first fault.
+pub fn check_told(alloc: Global, text: &str) -> Result<String, Mistake> {
+    match grammar_of(alloc, text.as_bytes()) {
+        Ok(_) => Ok(String::from_str(alloc, "accepted")?),
+        Err(BuildFault::Normal(fault)) => Ok(shown_fault(alloc, &fault)?),
+        Err(fault) => Ok(format!(in alloc; "{fault:?}")?),
+    }
+}
+
+/// The parts of a text's grammar, by their numbers: a line for each production.
+pub fn parts_told(alloc: Global, text: &str) -> Result<String, Mistake> {
+    let grammar = grammar(alloc, text)?;
+    Ok(parts_shown(alloc, &grammar)?)
+}
+
+fn parts_shown(alloc: Global, grammar: &Grammar) -> Result<String, AllocError> {
+    let mut told = format!(in alloc;
+        "start {} of {}, classes {:?}, literals",
+        grammar.start(),
+        grammar.symbols().len(),
+        grammar.classes()
+    )?;
+    for literal in grammar.literals() {
+        write!(told, " {}", literal.as_str())?;
+    }
+    for production in grammar.productions() {
+        show_numbers(&mut told, production)?;
+    }
+    Ok(told)
+}
+
+fn show_numbers(told: &mut String, production: &Production) -> Result<(), AllocError> {
+    write!(
+        told,
+        "\n{} = {:?}",
+        production.left,
+        production.items.as_slice()
+    )?;
+    for rule in production.rules.as_slice() {
+        write!(told, "; {}.{} of", rule.target.place, rule.target.attr)?;
+        for argument in rule.args.as_slice() {
+            write!(told, " {}.{}", argument.place, argument.attr)?;
+        }
+    }
+    Ok(())
+}
+
+/// The listings of the passes and of the code of a text's grammar, line by line.
+pub fn listing_told(alloc: Global, text: &str) -> Result<String, Mistake> {
+    let mut listing = Vec::new(alloc);
+    if print_plan(alloc, text.as_bytes(), &mut listing).is_err() {
+        return Err(Mistake::Unfit);
+    }
+    if print_code(alloc, text.as_bytes(), &mut listing).is_err() {
+        return Err(Mistake::Unfit);
+    }
+    match str::from_utf8(listing.as_slice()) {
+        Ok(lines) => Ok(String::from_str(alloc, lines.trim_end())?),
+        Err(_) => Err(Mistake::Unfit),
+    }
+}

@@ -1,0 +1,143 @@
+//! What is told of assignments and of code by hand.
+
+use crate::grammars::grammar;
+use normalform::Grammar;
+use passassign::Assignment;
+use passcode::{Code, Instr};
+use planchecker::check_plan;
+use rows::{Mistake, first_word, halves, parts, short_number, short_numbers};
+use std::alloc::{AllocError, Global};
+
+/// The instruction that a word spells: `g2`, `o2` and `p2` get, go to and put the second child,
+/// `s2.1.0` sets its attribute 1 by rule 0, `d1.0` defines attribute 1 by rule 0, `e` ends.
+fn instruction(word: &str) -> Result<Instr, Mistake> {
+    if word == "e" {
+        return Ok(Instr::End);
+    }
+    if let Some(place) = word.strip_prefix('g') {
+        return Ok(Instr::Get(short_number(place)?));
+    }
+    if let Some(place) = word.strip_prefix('o') {
+        return Ok(Instr::Go(short_number(place)?));
+    }
+    if let Some(place) = word.strip_prefix('p') {
+        return Ok(Instr::Put(short_number(place)?));
+    }
+    rule_instruction(word)
+}
+
+/// An instruction by a rule.
+fn rule_instruction(word: &str) -> Result<Instr, Mistake> {
+    if let Some(numbers) = word.strip_prefix('d') {
+        let (attr, rule) = halves(numbers, ".")?;
+        return Ok(Instr::Def {
+            attr: short_number(attr)?,
+            rule: short_number(rule)?,
+        });
+    }
+    let Some(numbers) = word.strip_prefix('s') else {
+        return Err(Mistake::Misspelt);
+    };
+    let (place, rest) = halves(numbers, ".")?;
+    let (attr, rule) = halves(rest, ".")?;
+    Ok(Instr::Set {
+        place: short_number(place)?,
+        attr: short_number(attr)?,
+        rule: short_number(rule)?,
+    })
+}
+
+/// A list of instructions.
+fn list(alloc: Global, text: &str) -> Result<Vec<Instr>, Mistake> {
+    let mut list = Vec::new(alloc);
+    for word in parts(alloc, text, " ")?.as_slice() {
+        list.push(instruction(word)?)?;
+    }
+    Ok(list)
+}
+
+/// The lists of a production, one a pass, with `;` between them.
+fn lists(alloc: Global, text: &str) -> Result<Vec<Vec<Instr>>, Mistake> {
+    let mut lists = Vec::new(alloc);
+    for part in parts(alloc, text, " ; ")?.as_slice() {
+        lists.push(list(alloc, part)?)?;
+    }
+    Ok(lists)
+}
+
+/// The lists of the productions, with `|` between these.
+fn rows_of_lists(alloc: Global, text: &str) -> Result<Vec<Vec<Vec<Instr>>>, Mistake> {
+    let mut rows = Vec::new(alloc);
+    for part in parts(alloc, text, " | ")?.as_slice() {
+        rows.push(lists(alloc, part)?)?;
+    }
+    Ok(rows)
+}
+
+/// The assignment of a text, with `/` between the symbols.
+fn assignment(alloc: Global, text: &str) -> Result<Assignment, Mistake> {
+    let mut rows = Vec::new(alloc);
+    for part in parts(alloc, text, " / ")?.as_slice() {
+        rows.push(short_numbers(alloc, part)?)?;
+    }
+    Ok(Assignment::of_rows(rows))
+}
+
+/// The assignment and the code of a text, which stand on both sides of `:`.
+fn pair(alloc: Global, text: &str) -> Result<(Assignment, Code), Mistake> {
+    let (rows, lists) = halves(text, " : ")?;
+    let assignment = assignment(alloc, rows)?;
+    Ok((assignment, Code::of_rows(rows_of_lists(alloc, lists)?)))
+}
+
+/// What is told of an assignment and of code.
+fn verdict(
+    alloc: Global,
+    grammar: &Grammar,
+    assignment: Assignment,
+    code: Code,
+) -> Result<String, AllocError> {
+    match check_plan(alloc, grammar, assignment, code) {
+        Ok(plan) => format!(in alloc; "{} passes", plan.assignment().passes()),
+        Err(fault) => format!(in alloc; "{fault:?}"),
+    }
+}
+
+/// What is told of the assignment and the code that a text spells, for a grammar.
+pub fn plan_told(alloc: Global, text: &str, spelled: &str) -> Result<String, Mistake> {
+    let (assignment, code) = pair(alloc, spelled)?;
+    let grammar = grammar(alloc, text)?;
+    Ok(verdict(alloc, &grammar, assignment, code)?)
+}
+
+/// The greatest pass of the assignment that a text spells.
+pub fn passes_told(alloc: Global, spelled: &str) -> Result<String, Mistake> {
+    let assignment = assignment(alloc, spelled)?;
+    Ok(assignment.passes().to_string(alloc)?)
+}
+
+/// The list of a production and a pass, of code that a text spells.
+pub fn list_told(alloc: Global, spelled: &str) -> Result<String, Mistake> {
+    let (production, rest) = first_word(spelled);
+    let (pass, lists) = halves(rest, " : ")?;
+    let rows = rows_of_lists(alloc, lists)?;
+    listed(alloc, rows, short_number(production)?, short_number(pass)?)
+}
+
+/// The list of a production and a pass, which are there.
+fn listed(
+    alloc: Global,
+    rows: Vec<Vec<Vec<Instr>>>,
+    production: u16,
+    pass: u16,
+) -> Result<String, Mistake> {
+    let lists = match rows.get(production as usize) {
+        Some(lists) => lists.len(),
+        None => return Err(Mistake::Unfit),
+    };
+    if pass == 0 || lists < pass as usize {
+        return Err(Mistake::Unfit);
+    }
+    let code = Code::of_rows(rows);
+    Ok(format!(in alloc; "{:?}", code.list(production, pass))?)
+}

@@ -1,0 +1,106 @@
+//! Raw grammars by hand, of more symbols than a text has room for.
+
+ghost use Rattle.normalform.specs.Faults.{IsReadable};
+
+use crate::grammars::shown_fault;
+use ag_grammar::{Named, RawGrammar, RawItem, RawProduction, RawSymbol};
+use ag_text::read_grammar;
+use ag_value::{Items, Text};
+use normalform::{check, is_readable};
+use rows::Mistake;
+use std::alloc::{AllocError, Global};
+
+/// The name `s` with a number.
+fn named(alloc: Global, number: u32) -> Result<Named, AllocError> {
+    let name = format!(in alloc; "s{number}")?;
+    Ok(Named {
+        name: Text::from_string(name),
+        at: 0,
+    })
+}
+
+/// The declaration of a symbol with a numbered name.
+fn symbol(alloc: Global, number: u32) -> Result<RawSymbol, AllocError> {
+    Ok(RawSymbol {
+        name: named(alloc, number)?,
+        syn: Items::from_vec(Vec::new(alloc)),
+        inh: Items::from_vec(Vec::new(alloc)),
+    })
+}
+
+/// A right side of the symbol behind a numbered one, or of nothing behind the last.
+fn items(alloc: Global, number: u32, last: u32) -> Result<Items<RawItem>, Mistake> {
+    let mut items = Vec::new(alloc);
+    if number < last {
+        items.push(RawItem::Name(named(alloc, number.wrapping_add(1))?))?;
+    }
+    Ok(Items::from_vec(items))
+}
+
+/// A production of a numbered symbol.
+fn production(alloc: Global, number: u32, last: u32) -> Result<RawProduction, Mistake> {
+    let items = items(alloc, number, last)?;
+    Ok(RawProduction {
+        left: named(alloc, number)?,
+        items,
+        rules: Items::from_vec(Vec::new(alloc)),
+    })
+}
+
+/// These symbols, and so many more.
+fn more_symbols(
+    alloc: Global,
+    symbols: Items<RawSymbol>,
+    last: u32,
+) -> Result<Items<RawSymbol>, Mistake> {
+    let mut symbols = symbols.into_vec();
+    for number in 1..=last {
+        symbols.push(symbol(alloc, number)?)?;
+    }
+    Ok(Items::from_vec(symbols))
+}
+
+/// These productions, and one for each of so many symbols.
+fn more_productions(
+    alloc: Global,
+    productions: Items<RawProduction>,
+    last: u32,
+) -> Result<Items<RawProduction>, Mistake> {
+    let mut productions = productions.into_vec();
+    for number in 1..=last {
+        productions.push(production(alloc, number, last)?)?;
+    }
+    Ok(Items::from_vec(productions))
+}
+
+/// A raw grammar with so many further symbols, each of which has the next one on its right side.
+fn chain(alloc: Global, raw: RawGrammar, last: u32) -> Result<RawGrammar, Mistake> {
+    Ok(RawGrammar {
+        start: raw.start,
+        symbols: more_symbols(alloc, raw.symbols, last)?,
+        productions: more_productions(alloc, raw.productions, last)?,
+    })
+}
+
+/// The fault that a raw grammar is refused for, or that it is accepted.
+fn verdict(alloc: Global, raw: RawGrammar) -> Result<String, AllocError>
+    requires { IsReadable raw }
+{
+    match check(alloc, raw) {
+        Ok(_) => String::from_str(alloc, "accepted"),
+        Err(fault) => shown_fault(alloc, &fault),
+    }
+}
+
+/// What is told of S and so many symbols behind it.
+pub fn chain_told(alloc: Global, last: u32) -> Result<String, Mistake> {
+    let text = "start S; symbol S syn out; S = s1 { $0.out = 0; }";
+    let Ok(bare) = read_grammar(alloc, text.as_bytes()) else {
+        return Err(Mistake::Unfit);
+    };
+    let raw = chain(alloc, bare, last)?;
+    if !is_readable(&raw) {
+        return Err(Mistake::Unfit);
+    }
+    Ok(verdict(alloc, raw)?)
+}

@@ -1,0 +1,102 @@
+//! What is told of the least assignment of a grammar, and of certificates that there is none.
+
+use crate::grammars::grammar;
+use ag_value::Items;
+use passassign::{AssignFault, Strike, Stuck, assign};
+use planchecker::check_stuck;
+use rows::{Mistake, halves, parts, short_number};
+use std::alloc::{AllocError, Global};
+
+/// The least assignment of a text's grammar, or the certificate that there is none.
+pub fn assign_told(alloc: Global, text: &str) -> Result<String, Mistake> {
+    let grammar = grammar(alloc, text)?;
+    match assign(alloc, &grammar) {
+        Ok(assignment) => Ok(format!(in alloc; "{:?}", assignment.rows())?),
+        Err(AssignFault::Stuck(stuck)) => Ok(shown(alloc, &stuck)?),
+        Err(AssignFault::NoMemory) => Err(Mistake::NoMemory),
+    }
+}
+
+/// A certificate as a row spells it.
+fn shown(alloc: Global, stuck: &Stuck) -> Result<String, AllocError> {
+    let mut told = String::from_str(alloc, "stuck")?;
+    for (symbol, attr) in stuck.set.as_slice() {
+        write!(told, " {symbol}.{attr}")?;
+    }
+    show_strikes(&mut told, stuck.odd.as_slice())?;
+    show_strikes(&mut told, stuck.even.as_slice())?;
+    Ok(told)
+}
+
+fn show_strikes(told: &mut String, strikes: &[Strike]) -> Result<(), AllocError> {
+    told.push_str(" |")?;
+    for strike in strikes {
+        show_strike(told, strike)?;
+    }
+    Ok(())
+}
+
+fn show_strike(told: &mut String, strike: &Strike) -> Result<(), AllocError> {
+    write!(told, " {}.{}", strike.symbol, strike.attr)?;
+    write!(
+        told,
+        ".{}.{}.{}",
+        strike.production, strike.rule, strike.arg
+    )
+}
+
+/// The attribute that a word spells: attribute 0 of symbol 1 is `1.0`.
+fn attribute(word: &str) -> Result<(u16, u16), Mistake> {
+    let (symbol, attr) = halves(word, ".")?;
+    Ok((short_number(symbol)?, short_number(attr)?))
+}
+
+/// The attributes of a certificate, as `1.0`.
+fn attributes(alloc: Global, text: &str) -> Result<Items<(u16, u16)>, Mistake> {
+    let mut set = Vec::new(alloc);
+    for word in parts(alloc, text, " ")?.as_slice() {
+        set.push(attribute(word)?)?;
+    }
+    Ok(Items::from_vec(set))
+}
+
+/// The strike that a word spells: attribute 1 of symbol 2 by argument 0 of rule 4 of production 3
+/// is `2.1.3.4.0`.
+fn strike(word: &str) -> Result<Strike, Mistake> {
+    let (symbol, rest) = halves(word, ".")?;
+    let (attr, rest) = halves(rest, ".")?;
+    let (production, rest) = halves(rest, ".")?;
+    let (rule, arg) = halves(rest, ".")?;
+    Ok(Strike {
+        symbol: short_number(symbol)?,
+        attr: short_number(attr)?,
+        production: short_number(production)?,
+        rule: short_number(rule)?,
+        arg: short_number(arg)?,
+    })
+}
+
+fn strikes(alloc: Global, text: &str) -> Result<Items<Strike>, Mistake> {
+    let mut strikes = Vec::new(alloc);
+    for word in parts(alloc, text, " ")?.as_slice() {
+        strikes.push(strike(word)?)?;
+    }
+    Ok(Items::from_vec(strikes))
+}
+
+/// The certificate of a text: its attributes, and behind each `|` strikes.
+fn stuck(alloc: Global, spelled: &str) -> Result<Stuck, Mistake> {
+    let (set, rest) = halves(spelled, " | ")?;
+    let (odd, even) = halves(rest, " | ")?;
+    let set = attributes(alloc, set)?;
+    let odd = strikes(alloc, odd)?;
+    let even = strikes(alloc, even)?;
+    Ok(Stuck { set, odd, even })
+}
+
+/// Whether a grammar has the certificate of a text.
+pub fn stuck_told(alloc: Global, text: &str, spelled: &str) -> Result<String, Mistake> {
+    let stuck = stuck(alloc, spelled)?;
+    let grammar = grammar(alloc, text)?;
+    Ok(format!(in alloc; "{}", check_stuck(&grammar, &stuck))?)
+}

@@ -1,0 +1,103 @@
+//! Why a sentence has no tree, in words.
+
+use crate::telling::{front_of, tell_found, tell_place};
+use crate::terminals::{class_name, tell_aheads};
+use ag_grammar::limits::{MOST_DEPTH, MOST_NODES};
+use ag_scan::{Token, scan};
+use llparse::{Ahead, ParseFault, Tables, expected_at};
+use normalform::{Grammar, Terminal};
+use std::alloc::Global;
+use std::fmt;
+
+/// What is told behind P1 to P3, why a sentence has no tree, as
+/// ` (line 1, column 3): found .., where only .. can stand`. Nothing is told of a failed device and
+/// of want of memory.
+#[derive(Drop)]
+pub struct ParseMessage<'a> {
+    fault: ParseFault,
+    text: &'a str,
+    grammar: &'a Grammar,
+    tokens: Vec<Token>,
+    index: usize,
+    expected: Vec<Ahead>,
+}
+
+impl<'a> ParseMessage<'a> {
+    /// The message of the sentence with these bytes, which has no tree of the grammar with these
+    /// tables. Takes memory, and cuts the sentence again; where memory is refused, the message
+    /// doesn't say what could stand at the fault's place.
+    pub fn new(
+        alloc: Global,
+        fault: ParseFault,
+        grammar: &'a Grammar,
+        tables: &Tables,
+        sentence: &'a [u8],
+    ) -> ParseMessage<'a> {
+        let mut message = ParseMessage {
+            fault,
+            text: front_of(sentence),
+            grammar,
+            tokens: Vec::new(alloc),
+            index: 0,
+            expected: Vec::new(alloc),
+        };
+        if let ParseFault::Unexpected(_) = fault {
+            // a message without what could stand is a message still
+            let _ = message.look(alloc, tables, sentence);
+        }
+        message
+    }
+
+    /// Finds the token that can't be taken, and what could stand in its place; nothing for want of
+    /// memory.
+    fn look(&mut self, alloc: Global, tables: &Tables, sentence: &[u8]) -> Option<()> {
+        let tokens = scan(alloc, self.grammar, sentence).ok()?;
+        let stuck = expected_at(alloc, self.grammar, tables, tokens.as_slice()).ok()?;
+        self.index = stuck.index;
+        self.expected = stuck.expected;
+        self.tokens = tokens;
+        Some(())
+    }
+
+    /// What can't be taken: a token as it stands in the sentence, a TEXT with its quotes. None at the
+    /// sentence's end.
+    fn found(&self) -> Option<&str> {
+        let token = self.tokens.get(self.index)?;
+        let lex = token.lex.as_str();
+        let length = match token.kind {
+            Terminal::Class(number) if class_name(number) == "TEXT" => lex.len().saturating_add(2),
+            _ => lex.len(),
+        };
+        let at = token.at as usize;
+        Some(self.text.get(at..at.saturating_add(length)).unwrap_or(lex))
+    }
+}
+
+impl fmt::Display for ParseMessage<'_> {
+    fn fmt<W: fmt::Write>(&self, f: &mut fmt::Formatter<W>) -> fmt::Result {
+        match self.fault {
+            ParseFault::Unexpected(at) => {
+                tell_place(f, self.text, at as usize)?;
+                if self.expected.is_empty() {
+                    return Ok(());
+                }
+                write!(f, ": found ")?;
+                tell_found(f, self.found())?;
+                write!(f, ", where only ")?;
+                tell_aheads(f, self.grammar, self.expected.as_slice())?;
+                write!(f, " can stand")
+            }
+            ParseFault::TooDeep => write!(
+                f,
+                " no tree of at most {MOST_DEPTH} levels has these tokens, nest them less"
+            ),
+            ParseFault::TooManyNodes => write!(
+                f,
+                " no tree of at most {},{:03} nodes has these tokens, cut the sentence into smaller ones",
+                MOST_NODES / 1_000,
+                MOST_NODES % 1_000
+            ),
+            ParseFault::Device | ParseFault::NoMemory => Ok(()),
+        }
+    }
+}

@@ -1,0 +1,176 @@
+//! The parts of messages: places in a text, what stands there, and what could.
+
+use ag_expr::{Cursor, Expected as Part, ExprFault};
+use ag_text::Expected;
+use std::alloc::Global;
+use std::fmt;
+
+/// How many characters of a token a message shows.
+const SHOWN: usize = 24;
+
+/// The line and the column of an offset of a text.
+pub fn tell_place<W: fmt::Write>(f: &mut fmt::Formatter<W>, text: &str, at: usize) -> fmt::Result {
+    let (line, column) = place_of(text, at);
+    write!(f, " (line {line}, column {column})")
+}
+
+/// The line of an offset in bytes, and its column in characters, both from 1.
+pub fn place_of(text: &str, at: usize) -> (usize, usize) {
+    let mut line = 1usize;
+    let mut column = 1usize;
+    for (offset, character) in text.char_indices() {
+        if offset >= at {
+            break;
+        }
+        if character == '\n' {
+            line = line.saturating_add(1);
+            column = 1;
+        } else {
+            column = column.saturating_add(1);
+        }
+    }
+    (line, column)
+}
+
+/// The longest front of bytes that is UTF-8.
+pub fn front_of(bytes: &[u8]) -> &str {
+    let fault = match str::from_utf8(bytes) {
+        Ok(text) => return text,
+        Err(fault) => fault,
+    };
+    match bytes.get(..fault.valid_up_to()) {
+        Some(front) => str::from_utf8(front).unwrap_or(""),
+        None => "",
+    }
+}
+
+/// What stands at an offset: the token there, or else the characters up to the next separator, one
+/// at least. None at the text's end.
+pub fn found_at(alloc: Global, text: &str, at: usize) -> Option<&str> {
+    let rest = text.get(at..)?;
+    let mut cursor = Cursor::new(alloc, rest);
+    if cursor.peek().is_none() {
+        return word_in_front(rest);
+    }
+    cursor.bump();
+    Some(rest.get(..cursor.place()).unwrap_or(rest).trim_end())
+}
+
+/// The characters in front up to the next separator, one at least. None of an empty text.
+fn word_in_front(text: &str) -> Option<&str> {
+    for (offset, character) in text.char_indices() {
+        if 0 < offset && is_separator(character) {
+            return text.get(..offset);
+        }
+    }
+    if text.is_empty() { None } else { Some(text) }
+}
+
+/// Whether a character stands between tokens: no other space does.
+fn is_separator(character: char) -> bool {
+    matches!(character, ' ' | '\t' | '\r' | '\n')
+}
+
+/// Why no token begins with what was found. None where one does.
+pub fn refusal_of(alloc: Global, found: &str) -> Option<ExprFault> {
+    let cursor = Cursor::new(alloc, found);
+    match cursor.peek() {
+        Some(_) => None,
+        None => Some(cursor.refusal()),
+    }
+}
+
+/// Whether what was found begins with a character.
+pub fn begins_with(found: Option<&str>, character: char) -> bool {
+    match found {
+        Some(found) => found.starts_with(character),
+        None => false,
+    }
+}
+
+/// What stands at a place; None: that the text ends there.
+pub fn tell_found<W: fmt::Write>(f: &mut fmt::Formatter<W>, found: Option<&str>) -> fmt::Result {
+    let Some(found) = found else {
+        return write!(f, "the end of the text");
+    };
+    write!(f, "`")?;
+    let mut shown = 0usize;
+    for character in found.chars() {
+        if shown == SHOWN {
+            write!(f, "..")?;
+            break;
+        }
+        tell_character(f, character)?;
+        shown = shown.saturating_add(1);
+    }
+    write!(f, "`")
+}
+
+/// A word, each character by its number where it controls a terminal or can be taken for a plain
+/// space.
+pub fn tell_word<W: fmt::Write>(f: &mut fmt::Formatter<W>, word: &str) -> fmt::Result {
+    for character in word.chars() {
+        tell_character(f, character)?;
+    }
+    Ok(())
+}
+
+/// A character, by its number where it controls a terminal or can be taken for a plain space.
+fn tell_character<W: fmt::Write>(f: &mut fmt::Formatter<W>, character: char) -> fmt::Result {
+    let is_plain = character == ' ' || !character.is_whitespace();
+    if is_plain && !character.is_control() {
+        return write!(f, "{character}");
+    }
+    for part in character.escape_unicode() {
+        write!(f, "{part}")?;
+    }
+    Ok(())
+}
+
+/// What could stand at a place, where that is known.
+pub fn tell_expected<W: fmt::Write>(
+    f: &mut fmt::Formatter<W>,
+    expected: &[Expected],
+) -> fmt::Result {
+    if expected.is_empty() {
+        return Ok(());
+    }
+    write!(f, ", where only ")?;
+    let mut left = expected.len();
+    for one in expected {
+        tell_one(f, *one)?;
+        left = left.saturating_sub(1);
+        match left {
+            0 => {}
+            1 => write!(f, " or ")?,
+            _ => write!(f, ", ")?,
+        }
+    }
+    write!(f, " can stand")
+}
+
+/// One of the things that could stand at a place.
+fn tell_one<W: fmt::Write>(f: &mut fmt::Formatter<W>, expected: Expected) -> fmt::Result {
+    match expected {
+        Expected::Name => write!(f, "a name"),
+        Expected::Item => write!(f, "an item (a name, literal or class)"),
+        Expected::Rule => write!(f, "a rule"),
+        Expected::Part(part) => tell_part(f, part),
+        Expected::Sign(sign) => write!(f, "`{sign}`"),
+        Expected::End => write!(f, "the end"),
+    }
+}
+
+/// One of the parts of an expression that could stand at a place.
+fn tell_part<W: fmt::Write>(f: &mut fmt::Formatter<W>, part: Part) -> fmt::Result {
+    match part {
+        Part::Expression => write!(f, "an expression"),
+        Part::Operand => write!(f, "an operand"),
+        Part::BoundName => write!(f, "a bound name"),
+        Part::NewName => write!(f, "a name to bind"),
+        Part::Operator => write!(f, "an operator"),
+        Part::TighterOperator => write!(f, "an operator other than `==` and `<`"),
+        Part::Sign(sign) => write!(f, "`{sign}`"),
+        Part::End => write!(f, "the end"),
+    }
+}

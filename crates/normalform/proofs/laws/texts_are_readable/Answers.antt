@@ -1,6 +1,0 @@
--- The goal of `texts_are_readable` that is left.
-use Rattle.normalform.proofs.FromTexts as from_texts
-use Rattle.normalform.proofs.laws.texts_are_readable.Goals as goal
-
-pub returns : goal.returns
-returns c = from_texts.texts_are_readable

@@ -1,0 +1,228 @@
+//! What no clause says: how a reader goes over a file by blocks, how often it asks for one, and
+//! that it lends large bodies. Each row is told in a line, and the lines are compared.
+
+ghost use Rattle.std.specs.Prelude.{[], false};
+
+use backreader::Back;
+use std::alloc::{AllocError, Global};
+use std::test::Fail;
+use treefile::{Device, DeviceFault, FrameFault, MemDevice};
+
+/// How long the body of a frame is at most that fits into the buffer of a reader.
+const FITS: usize = 4092;
+
+/// A device in memory that counts how often it is read.
+#[derive(Drop)]
+struct CountingDevice {
+    memory: MemDevice,
+    reads: u64,
+}
+
+impl Device for CountingDevice {
+    ghost content = { λ _. [] };
+
+    ghost is_honest = { λ _. false };
+
+    ghost failures = { λ _. 0 };
+
+    fn len(&mut self) -> Result<u64, DeviceFault> {
+        self.memory.len()
+    }
+
+    fn append(&mut self, bytes: &[u8]) -> Result<(), DeviceFault> {
+        self.memory.append(bytes)
+    }
+
+    fn read_at(&mut self, at: u64, out: &mut [u8]) -> Result<(), DeviceFault> {
+        self.reads = self.reads.saturating_add(1);
+        self.memory.read_at(at, out)
+    }
+
+    fn clear(&mut self) -> Result<(), DeviceFault> {
+        self.memory.clear()
+    }
+}
+
+/// A device that has these bytes, and was not read.
+fn device_of(bytes: Vec<u8>) -> CountingDevice {
+    CountingDevice {
+        memory: MemDevice::from_bytes(bytes),
+        reads: 0,
+    }
+}
+
+/// The file of pass 0 of a name of so many letters and `if`, in the grammar `S = NAME "if"`.
+fn file_of_name(alloc: Global, letters: u32) -> Result<Vec<u8>, AllocError> {
+    let mut bytes = Vec::from_slice(alloc, b"AGT1\0\0\x01\0\0\x01")?;
+    bytes.extend_from_slice(&letters.to_be_bytes())?;
+    bytes.resize(bytes.len().saturating_add(letters as usize), b'a')?;
+    bytes.extend_from_slice(&letters.saturating_add(8).to_be_bytes())?;
+    bytes.extend_from_slice(b"\0\0\0\0\0\0\x03")?;
+    Ok(bytes)
+}
+
+/// A file of pass 0 with bodies of these lengths: all bytes of a body are its number in the file.
+fn file_of_lengths(alloc: Global, lengths: &[u32]) -> Result<Vec<u8>, AllocError> {
+    let mut bytes = Vec::from_slice(alloc, b"AGT1\0\0")?;
+    for (number, length) in lengths.iter().enumerate() {
+        let end = bytes.len().saturating_add(*length as usize);
+        bytes.resize(end, (number % 256) as u8)?;
+        bytes.extend_from_slice(&length.to_be_bytes())?;
+    }
+    Ok(bytes)
+}
+
+/// These bytes, and behind them so many frames of 7 bytes.
+fn file_of_frames(alloc: Global, front: &[u8], frames: u32) -> Result<Vec<u8>, AllocError> {
+    let mut bytes = Vec::from_slice(alloc, front)?;
+    for _frame in 0..frames {
+        bytes.extend_from_slice(&[0, 0, 7, 0, 0, 0, 3])?;
+    }
+    Ok(bytes)
+}
+
+/// The length of the next body that a reader lends, whose frame ends at this offset; 0 where it is
+/// not what the device has there.
+fn lent(
+    back: &mut Back,
+    device: &mut CountingDevice,
+    at: usize,
+) -> Result<Option<usize>, FrameFault> {
+    let Some(body) = back.back(device)? else {
+        return Ok(None);
+    };
+    let end = at.saturating_sub(4);
+    let there = device
+        .memory
+        .bytes()
+        .get(end.saturating_sub(body.len())..end);
+    Ok(Some(if there == Some(body) { body.len() } else { 0 }))
+}
+
+/// The same, where a large body for which memory was refused is asked for once more.
+fn lent_at_last(
+    back: &mut Back,
+    device: &mut CountingDevice,
+    at: usize,
+) -> Result<Option<usize>, FrameFault> {
+    match lent(back, device, at) {
+        Err(FrameFault::NoMemory) => match lent(back, device, at) {
+            Ok(Some(length)) if length <= FITS => Err(FrameFault::NoMemory),
+            told => told,
+        },
+        told => told,
+    }
+}
+
+/// Tells the lengths of the bodies that a reader lends, and what it answers then.
+fn tell(alloc: Global, mut device: CountingDevice, lines: &mut String) -> Result<(), Fail> {
+    let mut at = device.memory.bytes().len();
+    let mut back = Back::start(alloc, &mut device)?;
+    for _call in 0..10 {
+        match lent_at_last(&mut back, &mut device, at) {
+            Ok(Some(length)) => {
+                at = at.saturating_sub(length.saturating_add(4));
+                write!(lines, "{length} ")?;
+            }
+            told => {
+                writeln!(lines, "{told:?}")?;
+                return Ok(());
+            }
+        }
+    }
+    Ok(())
+}
+
+/// Tells how many frames of 7 bytes a reader takes, what it answers then, and how often it has read
+/// the device.
+fn tell_frames(alloc: Global, mut device: CountingDevice, lines: &mut String) -> Result<(), Fail> {
+    let mut at = device.memory.bytes().len();
+    let mut back = Back::start(alloc, &mut device)?;
+    let mut told = Ok(Some(3));
+    for _call in 0..100_000 {
+        if told != Ok(Some(3)) {
+            break;
+        }
+        told = lent(&mut back, &mut device, at);
+        at = at.saturating_sub(7);
+    }
+    let (records, reads) = (back.records(), device.reads);
+    writeln!(lines, "{records} {told:?} {reads}")?;
+    Ok(())
+}
+
+#[test]
+fn names_of_many_letters(rt: HostRuntime) -> Result<(), Fail> {
+    let alloc = rt.alloc();
+    let mut lines = String::new(alloc);
+    for letters in [4, 4084, 4085, 65_535] {
+        tell(alloc, device_of(file_of_name(alloc, letters)?), &mut lines)?;
+    }
+    assert_eq!(rt;
+        lines.as_str(),
+        "3 12 Ok(None)\n3 4092 Ok(None)\n3 4093 Ok(None)\n3 65543 Ok(None)\n"
+    );
+    Ok(())
+}
+
+#[test]
+fn frames_at_the_front_of_the_buffer(rt: HostRuntime) -> Result<(), Fail> {
+    let alloc = rt.alloc();
+    let mut lines = String::new(alloc);
+    for length in [2087, 2088, 2091, 2092, 2093, 2096, 2097] {
+        let bytes = file_of_lengths(alloc, &[10, length, 1996])?;
+        tell(alloc, device_of(bytes), &mut lines)?;
+    }
+    assert_eq!(rt;
+        lines.as_str(),
+        "1996 2087 10 Ok(None)\n1996 2088 10 Ok(None)\n1996 2091 10 Ok(None)\n\
+         1996 2092 10 Ok(None)\n1996 2093 10 Ok(None)\n1996 2096 10 Ok(None)\n\
+         1996 2097 10 Ok(None)\n"
+    );
+    Ok(())
+}
+
+#[test]
+fn bodies_of_many_lengths(rt: HostRuntime) -> Result<(), Fail> {
+    let alloc = rt.alloc();
+    let mut lines = String::new(alloc);
+    let rows = [
+        [3, 4092, 4092].as_slice(),
+        &[4091, 4092, 3],
+        &[4093, 4092, 4093],
+        &[65_543, 8000, 12_000],
+        &[3, 16_777_219],
+        &[3, 16_777_220],
+    ];
+    for lengths in rows {
+        tell(
+            alloc,
+            device_of(file_of_lengths(alloc, lengths)?),
+            &mut lines,
+        )?;
+    }
+    assert_eq!(rt;
+        lines.as_str(),
+        "4092 4092 3 Ok(None)\n3 4092 4091 Ok(None)\n4093 4092 4093 Ok(None)\n\
+         12000 8000 65543 Ok(None)\n16777219 3 Ok(None)\nErr(Damaged(16777237))\n"
+    );
+    Ok(())
+}
+
+#[test]
+fn one_read_for_a_block(rt: HostRuntime) -> Result<(), Fail> {
+    let alloc = rt.alloc();
+    let mut lines = String::new(alloc);
+    for frames in [0, 1, 584, 585, 586, 1170, 1171, 65_536] {
+        let bytes = file_of_frames(alloc, b"AGT1\0\0", frames)?;
+        tell_frames(alloc, device_of(bytes), &mut lines)?;
+    }
+    let odd = file_of_frames(alloc, b"AGT1\0\0\x07", 2000)?;
+    tell_frames(alloc, device_of(odd), &mut lines)?;
+    assert_eq!(rt;
+        lines.as_str(),
+        "0 Ok(None) 1\n1 Ok(None) 2\n584 Ok(None) 2\n585 Ok(None) 2\n586 Ok(None) 3\n\
+         1170 Ok(None) 3\n1171 Ok(None) 4\n65536 Ok(None) 114\n2000 Err(Damaged(7)) 5\n"
+    );
+    Ok(())
+}

@@ -1,0 +1,38 @@
+//! Cursors by hand: the tokens of a text one by one, and where none begins.
+
+use ag_expr::{Cursor, Punctuation, Token, unescaped};
+use std::test::Fail;
+
+#[test]
+fn tokens_one_by_one(rt: HostRuntime) -> Result<(), Fail> {
+    let mut cursor = Cursor::new(rt.alloc(), "\tlet a = \"b\\n\" ;");
+    for (token, at) in [
+        (Token::Name("let"), 1),
+        (Token::Name("a"), 5),
+        (Token::Punctuation(Punctuation::Equal), 7),
+        (Token::Text("b\\n"), 9),
+        (Token::Punctuation(Punctuation::Semicolon), 15),
+    ] {
+        assert_eq!(rt; cursor.peek(), Some(token));
+        assert_eq!(rt; cursor.place(), at);
+        assert!(rt; !cursor.is_at_end());
+        cursor.bump();
+    }
+    assert_eq!(rt; cursor.peek(), None);
+    assert_eq!(rt; cursor.place(), 16);
+    assert!(rt; cursor.is_at_end());
+    assert_eq!(rt; unescaped(rt.alloc(), "b\\n")?.as_str(), "b\n");
+    Ok(())
+}
+
+/// A cursor goes no further where no token begins.
+#[test]
+fn no_token_in_front(rt: HostRuntime) -> Result<(), Fail> {
+    let mut cursor = Cursor::new(rt.alloc(), "a @ b");
+    cursor.bump();
+    cursor.bump();
+    assert_eq!(rt; cursor.peek(), None);
+    assert_eq!(rt; cursor.place(), 2);
+    assert!(rt; !cursor.is_at_end());
+    Ok(())
+}

@@ -1,0 +1,57 @@
+"""Rooms: copies of the repository, as far as a run of `rt` on one crate reads it.
+
+`rt` keeps a second run out of the libraries that a first one uses. So runs side by side are made in rooms. What is kept
+from earlier runs is linked there: a run writes anew beside it, and renames.
+"""
+import os
+import re
+import shutil
+from pathlib import Path
+
+TOP = Path(__file__).resolve().parent.parent
+PARTS = ("src", "specs", "proofs")
+
+
+def crates_in(text):
+    """The libraries that each crate of a crates.txt uses, by the crate's name, in the order of its lines."""
+    lines = (line.split("#")[0].partition(":") for line in text.splitlines())
+    return {head.split()[0]: uses.split() for head, _, uses in lines if head.strip()}
+
+
+def below(crate, uses):
+    """The crates of the repository that this one uses, each behind those that it uses itself."""
+    found = []
+    for it in uses[crate]:
+        if it in uses:
+            found += [lower for lower in [*below(it, uses), it] if lower not in found]
+    return found
+
+
+def free_memory():
+    """The memory that is free, in bytes."""
+    told = Path("/proc/meminfo").read_text(encoding="utf-8")
+    return 1024 * int(re.search(r"MemAvailable:\s+(\d+)", told)[1])
+
+
+def link_or_copy(file, to):
+    try:
+        os.link(file, to)
+    except OSError:
+        shutil.copy2(file, to)
+
+
+def furnish(room, crate, uses):
+    """Makes the room of a crate in a new folder: its sources and what is kept of it, and the libraries below it with what
+    was built of them. Returns the crate's folder there."""
+    lower = below(crate, uses)
+    (room / "crates").mkdir(parents=True)
+    shutil.copy2(TOP / "HANDLES", room)
+    rows = (TOP / "crates.txt").read_text(encoding="utf-8").splitlines(True)
+    rows = (it for it in rows if {*crates_in(it)} & {*lower, crate})
+    (room / "crates.txt").write_text("".join(rows), encoding="utf-8")
+    for it, kept in [*((it, ["out/rlib"]) for it in lower), (crate, ["out/incremental", "out/rlib"])]:
+        for part in (*PARTS, *kept):
+            folder = TOP / "crates" / it / part
+            if folder.is_dir():
+                shutil.copytree(folder, room / "crates" / it / part, copy_function=link_or_copy)
+    return room / "crates" / crate
