@@ -15,12 +15,10 @@ use crate::fault::ExprFault;
 use crate::lexer::unescaped;
 use crate::names::{Call, Scope, call_of, is_reserved};
 use crate::token::{Punctuation, Token};
+use ag_grammar::limits::MOST_LEVELS;
 use ag_grammar::{BinaryCall, Literal, Node, Operator, UnaryCall};
 use ag_value::{Boxed, Items, NoMemory};
 use std::alloc::Global;
-
-/// How many levels an expression has at most.
-const LEVELS: usize = 64;
 
 /// A precedence of operators, by how strongly they bind: the operands of a chain are chains of the
 /// next precedence.
@@ -645,5 +643,5 @@ pub fn parse(alloc: Global, cursor: &mut Cursor<'_>) -> Result<Node, ExprFault>
     ensures { Reads (λ all. expr_in all 64 []) cursor.old result cursor.new }
 {
     let mut scope = Scope::new(alloc);
-    expression(alloc, cursor, &mut scope, LEVELS)
+    expression(alloc, cursor, &mut scope, MOST_LEVELS)
 }

@@ -28,6 +28,9 @@ pub const CLASS_COUNT: u16 = 3;
 /// How many bytes the text of a token has at most.
 pub const MOST_TOKEN_BYTES: usize = 65_535;
 
+/// How many levels deep an expression nests at most.
+pub const MOST_LEVELS: usize = 64;
+
 /// The depth that a tree has at most; a leaf's is 1.
 pub const MOST_DEPTH: usize = 256;
 

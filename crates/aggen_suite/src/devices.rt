@@ -2,50 +2,46 @@
 
 ghost use Rattle.std.specs.Prelude.{false};
 
+use crate::endings::Ending;
 use crate::narrow::with_room;
-use aggen::{Fault, show_value};
+use aggen::show_value;
 use std::alloc::Global;
 use std::test::Fail;
 use treefile::{Device, DeviceFault, FuseDevice, MemDevice};
 
+/// How showing 14 ends at a writer with so much room, and what that has taken.
+fn shown_in(alloc: Global, room: usize, fails: bool) -> Result<String, Fail> {
+    let mut device = MemDevice::new(alloc);
+    let mut out = with_room(alloc, room, fails)?;
+    let ending = Ending::of(show_value(alloc, "14", &mut device, &mut out));
+    Ok(ending.told(alloc, out.taken.as_slice())?)
+}
+
 #[test]
 fn a_writer_that_stops(rt: HostRuntime) -> Result<(), Fail> {
     for fails in [false, true] {
-        for (room, is_whole) in [(0, false), (2, false), (3, true)] {
-            let mut device = MemDevice::new(rt.alloc());
-            let mut out = with_room(rt.alloc(), room, fails)?;
-            let shown = show_value(rt.alloc(), "14", &mut device, &mut out);
-            match shown {
-                Ok(()) => assert!(rt; is_whole),
-                refused => assert!(rt; !is_whole && matches!(refused, Err(Fault::Write))),
-            }
-            let line = b"14\n";
-            assert!(rt; room <= 3);
-            assert_eq!(rt; out.taken.as_slice(), &line[..room]);
+        for (room, wanted) in [(0, "Write "), (2, "Write 14"), (3, "Done 14\n")] {
+            assert_eq!(rt; shown_in(rt.alloc(), room, fails)?.as_str(), wanted);
         }
     }
     Ok(())
 }
 
+/// How showing 14 ends where a call of the device fails, and what was written.
+fn shown_without(alloc: Global, call: u64) -> Result<String, Fail> {
+    let mut device = FuseDevice::new(MemDevice::new(alloc), call);
+    let mut out = Vec::new(alloc);
+    let ending = Ending::of(show_value(alloc, "14", &mut device, &mut out));
+    Ok(ending.told(alloc, out.as_slice())?)
+}
+
+/// The device is called eight times: it is cleared, appended to, asked for its length, and read.
 #[test]
 fn each_call_of_the_device_fails_once(rt: HostRuntime) -> Result<(), Fail> {
-    let mut failed = 0u64;
-    for call in 1..100 {
-        let mut device = FuseDevice::new(MemDevice::new(rt.alloc()), call);
-        let mut out = Vec::new(rt.alloc());
-        match show_value(rt.alloc(), "14", &mut device, &mut out) {
-            Ok(()) => {
-                assert_eq!(rt; out.as_slice(), b"14\n".as_slice());
-                break;
-            }
-            Err(Fault::NoMemory) => return Ok(Err(Fault::NoMemory)?),
-            refused => assert!(rt; matches!(refused, Err(Fault::Device))),
-        }
-        assert_eq!(rt; out.len(), 0);
-        failed = call;
+    for call in 1..9 {
+        assert_eq!(rt; shown_without(rt.alloc(), call)?.as_str(), "Device ");
     }
-    // clear, append and append again, and at least two lengths and two reads
-    assert!(rt; failed >= 7 && failed < 99);
+    assert_eq!(rt; shown_without(rt.alloc(), 9)?.as_str(), "Done 14\n");
     Ok(())
 }
 
@@ -79,48 +75,52 @@ impl Device for Other {
     }
 }
 
-/// What `show_value` answers where the device gives back these bytes. What it writes is appended.
-fn told(alloc: Global, file: &[u8], out: &mut Vec<u8>) -> Result<Result<(), Fault>, Fail> {
+/// How showing 1 ends where the device gives back these bytes, and what was written.
+fn shown_of(alloc: Global, file: &[u8]) -> Result<String, Fail> {
     let mut device = Other {
         file: MemDevice::from_bytes(file.to_vec(alloc)?),
     };
-    Ok(show_value(alloc, "1", &mut device, out))
+    let mut out = Vec::new(alloc);
+    let ending = Ending::of(show_value(alloc, "1", &mut device, &mut out));
+    Ok(ending.told(alloc, out.as_slice())?)
 }
 
+/// No file, its header alone, and behind a header a node, a token of class 1, one without a value,
+/// one with two, one with what is no value, and two tokens, of which the last one's end is told.
+/// Another value is shown as it was read.
 #[test]
 fn files_that_are_not_what_was_written(rt: HostRuntime) -> Result<(), Fail> {
-    let alloc = rt.alloc();
-    let mut out = Vec::new(alloc);
-    let none = told(alloc, &[], &mut out)?;
-    assert!(rt; matches!(none, Err(Fault::NotATreeFile)));
-    let header = told(alloc, b"AGT1\0\0", &mut out)?;
-    assert!(rt; matches!(header, Err(Fault::Damaged(6))));
-    // a node, a token of class 1, a token without a value, one with two, and one with what is no
-    // value
-    let node = told(alloc, b"AGT1\0\0\0\0\0\x04\x01\0\0\0\x05", &mut out)?;
-    assert!(rt; matches!(node, Err(Fault::Damaged(15))));
-    let class = told(alloc, b"AGT1\0\0\x01\0\x01\x04\x01\0\0\0\x05", &mut out)?;
-    assert!(rt; matches!(class, Err(Fault::Damaged(15))));
-    let empty = told(alloc, b"AGT1\0\0\x01\0\0\0\0\0\x03", &mut out)?;
-    assert!(rt; matches!(empty, Err(Fault::Damaged(13))));
-    let two = told(
-        alloc,
-        b"AGT1\0\0\x01\0\0\x04\x01\x04\x01\0\0\0\x07",
-        &mut out,
-    )?;
-    assert!(rt; matches!(two, Err(Fault::Damaged(17))));
-    let bad = told(alloc, b"AGT1\0\0\x01\0\0\x04\x09\0\0\0\x05", &mut out)?;
-    assert!(rt; matches!(bad, Err(Fault::Damaged(15))));
-    // of two frames the last one's end is told
-    let second = told(
-        alloc,
-        b"AGT1\0\0\x01\0\0\x04\x01\0\0\0\x05\0\0\0\x04\x01\0\0\0\x05",
-        &mut out,
-    )?;
-    assert!(rt; matches!(second, Err(Fault::Damaged(24))));
-    // another value is shown as it was read, and of the files above nothing was written
-    let other = told(alloc, b"AGT1\0\0\x01\0\0\x04\x02\0\0\0\x05", &mut out)?;
-    assert!(rt; matches!(other, Ok(())));
-    assert_eq!(rt; out.as_slice(), b"error divide\n".as_slice());
+    let files = [
+        (b"".as_slice(), "NotATreeFile "),
+        (b"AGT1\0\0".as_slice(), "Damaged(6) "),
+        (
+            b"AGT1\0\0\0\0\0\x04\x01\0\0\0\x05".as_slice(),
+            "Damaged(15) ",
+        ),
+        (
+            b"AGT1\0\0\x01\0\x01\x04\x01\0\0\0\x05".as_slice(),
+            "Damaged(15) ",
+        ),
+        (b"AGT1\0\0\x01\0\0\0\0\0\x03".as_slice(), "Damaged(13) "),
+        (
+            b"AGT1\0\0\x01\0\0\x04\x01\x04\x01\0\0\0\x07".as_slice(),
+            "Damaged(17) ",
+        ),
+        (
+            b"AGT1\0\0\x01\0\0\x04\x09\0\0\0\x05".as_slice(),
+            "Damaged(15) ",
+        ),
+        (
+            b"AGT1\0\0\x01\0\0\x04\x01\0\0\0\x05\0\0\0\x04\x01\0\0\0\x05".as_slice(),
+            "Damaged(24) ",
+        ),
+        (
+            b"AGT1\0\0\x01\0\0\x04\x02\0\0\0\x05".as_slice(),
+            "Done error divide\n",
+        ),
+    ];
+    for (file, wanted) in files {
+        assert_eq!(rt; shown_of(rt.alloc(), file)?.as_str(), wanted);
+    }
     Ok(())
 }

@@ -1,6 +1,8 @@
 //! Translators over a device that fails.
 
+use crate::endings::Ending;
 use aggen::{Fault, Translator};
+use std::alloc::Global;
 use std::test::Fail;
 use treefile::{FuseDevice, MemDevice};
 
@@ -21,19 +23,20 @@ B = \"0\" { $0.bit = 0; }
 B = \"1\" { $0.bit = 1; }
 ";
 
-#[test]
-fn a_device_that_fails(rt: HostRuntime) -> Result<(), Fail> {
-    let alloc = rt.alloc();
+/// How parsing a sentence ends at a device of which a call fails.
+fn parsed_without(alloc: Global, call: u64) -> Result<Ending, Fail> {
     let translator = match Translator::build(alloc, FRACTIONS.as_bytes()) {
         Ok(translator) => translator,
         Err(fault) => return Err(Fault::from(fault))?,
     };
+    let mut device = FuseDevice::new(MemDevice::new(alloc), call);
+    Ok(Ending::of(translator.parse_tree(b"1", &mut device)))
+}
+
+#[test]
+fn a_device_that_fails(rt: HostRuntime) -> Result<(), Fail> {
     for call in 1..8 {
-        let mut device = FuseDevice::new(MemDevice::new(alloc), call);
-        match translator.parse_tree(b"1", &mut device) {
-            Err(Fault::NoMemory) => return Err(Fault::NoMemory)?,
-            parsed => assert!(&rt; matches!(parsed, Err(Fault::Device)), "call {call}"),
-        }
+        assert_eq!(rt; parsed_without(rt.alloc(), call)?, Ending::Device);
     }
     Ok(())
 }

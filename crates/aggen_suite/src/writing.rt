@@ -1,8 +1,9 @@
 //! Texts and listings that a writer does not take whole: a beginning of them has gone out.
 
-use crate::narrow::{Narrow, with_room};
+use crate::endings::Ending;
+use crate::narrow::with_room;
 use crate::translators::FRACTIONS;
-use aggen::{Fault, print_code, print_plan};
+use aggen::{print_code, print_plan};
 use agoutput::{TextOutFault, write_text};
 use std::alloc::Global;
 use std::test::Fail;
@@ -32,29 +33,20 @@ fn a_text_is_written_up_to_where_a_write_takes_nothing(rt: HostRuntime) -> Resul
     Ok(())
 }
 
-/// What was taken of a listing, behind how it ended.
-fn taken(alloc: Global, told: Result<(), Fault>, out: &Narrow) -> Result<String, Fail> {
-    let ending = match told {
-        Ok(()) => "whole",
-        Err(Fault::Write) => "cut",
-        Err(fault) => return Err(Fail::from(fault)),
-    };
-    let taken = str::from_utf8(out.taken.as_slice())?;
-    Ok(format!(in alloc; "{ending} {taken}")?)
-}
-
 #[test]
 fn a_plan_is_written_up_to_where_a_write_takes_nothing(rt: HostRuntime) -> Result<(), Fail> {
     let mut out = with_room(rt.alloc(), 6, false)?;
-    let told = print_plan(rt.alloc(), FRACTIONS.as_bytes(), &mut out);
-    assert_eq!(rt; taken(rt.alloc(), told, &out)?.as_str(), "cut pass 1");
+    let told = Ending::of(print_plan(rt.alloc(), FRACTIONS.as_bytes(), &mut out));
+    assert_eq!(rt; told, Ending::Write);
+    assert_eq!(rt; out.taken.as_slice(), b"pass 1".as_slice());
     Ok(())
 }
 
 #[test]
 fn code_is_written_up_to_where_a_write_fails(rt: HostRuntime) -> Result<(), Fail> {
     let mut out = with_room(rt.alloc(), 4, true)?;
-    let told = print_code(rt.alloc(), FRACTIONS.as_bytes(), &mut out);
-    assert_eq!(rt; taken(rt.alloc(), told, &out)?.as_str(), "cut 0 pa");
+    let told = Ending::of(print_code(rt.alloc(), FRACTIONS.as_bytes(), &mut out));
+    assert_eq!(rt; told, Ending::Write);
+    assert_eq!(rt; out.taken.as_slice(), b"0 pa".as_slice());
     Ok(())
 }

@@ -4,19 +4,19 @@ use ag_grammar::{Named, RawGrammar, RawItem, RawProduction, RawRule, RawSymbol, 
 use ag_text::{expected_at, read_grammar};
 use aggen::{BuildFault, grammar_of, print_code, print_plan};
 use normalform::{Grammar, NormalFault, Production};
-use rows::Mistake;
+use rows::{Mistake, printed};
 use std::alloc::{AllocError, Global};
 
 /// What is read of a text, or its fault.
 pub fn read_told(alloc: Global, text: &[u8]) -> Result<String, Mistake> {
     match read_grammar(alloc, text) {
-        Ok(raw) => Ok(raw_shown(alloc, &raw)?),
-        Err(fault) => Ok(format!(in alloc; "{fault:?}")?),
+        Ok(raw) => raw_shown(alloc, &raw),
+        Err(fault) => printed(alloc, &fault),
     }
 }
 
 /// A raw grammar, with a line for each symbol and each production.
-fn raw_shown(alloc: Global, raw: &RawGrammar) -> Result<String, AllocError> {
+fn raw_shown(alloc: Global, raw: &RawGrammar) -> Result<String, Mistake> {
     let mut told = format!(in alloc; "start {} at {}", raw.start.name.as_str(), raw.start.at)?;
     for symbol in raw.symbols.as_slice() {
         show_symbol(&mut told, symbol)?;
@@ -82,7 +82,7 @@ pub fn could_told(alloc: Global, text: &str) -> Result<String, Mistake> {
         Ok(_) => Err(Mistake::Unfit),
         Err(fault) => {
             let found = expected_at(alloc, text, fault)?;
-            Ok(format!(in alloc; "{found:?}")?)
+            printed(alloc, &found)
         }
     }
 }
@@ -96,16 +96,16 @@ pub fn grammar(alloc: Global, text: &str) -> Result<Grammar, Mistake> {
 }
 
 /// What a fault of a symbol is called, with the symbol's name.
-fn with_name(alloc: Global, fault: &str, symbol: &Named) -> Result<String, AllocError> {
-    format!(in alloc; "{fault} {} at {}", symbol.name.as_str(), symbol.at)
+fn with_name(alloc: Global, fault: &str, symbol: &Named) -> Result<String, Mistake> {
+    Ok(format!(in alloc; "{fault} {} at {}", symbol.name.as_str(), symbol.at)?)
 }
 
 /// A fault, with the name of the symbol that it tells.
-pub fn shown_fault(alloc: Global, fault: &NormalFault) -> Result<String, AllocError> {
+pub fn shown_fault(alloc: Global, fault: &NormalFault) -> Result<String, Mistake> {
     match fault {
         NormalFault::Unproductive(symbol) => with_name(alloc, "Unproductive", symbol),
         NormalFault::Unreachable(symbol) => with_name(alloc, "Unreachable", symbol),
-        _ => format!(in alloc; "{fault:?}"),
+        _ => printed(alloc, fault),
     }
 }
 
@@ -113,8 +113,8 @@ pub fn shown_fault(alloc: Global, fault: &NormalFault) -> Result<String, AllocEr
 pub fn check_told(alloc: Global, text: &str) -> Result<String, Mistake> {
     match grammar_of(alloc, text.as_bytes()) {
         Ok(_) => Ok(String::from_str(alloc, "accepted")?),
-        Err(BuildFault::Normal(fault)) => Ok(shown_fault(alloc, &fault)?),
-        Err(fault) => Ok(format!(in alloc; "{fault:?}")?),
+        Err(BuildFault::Normal(fault)) => shown_fault(alloc, &fault),
+        Err(fault) => printed(alloc, &fault),
     }
 }
 

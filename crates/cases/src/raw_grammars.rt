@@ -83,11 +83,11 @@ fn chain(alloc: Global, raw: RawGrammar, last: u32) -> Result<RawGrammar, Mistak
 }
 
 /// The fault that a raw grammar is refused for, or that it is accepted.
-fn verdict(alloc: Global, raw: RawGrammar) -> Result<String, AllocError>
+fn verdict(alloc: Global, raw: RawGrammar) -> Result<String, Mistake>
     requires { IsReadable raw }
 {
     match check(alloc, raw) {
-        Ok(_) => String::from_str(alloc, "accepted"),
+        Ok(_) => Ok(String::from_str(alloc, "accepted")?),
         Err(fault) => shown_fault(alloc, &fault),
     }
 }
@@ -102,5 +102,5 @@ pub fn chain_told(alloc: Global, last: u32) -> Result<String, Mistake> {
     if !is_readable(&raw) {
         return Err(Mistake::Unfit);
     }
-    Ok(verdict(alloc, raw)?)
+    verdict(alloc, raw)
 }

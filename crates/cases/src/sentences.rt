@@ -6,7 +6,7 @@ use ag_value::Text;
 use aggen::{BuildFault, Fault, Translator};
 use llparse::{Ahead, expected_at, tables};
 use normalform::Terminal;
-use rows::{Mistake, first_word, short_number, shown_bytes};
+use rows::{Mistake, first_word, printed, short_number, shown_bytes};
 use std::alloc::{AllocError, Global};
 use treefile::MemDevice;
 
@@ -23,7 +23,7 @@ pub fn table_told(alloc: Global, text: &str) -> Result<String, Mistake> {
     let grammar = grammar(alloc, text)?;
     match tables(alloc, &grammar) {
         Ok(_) => Ok(String::from_str(alloc, "no conflict")?),
-        Err(fault) => Ok(format!(in alloc; "{fault:?}")?),
+        Err(fault) => printed(alloc, &fault),
     }
 }
 
@@ -60,7 +60,7 @@ pub fn scan_told(alloc: Global, text: &str, sentence: &[u8]) -> Result<String, M
     match scan(alloc, &grammar, sentence) {
         Ok(tokens) if fits(&grammar, tokens.as_slice()) => Ok(shown(alloc, tokens.as_slice())?),
         Ok(_) => Ok(String::from_str(alloc, "they do not fit")?),
-        Err(fault) => Ok(format!(in alloc; "{fault:?}")?),
+        Err(fault) => printed(alloc, &fault),
     }
 }
 

@@ -4,21 +4,21 @@ use crate::grammars::grammar;
 use ag_value::Items;
 use passassign::{AssignFault, Strike, Stuck, assign};
 use planchecker::check_stuck;
-use rows::{Mistake, halves, parts, short_number};
+use rows::{Mistake, halves, parts, printed, short_number};
 use std::alloc::{AllocError, Global};
 
 /// The least assignment of a text's grammar, or the certificate that there is none.
 pub fn assign_told(alloc: Global, text: &str) -> Result<String, Mistake> {
     let grammar = grammar(alloc, text)?;
     match assign(alloc, &grammar) {
-        Ok(assignment) => Ok(format!(in alloc; "{:?}", assignment.rows())?),
-        Err(AssignFault::Stuck(stuck)) => Ok(shown(alloc, &stuck)?),
+        Ok(assignment) => printed(alloc, &assignment.rows()),
+        Err(AssignFault::Stuck(stuck)) => shown(alloc, &stuck),
         Err(AssignFault::NoMemory) => Err(Mistake::NoMemory),
     }
 }
 
 /// A certificate as a row spells it.
-fn shown(alloc: Global, stuck: &Stuck) -> Result<String, AllocError> {
+fn shown(alloc: Global, stuck: &Stuck) -> Result<String, Mistake> {
     let mut told = String::from_str(alloc, "stuck")?;
     for (symbol, attr) in stuck.set.as_slice() {
         write!(told, " {symbol}.{attr}")?;

@@ -2,6 +2,7 @@
 
 use crate::telling::{begins_with, found_at, tell_expected, tell_found, tell_place};
 use ag_expr::{Expected as Part, ExprFault, expected_at};
+use ag_grammar::limits::MOST_LEVELS;
 use ag_text::Expected;
 use ag_value::NoMemory;
 use std::alloc::Global;
@@ -94,7 +95,7 @@ pub fn tell_expression<W: fmt::Write>(
         }
         ExprFault::TooDeep(_) => write!(
             f,
-            ": expressions nest more than 64 levels deep, write fewer"
+            ": expressions nest more than {MOST_LEVELS} levels deep, write fewer"
         ),
         ExprFault::NoMemory => Ok(()),
     }

@@ -1,7 +1,7 @@
 //! What is told of contents of devices: files that are written, read back and turned round.
 
 use crate::words::{
-    Mistake, bytes_of, first_word, halves, number, parts, short_number, shown_bytes,
+    Mistake, bytes_of, first_word, halves, number, parts, printed, short_number, shown_bytes,
 };
 use ag_value::Value;
 use backreader::{Arity, Back, turn};
@@ -35,7 +35,7 @@ fn used(alloc: Global) -> Result<MemDevice, AllocError> {
 pub fn last_told(alloc: Global, bytes: Vec<u8>) -> Result<String, Mistake> {
     match last_body(alloc, &mut MemDevice::from_bytes(bytes)) {
         Ok(body) => Ok(shown_bytes(alloc, body.as_slice())?),
-        Err(fault) => Ok(format!(in alloc; "{fault:?}")?),
+        Err(fault) => printed(alloc, &fault),
     }
 }
 
@@ -62,7 +62,7 @@ const READ: u32 = 1000;
 fn bodies_told<D: Device>(alloc: Global, device: &mut D) -> Result<String, Mistake> {
     let mut back = match Back::start(alloc, device) {
         Ok(back) => back,
-        Err(fault) => return Ok(format!(in alloc; "{fault:?}")?),
+        Err(fault) => return printed(alloc, &fault),
     };
     let mut told = format!(in alloc; "pass {}:", back.pass())?;
     for _turn in 0..READ {
@@ -91,7 +91,7 @@ pub fn turn_told(alloc: Global, pass: u16, bytes: Vec<u8>) -> Result<String, Mis
     let mut to = used(alloc)?;
     match turn(alloc, &mut from, &mut to, pass, &Fractions {}) {
         Ok(count) => Ok(format!(in alloc; "{count} records, {}", shown_bytes(alloc, to.bytes())?)?),
-        Err(fault) => Ok(format!(in alloc; "{fault:?}")?),
+        Err(fault) => printed(alloc, &fault),
     }
 }
 

@@ -1,11 +1,11 @@
 //! What is told of the text of an expression.
 
-use crate::words::{Mistake, first_word, number};
+use crate::words::{Mistake, first_word, number, printed};
 use crate::written::Written;
-use ag_expr::{Env, ExprFault, Meter, eval, expected_at, read_expr, read_until};
+use ag_expr::{Env, Meter, eval, expected_at, read_expr, read_until};
 use ag_grammar::{Expr, occurrences};
 use ag_value::{Value, is_well, show};
-use std::alloc::{AllocError, Global};
+use std::alloc::Global;
 
 /// How many occurrences an expression has at most that is evaluated.
 const LENT: usize = 65_536;
@@ -54,7 +54,7 @@ fn shown(alloc: Global, expr: &Expr, lent: &Value) -> Result<String, Mistake> {
 pub fn value_told(alloc: Global, text: &str, lent: &Value) -> Result<String, Mistake> {
     match read_expr(alloc, text) {
         Ok(expr) => shown(alloc, &expr, lent),
-        Err(fault) => Ok(refused(alloc, &fault)?),
+        Err(fault) => printed(alloc, &fault),
     }
 }
 
@@ -77,21 +77,11 @@ pub fn meter_told(alloc: Global, text: &str, lent: &Value) -> Result<String, Mis
     }
 }
 
-/// The fault of a text.
-fn refused(alloc: Global, fault: &ExprFault) -> Result<String, AllocError> {
-    format!(in alloc; "{fault:?}")
-}
-
-/// The tree of an expression.
-fn tree_shown(alloc: Global, expr: &Expr) -> Result<String, AllocError> {
-    format!(in alloc; "{expr:?}")
-}
-
 /// The tree of a text, or its fault.
 pub fn tree_told(alloc: Global, text: &str) -> Result<String, Mistake> {
     match read_expr(alloc, text) {
-        Ok(expr) => Ok(tree_shown(alloc, &expr)?),
-        Err(fault) => Ok(refused(alloc, &fault)?),
+        Ok(expr) => printed(alloc, &expr),
+        Err(fault) => printed(alloc, &fault),
     }
 }
 
@@ -106,7 +96,7 @@ pub fn alike_told(alloc: Global, texts: &str) -> Result<String, Mistake> {
 }
 
 /// The occurrences of an expression.
-fn listed(alloc: Global, expr: &Expr) -> Result<String, AllocError> {
+fn listed(alloc: Global, expr: &Expr) -> Result<String, Mistake> {
     let mut told = format!(in alloc; "{} occurrences", occurrences(expr).len())?;
     for occurrence in occurrences(expr) {
         let name = occurrence.attr.as_str();
@@ -118,21 +108,21 @@ fn listed(alloc: Global, expr: &Expr) -> Result<String, AllocError> {
 /// How many occurrences a text has, and each of them.
 pub fn occurrences_told(alloc: Global, text: &str) -> Result<String, Mistake> {
     match read_expr(alloc, text) {
-        Ok(expr) => Ok(listed(alloc, &expr)?),
-        Err(fault) => Ok(refused(alloc, &fault)?),
+        Ok(expr) => listed(alloc, &expr),
+        Err(fault) => printed(alloc, &fault),
     }
 }
 
 /// How many occurrences an expression has.
-fn number_shown(alloc: Global, expr: &Expr) -> Result<String, AllocError> {
-    occurrences(expr).len().to_string(alloc)
+fn number_shown(alloc: Global, expr: &Expr) -> Result<String, Mistake> {
+    Ok(occurrences(expr).len().to_string(alloc)?)
 }
 
 /// How many occurrences a text has.
 pub fn count_told(alloc: Global, text: &str) -> Result<String, Mistake> {
     match read_expr(alloc, text) {
-        Ok(expr) => Ok(number_shown(alloc, &expr)?),
-        Err(fault) => Ok(refused(alloc, &fault)?),
+        Ok(expr) => number_shown(alloc, &expr),
+        Err(fault) => printed(alloc, &fault),
     }
 }
 
@@ -143,9 +133,9 @@ fn placed<'a>(written: &'a Written, rest: &'a str) -> Result<(usize, &'a str), M
 }
 
 /// Where an expression ends, and its occurrences.
-fn ended(alloc: Global, expr: &Expr, at: usize) -> Result<String, AllocError> {
+fn ended(alloc: Global, expr: &Expr, at: usize) -> Result<String, Mistake> {
     let listed = listed(alloc, expr)?;
-    format!(in alloc; "up to {at}, {listed}")
+    Ok(format!(in alloc; "up to {at}, {listed}")?)
 }
 
 /// Where the expression ends that stands from an offset of a text on up to a `;`, and its
@@ -156,8 +146,8 @@ pub fn until_told(alloc: Global, written: &Written, rest: &str) -> Result<String
         return Err(Mistake::Unfit);
     }
     match read_until(alloc, text, from) {
-        Ok((expr, at)) => Ok(ended(alloc, &expr, at)?),
-        Err(fault) => Ok(refused(alloc, &fault)?),
+        Ok((expr, at)) => ended(alloc, &expr, at),
+        Err(fault) => printed(alloc, &fault),
     }
 }
 
@@ -165,5 +155,5 @@ pub fn until_told(alloc: Global, written: &Written, rest: &str) -> Result<String
 pub fn expected_told(alloc: Global, written: &Written, rest: &str) -> Result<String, Mistake> {
     let (at, text) = placed(written, rest)?;
     let found = expected_at(alloc, text, at)?;
-    Ok(format!(in alloc; "{found:?}")?)
+    printed(alloc, &found)
 }

@@ -13,6 +13,7 @@ mod written;
 
 pub use questions::answer;
 pub use words::{
-    Mistake, bytes_of, first_word, halves, number, parts, short_number, short_numbers, shown_bytes,
+    Mistake, bytes_of, first_word, halves, number, parts, printed, short_number, short_numbers,
+    shown_bytes,
 };
 pub use written::Written;

@@ -1,7 +1,7 @@
 //! What is told of the value that was given, and of the spelling of a value.
 
 use crate::expressions::value_of;
-use crate::words::{Mistake, number, shown_bytes};
+use crate::words::{Mistake, number, printed, shown_bytes};
 use ag_value::{Items, Text, Value, copy, decode, depth, encode, is_well, same, show, weight};
 use std::alloc::{AllocError, Global};
 
@@ -84,6 +84,6 @@ pub fn decode_told(alloc: Global, bytes: Vec<u8>) -> Result<String, Mistake> {
             let shown = show(alloc, &value)?;
             Ok(format!(in alloc; "{shown} of {length} bytes")?)
         }
-        Err(fault) => Ok(format!(in alloc; "{fault:?}")?),
+        Err(fault) => printed(alloc, &fault),
     }
 }

@@ -3,6 +3,7 @@
 use ag_value::NoMemory;
 use hex::{FromHexError, decode, encode};
 use std::alloc::{AllocError, AllocFailed, Global};
+use std::fmt::Debug;
 
 /// Why a row asks for nothing that can be told.
 #[derive(Clone, Copy, Debug, PartialEq, Eq)]
@@ -31,6 +32,11 @@ impl From<NoMemory> for Mistake {
     fn from(_error: NoMemory) -> Mistake {
         Mistake::NoMemory
     }
+}
+
+/// A value as `{:?}` prints it.
+pub fn printed<T: Debug>(alloc: Global, value: &T) -> Result<String, Mistake> {
+    Ok(format!(in alloc; "{value:?}")?)
 }
 
 /// The first word of a text, and what stands behind the space that ends it.

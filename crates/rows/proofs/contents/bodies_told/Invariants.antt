@@ -1,6 +1,6 @@
 use Rattle.backreader.specs.Place.{IsOver}
 use Rattle.treefile.specs.Device.{WhenHonest}
-use Rattle.cases.proofs.contents.bodies_told.Given as goal
+use Rattle.rows.proofs.contents.bodies_told.Given as goal
 
 abbrev pub invariant-loop-turn : goal.invariant-loop-turn
 invariant-loop-turn g l = WhenHonest (g.D.Device.is_honest l.device) (IsOver (g.D.Device.content l.device) l.back)

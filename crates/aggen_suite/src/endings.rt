@@ -1,0 +1,44 @@
+//! How a call of the library ends.
+
+use aggen::Fault;
+use std::alloc::{AllocError, Global};
+
+/// How a call ends, as far as the tests ask.
+#[derive(Clone, Copy, Debug, PartialEq, Eq)]
+pub enum Ending {
+    /// With an answer.
+    Done,
+    /// With F1.
+    File,
+    /// With B1.
+    NotATreeFile,
+    /// With B2, and the offset in bytes that it tells.
+    Damaged(u64),
+    /// With D1.
+    Device,
+    /// With O2.
+    Write,
+    /// With another fault.
+    Other,
+}
+
+impl Ending {
+    /// How a call ended.
+    pub fn of<T: Drop>(told: Result<T, Fault>) -> Ending {
+        match told {
+            Ok(_) => Ending::Done,
+            Err(Fault::File) => Ending::File,
+            Err(Fault::NotATreeFile) => Ending::NotATreeFile,
+            Err(Fault::Damaged(at)) => Ending::Damaged(at),
+            Err(Fault::Device) => Ending::Device,
+            Err(Fault::Write) => Ending::Write,
+            Err(_) => Ending::Other,
+        }
+    }
+
+    /// How a call ended, and what it wrote.
+    pub fn told(self, alloc: Global, written: &[u8]) -> Result<String, AllocError> {
+        let written = str::from_utf8(written).unwrap_or("what is no text");
+        format!(in alloc; "{self:?} {written}")
+    }
+}
