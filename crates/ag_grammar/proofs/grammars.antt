@@ -1,6 +1,8 @@
 -- Lemmas on attribute grammars.
 pub mod Children
+pub mod Counting
 pub mod Directions
+pub mod EachNode
 pub mod Inherited
 pub mod Kept
 pub mod Members
@@ -9,5 +11,6 @@ pub mod OneSolution
 pub mod Productive
 pub mod Refused
 pub mod Rules
+pub mod Running
 pub mod TokenSample
 pub mod Translated

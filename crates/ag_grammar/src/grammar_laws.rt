@@ -1,7 +1,9 @@
 //! Laws about the definitions alone.
 
 ghost use Rattle.ag_grammar.specs.grammars.Laws.{ProductiveByTrees, OneSolution, OneTranslation};
-ghost use Rattle.ag_grammar.specs.grammars.Laws.{EquationsKept, PassesSolve};
+ghost use Rattle.ag_grammar.specs.grammars.Laws.{EquationsKept, PassesSolve, PassesHaveAllRules};
+ghost use Rattle.ag_grammar.specs.grammars.Laws.{RunBegins, RunGoesOn, RunIsTheSolution};
+ghost use Rattle.ag_grammar.specs.grammars.Laws.{RunSolvesRest};
 
 /// A symbol derives a list of terminals exactly where there is a tree of it.
 #[tactic(auto, using(crate::proofs::grammars::Productive::by_trees))]
@@ -30,4 +32,20 @@ pub fn equations_kept()
 /// Values that meet the equations of each pass are a solution.
 pub fn passes_solve()
     ensures { PassesSolve }
+{}
+
+/// What passes leave that run one after the other. Where none has run the values are as before, and
+/// one more has run where it keeps the values of the passes before it and meets its own equations.
+/// Behind the last one each equation from the first pass on is met, and where the first was pass 1
+/// the values are the solution.
+pub fn runs_compose()
+    ensures begins { RunBegins }
+    ensures goes { RunGoesOn }
+    ensures rest { RunSolvesRest }
+    ensures solution { RunIsTheSolution }
+{}
+
+/// The rules of a tree are those of its passes, each counted once.
+pub fn passes_have_all_rules()
+    ensures { PassesHaveAllRules }
 {}

@@ -1,7 +1,7 @@
 //! Attribute grammars as data of the program (Knuth 1968): expressions as trees, symbols, productions
 //! and rules, grammars as they stand in a text, and directions of passes. What they mean is defined
-//! over these types: the value of an expression, the trees of a grammar, their solutions, and which
-//! assignments of passes are legal.
+//! over these types: the value of an expression, the trees of a grammar, their solutions, which
+//! assignments of passes are legal, what passes leave, and how many rules a tree has.
 #![tactic(auto)]
 
 mod direction;

@@ -1,17 +1,22 @@
 //! Examples of the definitions, each a law.
 
-ghost use Rattle.std.specs.Prelude.{ℕ, ◌≡◌, [], ◌∷◌, pos};
-ghost use Rattle.ag_value.specs.declared.value.Value.{Num, Text};
+ghost use Rattle.std.specs.Prelude.{ℕ, ◌≡◌, [], ◌∷◌, pos, true, false};
+ghost use Rattle.ag_value.specs.declared.value.Value.{Num, Text, Value as AttributeValue};
 ghost use Rattle.ag_grammar.specs.declared.grammar.Terminal.TheVariants.{Literal, Class};
+ghost use Rattle.ag_grammar.specs.expressions.Evaluation.{value_of};
+ghost use Rattle.ag_grammar.specs.expressions.Occurring.{has_occurrence};
 ghost use Rattle.ag_grammar.specs.grammars.Accepted.{IsAccepted, IsComplete, IsNormal, IsProductive};
 ghost use Rattle.ag_grammar.specs.grammars.Accepted.{IsReached};
 ghost use Rattle.ag_grammar.specs.grammars.Tree.{node, none, more, IsTreeOf, depth_of, node_count};
 ghost use Rattle.ag_grammar.specs.grammars.Tree.{IsWithinLimits, most_depth, most_nodes};
 ghost use Rattle.ag_grammar.specs.grammars.Yield.{yield_of};
 ghost use Rattle.ag_grammar.specs.grammars.Passes.{IsLegal, Passes};
-ghost use Rattle.ag_grammar.specs.grammars.Solution.{Solves, AnyRule, IsTranslation};
+ghost use Rattle.ag_grammar.specs.grammars.Counts.{rules_of, rules_of_pass};
+ghost use Rattle.ag_grammar.specs.grammars.Running.{IsLastPass, IsTheSolution, RanThrough};
+ghost use Rattle.ag_grammar.specs.grammars.Solution.{Solves, AnyRule, IsTranslation, Valuation};
 ghost use Rattle.ag_grammar.specs.grammars.Sample.{bare, both_ways, doubled, sample, without_out};
 ghost use Rattle.ag_grammar.specs.grammars.Sample.{production_r, rule_out, rule_first, rule_second};
+ghost use Rattle.ag_grammar.specs.grammars.Sample.{rule_s};
 ghost use Rattle.ag_grammar.specs.grammars.Sample.{rule_inherited, later_passes, endless};
 ghost use Rattle.ag_grammar.specs.grammars.Sample.{with_unreached, sample_tree, sample_values};
 ghost use Rattle.ag_grammar.specs.grammars.Sample.{sample_passes, token_sample, token_tree};
@@ -86,6 +91,36 @@ pub fn sample_translation()
 /// The first pass for all attributes is a legal assignment.
 pub fn sample_legal()
     ensures { IsLegal sample sample_passes }
+{}
+
+/// Its tree has five rules: three at the root, and one at each of the two children. All of them are
+/// of the first pass.
+pub fn sample_counts()
+    ensures rules { rules_of sample sample_tree ≡ 5 }
+    ensures first { rules_of_pass sample_passes 1 sample sample_tree ≡ 5 }
+    ensures second { rules_of_pass sample_passes 2 sample sample_tree ≡ 0 }
+{}
+
+/// The first pass is the last one. Whatever the values were that it began with, it has left those
+/// with 2 for `out`, and they are the solution.
+#[tactic(auto, using(crate::proofs::grammars::Running::sample_settled))]
+pub fn sample_ran()
+    ensures last { IsLastPass 1 sample_passes }
+    ensures ran { (u : Valuation)
+        → RanThrough sample sample_passes sample_tree u 1 2 (sample_values 2) }
+    ensures solution { IsTheSolution sample sample_passes sample_tree (sample_values 2) }
+{
+    sample_legal();
+}
+
+/// In `$0.i + 1` the occurrence 0 stands, and 1 does not. So environments that give it the same value
+/// give the whole the same value.
+#[tactic(auto, using(crate::proofs::expressions::Depending::one_occurrence))]
+pub fn one_occurrence()
+    ensures stands { has_occurrence 0 rule_s.expr.0 ≡ true }
+    ensures alone { has_occurrence 1 rule_s.expr.0 ≡ false }
+    ensures same { (env other : ℕ → AttributeValue) → env 0 ≡ other 0
+        → value_of rule_s.expr.0 env ≡ value_of rule_s.expr.0 other }
 {}
 
 /// With `$2.i = $1.i` its first production is not normal.

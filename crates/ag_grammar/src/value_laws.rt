@@ -9,6 +9,8 @@ ghost use Rattle.ag_grammar.specs.declared.node.BinaryCall.TheVariants as binary
 ghost use Rattle.ag_grammar.specs.declared.node.Operator.TheVariants as operator;
 ghost use Rattle.ag_grammar.specs.declared.node.UnaryCall.TheVariants as unary;
 ghost use Rattle.ag_grammar.specs.expressions.Evaluation.{value_of};
+ghost use Rattle.ag_grammar.specs.expressions.Laws.{OccurrencesAreListed, RuleHasOneValue};
+ghost use Rattle.ag_grammar.specs.expressions.Laws.{RuleHoldsByOne, ValueOfOccurrences};
 ghost use Rattle.ag_grammar.specs.values.Calls.{called, called_with, chosen};
 ghost use Rattle.ag_grammar.specs.values.Laws.{BigComesNext, DeepComesFirst, WhatFitsStays};
 ghost use Rattle.ag_grammar.specs.values.Laws.{GotIsWell, KeysAreWell, SameIsOne};
@@ -34,6 +36,20 @@ pub fn equality_tells_values_apart()
 pub fn parts_of_a_table_are_well()
     ensures keys { KeysAreWell }
     ensures got { GotIsWell }
+{}
+
+/// The value of a tree rests on what is lent for the occurrences that stand in it, and on nothing
+/// else of an environment; and no occurrence stands in it but the listed ones.
+pub fn values_rest_on_occurrences()
+    ensures value { ValueOfOccurrences }
+    ensures listed { OccurrencesAreListed }
+{}
+
+/// A rule's expression has one value, whichever environment lends it the values of its arguments,
+/// and the rule holds where its target has that.
+pub fn a_rule_has_one_value()
+    ensures value { RuleHasOneValue }
+    ensures holds { RuleHoldsByOne }
 {}
 
 /// The leftmost error of two comes before a kind, and a kind before an operation's own error.

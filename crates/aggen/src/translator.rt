@@ -1,6 +1,6 @@
 //! Translators: made once of a grammar's text, and then used for any number of sentences.
 
-ghost use Rattle.std.specs.Prelude.{◌≡◌, IfErr, IfOk, IsErrOf, OnOk, string_bytes};
+ghost use Rattle.std.specs.Prelude.{◌≡◌, ◌≤◌, IfErr, IfOk, IsErrOf, OnOk, length, string_bytes};
 ghost use Rattle.ag_grammar.specs.grammars.Tree.{node_count, IsWithinLimits, Tree};
 ghost use Rattle.ag_grammar.specs.grammars.Tree.{most_depth, most_nodes};
 ghost use Rattle.llparse.specs.Ahead.{HasNoConflict};
@@ -152,10 +152,11 @@ impl Translator {
 fn plan_of(alloc: Global, grammar: &Grammar, assignment: Assignment) -> Result<Plan, NoMemory>
     requires least { IsLeast grammar.now (passes_of assignment) }
     requires few { AreFew assignment }
+    requires rows { length assignment ≤ length grammar.now.symbols }
     ensures { IfOk result (λ p. IsLeastPlan grammar.now p.0 p.1) }
 {
     let code = generate(alloc, grammar, &assignment)?;
-    match check_plan(alloc, grammar, assignment, code) {
+    match check_plan(grammar, assignment, code) {
         Ok(plan) => Ok(plan),
         // what `assign` and `generate` give is a plan
         Err(_) => unreachable!(),

@@ -2,7 +2,7 @@
 use Rattle.std.proofs.Common.{ℕ, ◌≡◌, ◌<◌, ◌≤◌, ◌+◌, ◌*◌, ◌++◌, List, [], ◌∷◌, Some, slice_get, length, unwrap_or, inl, inr, ap, ◌∙◌, sym, subst, arith}
 use Rattle.std.proofs.lemmas.Bool.{cases_eq, cases_lt}
 use Rattle.std.proofs.lemmas.List.{get_or_append_left, get_or_push, map-append}
-use Rattle.std.proofs.lemmas.Option.{slice_get_past}
+use Rattle.std.proofs.lemmas.Option.{slice_get_past, slice_get_within}
 use Rattle.std.proofs.Math.ListN.{get_or-eq_default, length-append}
 use Rattle.std.specs.Global.{Vec}
 use Rattle.ag_grammar.specs.declared.grammar.Symbol.{Symbol}
@@ -14,12 +14,13 @@ use Rattle.passassign.specs.declared.table.State.{State}
 -- the rows of the first n symbols
 pub record AreRowsBelow (symbols : List Symbol) (states : List State) (n : ℕ) (rows : List (List ℕ)) : Type 0 where
   pub count : length rows ≡ n
+  pub within : n ≤ length symbols
   pub len : (s : ℕ) → s < n → length (passes_of rows s) ≡ attribute_count (slice_get symbols s)
   pub passes : (s a : ℕ) → s < n → a < attribute_count (slice_get symbols s) → slice_get (passes_of rows s) a ≡ Some (unwrap_or (given (state_at states (slot_of s a))) 0)
 
 rows_push : (rows : List (List ℕ)) (row : List ℕ) (symbols : List Symbol) (states : List State) (n : ℕ) (symbol : Symbol) → slice_get symbols n ≡ Some symbol → length row ≡ length (attribute_names symbol) → ((a : ℕ) → a < length (attribute_names symbol) → slice_get row a ≡ Some (unwrap_or (given (state_at states (n * 16 + a))) 0)) → AreRowsBelow symbols states n rows
     → AreRowsBelow symbols states (n + 1) (rows ++ row ∷ [])
-rows_push rows row symbols states n symbol is count has h = record { count = more; len = len; passes = passes }
+rows_push rows row symbols states n symbol is count has h = record { count = more; within = let w = slice_get_within symbols n symbol is in omega arith; len = len; passes = passes }
   where
     more : length (rows ++ row ∷ []) ≡ n + 1
     more = length-append rows (row ∷ []) ∙ (let e = h.count in omega arith)
@@ -51,7 +52,7 @@ rows_more table rest row symbols states n symbol e is count has h =
     subst (AreRowsBelow symbols states (n + 1)) (sym (ap numbers_of e ∙ map-append (λ (v : Vec ℕ). v.items) table (row ∷ []))) (rows_push (numbers_of table) row.items symbols states n symbol is count has h)
 
 pub rows_end : (symbols : List Symbol) (states : List State) (n : ℕ) (rows : List (List ℕ)) → length symbols ≤ n → AreRowsBelow symbols states n rows → AreRowsOfTable symbols states rows
-rows_end symbols states n rows most h = record { len = len; passes = passes }
+rows_end symbols states n rows most h = record { count = let e = h.count in let w = h.within in omega arith; len = len; passes = passes }
   where
     none : (s : ℕ) → n ≤ s → attribute_count (slice_get symbols s) ≡ 0
     none s le = ap attribute_count (slice_get_past symbols s (omega arith))

@@ -1,5 +1,5 @@
 -- What depends on what in a production: its rules' targets on their arguments (Knuth 1968).
-use Rattle.std.specs.Prelude.{ℕ, ◌≡◌, ◌<◌, ◌⊎◌, ◌↔◌, List, [], ◌∷◌, Option, Some, None, map, slice_get, slice_index_or, length}
+use Rattle.std.specs.Prelude.{ℕ, ◌≡◌, ◌<◌, ◌⊎◌, ◌↔◌, List, [], Option, Some, None, map, slice_get, slice_index_or, length}
 use Rattle.std.specs.Global.{Vec}
 use Rattle.ag_grammar.specs.Lists.{Has}
 use Rattle.ag_grammar.specs.declared.grammar.Item.TheVariants as item

@@ -67,7 +67,8 @@ after_pass p Open true = Open
 after_pass p Open false = Given p
 after_pass p (Given q) struck = Given q
 
--- The rows of a table: each symbol's row has the passes of its attributes, and 0 where one has none.
+-- The rows of a table: there is one for each symbol, with the passes of its attributes, and 0 where one has none.
 pub record AreRowsOfTable (symbols : List Symbol) (states : List State) (rows : List (List ℕ)) : Type 0 where
+  pub count : length rows ≡ length symbols
   pub len : (s : ℕ) → length (passes_of rows s) ≡ attribute_count (slice_get symbols s)
   pub passes : (s a : ℕ) → a < attribute_count (slice_get symbols s) → slice_get (passes_of rows s) a ≡ Some (unwrap_or (given (state_at states (slot_of s a))) 0)

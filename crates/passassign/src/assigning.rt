@@ -158,6 +158,7 @@ pub(crate) fn assign_all(
         → IsWith symbols.now productions.now g → IsLeast g (passes_of m)) }
     ensures few { IfOk result (λ m. (g : Plain)
         → IsWith symbols.now productions.now g → AreFew m) }
+    ensures rows { IfOk result (λ m. length m ≡ length symbols.now) }
     ensures refused { IfErr result (λ e. (g : Plain)
         → IsWith symbols.now productions.now g → IsFault g e) }
 {
@@ -178,7 +179,7 @@ pub(crate) fn assign_all(
 
 /// The least legal assignment of passes to the attributes of a grammar: it gives no attribute a
 /// later pass than any legal one does. No pass is above 8,192, which is two for each attribute that
-/// a grammar may have.
+/// a grammar may have, and there is one row for each symbol.
 ///
 /// A1 where there is no legal one, with any number of passes. It tells all attributes that no legal
 /// assignment of some of the attributes gives a pass, in declared order, and why they can have
@@ -188,6 +189,7 @@ pub(crate) fn assign_all(
 pub fn assign(alloc: Global, grammar: &Grammar) -> Result<Assignment, AssignFault>
     ensures least { IfOk result (λ m. IsLeast grammar.now (passes_of m)) }
     ensures few { IfOk result AreFew }
+    ensures rows { IfOk result (λ m. length m ≡ length grammar.now.symbols) }
     ensures refused { IfErr result (IsFault grammar.now) }
 {
     assign_all(alloc, grammar.symbols(), grammar.productions())

@@ -1,5 +1,6 @@
 pub mod Agreeing
 pub mod Collected
+pub mod Counting
 pub mod Directions
 pub mod Filling
 pub mod Members

@@ -1,4 +1,5 @@
 pub mod Agreement
+pub mod Counts
 pub mod Laws
 pub mod Listing
 pub mod Order

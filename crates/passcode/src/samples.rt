@@ -1,7 +1,10 @@
 //! Examples of the definitions, each a law.
 
+ghost use Rattle.std.specs.Prelude.{◌≡◌, Some, count_by};
+ghost use Rattle.ag_grammar.specs.grammars.Counts.{pass_rule_count};
 ghost use Rattle.ag_grammar.specs.grammars.Sample.{sample_passes};
 ghost use Rattle.passcode.specs.Agreement.{IsListFor};
+ghost use Rattle.passcode.specs.Counts.{is_giving};
 ghost use Rattle.passcode.specs.Order.{IsInOrder};
 ghost use Rattle.passcode.specs.Sample.{sample_production, sample_list, forward_list, late_list};
 ghost use Rattle.passcode.specs.Sample.{undefined_list};
@@ -24,7 +27,13 @@ pub fn sample_in_order()
     sample_legal();
 }
 
-/// With its places from left to right it does not, since the first pass goes from right to left;
+/// It runs three rules: the production has three, and all of them are of the first pass.
+pub fn sample_counted()
+    ensures runs { count_by is_giving sample_list ≡ 3 }
+    ensures rules { pass_rule_count sample_passes 1 (Some sample_production) ≡ 3 }
+{}
+
+/// With its places from left to right it does not agree, since the first pass goes from right to left;
 #[tactic(auto, using(crate::proofs::SampleList::forward_refused))]
 pub fn forward_refused()
     ensures { IsListFor sample_passes sample_production 1 forward_list → ⊥ }

@@ -39,12 +39,12 @@ agrees_of g m code h p k q xs is list = let one = list.0 in let same : k - 1 + 1
 
 pub shape_of : (g : Grammar) (rows : List (List ℕ)) (code : Lists) (n : ℕ) → IsGreatest n rows → AreRows g.symbols rows → AreLists (length g.productions) n code → HasShape g rows code
 shape_of g rows code n greatest numbers lists = record {
-  numbers = record { whole = λ s. (numbers s).len; positive = λ s i k e. ((numbers s).passes i k e).0; most = λ s i k e. ((numbers s).passes i k e).1 };
+  numbers = record { whole = λ s. (numbers.each s).len; positive = λ s i k e. ((numbers.each s).passes i k e).0; most = λ s i k e. ((numbers.each s).passes i k e).1; few = numbers.few };
   lists = record { passes = n; greatest = greatest; productions = lists.productions_are; lists = lists.lists };
 }
 
 pub rows_in_shape : (g : Grammar) (rows : List (List ℕ)) (code : Lists) → HasShape g rows code → AreRows g.symbols rows
-rows_in_shape g rows code shape s = record { len = shape.numbers.whole s; passes = λ i k e. (shape.numbers.positive s i k e, shape.numbers.most s i k e) }
+rows_in_shape g rows code shape = record { few = shape.numbers.few; each = λ s. record { len = shape.numbers.whole s; passes = λ i k e. (shape.numbers.positive s i k e, shape.numbers.most s i k e) } }
 
 same_greatest : (rows : List (List ℕ)) (a b : ℕ) → IsGreatest a rows → IsGreatest b rows → a ≡ b
 same_greatest rows a b h g = let u = greatest_most rows a b h g in let w = greatest_most rows b a g h in omega arith

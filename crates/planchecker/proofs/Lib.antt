@@ -1,8 +1,13 @@
 pub mod Checked
 pub mod Completing
 pub mod Due
+pub mod Followed
+pub mod Fronts
 pub mod Loops
+pub mod Sampled
 pub mod Sorting
+pub mod Sounding
 pub mod Stepwise
 pub mod Strikes
 pub mod Taken
+pub mod Turns

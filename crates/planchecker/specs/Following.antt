@@ -1,14 +1,21 @@
 -- Which instruction may stand at an index of a list, by those in front of it: what any list that keeps the rules of agreement
 -- has there (this project's).
-use Rattle.std.specs.Prelude.{ℕ, ◌≡◌, ◌≤◌, List}
+use Rattle.std.specs.Prelude.{ℕ, ◌≡◌, ◌≤◌, List, length}
 use Rattle.ag_grammar.specs.declared.grammar.Production.{Production}
 use Rattle.ag_grammar.specs.declared.grammar.Rule.{Rule}
 use Rattle.ag_grammar.specs.declared.grammar.Target.{Target}
-use Rattle.ag_grammar.specs.grammars.AttributeGrammar.{IsArgument}
+use Rattle.ag_grammar.specs.grammars.AttributeGrammar.{IsArgument, stored_items}
 use Rattle.ag_grammar.specs.grammars.Passes.{Passes, HasPass, IsBefore, direction_of}
 use Rattle.passcode.specs.declared.instr.Instr.{Instr}
 use Rattle.passcode.specs.declared.instr.Instr.TheVariants as instr
 use Rattle.passcode.specs.Agreement.{StandsBefore, HasPlace, IsChild, IsRuleAt, IsAtHand, instruction_of}
+use Rattle.planchecker.specs.declared.following.At.{At}
+
+-- An index is within its list or at its end, and the production is no larger than one of an accepted grammar.
+pub record IsWithin (at : At) : Type 0 where
+  pub end : at.end ≤ length at.list.now
+  pub rules : length at.production.now.rules ≤ 65536
+  pub places : length (stored_items at.production.now.items) ≤ 16
 
 -- the places before place j in the direction of the pass are done with
 abbrev pub ArePutBefore : Production → ℕ → List Instr → ℕ → ℕ → Type 0

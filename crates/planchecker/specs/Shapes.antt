@@ -11,9 +11,10 @@ pub record IsRow (count : ℕ) (row : List ℕ) : Type 0 where
   pub len : length row ≡ count
   pub passes : Each (λ k. (1 ≤ k) × (k ≤ most_passes)) row
 
--- each symbol's attributes have such a row, and no other number has a row with passes
-abbrev pub AreRows : List Symbol → List (List ℕ) → Type 0
-AreRows symbols rows = (s : ℕ) → IsRow (length (symbol_kinds (slice_get symbols s))) (passes_of rows s)
+-- Each symbol's attributes have such a row, and there are no more rows than symbols. A symbol without attributes needs none.
+pub record AreRows (symbols : List Symbol) (rows : List (List ℕ)) : Type 0 where
+  pub few : length rows ≤ length symbols
+  pub each : (s : ℕ) → IsRow (length (symbol_kinds (slice_get symbols s))) (passes_of rows s)
 
 -- so many rows of lists, each with a list for each of so many passes
 pub record AreLists (productions passes : ℕ) (code : Lists) : Type 0 where

@@ -8,6 +8,7 @@ pub mod laws;
 mod legality;
 mod listed;
 mod plan;
+pub mod samples;
 mod shape;
 
 pub use certificate::check_stuck;

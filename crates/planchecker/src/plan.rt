@@ -14,7 +14,6 @@ use crate::shape::has_shape;
 use normalform::Grammar;
 use passassign::Assignment;
 use passcode::{Code, Instr};
-use std::alloc::Global;
 use std::marker::Model;
 
 /// Why an assignment and code are no plan for a grammar.
@@ -29,10 +28,8 @@ pub enum PlanFault {
     /// ends too early.
     Code(u16, u16, usize),
     /// C3: the rows of the assignment or of the code are not those of the grammar, or a pass is 0
-    /// or above 8,192.
+    /// or above 8,192. A row for no symbol is not the grammar's, even if it is empty.
     Shape,
-    /// A growth was refused. `check_plan` takes no memory and never answers it.
-    NoMemory,
 }
 
 /// An assignment of passes to the attributes of a grammar, and code that agrees with it. Contracts
@@ -101,12 +98,7 @@ fn first_disagreement(
 ///
 /// Takes no memory. Of a list at most as much is read as a right one has, and one instruction more;
 /// for each of these those in front of it are read, once for each place and rule.
-pub fn check_plan(
-    _alloc: Global,
-    grammar: &Grammar,
-    assignment: Assignment,
-    code: Code,
-) -> Result<Plan, PlanFault>
+pub fn check_plan(grammar: &Grammar, assignment: Assignment, code: Code) -> Result<Plan, PlanFault>
     ensures value { IfOk result (λ p. p ≡ (assignment, code)) }
     ensures plan { OnOk result (IsPlan grammar.now assignment code) }
     ensures refused { IfErr result (IsPlanFault grammar.now assignment code) }

@@ -1,6 +1,6 @@
 //! Whether an assignment and code have the shape of a grammar.
 
-ghost use Rattle.std.specs.Prelude.{ℕ, ◌≡◌, ◌≤◌, ◌↔◌, IsTrue, length, slice_get};
+ghost use Rattle.std.specs.Prelude.{ℕ, ◌≡◌, ◌≤◌, ◌↔◌, IsTrue, Some, length};
 ghost use Rattle.ag_grammar.specs.Lists.{Each};
 ghost use Rattle.ag_grammar.specs.grammars.AttributeGrammar.{attribute_names, symbol_kinds};
 ghost use Rattle.passassign.specs.Rows.{most_passes, numbers_of, passes_of};
@@ -48,25 +48,24 @@ fn row_at(rows: &[Vec<u16>], symbol: usize) -> &[u16]
     }
 }
 
-/// How many attributes a symbol has, none where there is no symbol.
-fn attribute_count(symbols: &[Symbol], symbol: usize) -> usize
-    requires { Each (λ s. length (attribute_names s) ≤ 16) symbols.now }
-    ensures { result ≡ length (symbol_kinds (slice_get symbols.now symbol)) }
+/// A row has a pass for each attribute of a symbol.
+fn is_row_of(row: &[u16], symbol: &Symbol) -> bool
+    requires { length (attribute_names symbol.now) ≤ 16 }
+    ensures { IsTrue result ↔ IsRow (length (symbol_kinds (Some symbol.now))) row.now }
 {
-    if symbol >= symbols.len() {
-        return 0;
-    }
-    let symbol = &symbols[symbol];
-    symbol.syn.as_slice().len() + symbol.inh.as_slice().len()
+    is_row(row, symbol.attribute_count())
 }
 
-/// The rows have passes for the attributes of these symbols, and no other.
+/// The rows have passes for the attributes of these symbols, and there is no other row.
 fn are_rows(symbols: &[Symbol], rows: &[Vec<u16>]) -> bool
     requires { Each (λ s. length (attribute_names s) ≤ 16) symbols.now }
     ensures { IsTrue result ↔ AreRows symbols.now (numbers_of rows.now) }
 {
-    for symbol in 0..symbols.len().max(rows.len()) {
-        if !is_row(row_at(rows, symbol), attribute_count(symbols, symbol)) {
+    if rows.len() > symbols.len() {
+        return false;
+    }
+    for (index, symbol) in symbols.iter().enumerate() {
+        if !is_row_of(row_at(rows, index), symbol) {
             return false;
         }
     }
@@ -89,8 +88,8 @@ fn are_lists(rows: &[Vec<Vec<Instr>>], productions: usize, passes: u16) -> bool
 }
 
 /// An assignment and code have the shape of a grammar: each attribute of each symbol has one pass
-/// from 1 to 8,192, nothing else has one, and there is a list for each production and each pass up
-/// to the greatest.
+/// from 1 to 8,192, there is no row for anything else, and there is a list for each production and
+/// each pass up to the greatest.
 pub(crate) fn has_shape(grammar: &Grammar, assignment: &Assignment, code: &Code) -> bool
     ensures { IsTrue result ↔ HasShape grammar.now assignment.now code.now }
 {

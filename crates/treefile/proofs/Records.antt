@@ -35,7 +35,8 @@ values_few k (p ∷ ps) values = by_test (nat_le p k) (values_few k ps (λ a. va
     by_test true later = omega arith
     by_test false later = omega arith
 
-values_well : (k : ℕ) (ps : List ℕ) (values : ℕ → Value) → WellAt (λ p. p ≤ k) ps values values → All IsWell (values_up_to k ps values)
+-- what is well up to a pass is so in the record
+pub values_well : (k : ℕ) (ps : List ℕ) (values : ℕ → Value) → WellAt (λ p. p ≤ k) ps values values → All IsWell (values_up_to k ps values)
 values_well k [] values well = All-nil IsWell
 values_well k (p ∷ ps) values well = by_test (nat_le p k) refl (values_well k ps (λ a. values (suc a)) (λ a q e le. well (suc a) q e le))
   where

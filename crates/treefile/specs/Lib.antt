@@ -1,11 +1,16 @@
+pub mod Awaited
 pub mod Backward
 pub mod Device
 pub mod Ending
 pub mod Faults
 pub mod Files
 pub mod Fuse
+pub mod Laws
+pub mod Listed
+pub mod OneTree
 pub mod Orders
 pub mod Records
+pub mod Runs
 pub mod TreeFile
 pub mod Worked
 pub mod Writing

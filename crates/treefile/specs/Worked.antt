@@ -1,4 +1,4 @@
--- A grammar and two sentences whose files are worked out by hand. The grammar gives a binary fraction its value in 65536ths:
+-- A grammar and sentences whose files are worked out by hand. The grammar gives a binary fraction its value in 65536ths:
 --   start N; symbol N syn out; symbol Q syn v; symbol L syn p, v inh w; symbol T syn p, v inh w; symbol B syn bit;
 --   N = L Q   Q =   Q = "." L   L = B T   T =   T = B T   B = "0"   B = "1"
 -- Symbols and productions are numbered from 0 in this order. The rules are left out, since no file depends on them.
@@ -11,8 +11,11 @@ use Rattle.ag_grammar.specs.declared.grammar.Symbol.{Symbol}
 use Rattle.ag_grammar.specs.declared.grammar.Terminal.TheVariants.{Literal}
 use Rattle.ag_grammar.specs.grammars.AttributeGrammar.{Grammar}
 use Rattle.ag_grammar.specs.grammars.Passes.{Passes}
+use Rattle.ag_grammar.specs.grammars.Sample.{sample, sample_passes, sample_tree, sample_values}
 use Rattle.ag_grammar.specs.grammars.Solution.{Valuation, graft}
 use Rattle.ag_grammar.specs.grammars.Tree.{Tree, node, none, more}
+use Rattle.treefile.specs.Records.{file_of_tree}
+use Rattle.treefile.specs.TreeFile.{version_one}
 
 -- a symbol of these names
 abbrev pub symbol_of : List ℕ → List (List ℕ) → List (List ℕ) → Symbol
@@ -104,3 +107,27 @@ file_of_iffy =
 -- all attributes of that grammar are of the first pass
 abbrev pub iffy_passes : Passes
 iffy_passes s = 1 ∷ []
+
+-- the bodies of the file of pass 0 of `1`, from its end: N, Q, L, T, B
+abbrev pub bodies_of_one : List (List ℕ)
+bodies_of_one = (0 ∷ 0 ∷ 0 ∷ []) ∷ (0 ∷ 0 ∷ 1 ∷ []) ∷ (0 ∷ 0 ∷ 3 ∷ []) ∷ (0 ∷ 0 ∷ 4 ∷ []) ∷ (0 ∷ 0 ∷ 7 ∷ []) ∷ []
+
+-- the spelling of the number 65536
+abbrev pub spelled_number : List ℕ
+spelled_number = 0 ∷ 0 ∷ 0 ∷ 0 ∷ 0 ∷ 0 ∷ 1 ∷ 0 ∷ 0 ∷ []
+
+-- the record of T in the file of pass 1 of `1`: its production, and the value of `p`
+abbrev pub record_of_t : List ℕ
+record_of_t = 0 ∷ 0 ∷ 4 ∷ spelled_number
+
+-- the record of N in the file of pass 2 of `1`: its production, and the value of `out`
+abbrev pub record_of_n : List ℕ
+record_of_n = 0 ∷ 0 ∷ 0 ∷ 1 ∷ 0 ∷ 0 ∷ 0 ∷ 5 ∷ 54 ∷ 53 ∷ 53 ∷ 51 ∷ 54 ∷ []
+
+-- the record of the name `iffy`
+abbrev pub record_of_iffy : List ℕ
+record_of_iffy = 1 ∷ 0 ∷ 0 ∷ 1 ∷ 0 ∷ 0 ∷ 0 ∷ 4 ∷ 105 ∷ 102 ∷ 102 ∷ 121 ∷ []
+
+-- the file of a pass of `x x` in the sample grammar without a token, with 2 for `out`
+abbrev pub file_of_x_x : ℕ → List ℕ
+file_of_x_x k = file_of_tree version_one sample sample_passes k sample_tree (sample_values 2)

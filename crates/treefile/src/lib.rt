@@ -21,5 +21,9 @@ pub use laws::{files_are_read_back, frames_are_read, headers_are_told, last_is_r
 pub use layout::{HEADER_BYTES, LENGTH_BYTES};
 pub use memory::MemDevice;
 pub use reading::{FrameFault, fits_before, last_body, pass_in};
-pub use tree_laws::{lists_tell_trees, orders_turn_round, trees_are_read_back, worked_files};
+pub use tree_laws::{
+    files_have_one_tree, lists_tell_trees, orders_turn_round, passes_follow_files,
+    records_are_read, records_tell_trees, refusals_are_true, root_is_last, trees_are_read_back,
+    worked_files, worked_records, worked_way,
+};
 pub use writing::{WriteFault, Writer};

@@ -1,20 +1,38 @@
 //! What is true of the definitions of trees of bodies and of their files alone.
 
-ghost use Rattle.std.specs.Prelude.{◌≡◌, ◌++◌, ℕ, List, Option, All, length, reverse};
-ghost use Rattle.ag_grammar.specs.grammars.AttributeGrammar.{Grammar};
+ghost use Rattle.std.specs.Prelude.{◌≡◌, ◌≤◌, ◌++◌, ◌∷◌, ℕ, List, [], Option, All, Ok, length, pos};
+ghost use Rattle.std.specs.Prelude.{reverse};
+ghost use Rattle.ag_value.specs.declared.value.Value.{Num, Text};
 ghost use Rattle.ag_grammar.specs.declared.direction.Direction.{Direction};
+ghost use Rattle.ag_grammar.specs.declared.direction.Direction.TheVariants.{RightToLeft};
+ghost use Rattle.ag_grammar.specs.declared.grammar.Item.TheVariants as item;
+ghost use Rattle.ag_grammar.specs.declared.grammar.Terminal.TheVariants.{Class};
+ghost use Rattle.ag_grammar.specs.grammars.AttributeGrammar.{Grammar};
 ghost use Rattle.ag_grammar.specs.grammars.Passes.{Passes, direction_of, other};
-ghost use Rattle.ag_grammar.specs.grammars.Sample.{token_sample, token_tree};
-ghost use Rattle.ag_grammar.specs.grammars.Solution.{Valuation};
-ghost use Rattle.ag_grammar.specs.grammars.Tree.{Tree};
+ghost use Rattle.ag_grammar.specs.grammars.Sample.{iffy, sample, sample_passes, token_sample};
+ghost use Rattle.ag_grammar.specs.grammars.Sample.{token_tree, token_values};
+ghost use Rattle.ag_grammar.specs.grammars.Solution.{Same, Valuation};
+ghost use Rattle.ag_grammar.specs.grammars.Tree.{IsTreeOf, Tree, most_depth, most_nodes};
+ghost use Rattle.treefile.specs.Awaited.{AreThere, Awaits, HasNoTree, HasNoTreeWithin};
+ghost use Rattle.treefile.specs.Awaited.{IsNoRecord, IsOnTheWay, IsRecordOf, root_to_come};
 ghost use Rattle.treefile.specs.Backward.{ReadsBack};
-ghost use Rattle.treefile.specs.Ending.{IsBody, IsUsable};
+ghost use Rattle.treefile.specs.Ending.{IsBody, IsUsable, last_body_of};
+ghost use Rattle.treefile.specs.Laws.{AllToCome, AwaitedAreThere, BytesAreLeft, FitsVersionOne};
+ghost use Rattle.treefile.specs.Laws.{GoesOnRun, ListedRecord, NextToCome, NoFileHasNoTree, OneNode};
+ghost use Rattle.treefile.specs.Laws.{OneReading, OneRecord, OneTreeAtEnd, OneTreeInFront};
+ghost use Rattle.treefile.specs.Laws.{RefusalGoesBack, RefusalWithinGoesBack, RootIsLast, SameFile};
+ghost use Rattle.treefile.specs.Laws.{StartsRun, ValueIsMissing, ValuesAreWhole, WayBegins};
+ghost use Rattle.treefile.specs.Laws.{WayBreaks, WayEnds, WayGoesOn, WayIsTooLong};
+ghost use Rattle.treefile.specs.Listed.{AreSpelled, BeginsNoValue, HasRead, IsListedRecord};
+ghost use Rattle.treefile.specs.OneTree.{IsNumbered, IsRecorded};
 ghost use Rattle.treefile.specs.Orders.{BodyTree, IsRanked, postfix, prefix};
 ghost use Rattle.treefile.specs.Records.{FitsVersion, IsFileOfTree, bodies_of, file_of_tree};
-ghost use Rattle.treefile.specs.TreeFile.{Version, version_one};
-ghost use Rattle.treefile.specs.Worked.{binary, binary_passes, file_of_iffy, iffy_passes};
-ghost use Rattle.treefile.specs.Worked.{pass_0_of_one, pass_1_of_one, pass_2_of_one};
-ghost use Rattle.treefile.specs.Worked.{tree_of_one, values_of_one};
+ghost use Rattle.treefile.specs.Runs.{RunsPass, RunsPasses};
+ghost use Rattle.treefile.specs.TreeFile.{Version, file, header, version_one};
+ghost use Rattle.treefile.specs.Worked.{binary, binary_passes, bodies_of_one, file_of_iffy};
+ghost use Rattle.treefile.specs.Worked.{file_of_x_x, iffy_passes, pass_0_of_one, pass_1_of_one};
+ghost use Rattle.treefile.specs.Worked.{pass_2_of_one, production_of, record_of_iffy, record_of_n};
+ghost use Rattle.treefile.specs.Worked.{record_of_t, spelled_number, tree_of_one, values_of_one};
 
 /// Read from its end, the postfix list of a direction is the prefix list of the other one.
 pub fn orders_turn_round()
@@ -63,4 +81,120 @@ pub fn worked_files()
         ≡ pass_2_of_one }
     ensures token { (values : Valuation) →
         file_of_tree version_one token_sample iffy_passes 0 token_tree values ≡ file_of_iffy }
+{}
+
+/// A record tells its node's production and values. A list begins with the records of one tree of an
+/// item at most, and of one valuation of it, each node before its children; and it ends with those of
+/// one at most, each node behind its children.
+pub fn records_tell_trees()
+    ensures node { OneNode }
+    ensures front { OneTreeInFront }
+    ensures end { OneTreeAtEnd }
+{}
+
+/// A content is the file of a pass of one tree of the grammar at most, and of one valuation of it up to
+/// the pass; and values that are the same up to the pass have the same file. What is asked of the
+/// grammar and of the version is so of accepted grammars in version 1.
+pub fn files_have_one_tree()
+    ensures reading { OneReading }
+    ensures same { SameFile }
+    ensures fits { FitsVersionOne version_one }
+{}
+
+/// Passes over files, one after the other. Where none has run the file is as it was, and one more has
+/// run where it read the file that the last one left. If that file is of no tree of the grammar, nor was
+/// the first one, within limits too: so what a later pass refuses is refused of the first file.
+pub fn passes_follow_files()
+    ensures begins { StartsRun }
+    ensures goes { GoesOnRun }
+    ensures refused { RefusalGoesBack }
+    ensures within { RefusalWithinGoesBack }
+{}
+
+/// On the way from the end of a content to its header. The root is to come first, and behind a record
+/// its children are, one by one in the direction of the next pass. Where nothing is to come, everything
+/// was read. Where what is found is not what is to come the content is the file of no tree, and where
+/// too much is to come it is that of none within the limits.
+pub fn refusals_are_true()
+    ensures one { OneRecord }
+    ensures begins { WayBegins }
+    ensures goes { WayGoesOn }
+    ensures next { NextToCome }
+    ensures all { AllToCome }
+    ensures there { AwaitedAreThere }
+    ensures ends { WayEnds }
+    ensures breaks { WayBreaks }
+    ensures long { WayIsTooLong }
+    ensures header { NoFileHasNoTree }
+{}
+
+/// A record has its values one behind the other: a body is one exactly where it has as many well values
+/// as it should, and has not so many where one is missing or bytes are left.
+pub fn records_are_read()
+    ensures listed { ListedRecord }
+    ensures missing { ValueIsMissing }
+    ensures left { BytesAreLeft }
+{}
+
+/// The last record of a file is the root's, and in the file of the last pass it has all its values.
+pub fn root_is_last()
+    ensures last { RootIsLast }
+    ensures values { ValuesAreWhole }
+{}
+
+/// The tree of `1` with its values can stand in records, and so can that of `iffy if`, but not with an
+/// empty text for the name. The file of pass 2 of `1` is that of no other tree, and its last record is
+/// that of N. Pass 1 ran from the file of pass 0 of `x x` to that of pass 1, and so did the passes from 1
+/// to 1. T's record in pass 1 has the number 65536, which is spelled in nine bytes; behind these a 9
+/// begins no value, so that there are not two.
+pub fn worked_records()
+    ensures numbered { IsNumbered binary }
+    ensures recorded { IsRecorded binary binary_passes 2 (item.Symbol 0) tree_of_one values_of_one }
+    ensures token { IsRecorded token_sample iffy_passes 0 (item.Symbol 0) token_tree
+        (token_values iffy) }
+    ensures unrecorded { IsRecorded token_sample iffy_passes 0 (item.Symbol 0) token_tree
+        (λ path attribute. Text []) → ⊥ }
+    ensures alone { (tree : Tree) (values : Valuation) → IsTreeOf binary tree →
+        IsFileOfTree version_one binary binary_passes 2 tree values pass_2_of_one →
+        (tree_of_one ≡ tree)
+        × Same (λ pass. pass ≤ 2) binary binary_passes tree_of_one values_of_one values }
+    ensures root { last_body_of version_one pass_2_of_one ≡ Ok record_of_n }
+    ensures pass { RunsPass version_one sample sample_passes 0 (file_of_x_x 0) (file_of_x_x 1) }
+    ensures run { RunsPasses version_one sample sample_passes 0 1 (file_of_x_x 0) (file_of_x_x 1)
+        (file_of_x_x 0) }
+    ensures listed { IsListedRecord binary binary_passes 1 3 record_of_t 4 (production_of 3 [])
+        (Num (pos 65536) ∷ []) }
+    ensures spelled { AreSpelled 1 spelled_number }
+    ensures read { HasRead (spelled_number ++ 9 ∷ []) (Num (pos 65536) ∷ []) (9 ∷ []) }
+    ensures nothing { BeginsNoValue (9 ∷ []) }
+    ensures missing { AreSpelled 2 (spelled_number ++ 9 ∷ []) → ⊥ }
+{}
+
+/// On the way from the end of the file of pass 0 of `1`, which is read from right to left. First N is to
+/// come, and behind its record Q and then L, one level further down. The bodies are those of a tree of
+/// three levels, and of none of two; nor is the file that of a tree of three nodes at most. A header
+/// alone is the file of no tree, nor is a file with Q's record alone, nor is this one a file of pass 1.
+pub fn worked_way()
+    ensures one { IsRecordOf binary binary_passes 1 (item.Symbol 3) record_of_t [] }
+    ensures token { IsRecordOf token_sample iffy_passes 0 (item.Terminal (Class 0))
+        record_of_iffy [] }
+    ensures none { IsNoRecord binary binary_passes 0 (item.Symbol 0) (0 ∷ 0 ∷ 1 ∷ []) }
+    ensures awaited { Awaits binary binary_passes 0 RightToLeft 3 (root_to_come binary)
+        bodies_of_one }
+    ensures there { AreThere binary binary_passes 0 RightToLeft 3 (root_to_come binary)
+        bodies_of_one }
+    ensures deep { Awaits binary binary_passes 0 RightToLeft 2 (root_to_come binary)
+        bodies_of_one → ⊥ }
+    ensures begins { IsOnTheWay version_one binary binary_passes 0 pass_0_of_one 41 0
+        (root_to_come binary) }
+    ensures goes { IsOnTheWay version_one binary binary_passes 0 pass_0_of_one 34 1
+        ((2, item.Symbol 1) ∷ (2, item.Symbol 2) ∷ []) }
+    ensures levels { HasNoTreeWithin 2 most_nodes version_one binary binary_passes 0
+        pass_0_of_one }
+    ensures nodes { HasNoTreeWithin most_depth 3 version_one binary binary_passes 0
+        pass_0_of_one }
+    ensures header { HasNoTree version_one binary binary_passes 0 (header version_one 0) }
+    ensures wrong { HasNoTree version_one binary binary_passes 0
+        (file version_one 0 ((0 ∷ 0 ∷ 1 ∷ []) ∷ [])) }
+    ensures other_pass { HasNoTree version_one binary binary_passes 1 pass_0_of_one }
 {}

@@ -1,6 +1,5 @@
 -- Equations stay true in later passes.
 use Rattle.std.proofs.Common.{ℕ, zero, suc, ◌≡◌, ◌≤◌, List, [], Option, Some, None, slice_get, refl, ap, ◌∙◌, sym, subst, arith}
-use Rattle.ag_value.specs.declared.value.Value.{Value}
 use Rattle.ag_grammar.specs.Lists.{Each}
 use Rattle.ag_grammar.specs.declared.grammar.Item.TheVariants as item
 use Rattle.ag_grammar.specs.declared.grammar.Item.{Item}
@@ -10,8 +9,9 @@ use Rattle.ag_grammar.specs.declared.grammar.Terminal.TheVariants.{Literal, Clas
 use Rattle.ag_grammar.specs.grammars.AttributeGrammar.{Grammar, stored_items, item_at}
 use Rattle.ag_grammar.specs.grammars.Tree.{Tree, Forest, leaf, node, none, more, Fits, FitsAll}
 use Rattle.ag_grammar.specs.grammars.Passes.{Passes, item_passes, HasPass, IsLegalFor}
-use Rattle.ag_grammar.specs.grammars.Solution.{Valuation, children, rest, at, RulesHold, Solves, SolvesAll, AnyRule, OfPass, SameAt, Same, AtEachNodeOf, left_passes}
+use Rattle.ag_grammar.specs.grammars.Solution.{Valuation, children, rest, at, RulesHold, Solves, SolvesAll, AnyRule, NoRule, OfPass, SameAt, Same, AnyPass, AtEachNodeOf, left_passes}
 use Rattle.ag_grammar.proofs.grammars.Children.{child, tree_ind, child_fits, child_exists, child_solves, child_each, root_each}
+use Rattle.ag_grammar.proofs.grammars.EachNode.{OfPasses, solves_each, solves_wider}
 use Rattle.ag_grammar.proofs.grammars.OneSolution.{may_le}
 use Rattle.ag_grammar.proofs.grammars.Rules.{holds_same}
 
@@ -63,8 +63,7 @@ equations_kept g m k j x t v w legal le fits s h = kept g m k j legal le t x v w
 
 -- a solution, where each target has a pass
 pub passes_solve : (g : Grammar) (m : Passes) (t : Tree) (v : Valuation) → Each (λ q. Each (λ r. (k : ℕ) × HasPass m q r.target k) q.rules) g.productions → ((k : ℕ) → Solves (OfPass m k) g t v) → Solves AnyRule g t v
-passes_solve g m t v has s = tree_ind (λ t. (v : Valuation) → ((k : ℕ) → Solves (OfPass m k) g t v) → Solves AnyRule g t v) (λ c x v s. s 0) (λ p ts ih v s. (go p (slice_get g.productions p) (at v) refl (λ k. (s k).0), solves_all AnyRule g ts (children v) (λ i t c. ih i t c (children v i) (λ k. child_solves (OfPass m k) g ts (children v) i t (s k).1 c)))) t v s
-  where
-    go : (p : ℕ) (o : Option Production) (e : ℕ → ℕ → Value) → slice_get g.productions p ≡ o → ((k : ℕ) → RulesHold (OfPass m k) o e) → RulesHold AnyRule o e
-    go p None e z s = tt
-    go p (Some q) e z s = λ r rule u. let h = has p q z rule.0 r rule.1 in s h.0 r rule h.1
+passes_solve g m t v has solves =
+    let texts : Solves NoRule g t v = solves_wider (OfPass m 0) NoRule g (λ p q r production rule bad. absurd bad) t v (solves 0) in
+    solves_wider (OfPasses m AnyPass) AnyRule g (λ p q r production rule any. let pass = has p q production rule.0 r rule.1 in (pass.0, tt, pass.1)) t v
+    (solves_each m AnyPass g t v texts (λ k any. solves k))

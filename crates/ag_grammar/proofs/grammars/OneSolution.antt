@@ -13,6 +13,7 @@ use Rattle.ag_grammar.specs.grammars.Accepted.{IsStart, IsComplete, IsNormal}
 use Rattle.ag_grammar.specs.grammars.Tree.{Tree, Forest, leaf, node, Fits, FitsAll, IsTreeOf}
 use Rattle.ag_grammar.specs.grammars.Passes.{Passes, item_passes, HasPass, Direction, LeftToRight, RightToLeft, direction_of, IsBefore, MayUse, IsLegalFor, IsLegal}
 use Rattle.ag_grammar.specs.grammars.Solution.{Valuation, children, at, Holds, RulesHold, Solves, AnyRule, SameAt, Same, AnyPass, left_passes}
+use Rattle.ag_grammar.proofs.grammars.EachNode.{same_weaker}
 use Rattle.ag_grammar.proofs.grammars.Rules.{target_same}
 use Rattle.ag_grammar.proofs.grammars.Children.{child, size, tree_ind, child_within, child_fits, child_exists, child_solves, child_each, children_each, root_each}
 
@@ -136,9 +137,6 @@ module _ (g : Grammar) (m : Passes) (k : ℕ) (complete : Each (IsComplete g) g.
   -- the values of one pass more
   pub pass_agrees : (t : Tree) → Agrees g m k t
   pass_agrees t = tree_ind (Agrees g m k) leaf_agrees node_agrees t
-
-same_weaker : (W X : ℕ → Type 0) (g : Grammar) (m : Passes) → ((p : ℕ) → X p → W p) → (t : Tree) (v w : Valuation) → Same W g m t v w → Same X g m t v w
-same_weaker W X g m h t = tree_ind (λ t. (v w : Valuation) → Same W g m t v w → Same X g m t v w) (λ c x v w s a p e y. s a p e (h p y)) (λ p ts ih v w s. (λ a p e y. s.0 a p e (h p y), children_each (SameAt X) g m ts (children v) (children w) (λ i t c. ih i t c (children v i) (children w i) (child_each (SameAt W) g m ts (children v) (children w) i t s.1 c)))) t
 
 -- what holds of each pass
 same_each : (g : Grammar) (m : Passes) (t : Tree) (v w : Valuation) → ((k : ℕ) → Same (λ p. p < k) g m t v w) → Same AnyPass g m t v w

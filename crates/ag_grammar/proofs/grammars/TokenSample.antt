@@ -2,7 +2,7 @@
 use Rattle.std.proofs.lemmas.Str.{IsUtf8-from_ascii, is_utf8-from_IsUtf8}
 use Rattle.std.proofs.Common.{ℕ, zero, suc, ◌≡◌, ◌<◌, ◌≤◌, [], ◌∷◌, IsAscii, length, refl, sym, ◌∙◌, arith}
 use Rattle.ag_value.specs.declared.value.Value.{Text}
-use Rattle.ag_grammar.specs.grammars.Tree.{IsTreeOf}
+use Rattle.ag_grammar.specs.grammars.Tree.{IsTokenText, IsTreeOf}
 use Rattle.ag_grammar.specs.Lists.{Each}
 use Rattle.ag_grammar.specs.grammars.Solution.{at, Holds, Solves, AnyRule, IsTranslation}
 use Rattle.ag_grammar.specs.grammars.Sample.{attribute, named as named_at, token_sample, production_s, symbol_s, token_tree, token_values, rule_lex, iffy}
@@ -25,8 +25,12 @@ ascii (suc (suc zero)) = omega arith
 ascii (suc (suc (suc zero))) = omega arith
 ascii (suc (suc (suc (suc i)))) = omega arith
 
+-- `iffy` may be the text of a token
+pub text : IsTokenText iffy
+text = record { utf8 = is_utf8-from_IsUtf8 iffy (IsUtf8-from_ascii iffy ascii); short = omega arith }
+
 pub fits : IsTreeOf token_sample token_tree
-fits = (production_s, refl, refl, ((refl, record { utf8 = is_utf8-from_IsUtf8 iffy (IsUtf8-from_ascii iffy ascii); short = omega arith }), tt))
+fits = (production_s, refl, refl, ((refl, text), tt))
 
 lex_holds : Each (λ r. Holds r (at (token_values iffy))) production_s.rules
 lex_holds = only (λ r. Holds r (at (token_values iffy))) rule_lex (λ env lent. sym (occurrence_gives 0 env ∙ lent 0 (attribute 1 0) refl))

@@ -1,5 +1,5 @@
 -- What the laws state.
-use Rattle.std.specs.Prelude.{ℕ, ◌≡◌, ◌≤◌, ◌↔◌}
+use Rattle.std.specs.Prelude.{ℕ, suc, ◌≡◌, ◌<◌, ◌≤◌, ◌↔◌}
 use Rattle.ag_value.specs.declared.value.Value.{Value}
 use Rattle.ag_grammar.specs.Lists.{Each}
 use Rattle.ag_grammar.specs.declared.grammar.Item.TheVariants as item
@@ -8,7 +8,9 @@ use Rattle.ag_grammar.specs.grammars.AttributeGrammar.{Grammar}
 use Rattle.ag_grammar.specs.grammars.Accepted.{IsStart, IsComplete, IsNormal, IsProductive, IsAccepted}
 use Rattle.ag_grammar.specs.grammars.Tree.{Tree, IsTreeOf, Fits}
 use Rattle.ag_grammar.specs.grammars.Passes.{Passes, HasPass, IsLegalFor, IsLegal}
-use Rattle.ag_grammar.specs.grammars.Solution.{Valuation, Solves, AnyRule, OfPass, Same, AnyPass, IsTranslation}
+use Rattle.ag_grammar.specs.grammars.Solution.{Valuation, Solves, AnyRule, NoRule, OfPass, Same, AnyPass, IsTranslation}
+use Rattle.ag_grammar.specs.grammars.Running.{FromPass, IsLastPass, IsTheSolution, RanThrough}
+use Rattle.ag_grammar.specs.grammars.Counts.{rules_of, rules_of_pass, sum_of_passes}
 
 -- A symbol derives a list of terminals exactly where there is a tree of it.
 abbrev pub ProductiveByTrees : Type 0
@@ -30,3 +32,23 @@ EquationsKept = (g : Grammar) (m : Passes) (k j : ℕ) (x : Item) (t : Tree) (v 
 -- Values that meet the equations of each pass are a solution, where each target has a pass.
 abbrev pub PassesSolve : Type 0
 PassesSolve = (g : Grammar) (m : Passes) (t : Tree) (v : Valuation) → Each (λ q. Each (λ r. (k : ℕ) × HasPass m q r.target k) q.rules) g.productions → ((k : ℕ) → Solves (OfPass m k) g t v) → Solves AnyRule g t v
+
+-- Where no pass has run yet, the values are as before: any that give each leaf its text.
+abbrev pub RunBegins : Type 0
+RunBegins = (g : Grammar) (m : Passes) (t : Tree) (u : Valuation) (first : ℕ) → Solves NoRule g t u → RanThrough g m t u first first u
+
+-- One pass more has run where it keeps the values of the passes before it, and meets its own equations.
+abbrev pub RunGoesOn : Type 0
+RunGoesOn = (g : Grammar) (m : Passes) (x : Item) (t : Tree) (u w v : Valuation) (first next : ℕ) → IsLegal g m → Fits g x t → first ≤ next → RanThrough g m t u first next w → Same (λ p. p < next) g m t w v → Solves (OfPass m next) g t v → RanThrough g m t u first (suc next) v
+
+-- Where the last pass has run, each equation whose target is of a pass from the first one on is met,
+abbrev pub RunSolvesRest : Type 0
+RunSolvesRest = (g : Grammar) (m : Passes) (t : Tree) (u w : Valuation) (first last : ℕ) → IsLastPass last m → RanThrough g m t u first (suc last) w → Solves (FromPass m first) g t w
+
+-- and where the first one was pass 1, the values are the solution.
+abbrev pub RunIsTheSolution : Type 0
+RunIsTheSolution = (g : Grammar) (m : Passes) (t : Tree) (u w : Valuation) (last : ℕ) → IsAccepted g → IsLegal g m → IsLastPass last m → IsTreeOf g t → RanThrough g m t u 1 (suc last) w → IsTheSolution g m t w
+
+-- The rules of a tree are those of all passes up to the last one, since each target has one of these.
+abbrev pub PassesHaveAllRules : Type 0
+PassesHaveAllRules = (g : Grammar) (m : Passes) (t : Tree) (last : ℕ) → IsAccepted g → IsLegal g m → IsLastPass last m → sum_of_passes (λ k. rules_of_pass m k g t) 0 last ≡ rules_of g t

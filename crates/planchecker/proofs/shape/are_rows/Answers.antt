@@ -8,10 +8,13 @@ use Rattle.planchecker.proofs.shape.are_rows.Goals as goal
 
 pub returns : goal.returns
 returns c =
-    let end = c.max-symbol-end.ensures in
-    let past = c.loop-symbol-test.false in
+    let past = c.loop-index-test.false in
+    let few = c.if-rows-symbols.false in
     let len : length (numbers_of c.args.rows.now) ≡ length c.args.rows.now = length_rows c.args.rows.now in
-    says_yes (λ s. elim (cases_lt s c.loop-symbol.symbol) [
-      | inl lt ↦ c.loop-symbol.invariant s lt
-      | inr le ↦ rows_past c.args.symbols.now (numbers_of c.args.rows.now) s (omega arith) (omega arith)
-    ])
+    says_yes (record {
+      few = omega arith;
+      each = λ s. elim (cases_lt s (length c.args.symbols.now)) [
+        | inl lt ↦ c.loop-index.invariant s (omega arith)
+        | inr le ↦ rows_past c.args.symbols.now (numbers_of c.args.rows.now) s le (omega arith)
+      ];
+    })

@@ -1,0 +1,38 @@
+-- Which occurrences stand in the tree of an expression. All of this is this project's.
+use Rattle.std.specs.Prelude.{ℕ, ◌≡◌, Bool, true, false, ◌||◌, nat_eq, List, [], ◌∷◌}
+use Rattle.ag_value.specs.declared.value.Value.{Value}
+use Rattle.ag_grammar.specs.declared.node.Operator.{Operator}
+use Rattle.ag_grammar.specs.declared.node.Node.{Node}
+use Rattle.ag_grammar.specs.declared.node.Node.TheFolds.{fold-Node}
+use Rattle.ag_grammar.specs.declared.node.Node.TheOpen.{Node-F}
+
+-- some operand of a chain has it, and some item of a list
+abbrev pub some_operand : List (Operator × Bool) → Bool
+some_operand [] = false
+some_operand (x ∷ xs) = x.1 || some_operand xs
+
+abbrev pub some_item : List Bool → Bool
+some_item [] = false
+some_item (x ∷ xs) = x || some_item xs
+
+-- one level of a tree, with the answer of each operand in its place
+abbrev pub has_step : ℕ → Node-F Bool → Bool
+has_step k (Node-F.Literal v) = false
+has_step k (Node-F.Occurrence j) = nat_eq j k
+has_step k (Node-F.Bound j) = false
+has_step k (Node-F.Chain first others) = first || some_operand others
+has_step k (Node-F.Let e f) = e || f
+has_step k (Node-F.If c e f) = c || (e || f)
+has_step k (Node-F.Unary call a) = a
+has_step k (Node-F.Binary call a b) = a || b
+has_step k (Node-F.Put t i v) = t || (i || v)
+has_step k (Node-F.List items) = some_item items
+has_step k Node-F.EmptyTable = false
+
+-- the occurrence of a number stands somewhere in a tree
+abbrev pub has_occurrence : ℕ → Node → Bool
+has_occurrence k = fold-Node Bool (has_step k)
+
+-- Two environments agree on a tree: they give the same value to each occurrence that stands in it.
+abbrev pub AgreeOn : Node → (ℕ → Value) → (ℕ → Value) → Type 0
+AgreeOn e env other = (k : ℕ) → has_occurrence k e ≡ true → env k ≡ other k

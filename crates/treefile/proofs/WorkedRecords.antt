@@ -1,0 +1,190 @@
+-- Trees that stand in records, passes over a file, and the values of records, worked out.
+use Rattle.std.proofs.Common.{◌≡◌, ℕ, zero, suc, ◌^◌, ◌<◌, ◌≤◌, pos, All, List, [], ◌∷◌, ◌++◌, length, Option, Some, None, Ok, IsUtf8, codes, lit<, refl, ap, sym, subst, ◌∙◌, arith}
+use Rattle.std.proofs.lemmas.Bool.{lt-ltb}
+use Rattle.std.proofs.lemmas.List.Elements.{All-cons, All-nil}
+use Rattle.std.proofs.lemmas.Str.{encode_ascii, is_utf8-from_IsUtf8}
+use Rattle.ag_value.specs.declared.value.Value.{Value, Num, Text}
+use Rattle.ag_value.specs.Reading.{value_at}
+use Rattle.ag_value.specs.Well.{IsWell}
+use Rattle.ag_value.proofs.Codec.{well_is_read}
+use Rattle.ag_value.proofs.Layers.{depth-Num, item-Num, spellings, weight-Num}
+use Rattle.ag_grammar.specs.declared.grammar.Item.TheVariants as item
+use Rattle.ag_grammar.specs.declared.grammar.Terminal.TheVariants.{Literal}
+use Rattle.ag_grammar.specs.grammars.Sample.{iffy, sample, sample_passes, sample_tree, sample_values, token_sample, token_tree, token_values, values_of_a}
+use Rattle.ag_grammar.specs.grammars.Solution.{IsWellOn, NoRule, Same, Solves, Valuation}
+use Rattle.ag_grammar.specs.grammars.Tree.{IsTreeOf, Tree}
+use Rattle.ag_grammar.proofs.grammars.NumberSample.{fits as sample_fits}
+use Rattle.ag_grammar.proofs.grammars.Running.{sample_ran}
+use Rattle.ag_grammar.proofs.grammars.TokenSample.{fits as token_fits, text as token_text}
+use Rattle.ag_grammar.proofs.values.Wells.{formed, well_text}
+use Rattle.treefile.specs.Ending.{last_body_of, version_one_usable}
+use Rattle.treefile.specs.Listed.{AreSpelled, BeginsNoValue, HasRead, IsListedRecord}
+use Rattle.treefile.specs.OneTree.{IsNumbered, IsRecorded}
+use Rattle.treefile.specs.Records.{FitsVersion, IsFileOfTree, node_body}
+use Rattle.treefile.specs.Runs.{HasRun, RanPass, RunsPass, RunsPasses}
+use Rattle.treefile.specs.TreeFile.{version_one}
+use Rattle.treefile.specs.Worked.{binary, binary_passes, file_of_x_x, iffy_passes, pass_2_of_one, production_of, record_of_n, record_of_t, spelled_number, tree_of_one, values_of_one, values_of_t}
+use Rattle.treefile.proofs.Listing.{value_is_missing}
+use Rattle.treefile.proofs.OneTree.{one_file, text_same}
+use Rattle.treefile.proofs.Root.{root_is_last}
+use Rattle.treefile.proofs.WorkedFiles.{worked_2}
+
+-- a number below 2^63 is well
+pub well_number : (n : ℕ) → n < 2 ^ 63 → IsWell (Num (pos n))
+well_number n small = record {
+  formed = formed (Num (pos n)) (item-Num (pos n) ∙ lt-ltb n (2 ^ 63) small);
+  shallow = let d = depth-Num (pos n) in omega (arith, d);
+  light = let w = weight-Num (pos n) in omega (arith, w);
+}
+
+pub binary_numbered : IsNumbered binary
+binary_numbered = omega arith
+
+pub binary_fits : FitsVersion version_one binary_passes
+binary_fits = record { tokens = omega arith; nodes = few }
+  where
+    few : (s : ℕ) → length (binary_passes s) ≤ 16
+    few zero = omega arith
+    few (suc zero) = omega arith
+    few (suc (suc zero)) = omega arith
+    few (suc (suc (suc zero))) = omega arith
+    few (suc (suc (suc (suc s)))) = omega arith
+
+-- what is asked of the tree of `1` and of its values
+one_fits : IsTreeOf binary tree_of_one
+one_fits = (
+  production_of 0 (item.Symbol 2 ∷ item.Symbol 1 ∷ []),
+  refl,
+  refl,
+  (
+    (production_of 2 (item.Symbol 4 ∷ item.Symbol 3 ∷ []), refl, refl, ((production_of 4 (item.Terminal (Literal 2) ∷ []), refl, refl, tt), ((production_of 3 [], refl, refl, tt), tt))),
+    ((production_of 1 [], refl, refl, tt), tt),
+  ),
+)
+
+one_texts : Solves NoRule binary tree_of_one values_of_one
+one_texts = (
+  (λ r rule bad. absurd bad),
+  (
+    ((λ r rule bad. absurd bad), (((λ r rule bad. absurd bad), tt), (((λ r rule bad. absurd bad), tt), tt))),
+    (((λ r rule bad. absurd bad), tt), tt),
+  ),
+)
+
+well_of_t : (a : ℕ) → IsWell (values_of_t a)
+well_of_t zero = well_number 65536 (omega arith)
+well_of_t (suc zero) = well_number 0 (omega arith)
+well_of_t (suc (suc a)) = well_number 32768 (omega arith)
+
+out_utf8 : IsUtf8 (codes "65536")
+out_utf8 = (codes "65536", (refl, rw (encode_ascii 54 (lit< tt), encode_ascii 53 (lit< tt), encode_ascii 51 (lit< tt)) refl))
+
+one_well : (k : ℕ) → IsWellOn (λ p. p ≤ k) binary binary_passes tree_of_one values_of_one
+one_well k = (
+  (λ a p is le. well_text (codes "65536") (is_utf8-from_IsUtf8 (codes "65536") out_utf8) (omega arith)),
+  (
+    ((λ a p is le. well_number 65536 (omega arith)), (((λ a p is le. well_number 1 (omega arith)), tt), (((λ a p is le. well_of_t a), tt), tt))),
+    (((λ a p is le. well_number 0 (omega arith)), tt), tt),
+  ),
+)
+
+pub one_recorded : (k : ℕ) → IsRecorded binary binary_passes k (item.Symbol 0) tree_of_one values_of_one
+one_recorded k = record { fits = one_fits; texts = one_texts; well = one_well k }
+
+one_stands : IsFileOfTree version_one binary binary_passes 2 tree_of_one values_of_one pass_2_of_one
+one_stands = record { stands = sym worked_2; texts = one_texts; well = one_well 2 }
+
+pub one_alone : (t : Tree) (v : Valuation) → IsTreeOf binary t → IsFileOfTree version_one binary binary_passes 2 t v pass_2_of_one → (tree_of_one ≡ t) × Same (λ p. p ≤ 2) binary binary_passes tree_of_one values_of_one v
+one_alone t v tree is = one_file version_one binary binary_passes 2 tree_of_one t values_of_one v pass_2_of_one version_one_usable binary_fits binary_numbered one_fits tree one_stands is
+
+pub iffy_recorded : IsRecorded token_sample iffy_passes 0 (item.Symbol 0) token_tree (token_values iffy)
+iffy_recorded = record {
+  fits = token_fits;
+  texts = ((λ r rule bad. absurd bad), (refl, tt));
+  well = ((λ a p is le. well_text iffy token_text.utf8 (omega arith)), ((λ a p is le. well_text iffy token_text.utf8 (omega arith)), tt));
+}
+
+-- where the text of the leaf is empty, it is not the leaf's
+pub iffy_unrecorded : IsRecorded token_sample iffy_passes 0 (item.Symbol 0) token_tree (λ path a. Text []) → ⊥
+iffy_unrecorded is = let same : [] ≡ iffy = text_same [] iffy is.texts.1.0 in cc
+
+sample_numbered : IsNumbered sample
+sample_numbered = omega arith
+
+sample_fit : FitsVersion version_one sample_passes
+sample_fit = record { tokens = omega arith; nodes = few }
+  where
+    few : (s : ℕ) → length (sample_passes s) ≤ 16
+    few zero = omega arith
+    few (suc zero) = omega arith
+    few (suc (suc s)) = omega arith
+
+well_of_a : (s i a : ℕ) → s < 2 ^ 63 → i < 2 ^ 63 → IsWell (values_of_a s i a)
+well_of_a s i zero x y = well_number s x
+well_of_a s i (suc a) x y = well_number i y
+
+-- the files of `x x`
+sample_file : (k : ℕ) → IsFileOfTree version_one sample sample_passes k sample_tree (sample_values 2) (file_of_x_x k)
+sample_file k = record {
+  stands = refl;
+  texts = (sample_ran (sample_values 2)).texts;
+  well = ((λ a p is le. well_number 2 (omega arith)), (((λ a p is le. well_of_a 2 1 a (omega arith) (omega arith)), tt), (((λ a p is le. well_of_a 1 0 a (omega arith) (omega arith)), tt), tt)));
+}
+
+-- the first one is that of no other tree
+sample_alone : (t : Tree) (u : Valuation) → IsTreeOf sample t → IsFileOfTree version_one sample sample_passes 0 t u (file_of_x_x 0) → sample_tree ≡ t
+sample_alone t u tree is = (one_file version_one sample sample_passes 0 sample_tree t (sample_values 2) u (file_of_x_x 0) version_one_usable sample_fit sample_numbered sample_fits tree (sample_file 0) is).0
+
+pub sample_pass : RunsPass version_one sample sample_passes 0 (file_of_x_x 0) (file_of_x_x 1)
+sample_pass t u tree is =
+    let ran : RanPass version_one sample sample_passes 0 sample_tree u (file_of_x_x 1) = record {
+      values = sample_values 2;
+      file = sample_file 1;
+      kept = (sample_ran u).kept;
+      solved = (sample_ran u).solved 1 (omega arith) (omega arith);
+    } in
+    subst (λ s. RanPass version_one sample sample_passes 0 s u (file_of_x_x 1)) (sample_alone t u tree is) ran
+
+pub sample_run : RunsPasses version_one sample sample_passes 0 1 (file_of_x_x 0) (file_of_x_x 1) (file_of_x_x 0)
+sample_run t u tree is =
+    let ran : HasRun version_one sample sample_passes sample_tree u 1 1 (file_of_x_x 1) (file_of_x_x 0) = record {
+      values = sample_values 2;
+      ran = sample_ran u;
+      file = sample_file 1;
+      other = λ k from e. subst (λ j. IsFileOfTree version_one sample sample_passes j sample_tree (sample_values 2) (file_of_x_x 0)) (let same : 0 ≡ k = omega arith in same) (sample_file 0);
+    } in
+    subst (λ s. HasRun version_one sample sample_passes s u 1 1 (file_of_x_x 1) (file_of_x_x 0)) (sample_alone t u tree is) ran
+
+-- the values of T's record in pass 1
+abbrev number : List Value
+number = Num (pos 65536) ∷ []
+
+number_well : All IsWell number
+number_well = All-cons IsWell (Num (pos 65536)) [] (well_number 65536 (omega arith)) (All-nil IsWell)
+
+pub t_listed : IsListedRecord binary binary_passes 1 3 record_of_t 4 (production_of 3 []) (Num (pos 65536) ∷ [])
+t_listed = record { production = refl; left = refl; count = refl; well = number_well; stands = simp spellings }
+
+pub number_spelled : AreSpelled 1 spelled_number
+number_spelled = (number, refl, number_well, simp spellings)
+
+pub number_read : HasRead (spelled_number ++ 9 ∷ []) (Num (pos 65536) ∷ []) (9 ∷ [])
+number_read = record { well = number_well; split = simp spellings }
+
+-- 9 is the first byte of no spelling
+nine_is_nothing : value_at 64 (9 ∷ []) ≡ None
+unfolding value_at
+nine_is_nothing = refl
+
+pub nine_begins : BeginsNoValue (9 ∷ [])
+nine_begins v rest well e =
+    let bad : ◌≡◌ {A = Option (Value × List ℕ)} None (Some (v, rest)) = sym nine_is_nothing ∙ ap (value_at 64) e ∙ well_is_read v rest well in
+    cc
+
+pub number_alone : AreSpelled 2 (spelled_number ++ 9 ∷ []) → ⊥
+number_alone = value_is_missing (spelled_number ++ 9 ∷ []) number (9 ∷ []) 2 number_read (omega arith) nine_begins
+
+pub root_of_one : last_body_of version_one pass_2_of_one ≡ Ok record_of_n
+root_of_one =
+    let bytes : node_body binary binary_passes 2 0 (values_of_one []) ≡ record_of_n = simp spellings in
+    root_is_last version_one binary binary_passes 2 0 _ values_of_one pass_2_of_one version_one_usable binary_fits one_stands ∙ ap Ok bytes
