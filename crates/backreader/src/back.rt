@@ -147,7 +147,7 @@ impl Back {
     }
 
     /// The offset at which the next frame should end.
-    pub(crate) fn end(&self) -> u64
+    pub fn end(&self) -> u64
         ensures { result ≡ self.now.progress.at }
     {
         self.window.at()

@@ -165,8 +165,11 @@ pub fn listing_told(alloc: Global, text: &str) -> Result<String, Mistake> {
     if print_code(alloc, text.as_bytes(), &mut listing).is_err() {
         return Err(Mistake::Unfit);
     }
-    match str::from_utf8(listing.as_slice()) {
-        Ok(lines) => Ok(String::from_str(alloc, lines.trim_end())?),
-        Err(_) => Err(Mistake::Unfit),
-    }
+    Ok(String::from_str(alloc, whole_lines(listing.as_slice())?)?)
+}
+
+/// Lines, each of which is ended, without the end of the last.
+fn whole_lines(bytes: &[u8]) -> Result<&str, Mistake> {
+    let lines = str::from_utf8(bytes).map_err(|_| Mistake::Unfit)?;
+    lines.strip_suffix('\n').ok_or(Mistake::Unfit)
 }

@@ -5,6 +5,7 @@
 
 mod faults;
 mod grammars;
+mod passes;
 mod plans;
 mod questions;
 mod raw_grammars;

@@ -97,7 +97,7 @@ fn verdict(
     assignment: Assignment,
     code: Code,
 ) -> Result<String, AllocError> {
-    match check_plan(alloc, grammar, assignment, code) {
+    match check_plan(grammar, assignment, code) {
         Ok(plan) => format!(in alloc; "{} passes", plan.assignment().passes()),
         Err(fault) => format!(in alloc; "{fault:?}"),
     }

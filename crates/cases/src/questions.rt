@@ -2,11 +2,12 @@
 
 use crate::faults::{file_told, message_told, source_told, status_told};
 use crate::grammars::{check_told, could_told, listing_told, parts_told, read_told};
+use crate::passes::{pass_told, through_told};
 use crate::plans::{list_told, passes_told, plan_told};
 use crate::raw_grammars::chain_told;
 use crate::sentences::{choice_told, fits_told, parse_told, scan_told, stand_told, table_told};
 use crate::stuck::{assign_told, stuck_told};
-use rows::{Mistake, Written, bytes_of, number};
+use rows::{Mistake, Written, bytes_of, first_word, number};
 use std::alloc::Global;
 
 /// What is told of the texts of grammars, and of the grammar that was written; of plans, sentences
@@ -25,7 +26,7 @@ pub fn answer(alloc: Global, written: &Written, verb: &str, rest: &str) -> Resul
     }
 }
 
-/// What is told of assignments, code and certificates.
+/// What is told of assignments, code and certificates, and of passes.
 fn answer_of_plans(
     alloc: Global,
     written: &Written,
@@ -39,6 +40,11 @@ fn answer_of_plans(
         "passes" => passes_told(alloc, rest),
         "list" => list_told(alloc, rest),
         "stuck" => stuck_told(alloc, grammar, rest),
+        "pass" => {
+            let (pass, content) = first_word(rest);
+            pass_told(alloc, grammar, pass, written.text_or(content))
+        }
+        "through" => through_told(alloc, grammar, written.text_or(rest)),
         _ => answer_of_sentences(alloc, written, verb, rest),
     }
 }

@@ -11,7 +11,7 @@ use std::alloc::{AllocError, Global};
 use treefile::MemDevice;
 
 /// The translator of a text's grammar.
-fn translator(alloc: Global, text: &str) -> Result<Translator, Mistake> {
+pub fn translator(alloc: Global, text: &str) -> Result<Translator, Mistake> {
     match Translator::build(alloc, text.as_bytes()) {
         Ok(translator) => Ok(translator),
         Err(_) => Err(Mistake::Unfit),

@@ -1,6 +1,6 @@
 //! What is told of the text of an expression.
 
-use crate::words::{Mistake, first_word, number, printed};
+use crate::words::{Mistake, first_word, halves, number, printed};
 use crate::written::Written;
 use ag_expr::{Env, Meter, eval, expected_at, read_expr, read_until};
 use ag_grammar::{Expr, occurrences};
@@ -85,13 +85,19 @@ pub fn tree_told(alloc: Global, text: &str) -> Result<String, Mistake> {
     }
 }
 
-/// Whether the texts on both sides of `&` have the same tree, or the same fault.
+/// The tree of a text that is read.
+fn tree_of(alloc: Global, text: &str) -> Result<String, Mistake> {
+    match read_expr(alloc, text) {
+        Ok(expr) => printed(alloc, &expr),
+        Err(_) => Err(Mistake::Unfit),
+    }
+}
+
+/// Whether the texts on both sides of `&` have the same tree. Both have to be read.
 pub fn alike_told(alloc: Global, texts: &str) -> Result<String, Mistake> {
-    let Some((first, second)) = texts.split_once(" & ") else {
-        return Err(Mistake::Misspelt);
-    };
-    let first = tree_told(alloc, first)?;
-    let second = tree_told(alloc, second)?;
+    let (first, second) = halves(texts, " & ")?;
+    let first = tree_of(alloc, first)?;
+    let second = tree_of(alloc, second)?;
     Ok(format!(in alloc; "{}", first.as_str() == second.as_str())?)
 }
 

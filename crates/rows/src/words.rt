@@ -108,7 +108,7 @@ fn bytes_of_word(alloc: Global, word: &str) -> Result<Vec<u8>, Mistake> {
 }
 
 /// The most bytes that are printed one by one.
-const PRINTED: usize = 64;
+const PRINTED: usize = 128;
 
 /// Bytes as two digits each, and many bytes by their number alone.
 pub fn shown_bytes(alloc: Global, bytes: &[u8]) -> Result<String, AllocError> {

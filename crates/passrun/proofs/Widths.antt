@@ -1,0 +1,37 @@
+-- What an accepted grammar and a legal assignment tell of the places and the attributes of a production.
+use Rattle.std.proofs.Common.{ℕ, zero, suc, ◌≡◌, ◌+◌, ◌<◌, ◌≤◌, [], Option, Some, None, slice_get, length, refl, subst, arith}
+use Rattle.std.proofs.lemmas.Option.{slice_get_within}
+use Rattle.ag_grammar.specs.declared.grammar.Item.{Item}
+use Rattle.ag_grammar.specs.declared.grammar.Production.{Production}
+use Rattle.ag_grammar.specs.declared.grammar.Target.{Target}
+use Rattle.ag_grammar.specs.grammars.Accepted.{IsAccepted, most_stored}
+use Rattle.ag_grammar.specs.grammars.AttributeGrammar.{Grammar, HasKind, IsProduction, Kind, found_kind, given_kind, item_at, item_kinds, stored_items, places_of}
+use Rattle.ag_grammar.specs.grammars.Passes.{IsLegal, Passes}
+use Rattle.treefile.proofs.Fitting.{fits_version_one}
+use Rattle.passrun.specs.Laid.{AreWithin}
+use Rattle.passrun.specs.Starts.{AreSmall}
+
+-- no row has more values than a record of version 1
+pub are_small : (g : Grammar) (m : Passes) → IsAccepted g → IsLegal g m → AreSmall m
+are_small g m accepted legal s = (fits_version_one g m accepted legal).1.nodes s
+
+pub few_places : (g : Grammar) (p : ℕ) (q : Production) → IsAccepted g → IsProduction g p q → length (places_of q) ≤ most_stored + 1
+few_places g p q accepted is = let few = accepted.limits.stored_count p q is in omega arith
+
+-- an attribute that is there is at a place that is there
+place_within : (g : Grammar) (q : Production) (o : Target) (k : Kind) → HasKind g q o k → o.place < length (places_of q)
+place_within g q o k is = go o.place (item_at q o.place) refl (there (item_at q o.place) refl)
+  where
+    there : (x : Option Item) → item_at q o.place ≡ x → slice_get (item_kinds g x) o.attr ≡ Some k
+    there x e = subst (λ x. slice_get (item_kinds g x) o.attr ≡ Some k) e is
+
+    go : (j : ℕ) (x : Option Item) → item_at q j ≡ x → slice_get (item_kinds g x) o.attr ≡ Some k → j < length (places_of q)
+    go zero x e h = omega arith
+    go (suc j) None e h = absurd (let none : slice_get {X = Kind} [] o.attr ≡ Some k = h in let bad : ⊥ = cc in bad)
+    go (suc j) (Some x) e h = let less = slice_get_within (stored_items q.items) j x e in omega arith
+
+pub are_within : (g : Grammar) (p : ℕ) (q : Production) → IsAccepted g → IsProduction g p q → AreWithin (length (places_of q)) q.rules
+are_within g p q accepted is r u at = record {
+  target = place_within g q u.target (given_kind u.target.place) ((accepted.complete p q is).no_other r u at);
+  args = λ i o arg. place_within g q o (found_kind o.place) (accepted.normal p q is r u at i o arg);
+}

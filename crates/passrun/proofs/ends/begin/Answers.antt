@@ -1,0 +1,35 @@
+use Rattle.std.proofs.Common.{List, ℕ, ap, length, sym, subst, ◌∙◌}
+use Rattle.std.proofs.lemmas.Result.{err_from_is_err_and}
+use Rattle.backreader.specs.Place.{IsOver}
+use Rattle.passrun.specs.Jobs.{setting}
+use Rattle.passrun.specs.Ahead.{IsRunFault}
+use Rattle.passrun.proofs.Refusing.{root_unfetched, unstarted}
+use Rattle.passrun.proofs.Ending.{begun_runs}
+use Rattle.passrun.proofs.ends.begin.Goals as goal
+
+pub returns-clause-runs : goal.returns-clause-runs
+returns-clause-runs g c =
+    let start = c.in_ok-back.ensures in
+    let begin = c.in_ok-writer.ensures in
+    let root = c.in_ok-root.ensures in
+    begun_runs (setting c.args.job.now) c.requires.job.sound c.in_ok-root.root c.args.meter.now c.count.result c.start-2.result (g.D.Device.is_honest c.start.new.device) (g.D.Device.is_honest c.fetch.new.from) (g.E.Device.is_honest c.begin.new.device) (g.D.Device.content c.start.new.device) (g.D.Device.content c.fetch.new.from) (g.E.Device.content c.begin.new.device)
+    c.in_ok-back.back c.fetch.new.back c.in_ok-writer.writer c.new-values.result c.fetch.new.values c.new.result c.new-values.ensures.items c.new.ensures.items c.start-2.ensures.value c.count.ensures root.fetched root.persists.honest root.content
+    (λ w. let z = sym start.persists.honest ∙ w in subst (λ (bytes : List ℕ). IsOver bytes c.in_ok-back.back) (sym (start.content z)) (start.over z))
+    (λ w. let z = sym start.persists.honest ∙ w in start.end z ∙ ap (λ (bytes : List ℕ). length bytes) (sym (start.content z)))
+    start.fresh start.unbroken (λ w. begin.header (sym begin.persists.honest ∙ w)) begin.fresh c.requires.meter
+
+pub returns-in_err-back-clause-refused : goal.returns-in_err-back-clause-refused
+returns-in_err-back-clause-refused g c =
+    let p = err_from_is_err_and c.from_residual.result c.from_residual.ensures.1 in
+    rw (p.1, p.2) (λ honest. unstarted (setting c.args.job.now) c.requires.job.sound (g.D.Device.content c.args.from.now) (λ back. back.progress.pass) c.in_err-back.field-0.0 (c.in_err-back.ensures.told honest))
+
+pub returns-in_err-root-clause-refused : goal.returns-in_err-root-clause-refused
+returns-in_err-root-clause-refused g c =
+    let p = err_from_is_err_and c.from_residual-in_err-root.result c.from_residual-in_err-root.ensures.1 in
+    let job = setting c.args.job.now in
+    let f = c.in_err-root.field-0.0 in
+    let start = c.in_ok-back.ensures in
+    rw (p.1, p.2) (λ honest.
+    let same = start.content honest in
+    subst (λ (bytes : List ℕ). IsRunFault job bytes f) same
+    (root_unfetched job c.requires.job.sound c.start-2.result (g.D.Device.content c.start.new.device) c.in_ok-back.back f c.start-2.ensures.value (start.end honest ∙ ap (λ (bytes : List ℕ). length bytes) (sym same)) start.fresh (c.in_err-root.ensures.refused (start.persists.honest ∙ honest))))

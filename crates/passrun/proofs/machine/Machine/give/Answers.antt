@@ -1,0 +1,60 @@
+use Rattle.std.specs.Vec.{with_item}
+use Rattle.std.proofs.Common.{◌+◌, ◌-◌, Some, length, take, drop, pos, refl, ap, ◌∙◌, sym, arith}
+use Rattle.std.proofs.lemmas.List.{take_rest}
+use Rattle.std.proofs.lemmas.List.Elements.{All-drop, All-take, All-same}
+use Rattle.ag_value.specs.declared.value.Value.{Num}
+use Rattle.ag_value.specs.Well.{IsWell}
+use Rattle.passrun.specs.Jobs.{setting}
+use Rattle.passrun.proofs.Turning.{given_turns, giver, lent_value, meter_of, no_slots, rule_less, slots_are, well_of}
+use Rattle.passrun.proofs.Working.{given_less}
+use Rattle.passrun.proofs.machine.Machine.give.Goals as goal
+
+pub bounds-as_slice-rule : goal.bounds-as_slice-rule
+bounds-as_slice-rule c =
+    rule_less (setting c.args.job.now) c.requires.job.sound c.args.self.now c.args.node c.args.meter.now c.args.rule c.productions.result.now c.index-productions-node.result c.as_slice.result.now c.productions.ensures.lent c.index-productions-node.is c.as_slice.ensures c.requires.runs c.requires.next
+
+pub unreachable-requires : goal.unreachable-requires
+unreachable-requires c =
+    let job = setting c.args.job.now in
+    let h = giver job c.requires.job.sound c.args.self.now c.args.node c.args.meter.now c.args.rule c.productions.result.now c.index-productions-node.result c.as_slice.result.now c.index-as_slice-rule.result c.productions.ensures.lent c.index-productions-node.is c.as_slice.ensures c.index-as_slice-rule.is c.requires.runs c.requires.next in
+    let l = c.requires.job.layout c.args.node.production c.args.rule c.index-productions-node.result c.index-as_slice-rule.result h.there h.numbered in
+    no_slots (λ s. s.now) c.slots.result _ l.0 c.slots.ensures l.1 c.in_default.is
+
+pub evaluate-requires-clause-slots : goal.evaluate-requires-clause-slots
+evaluate-requires-clause-slots c =
+    let job = setting c.args.job.now in
+    let h = giver job c.requires.job.sound c.args.self.now c.args.node c.args.meter.now c.args.rule c.productions.result.now c.index-productions-node.result c.as_slice.result.now c.index-as_slice-rule.result c.productions.ensures.lent c.index-productions-node.is c.as_slice.ensures c.index-as_slice-rule.is c.requires.runs c.requires.next in
+    let are = slots_are job c.args.job.now.layout.now.productions c.args.node.production c.args.rule c.index-productions-node.result c.index-as_slice-rule.result c.in-Some.slots.now c.requires.job.layout h.there h.numbered c.in-Some.ensures in
+    ap length c.as_slice-2.ensures ∙ sym are.args.equally_long ∙ sym h.occurrences
+
+pub evaluate-requires-clause-well : goal.evaluate-requires-clause-well
+evaluate-requires-clause-well c =
+    let w = well_of (setting c.args.job.now) c.requires.job.sound c.args.self.now (Some c.args.node) c.args.meter.now c.requires.runs in
+    All-take IsWell _ _ (All-drop IsWell c.args.node.base c.deref.result.now (All-same IsWell c.deref.result.now c.args.self.now.values.items c.deref.ensures.value w))
+
+pub evaluate-requires-clause-not_full : goal.evaluate-requires-clause-not_full
+evaluate-requires-clause-not_full c = meter_of (setting c.args.job.now) c.requires.job.sound c.args.self.now c.args.node c.args.meter.now c.requires.runs
+
+pub index_mut-requires : goal.index_mut-requires
+index_mut-requires c =
+    let job = setting c.args.job.now in
+    let h = giver job c.requires.job.sound c.args.self.now c.args.node c.args.meter.now c.args.rule c.productions.result.now c.index-productions-node.result c.as_slice.result.now c.index-as_slice-rule.result c.productions.ensures.lent c.index-productions-node.is c.as_slice.ensures c.index-as_slice-rule.is c.requires.runs c.requires.next in
+    let are = slots_are job c.args.job.now.layout.now.productions c.args.node.production c.args.rule c.index-productions-node.result c.index-as_slice-rule.result c.in-Some.slots.now c.requires.job.layout h.there h.numbered c.in-Some.ensures in
+    let target = are.target in
+    let within = h.within in
+    omega (arith, c.args.self.now.values.ok.0)
+
+pub returns-clause-runs : goal.returns-clause-runs
+returns-clause-runs c =
+    let job = setting c.args.job.now in
+    let m = c.args.self.now in
+    let base = c.args.node.base in
+    let h = giver job c.requires.job.sound m c.args.node c.args.meter.now c.args.rule c.productions.result.now c.index-productions-node.result c.as_slice.result.now c.index-as_slice-rule.result c.productions.ensures.lent c.index-productions-node.is c.as_slice.ensures c.index-as_slice-rule.is c.requires.runs c.requires.next in
+    let slots = c.in-Some.slots.now in
+    let are = slots_are job c.args.job.now.layout.now.productions c.args.node.production c.args.rule c.index-productions-node.result c.index-as_slice-rule.result slots c.requires.job.layout h.there h.numbered c.in-Some.ensures in
+    let v = c.in_ok-value.value in
+    let is = lent_value job c.requires.job.sound c.index-productions-node.result c.index-as_slice-rule.result slots m base c.deref.result.now (take (length c.deref.result.now - base) (drop base c.deref.result.now)) c.as_slice-2.result.now (Num (pos 0)) v c.deref.ensures.value (take_rest c.deref.result.now base) c.as_slice-2.ensures c.in_ok-value.ensures.value in
+    given_turns job c.requires.job.sound m (_) c.args.node c.stepped.result c.args.meter.now c.evaluate.new.meter c.args.rule c.index-productions-node.result c.index-as_slice-rule.result slots (Num (pos 0)) v c.requires.next h.there h.numbered are is c.in_ok-value.ensures.well refl c.in_ok-value.ensures.counted c.stepped.ensures
+
+pub returns-clause-less : goal.returns-clause-less
+returns-clause-less c = given_less (setting c.args.job.now) c.requires.job.sound c.args.self.now (with_item c.args.self.now.values (c.args.node.base + c.in-Some.slots.now.target) c.in_ok-value.value) c.args.node c.stepped.result c.args.rule c.requires.next c.stepped.ensures

@@ -1,0 +1,28 @@
+-- Which fault is answered where a part refuses. All of this is this project's.
+use Rattle.ag_value.specs.declared.fault.ValueFault.{ValueFault}
+use Rattle.ag_value.specs.declared.fault.ValueFault.TheVariants as value_fault
+use Rattle.treefile.specs.declared.reading.FrameFault.{FrameFault}
+use Rattle.treefile.specs.declared.reading.FrameFault.TheVariants as frame_fault
+use Rattle.treefile.specs.declared.writing.WriteFault.{WriteFault}
+use Rattle.treefile.specs.declared.writing.WriteFault.TheVariants as write_fault
+use Rattle.passrun.specs.declared.record.RecordFault.{RecordFault}
+use Rattle.passrun.specs.declared.record.RecordFault.TheVariants as record_fault
+use Rattle.passrun.specs.declared.run_fault.RunFault.{RunFault}
+use Rattle.passrun.specs.declared.run_fault.RunFault.TheVariants as run_fault
+
+-- the fault of reading a record where a value is refused
+abbrev pub record_fault_of : ValueFault → RecordFault
+record_fault_of value_fault.Malformed = record_fault.Damaged
+record_fault_of value_fault.NoMemory = record_fault.NoMemory
+
+-- the fault of a pass where a frame is refused: a content that begins as no tree file is told at 0
+abbrev pub run_fault_of_frame : FrameFault → RunFault
+run_fault_of_frame frame_fault.NotATreeFile = run_fault.Damaged 0
+run_fault_of_frame (frame_fault.Damaged at) = run_fault.Damaged at
+run_fault_of_frame frame_fault.Device = run_fault.Device
+run_fault_of_frame frame_fault.NoMemory = run_fault.NoMemory
+
+-- and where a device refuses what is written
+abbrev pub run_fault_of_write : WriteFault → RunFault
+run_fault_of_write write_fault.Device = run_fault.Device
+run_fault_of_write write_fault.NoMemory = run_fault.NoMemory

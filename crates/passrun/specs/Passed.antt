@@ -1,0 +1,50 @@
+-- What a pass over a tree file gives: it reads the file of the pass before from its end, and leaves its own, of the same tree
+-- (after Jazayeri and Walter 1975). How it is told here, and the limits and counts, are this project's.
+use Rattle.std.specs.Prelude.{ℕ, ◌≡◌, ◌≤◌, Bool, List, ◌++◌, length, All, false, None}
+use Rattle.std.specs.List.{flat_map}
+use Rattle.ag_value.specs.declared.value.Value.{Value}
+use Rattle.ag_value.specs.Well.{IsWell}
+use Rattle.ag_grammar.specs.grammars.Solution.{Valuation, Solves, OfPass}
+use Rattle.ag_grammar.specs.grammars.Tree.{Tree, IsTreeOf, IsWithinLimits, node_count, most_depth, most_nodes}
+use Rattle.ag_grammar.specs.grammars.Counts.{rules_of_pass}
+use Rattle.treefile.specs.Backward.{ReadsTo}
+use Rattle.treefile.specs.Device.{WhenHonest}
+use Rattle.treefile.specs.Records.{IsFileOfTree}
+use Rattle.treefile.specs.TreeFile.{frame, header, version_one}
+use Rattle.treefile.specs.Writing as writing
+use Rattle.treefile.specs.Awaited.{IsOnTheWay}
+use Rattle.backreader.specs.Place.{IsOver, Place}
+use Rattle.planchecker.specs.Settings.{Setting}
+use Rattle.passrun.specs.declared.open_node.OpenNode.{OpenNode}
+use Rattle.passrun.specs.Ahead.{to_come}
+use Rattle.passrun.specs.Passing.{Passing, Tapes}
+
+-- A pass ran from one content to another: there are a tree and values such that the one is the file of the pass before, the other
+-- that of the pass, and the values meet each equation whose target is of the pass (Knuth 1968). The tree is within the limits; it
+-- has so many nodes, and so many rules of the pass.
+pub record IsPassed (c : Setting) (content to : List ℕ) (count evals : ℕ) : Type 0 where
+  pub tree : Tree
+  pub values : Valuation
+  pub fits : IsTreeOf c.grammar tree
+  pub from : IsFileOfTree version_one c.grammar c.passes c.read tree values content
+  pub written : IsFileOfTree version_one c.grammar c.passes c.write tree values to
+  pub solved : Solves (OfPass c.passes c.write) c.grammar tree values
+  pub limits : IsWithinLimits most_depth most_nodes tree
+  pub nodes : count ≡ node_count tree
+  pub rules : evals ≡ rules_of_pass c.passes c.write c.grammar tree
+
+-- A pass runs between two devices: what it has read and put is what the reader and the writer have. On the way from the end of the
+-- content to its header, these open nodes tell what is still to come.
+pub record IsRunning (c : Setting) (root : ℕ) (honest : Bool) (content : List ℕ) (to_honest : Bool) (to : List ℕ) (place : Place) (out : writing.Progress) (values : List Value) (stack : List OpenNode) (evals : ℕ) : Type 0 where
+  pub tapes : Tapes
+  pub passing : Passing c root stack values tapes evals
+  pub over : WhenHonest honest (IsOver content place)
+  pub read : WhenHonest honest (ReadsTo version_one content (length content) tapes.read place.progress.at)
+  pub records : place.progress.records ≡ length tapes.read
+  pub few : length tapes.read ≤ most_nodes
+  pub put : WhenHonest to_honest (to ≡ header version_one c.write ++ flat_map frame tapes.put)
+  pub written : out.written ≡ length tapes.put
+  pub unbroken : place.progress.fault ≡ None
+  pub whole : out.is_broken ≡ false
+  pub well : All IsWell values
+  pub ahead : WhenHonest honest (IsOnTheWay version_one c.grammar c.passes c.read content place.progress.at place.progress.records (to_come c stack))

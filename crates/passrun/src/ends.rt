@@ -1,0 +1,127 @@
+//! The beginning and the end of a pass.
+
+ghost use Rattle.std.specs.Prelude.{◌≡◌, ◌⊎◌, ◌-◌, ◌^◌, ◌≤◌, ℕ, None, Some, IfErr, IfOk, IsErrOf};
+ghost use Rattle.std.specs.Prelude.{OnOk};
+ghost use Rattle.passrun.specs.Ahead.{IsRunFault};
+ghost use Rattle.passrun.specs.Ends.{IsReadable, RunsBetween, first_node};
+ghost use Rattle.passrun.specs.Jobs.{CanRun, setting};
+ghost use Rattle.passrun.specs.Passed.{IsPassed};
+ghost use Rattle.passrun.specs.Running.{Runs};
+ghost use Rattle.treefile.specs.Device.{HasRisen, LeavesContent, Persists, WhenHonest};
+
+use crate::fetching::fetch;
+use crate::job::Job;
+use crate::machine::Machine;
+use crate::open_node::OpenNode;
+use crate::putting::put_row;
+use crate::run_fault::RunFault;
+use ag_expr::Meter;
+use ag_grammar::Item;
+use backreader::Back;
+use std::alloc::Global;
+use treefile::{Device, Writer};
+
+/// The offset in bytes of the number of the pass in a header.
+const PASS_OFFSET: u64 = 4;
+
+/// What a pass has done.
+#[derive(Clone, Copy, Debug, PartialEq, Eq)]
+pub struct Passed {
+    /// How many stored nodes the tree has, from 1 to 65,536.
+    pub nodes: u32,
+    /// How many records were read: one for each stored node.
+    pub read: u64,
+    /// How many records were written: one for each stored node.
+    pub written: u64,
+}
+
+/// Begins a pass: reads the root's record, and writes the header.
+pub(crate) fn begin<D: Device, E: Device>(
+    alloc: Global,
+    job: &Job<'_>,
+    from: &mut D,
+    to: &mut E,
+    meter: &Meter,
+) -> Result<Machine, RunFault>
+    requires job { CanRun job.now }
+    requires meter { meter.now ≤ 2 ^ 63 }
+    ensures runs { IfOk result (λ m. Runs (setting job.now)
+        (D.is_honest from.new) (D.content from.new)
+        (E.is_honest to.new) (E.content to.new) meter.now m (Some (first_node m.root))) }
+    ensures refused { IfErr result (λ f. WhenHonest (D.is_honest from.old)
+        (IsRunFault (setting job.now) (D.content from.old) f)) }
+    ensures begun { IfOk result (λ m. m.begun ≡ meter.now) }
+    ensures file { OnOk result (WhenHonest (D.is_honest from.old)
+        (IsReadable (setting job.now) (D.content from.old))) }
+    ensures content { LeavesContent (D.is_honest from.old)
+        (D.content from.old) (D.content from.new) }
+    ensures from_persists { Persists (D.is_honest from.old) (D.is_honest from.new)
+        (D.failures from.old) (D.failures from.new) ⊥ }
+    ensures to_persists { Persists (E.is_honest to.old) (E.is_honest to.new)
+        (E.failures to.old) (E.failures to.new) ⊥ }
+    // D1 only where the number of failures rose on one of the two
+    ensures cause { IsErrOf result RunFault.Device →
+        HasRisen (D.failures from.old) (D.failures from.new)
+        ⊎ HasRisen (E.failures to.old) (E.failures to.new) }
+{
+    let mut back = Back::start(alloc, from)?;
+    if back.pass() != job.pass - 1 {
+        return Err(RunFault::Damaged(PASS_OFFSET));
+    }
+    let writer = Writer::begin(alloc, to, job.pass)?;
+    let mut values = Vec::new(alloc);
+    let start = Item::Symbol(job.grammar.start());
+    let root = fetch(alloc, job, start, 0, &mut back, &mut values, from)?;
+    Ok(Machine {
+        back,
+        writer,
+        values,
+        waiting: Vec::new(alloc),
+        root,
+        begun: meter.count(),
+    })
+}
+
+/// Ends a pass whose root is done: puts the root's record, and nothing may be left to read.
+pub(crate) fn finish<D: Device, E: Device>(
+    job: &Job<'_>,
+    machine: &mut Machine,
+    from: &mut D,
+    to: &mut E,
+) -> Result<Passed, RunFault>
+    requires job { CanRun job.now }
+    requires runs { RunsBetween (setting job.now) (D.is_honest from.old) (D.content from.old)
+        (E.is_honest to.old) (E.content to.old) machine.old None }
+    ensures passed { (meter : ℕ) → Runs (setting job.now) (D.is_honest from.old)
+        (D.content from.old) (E.is_honest to.old) (E.content to.old) meter machine.old None →
+        WhenHonest (D.is_honest from.old) (WhenHonest (E.is_honest to.old)
+        (IsReadable (setting job.now) (D.content from.old) →
+        IfOk result (λ p. IsPassed (setting job.now) (D.content from.old) (E.content to.new)
+        p.nodes (meter - machine.old.begun)))) }
+    ensures refused { IfErr result (λ f. WhenHonest (D.is_honest from.old)
+        (IsRunFault (setting job.now) (D.content from.old) f)) }
+    ensures counts { IfOk result (λ p. (p.read ≡ p.nodes) × (p.written ≡ p.nodes)) }
+    ensures content { LeavesContent (D.is_honest from.old)
+        (D.content from.old) (D.content from.new) }
+    ensures from_persists { Persists (D.is_honest from.old) (D.is_honest from.new)
+        (D.failures from.old) (D.failures from.new) ⊥ }
+    ensures to_persists { Persists (E.is_honest to.old) (E.is_honest to.new)
+        (E.failures to.old) (E.failures to.new) ⊥ }
+    // D1 only where the number of failures rose on one of the two
+    ensures cause { IsErrOf result RunFault.Device →
+        HasRisen (D.failures from.old) (D.failures from.new)
+        ⊎ HasRisen (E.failures to.old) (E.failures to.new) }
+{
+    let start = Item::Symbol(job.grammar.start());
+    let values = machine.values.as_slice();
+    put_row(job, start, machine.root, values, &mut machine.writer, to)?;
+    let end = machine.back.end();
+    if machine.back.back(from)?.is_some() {
+        return Err(RunFault::Damaged(end));
+    }
+    Ok(Passed {
+        nodes: machine.back.records() as u32,
+        read: machine.back.records(),
+        written: machine.writer.written(),
+    })
+}

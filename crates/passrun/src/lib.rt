@@ -1,0 +1,24 @@
+//! Runs one pass of a plan over a tree file: reads the file of the pass before from its end,
+//! computes the attributes of the pass, and writes the file of the pass (after Jazayeri and Walter
+//! 1975). The tree never stands in memory as a whole: there are only the values of the nodes on the
+//! way from the root to the one in which the pass is, and of their children that were read.
+#![tactic(auto)]
+
+mod ends;
+mod evaluating;
+mod fetching;
+mod job;
+pub mod laws;
+mod laying;
+mod machine;
+mod open_node;
+mod pass;
+mod putting;
+mod record;
+mod rows;
+mod run;
+mod run_fault;
+
+pub use ends::Passed;
+pub use pass::run_pass;
+pub use run_fault::RunFault;

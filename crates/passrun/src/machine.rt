@@ -1,0 +1,314 @@
+//! The steps of a pass, one for each kind of instruction.
+
+ghost use Rattle.std.specs.Prelude.{◌≡◌, ◌+◌, ◌^◌, ◌<◌, ◌∷◌, ◌++◌, ◌⊎◌, [], Some, IfErr, IfOk};
+ghost use Rattle.std.specs.Prelude.{IsErrOf, OnOk, length, reverse, slice_get};
+ghost use Rattle.ag_grammar.specs.declared.grammar.Production.{Production};
+ghost use Rattle.passassign.specs.Rows.{passes_of};
+ghost use Rattle.passcode.specs.declared.instr.Instr.TheVariants as instr;
+ghost use Rattle.passrun.specs.Passing.{IsPassing, GoesOn};
+ghost use Rattle.passrun.specs.Ahead.{IsRunFault, IsWant};
+ghost use Rattle.passrun.specs.Jobs.{CanRun, setting};
+ghost use Rattle.passrun.specs.Running.{GivesNext, Runs, RunsAt, RunsFrom, RunsSomehow, Turns};
+ghost use Rattle.passrun.specs.Running.{TurnsAt, TurnsFrom, TurnsTo};
+ghost use Rattle.passrun.specs.Working.{work};
+ghost use Rattle.planchecker.specs.Settings.{list_at, setting_of};
+ghost use Rattle.planchecker.specs.Sound.{IsSound};
+ghost use Rattle.treefile.specs.Listed.{count_up_to};
+ghost use Rattle.treefile.specs.Device.{HasRisen, LeavesContent, Persists, WhenHonest};
+
+use crate::evaluating::evaluate;
+use crate::fetching::fetch;
+use crate::job::Job;
+use crate::open_node::OpenNode;
+use crate::putting::put_row;
+use crate::rows::{passes_at, row_length};
+use crate::run_fault::RunFault;
+use ag_expr::Meter;
+use ag_value::{NoMemory, Value};
+use backreader::Back;
+use normalform::Grammar;
+use passcode::Instr;
+use planchecker::Plan;
+use std::alloc::Global;
+use treefile::{Device, Writer};
+
+/// A pass in the middle of its run: how far it has read and written, the values of all open nodes,
+/// those that wait for the innermost one, the number in the root's record, and where the meter
+/// stood when it began.
+#[derive(Drop)]
+pub(crate) struct Machine {
+    pub(crate) back: Back,
+    pub(crate) writer: Writer,
+    pub(crate) values: Vec<Value>,
+    pub(crate) waiting: Vec<OpenNode>,
+    pub(crate) root: u16,
+    pub(crate) begun: u64,
+}
+
+/// How many values the row has of the child whose record was read last.
+fn child_width(grammar: &Grammar, plan: &Plan, k: u16, child: u16) -> usize
+    requires { child < length grammar.now.productions }
+    ensures { (q : Production) → slice_get grammar.now.productions child ≡ Some q →
+        result ≡ count_up_to k (passes_of plan.now.0 q.left) }
+{
+    let production = &grammar.productions()[child as usize];
+    row_length(passes_at(plan, production.left), k)
+}
+
+/// Goes into the child whose record was read last: its node is the innermost one now, and the other
+/// waits.
+pub(crate) fn go(
+    grammar: &Grammar,
+    plan: &Plan,
+    k: u16,
+    node: OpenNode,
+    place: u16,
+    values: &[Value],
+    waiting: &mut Vec<OpenNode>,
+) -> Result<OpenNode, NoMemory>
+    requires sound { IsSound (setting_of grammar.now plan.now k) }
+    requires room { node.at + 1 < 2 ^ 64 }
+    requires next { slice_get (list_at (setting_of grammar.now plan.now k) node.production) node.at
+        ≡ Some (instr.Go place) }
+    requires passing { IsPassing (setting_of grammar.now plan.now k)
+        (node ∷ reverse waiting.old.items) values.now }
+    ensures goes { IfOk result (λ child. GoesOn (setting_of grammar.now plan.now k)
+        (node ∷ reverse waiting.old.items) values.now
+        (child ∷ reverse waiting.new.items) values.now) }
+    ensures child { IfOk result (λ child. (child.production ≡ node.child) × (child.at ≡ 0)) }
+    ensures pushed { OnOk result (waiting.new.items ≡ waiting.old.items ++ record {
+      production = node.production;
+      child = node.child;
+      at = node.at + 1;
+      base = node.base;
+    } ∷ []) }
+{
+    let width = child_width(grammar, plan, k, node.child);
+    waiting.push(OpenNode {
+        production: node.production,
+        child: node.child,
+        at: node.at + 1,
+        base: node.base,
+    })?;
+    Ok(OpenNode {
+        production: node.child,
+        child: 0,
+        at: 0,
+        base: values.len() - width,
+    })
+}
+
+impl Machine {
+    /// Fetches the record of the child at a place.
+    pub(crate) fn get<D: Device>(
+        &mut self,
+        alloc: Global,
+        job: &Job<'_>,
+        node: OpenNode,
+        place: u16,
+        from: &mut D,
+    ) -> Result<OpenNode, RunFault>
+        requires job { CanRun job.now }
+        requires runs { RunsFrom (setting job.now) (D.is_honest from.old) (D.content from.old)
+            self.old (Some node) }
+        requires next { slice_get (list_at (setting job.now) node.production) node.at
+            ≡ Some (instr.Get place) }
+        requires room { node.at + 1 < 2 ^ 64 }
+        ensures runs { IfOk result (λ next. TurnsFrom (setting job.now)
+            (D.is_honest from.old) (D.is_honest from.new)
+            (D.content from.old) (D.content from.new) self.old self.new (Some node) (Some next)) }
+        ensures refused { IfErr result (λ f. WhenHonest (D.is_honest from.old)
+            (IsRunFault (setting job.now) (D.content from.old) f)) }
+        ensures less { IfOk result (λ next.
+            work (setting job.now) self.new (Some next)
+            < work (setting job.now) self.old (Some node)) }
+        ensures begun { self.new.begun ≡ self.old.begun }
+        ensures content { LeavesContent (D.is_honest from.old)
+            (D.content from.old) (D.content from.new) }
+        ensures persists { Persists (D.is_honest from.old) (D.is_honest from.new)
+            (D.failures from.old) (D.failures from.new) (IsErrOf result RunFault.Device) }
+    {
+        let Some(item) = job.item(node.production, place) else {
+            unreachable!();
+        };
+        let open_count = self.waiting.len() + 1;
+        let number = fetch(
+            alloc,
+            job,
+            item,
+            open_count,
+            &mut self.back,
+            &mut self.values,
+            from,
+        )?;
+        Ok(node.stepped(number))
+    }
+
+    /// Puts the record of the child at a place.
+    pub(crate) fn put<E: Device>(
+        &mut self,
+        job: &Job<'_>,
+        node: OpenNode,
+        place: u16,
+        to: &mut E,
+    ) -> Result<OpenNode, RunFault>
+        requires job { CanRun job.now }
+        requires runs { RunsSomehow (setting job.now) self.old (Some node) }
+        requires next { slice_get (list_at (setting job.now) node.production) node.at
+            ≡ Some (instr.Put place) }
+        requires room { node.at + 1 < 2 ^ 64 }
+        ensures runs { IfOk result (λ next. TurnsTo (setting job.now)
+            (E.is_honest to.old) (E.is_honest to.new)
+            (E.content to.old) (E.content to.new) self.old self.new (Some node) (Some next)) }
+        ensures want { IfErr result IsWant }
+        ensures less { IfOk result (λ next.
+            work (setting job.now) self.new (Some next)
+            < work (setting job.now) self.old (Some node)) }
+        ensures begun { self.new.begun ≡ self.old.begun }
+        ensures persists { Persists (E.is_honest to.old) (E.is_honest to.new)
+            (E.failures to.old) (E.failures to.new) (IsErrOf result RunFault.Device) }
+    {
+        let Some(item) = job.item(node.production, place) else {
+            unreachable!();
+        };
+        let values = self.values.as_slice();
+        put_row(job, item, node.child, values, &mut self.writer, to)?;
+        Ok(node.stepped(node.child))
+    }
+
+    /// Runs a rule, and leaves its value where its target stands.
+    pub(crate) fn give(
+        &mut self,
+        alloc: Global,
+        job: &Job<'_>,
+        node: OpenNode,
+        rule: u16,
+        meter: &mut Meter,
+    ) -> Result<OpenNode, NoMemory>
+        requires job { CanRun job.now }
+        requires runs { RunsAt (setting job.now) meter.old self.old (Some node) }
+        requires next { GivesNext (setting job.now) node rule }
+        requires room { node.at + 1 < 2 ^ 64 }
+        ensures runs { IfOk result (λ next. TurnsAt (setting job.now) meter.old meter.new
+            self.old self.new (Some node) (Some next)) }
+        ensures less { IfOk result (λ next.
+            work (setting job.now) self.new (Some next)
+            < work (setting job.now) self.old (Some node)) }
+        ensures begun { self.new.begun ≡ self.old.begun }
+    {
+        let production = &job.grammar.productions()[node.production as usize];
+        let semantic = &production.rules.as_slice()[rule as usize];
+        let Some(slots) = job.layout.slots(node.production, rule) else {
+            unreachable!();
+        };
+        let spare = Value::Num(0);
+        let value = evaluate(
+            alloc,
+            &semantic.expr,
+            slots.args.as_slice(),
+            &self.values[node.base..],
+            &spare,
+            meter,
+        )?;
+        let target = node.base + slots.target as usize;
+        self.values[target] = value;
+        Ok(node.stepped(node.child))
+    }
+
+    /// Goes into the child whose record was read last.
+    pub(crate) fn enter(
+        &mut self,
+        job: &Job<'_>,
+        node: OpenNode,
+        place: u16,
+    ) -> Result<OpenNode, NoMemory>
+        requires job { CanRun job.now }
+        requires runs { RunsSomehow (setting job.now) self.old (Some node) }
+        requires next { slice_get (list_at (setting job.now) node.production) node.at
+            ≡ Some (instr.Go place) }
+        requires room { node.at + 1 < 2 ^ 64 }
+        ensures runs { IfOk result (λ next. Turns (setting job.now)
+            self.old self.new (Some node) (Some next)) }
+        ensures less { IfOk result (λ next.
+            work (setting job.now) self.new (Some next)
+            < work (setting job.now) self.old (Some node)) }
+        ensures begun { self.new.begun ≡ self.old.begun }
+    {
+        let values = self.values.as_slice();
+        let waiting = &mut self.waiting;
+        let child = go(
+            job.grammar,
+            job.plan,
+            job.pass,
+            node,
+            place,
+            values,
+            waiting,
+        )?;
+        Ok(child)
+    }
+
+    /// Ends a node: the one that waited for it goes on, if there is one.
+    pub(crate) fn end(&mut self, job: &Job<'_>, node: OpenNode) -> Option<OpenNode>
+        requires job { CanRun job.now }
+        requires runs { RunsSomehow (setting job.now) self.old (Some node) }
+        requires next { slice_get (list_at (setting job.now) node.production) node.at
+            ≡ Some instr.End }
+        ensures runs { Turns (setting job.now) self.old self.new (Some node) result }
+        ensures less { work (setting job.now) self.new result
+            < work (setting job.now) self.old (Some node) }
+        ensures begun { self.new.begun ≡ self.old.begun }
+    {
+        let production = &job.grammar.productions()[node.production as usize];
+        let width = row_length(passes_at(job.plan, production.left), job.pass);
+        self.values.truncate(node.base + width);
+        self.waiting.pop()
+    }
+
+    /// Follows the next instruction of the innermost open node. The node that goes on next, none
+    /// where the root is done.
+    pub(crate) fn step<D: Device, E: Device>(
+        &mut self,
+        alloc: Global,
+        job: &Job<'_>,
+        node: OpenNode,
+        from: &mut D,
+        to: &mut E,
+        meter: &mut Meter,
+    ) -> Result<Option<OpenNode>, RunFault>
+        requires job { CanRun job.now }
+        requires runs { Runs (setting job.now) (D.is_honest from.old) (D.content from.old)
+            (E.is_honest to.old) (E.content to.old) meter.old self.old (Some node) }
+        ensures runs { IfOk result (λ next. Runs (setting job.now)
+            (D.is_honest from.new) (D.content from.new)
+            (E.is_honest to.new) (E.content to.new) meter.new self.new next) }
+        ensures refused { IfErr result (λ f. WhenHonest (D.is_honest from.old)
+            (IsRunFault (setting job.now) (D.content from.old) f)) }
+        ensures less { IfOk result (λ next.
+            work (setting job.now) self.new next < work (setting job.now) self.old (Some node)) }
+        ensures begun { self.new.begun ≡ self.old.begun }
+        ensures content { LeavesContent (D.is_honest from.old)
+            (D.content from.old) (D.content from.new) }
+        ensures from_persists { Persists (D.is_honest from.old) (D.is_honest from.new)
+            (D.failures from.old) (D.failures from.new) ⊥ }
+        ensures to_persists { Persists (E.is_honest to.old) (E.is_honest to.new)
+            (E.failures to.old) (E.failures to.new) ⊥ }
+        // D1 only where the number of failures rose on one of the two
+        ensures cause { IsErrOf result RunFault.Device →
+            HasRisen (D.failures from.old) (D.failures from.new)
+            ⊎ HasRisen (E.failures to.old) (E.failures to.new) }
+    {
+        match job.instruction(node) {
+            Instr::Get(place) => Ok(Some(self.get(alloc, job, node, place, from)?)),
+            Instr::Set {
+                place: _,
+                attr: _,
+                rule,
+            } => Ok(Some(self.give(alloc, job, node, rule, meter)?)),
+            Instr::Def { attr: _, rule } => Ok(Some(self.give(alloc, job, node, rule, meter)?)),
+            Instr::Go(place) => Ok(Some(self.enter(job, node, place)?)),
+            Instr::Put(place) => Ok(Some(self.put(job, node, place, to)?)),
+            Instr::End => Ok(self.end(job, node)),
+        }
+    }
+}

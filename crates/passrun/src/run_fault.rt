@@ -1,0 +1,77 @@
+//! Why a pass did not run to its end.
+
+ghost use Rattle.std.specs.Prelude.{◌≡◌};
+ghost use Rattle.passrun.specs.Faults.{run_fault_of_frame, run_fault_of_write};
+ghost use Rattle.passrun.specs.declared.run_fault.RunFault.TheVariants as run_fault;
+
+use ag_value::NoMemory;
+use std::alloc::{AllocError, AllocFailed};
+use treefile::{FrameFault, WriteFault};
+
+/// Why a pass did not run to its end. The second device has then what it had before, or a beginning
+/// of a tree file.
+#[derive(Clone, Copy, Debug, PartialEq, Eq)]
+pub enum RunFault {
+    /// R1: the file is one that the pass before leaves of no tree of the grammar. The offset in
+    /// bytes is 0 where it begins as no tree file, 4 where it is that of another pass, else the end
+    /// of the frame that tells it, or the place at which one should end.
+    Damaged(u64),
+    /// P2: it is that of no tree of at most 256 levels and 65,536 stored nodes: a record would stand
+    /// at level 257.
+    TooDeep,
+    /// P3: it is that of no tree of at most 256 levels and 65,536 stored nodes: a record would be
+    /// the one of number 65,537.
+    TooManyNodes,
+    /// D1: a call of one of the devices failed.
+    Device,
+    /// A growth was refused.
+    NoMemory,
+}
+
+impl From<FrameFault> for RunFault {
+    ghost from_gives = { λ fault e. e ≡ run_fault_of_frame fault };
+
+    fn from(fault: FrameFault) -> RunFault {
+        match fault {
+            FrameFault::NotATreeFile => RunFault::Damaged(0),
+            FrameFault::Damaged(at) => RunFault::Damaged(at),
+            FrameFault::Device => RunFault::Device,
+            FrameFault::NoMemory => RunFault::NoMemory,
+        }
+    }
+}
+
+impl From<WriteFault> for RunFault {
+    ghost from_gives = { λ fault e. e ≡ run_fault_of_write fault };
+
+    fn from(fault: WriteFault) -> RunFault {
+        match fault {
+            WriteFault::Device => RunFault::Device,
+            WriteFault::NoMemory => RunFault::NoMemory,
+        }
+    }
+}
+
+impl From<NoMemory> for RunFault {
+    ghost from_gives = { λ _ e. e ≡ run_fault.NoMemory };
+
+    fn from(_error: NoMemory) -> RunFault {
+        RunFault::NoMemory
+    }
+}
+
+impl From<AllocError> for RunFault {
+    ghost from_gives = { λ _ e. e ≡ run_fault.NoMemory };
+
+    fn from(_error: AllocError) -> RunFault {
+        RunFault::NoMemory
+    }
+}
+
+impl<T: Drop> From<AllocFailed<T>> for RunFault {
+    ghost from_gives = { λ _ e. e ≡ run_fault.NoMemory };
+
+    fn from(_error: AllocFailed<T>) -> RunFault {
+        RunFault::NoMemory
+    }
+}
