@@ -11,7 +11,8 @@ use Rattle.passcode.specs.declared.instr.Instr.TheVariants as instr
 use Rattle.passcode.specs.Agreement.{StandsBefore, HasPlace, IsChild, IsRuleAt, IsAtHand, instruction_of}
 use Rattle.planchecker.specs.declared.following.At.{At}
 
--- An index is within its list or at its end, and the production is no larger than one of an accepted grammar.
+-- An index is within its list or at its end. The production has no more rules than a `u16` can number, and no more places than
+-- one of an accepted grammar.
 pub record IsWithin (at : At) : Type 0 where
   pub end : at.end ≤ length at.list.now
   pub rules : length at.production.now.rules ≤ 65536
