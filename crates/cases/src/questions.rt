@@ -2,7 +2,7 @@
 
 use crate::faults::{file_told, message_told, source_told, status_told};
 use crate::grammars::{check_told, could_told, listing_told, parts_told, read_told};
-use crate::passes::{pass_told, through_told};
+use crate::passes::{pass_told, run_bytes_told, run_told, through_told};
 use crate::plans::{list_told, passes_told, plan_told};
 use crate::raw_grammars::chain_told;
 use crate::sentences::{choice_told, fits_told, parse_told, scan_told, stand_told, table_told};
@@ -45,6 +45,11 @@ fn answer_of_plans(
             pass_told(alloc, grammar, pass, written.text_or(content))
         }
         "through" => through_told(alloc, grammar, written.text_or(rest)),
+        "run" => run_told(alloc, grammar, written.text_or(rest)),
+        "run-bytes" => {
+            let (first, content) = first_word(rest);
+            run_bytes_told(alloc, grammar, first, written.text_or(content))
+        }
         _ => answer_of_sentences(alloc, written, verb, rest),
     }
 }

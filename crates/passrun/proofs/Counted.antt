@@ -86,7 +86,7 @@ module _ (c : Setting) (sound : IsSound c) where
   few_of p (Some q) e = (few_rules c q Between 0 [] (list_at c p) (sound.course p q e)).1 (omega arith)
 
   mutual
-    rules_bound : (t : Tree) → rules_of_pass c.passes c.write c.grammar t ≤ 65536 * node_count t
+    pub rules_bound : (t : Tree) → rules_of_pass c.passes c.write c.grammar t ≤ 65536 * node_count t
     rules_bound (leaf d x) = omega arith
     rules_bound (node p ts) =
         let a = few_of p (slice_get c.grammar.productions p) refl in

@@ -25,3 +25,7 @@ pub mod Slotted
 pub mod Starting
 pub mod Entries
 pub mod Widths
+pub mod Telling
+pub mod Metered
+pub mod Stepping
+pub mod Totals

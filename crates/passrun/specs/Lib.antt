@@ -16,3 +16,4 @@ pub mod Ends
 pub mod Ahead
 pub mod Laid
 pub mod Starts
+pub mod Rounds

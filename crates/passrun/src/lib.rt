@@ -1,18 +1,21 @@
-//! Runs one pass of a plan over a tree file: reads the file of the pass before from its end,
-//! computes the attributes of the pass, and writes the file of the pass (after Jazayeri and Walter
-//! 1975). The tree never stands in memory as a whole: there are only the values of the nodes on the
-//! way from the root to the one in which the pass is, and of their children that were read.
+//! Runs the passes of a plan over a tree file. One pass reads the file of the pass before from its
+//! end, computes the attributes of the pass, and writes the file of the pass (after Jazayeri and
+//! Walter 1975); all passes run one after the other, to and fro between two devices. The tree never
+//! stands in memory as a whole: there are only the values of the nodes on the way from the root to
+//! the one in which the pass is, and of their children that were read.
 #![tactic(auto)]
 
 mod ends;
 mod evaluating;
 mod fetching;
 mod job;
+mod last;
 pub mod laws;
 mod laying;
 mod machine;
 mod open_node;
 mod pass;
+mod passes;
 mod putting;
 mod record;
 mod rows;
@@ -20,5 +23,7 @@ mod run;
 mod run_fault;
 
 pub use ends::Passed;
+pub use last::Last;
 pub use pass::run_pass;
+pub use passes::run_all;
 pub use run_fault::RunFault;

@@ -1,6 +1,8 @@
 //! One pass over a tree file.
 
-ghost use Rattle.std.specs.Prelude.{◌≡◌, ◌⊎◌, ◌-◌, ◌^◌, ◌≤◌, ℕ, IfErr, IfOk, IsErrOf};
+ghost use Rattle.std.specs.Prelude.{◌≡◌, ◌⊎◌, ◌+◌, ◌-◌, ◌^◌, ◌≤◌, ℕ, IfErr, IfOk, IsErrOf};
+ghost use Rattle.std.specs.Prelude.{OnOk};
+ghost use Rattle.ag_grammar.specs.grammars.Tree.{most_nodes};
 ghost use Rattle.passassign.specs.Rows.{IsGreatest};
 ghost use Rattle.passrun.specs.Ahead.{IsRunFault};
 ghost use Rattle.passrun.specs.Jobs.{CanRun, setting};
@@ -38,6 +40,10 @@ pub(crate) fn run_job<D: Device, E: Device>(
     ensures refused { IfErr result (λ f. WhenHonest (D.is_honest from.old)
         (IsRunFault (setting job.now) (D.content from.old) f)) }
     ensures counts { IfOk result (λ p. (p.read ≡ p.nodes) × (p.written ≡ p.nodes)) }
+    // whatever the devices give back
+    ensures few { IfOk result (λ p. p.nodes ≤ most_nodes) }
+    // whatever the devices give back
+    ensures meter { OnOk result ((meter.old ≤ meter.new) × (meter.new ≤ meter.old + 2 ^ 32)) }
     ensures content { LeavesContent (D.is_honest from.old)
         (D.content from.old) (D.content from.new) }
     ensures from_persists { Persists (D.is_honest from.old) (D.is_honest from.new)
@@ -91,6 +97,10 @@ pub fn run_pass<D: Device, E: Device>(
     ensures refused { IfErr result (λ f. WhenHonest (D.is_honest from.old)
         (IsRunFault (setting_of grammar.now plan.now pass) (D.content from.old) f)) }
     ensures counts { IfOk result (λ p. (p.read ≡ p.nodes) × (p.written ≡ p.nodes)) }
+    // whatever the devices give back
+    ensures few { IfOk result (λ p. p.nodes ≤ most_nodes) }
+    // whatever the devices give back
+    ensures meter { OnOk result ((meter.old ≤ meter.new) × (meter.new ≤ meter.old + 2 ^ 32)) }
     ensures content { LeavesContent (D.is_honest from.old)
         (D.content from.old) (D.content from.new) }
     ensures from_persists { Persists (D.is_honest from.old) (D.is_honest from.new)

@@ -44,6 +44,14 @@ returns-clause-counts g c =
     let w = ap (λ w. w.written) c.in_ok-put_row.ensures.put.counted in
     (c.records-2.ensures ∙ sym c.records.ensures, omega arith)
 
+pub returns-clause-few : goal.returns-clause-few
+returns-clause-few g c =
+    let n = as_many (setting c.args.job.now) c.requires.job.sound (g.D.Device.is_honest c.args.from.now) (g.D.Device.content c.args.from.now) (g.E.Device.is_honest c.args.to.now) (g.E.Device.content c.args.to.now) c.args.machine.now c.requires.runs in
+    let few = n.1 in
+    let same = ap (λ p. p.records) (reader_kept _ _ c.args.machine.now.back c.back.follows.lender-at-none c.back.result c.in_ok-back.field-0 c.back.follows.holds-at-none c.in_ok-back.was (sym c.is_some.ensures ∙ c.if-is_some.false)) in
+    let read = c.records.ensures in
+    omega arith
+
 pub returns-in_err-back-clause-refused : goal.returns-in_err-back-clause-refused
 returns-in_err-back-clause-refused g c =
     let p = err_from_is_err_and c.from_residual-in_err-back.result c.from_residual-in_err-back.ensures.1 in

@@ -1,0 +1,26 @@
+-- A pass that is done has run no more rules than its records allow, whatever the devices gave back.
+use Rattle.std.proofs.Common.{ℕ, ◌+◌, ◌^◌, ◌≤◌, Bool, List, None, Result, Ok, Err, length, ap, arith}
+use Rattle.std.specs.Prelude.{OnOk}
+use Rattle.planchecker.specs.Settings.{Setting, way}
+use Rattle.planchecker.specs.Sound.{IsSound}
+use Rattle.passrun.specs.declared.ends.Passed.{Passed}
+use Rattle.passrun.specs.declared.machine.Machine.{Machine}
+use Rattle.passrun.specs.declared.run_fault.RunFault.{RunFault}
+use Rattle.passrun.specs.Running.{Runs}
+use Rattle.passrun.proofs.Counted.{rules_bound}
+use Rattle.passrun.proofs.Finish.{count_of}
+
+pub meter_few : (c : Setting) → IsSound c → (honest : Bool) (content : List ℕ) (to_honest : Bool) (to : List ℕ) (meter : ℕ) (m : Machine) → Runs c honest content to_honest to meter m None → (m.begun ≤ meter) × (meter ≤ m.begun + 2 ^ 32)
+meter_few c sound honest content to_honest to meter m r =
+    let h = r.running.passing in
+    let read = ap length h.ready.read in
+    let nodes = count_of (way c) c.grammar c.passes c.read h.tree h.valuation in
+    let rules = rules_bound c sound h.tree in
+    let counted = h.counted in
+    let few = r.running.few in
+    let begun = r.begun in
+    (begun, omega arith)
+
+pub on_ok : (P : Type 0) (r : Result Passed RunFault) → P → OnOk r P
+on_ok P (Ok p) h = h
+on_ok P (Err f) h = tt

@@ -1,0 +1,166 @@
+-- One pass more, to and fro between two devices.
+use Rattle.std.proofs.Common.{◌≡◌, ℕ, suc, ◌+◌, ◌-◌, ◌<◌, ◌≤◌, Bool, inl, inr, List, Result, Ok, Err, refl, sym, subst, ◌∙◌, arith}
+use Rattle.std.specs.Prelude.{IfErr, IfOk}
+use Rattle.std.proofs.lemmas.Bool.{cases_lt}
+use Rattle.std.proofs.Math.Nat.{suc-mul}
+use Rattle.ag_grammar.specs.grammars.Accepted.{IsAccepted}
+use Rattle.ag_grammar.specs.grammars.AttributeGrammar.{Grammar}
+use Rattle.ag_grammar.specs.grammars.Passes.{IsLegal, Passes}
+use Rattle.ag_grammar.specs.grammars.Tree.{node_count}
+use Rattle.passassign.specs.Rows.{IsGreatest, passes_of}
+use Rattle.passcode.specs.Rows.{Lists}
+use Rattle.planchecker.specs.Settings.{Setting, setting_of}
+use Rattle.treefile.specs.Device.{HasRisen, Persists, WhenHonest}
+use Rattle.treefile.specs.Runs.{RunsPass, RunsPasses}
+use Rattle.treefile.specs.TreeFile.{version_one}
+use Rattle.treefile.proofs.Run.{goes_on_run, starts_run}
+use Rattle.passrun.specs.declared.ends.Passed.{Passed}
+use Rattle.passrun.specs.declared.last.Last.{Last}
+use Rattle.passrun.specs.declared.last.Last.TheVariants.{A, B}
+use Rattle.passrun.specs.declared.run_fault.RunFault.{RunFault}
+use Rattle.passrun.specs.Ahead.{IsRunFault}
+use Rattle.passrun.specs.Passed.{IsPassed}
+use Rattle.passrun.specs.Laws.{CountsPass}
+use Rattle.passrun.specs.Rounds.{CountsPasses, HasRunAll, HoldsTree, IsPassedOn, last_content, one_more, other_content, other_last}
+use Rattle.passrun.proofs.Telling.{passes_are_told, refused_back}
+
+-- from which of two devices the pass ran
+module _ (c : Setting) (a b : List ℕ) where
+  pub passed_from_a : (a_new b_new : List ℕ) (evals : ℕ) (last : Last) → last ≡ A → (result : Result Passed RunFault) → IfOk result (λ p. IsPassed c a b_new p.nodes evals) → a_new ≡ a → IfOk result (λ p. IsPassedOn c last a b a_new b_new p.nodes evals)
+  passed_from_a a_new b_new evals last is (Ok p) passed kept =
+      let at_a : IsPassedOn c A a b a_new b_new p.nodes evals = record { passed = passed; kept = kept } in
+      subst (λ (l : Last). IsPassedOn c l a b a_new b_new p.nodes evals) (sym is) at_a
+  passed_from_a a_new b_new evals last is (Err f) passed kept = tt
+
+  pub passed_from_b : (a_new b_new : List ℕ) (evals : ℕ) (last : Last) → last ≡ B → (result : Result Passed RunFault) → IfOk result (λ p. IsPassed c b a_new p.nodes evals) → b_new ≡ b → IfOk result (λ p. IsPassedOn c last a b a_new b_new p.nodes evals)
+  passed_from_b a_new b_new evals last is (Ok p) passed kept =
+      let at_b : IsPassedOn c B a b a_new b_new p.nodes evals = record { passed = passed; kept = kept } in
+      subst (λ (l : Last). IsPassedOn c l a b a_new b_new p.nodes evals) (sym is) at_b
+  passed_from_b a_new b_new evals last is (Err f) passed kept = tt
+
+  pub refused_from_a : (honest other : Bool) (last : Last) → last ≡ A → (result : Result Passed RunFault) → IfErr result (λ f. WhenHonest honest (IsRunFault c a f)) → IfErr result (λ f. WhenHonest honest (WhenHonest other (IsRunFault c (last_content last a b) f)))
+  refused_from_a honest other last is (Ok p) refused = tt
+  refused_from_a honest other last is (Err f) refused = λ h o. subst (λ (l : Last). IsRunFault c (last_content l a b) f) (sym is) (refused h)
+
+  pub refused_from_b : (honest other : Bool) (last : Last) → last ≡ B → (result : Result Passed RunFault) → IfErr result (λ f. WhenHonest honest (IsRunFault c b f)) → IfErr result (λ f. WhenHonest other (WhenHonest honest (IsRunFault c (last_content last a b) f)))
+  refused_from_b honest other last is (Ok p) refused = tt
+  refused_from_b honest other last is (Err f) refused = λ o h. subst (λ (l : Last). IsRunFault c (last_content l a b) f) (sym is) (refused h)
+
+-- the device that has the last file is then the other one
+turned_last : (which : Last) (a b : List ℕ) → last_content (other_last which) a b ≡ other_content which a b
+turned_last A a b = refl
+turned_last B a b = refl
+
+turned_other : (which : Last) (a b : List ℕ) → other_content (other_last which) a b ≡ last_content which a b
+turned_other A a b = refl
+turned_other B a b = refl
+
+counts_start : (g : Grammar) (m : Passes) (k : ℕ) (start : List ℕ) → CountsPasses g m k 0 start 0 (record { nodes = 0; read = 0; written = 0 })
+counts_start g m k start t u tree file = record {
+  evals_are = refl;
+  none = λ e. refl;
+  nodes = λ less. absurd (omega arith);
+  read = omega arith;
+  written = omega arith;
+}
+
+counts_go_on : (g : Grammar) (m : Passes) (k count evals more : ℕ) (start now before : List ℕ) (sum passed : Passed) → RunsPasses version_one g m k (k + count) start now before → CountsPasses g m k count start evals sum → CountsPass g m (k + count) now passed.nodes more → passed.read ≡ passed.nodes → passed.written ≡ passed.nodes → CountsPasses g m k (suc count) start (evals + more) (one_more sum passed)
+counts_go_on g m k count evals more start now before sum passed runs counts told read written t u tree file =
+    let run = runs t u tree file in
+    let old = counts t u tree file in
+    let here = told t run.values tree run.file in
+    let a = old.evals_are in
+    let b = here.1 in
+    let n = suc-mul count (node_count t) in
+    let nodes = here.0 in
+    let r = old.read in
+    let w = old.written in
+    record {
+      evals_are = omega arith;
+      none = λ e. absurd (omega arith);
+      nodes = λ less. nodes;
+      read = omega arith;
+      written = omega arith;
+    }
+
+pub all_starts : (g : Grammar) (m : Passes) (k n : ℕ) (a b : List ℕ) (evals : ℕ) → n ≡ k → evals ≡ 0 → HasRunAll g m k n a A a b evals (record { nodes = 0; read = 0; written = 0 })
+all_starts g m k n a b evals same fresh =
+    let none : 0 ≡ k - k = omega arith in
+    let whole : HasRunAll g m k k a A a b 0 (record { nodes = 0; read = 0; written = 0 }) = record {
+      runs = starts_run version_one g m k a b;
+      counts = subst (λ n. CountsPasses g m k n a 0 (record { nodes = 0; read = 0; written = 0 })) none (counts_start g m k a);
+      held = λ less. absurd (omega arith);
+      fresh = λ e. refl;
+    } in
+    subst (λ e. HasRunAll g m k n a A a b e (record { nodes = 0; read = 0; written = 0 })) (sym fresh) (subst (λ n. HasRunAll g m k n a A a b 0 (record { nodes = 0; read = 0; written = 0 })) (sym same) whole)
+
+-- behind `last` passes one more ran, pass n, from the device with the last file to the other
+module _ (g : Grammar) (plan : List (List ℕ) × Lists) (k last n : ℕ) (start a b a_new b_new : List ℕ) (which : Last) (evals more : ℕ) (sum passed : Passed) (accepted : IsAccepted g) (legal : IsLegal g (passes_of plan.0)) (le : k ≤ last) (is : n ≡ suc last) (before : HasRunAll g (passes_of plan.0) k last start which a b evals sum)
+    (step : IsPassedOn (setting_of g plan n) which a b a_new b_new passed.nodes more) (read : passed.read ≡ passed.nodes) (written : passed.written ≡ passed.nodes) where
+  told : RunsPass version_one g (passes_of plan.0) last (last_content which a b) (other_content which a_new b_new) × CountsPass g (passes_of plan.0) last (last_content which a b) passed.nodes more
+  told =
+      let here : n - 1 ≡ last = omega arith in
+      subst (λ j. RunsPass version_one g (passes_of plan.0) j (last_content which a b) (other_content which a_new b_new) × CountsPass g (passes_of plan.0) j (last_content which a b) passed.nodes more) here
+      (passes_are_told g plan n (last_content which a b) (other_content which a_new b_new) passed.nodes more accepted legal (omega arith) step.passed)
+
+  runs_on : RunsPasses version_one g (passes_of plan.0) k (suc last) start (last_content (other_last which) a_new b_new) (other_content (other_last which) a_new b_new)
+  runs_on =
+      let runs : RunsPasses version_one g (passes_of plan.0) k (suc last) start (other_content which a_new b_new) (last_content which a b) = goes_on_run version_one g (passes_of plan.0) k last start (last_content which a b) (other_content which a b) (other_content which a_new b_new) legal le before.runs told.0 in
+      let back : last_content which a b ≡ other_content (other_last which) a_new b_new = sym step.kept ∙ sym (turned_other which a_new b_new) in
+      subst (RunsPasses version_one g (passes_of plan.0) k (suc last) start (last_content (other_last which) a_new b_new)) back
+      (subst (λ (c : List ℕ). RunsPasses version_one g (passes_of plan.0) k (suc last) start c (last_content which a b)) (sym (turned_last which a_new b_new)) runs)
+
+  counts_on : CountsPasses g (passes_of plan.0) k (suc last - k) start (evals + more) (one_more sum passed)
+  counts_on =
+      let here : k + (last - k) ≡ last = omega arith in
+      let there : suc (last - k) ≡ suc last - k = omega arith in
+      subst (λ n. CountsPasses g (passes_of plan.0) k n start (evals + more) (one_more sum passed)) there
+      (counts_go_on g (passes_of plan.0) k (last - k) evals more start (last_content which a b) (other_content which a b) sum passed
+      (subst (λ n. RunsPasses version_one g (passes_of plan.0) k n start (last_content which a b) (other_content which a b)) (sym here) before.runs) before.counts
+      (subst (λ n. CountsPass g (passes_of plan.0) n (last_content which a b) passed.nodes more) (sym here) told.1) read written)
+
+  held_on : k < suc last → HoldsTree g (passes_of plan.0) k start
+  held_on less = elim (cases_lt k last) [
+    | inl before_it ↦ before.held before_it
+    | inr none ↦ (
+        let same : last ≡ k = omega arith in
+        let here : n - 1 ≡ k = omega arith in
+        let one = step.passed in
+        let from : HoldsTree g (passes_of plan.0) (n - 1) (last_content which a b) = record { tree = one.tree; values = one.values; is_tree = one.fits; within = one.limits; file = one.from } in
+        subst (HoldsTree g (passes_of plan.0) k) (before.fresh same) (subst (λ n. HoldsTree g (passes_of plan.0) n (last_content which a b)) here from))
+  ]
+
+  pub all_goes_on : (total : ℕ) (which_now : Last) (sum_now : Passed) → total ≡ evals + more → which_now ≡ other_last which → sum_now ≡ one_more sum passed → HasRunAll g (passes_of plan.0) k n start which_now a_new b_new total sum_now
+  all_goes_on total which_now sum_now f h i =
+      let m = passes_of plan.0 in
+      let whole : HasRunAll g m k (suc last) start (other_last which) a_new b_new (evals + more) (one_more sum passed) = record { runs = runs_on; counts = counts_on; held = held_on; fresh = λ e. absurd (omega arith) } in
+      let one : HasRunAll g m k n start (other_last which) a_new b_new (evals + more) (one_more sum passed) = subst (λ n. HasRunAll g m k n start (other_last which) a_new b_new (evals + more) (one_more sum passed)) (sym is) whole in
+      let two : HasRunAll g m k n start (other_last which) a_new b_new total (one_more sum passed) = subst (λ e. HasRunAll g m k n start (other_last which) a_new b_new e (one_more sum passed)) (sym f) one in
+      let three : HasRunAll g m k n start which_now a_new b_new total (one_more sum passed) = subst (λ (w : Last). HasRunAll g m k n start w a_new b_new total (one_more sum passed)) (sym h) two in
+      subst (HasRunAll g m k n start which_now a_new b_new total) (sym i) three
+
+pub all_refused : (g : Grammar) (plan : List (List ℕ) × Lists) (first last n : ℕ) (start a b : List ℕ) (which : Last) (evals : ℕ) (sum : Passed) → n ≡ suc last → HasRunAll g (passes_of plan.0) (first - 1) last start which a b evals sum → (f : RunFault) → IsRunFault (setting_of g plan n) (last_content which a b) f → IsRunFault (setting_of g plan first) start f
+all_refused g plan first last n start a b which evals sum is h f fault =
+    let here : last ≡ n - 1 = omega arith in
+    refused_back g plan first n start (last_content which a b) (other_content which a b) (subst (λ j. RunsPasses version_one g (passes_of plan.0) (first - 1) j start (last_content which a b) (other_content which a b)) here h.runs) f fault
+
+pub greatest_most : (rows : List (List ℕ)) (a b : ℕ) → IsGreatest a rows → IsGreatest b rows → a ≤ b
+greatest_most rows a b f h = elim f.there [
+  | inl none ↦ omega arith
+  | inr at ↦ h.most at.1.0 at.0 at.1.1 at.2.0 a at.2.1
+]
+
+-- a device that nothing was done to, and one on which something more was done
+pub persists_still : (honest : Bool) (failures : ℕ) → Persists honest honest failures failures ⊥
+persists_still honest failures = record { honest = refl; kept = omega arith; bounded = λ few. few; cause = λ f. absurd f }
+
+pub persists_on : (h0 h1 h2 : Bool) (f0 f1 f2 : ℕ) → Persists h0 h1 f0 f1 ⊥ → Persists h1 h2 f1 f2 ⊥ → Persists h0 h2 f0 f2 ⊥
+persists_on h0 h1 h2 f0 f1 f2 old new =
+    let a = old.kept in
+    let b = new.kept in
+    record { honest = new.honest ∙ old.honest; kept = omega arith; bounded = λ few. new.bounded (old.bounded few); cause = λ f. absurd f }
+
+-- a failure that has risen since a later moment has risen since an earlier one
+pub risen_since : (before now later : ℕ) → before ≤ now → HasRisen now later → HasRisen before later
+risen_since before now later le (inl less) = inl (omega arith)
+risen_since before now later le (inr full) = inr full

@@ -1,0 +1,61 @@
+-- What a pass tells of some tree is so of whichever tree has the file that it read; and what it refuses was refused before the passes
+-- that ran.
+use Rattle.std.proofs.Common.{◌≡◌, ℕ, suc, ◌-◌, ◌<◌, ◌≤◌, List, ap, sym, subst, ◌∙◌, arith}
+use Rattle.ag_grammar.specs.grammars.Accepted.{IsAccepted}
+use Rattle.ag_grammar.specs.grammars.AttributeGrammar.{Grammar}
+use Rattle.ag_grammar.specs.grammars.Counts.{rules_of_pass}
+use Rattle.ag_grammar.specs.grammars.Passes.{IsLegal}
+use Rattle.ag_grammar.specs.grammars.Solution.{OfPass, Same, Solves, Valuation}
+use Rattle.ag_grammar.specs.grammars.Tree.{Tree, IsTreeOf, node_count, most_depth, most_nodes}
+use Rattle.ag_grammar.proofs.grammars.EachNode.{same_weaker}
+use Rattle.passassign.specs.Rows.{passes_of}
+use Rattle.passcode.specs.Rows.{Lists}
+use Rattle.planchecker.specs.Settings.{Setting, setting_of}
+use Rattle.treefile.specs.Ending.{version_one_usable}
+use Rattle.treefile.specs.Records.{IsFileOfTree}
+use Rattle.treefile.specs.Runs.{RanPass, RunsPass, RunsPasses}
+use Rattle.treefile.specs.TreeFile.{version_one}
+use Rattle.treefile.proofs.Fitting.{fits_version_one}
+use Rattle.treefile.proofs.OneTree.{one_file}
+use Rattle.treefile.proofs.Run.{refusal_goes_back, refusal_within_goes_back}
+use Rattle.passrun.specs.declared.run_fault.RunFault.{RunFault}
+use Rattle.passrun.specs.declared.run_fault.RunFault.TheVariants as fault
+use Rattle.passrun.specs.Ahead.{IsRunFault}
+use Rattle.passrun.specs.Laws.{PassesAreTold}
+use Rattle.passrun.specs.Passed.{IsPassed}
+
+module _ (c : Setting) (from to : List ℕ) (count evals : ℕ) (accepted : IsAccepted c.grammar) (legal : IsLegal c.grammar c.passes) (next : c.write ≡ suc c.read) (is : IsPassed c from to count evals) where
+  one : (t : Tree) (u : Valuation) → IsTreeOf c.grammar t → IsFileOfTree version_one c.grammar c.passes c.read t u from → (t ≡ is.tree) × Same (λ p. p ≤ c.read) c.grammar c.passes t u is.values
+  one t u tree file =
+      let fits = fits_version_one c.grammar c.passes accepted legal in
+      one_file version_one c.grammar c.passes c.read t is.tree u is.values from version_one_usable fits.1 fits.0 tree is.fits file is.from
+
+  pass_runs : RunsPass version_one c.grammar c.passes c.read from to
+  pass_runs t u tree file =
+      let both = one t u tree file in
+      let weaker : Same (λ p. p < suc c.read) c.grammar c.passes t u is.values = same_weaker (λ p. p ≤ c.read) (λ p. p < suc c.read) c.grammar c.passes (λ p h. omega arith) t u is.values both.1 in
+      let ran : RanPass version_one c.grammar c.passes c.read is.tree u to = record {
+        values = is.values;
+        file = subst (λ k. IsFileOfTree version_one c.grammar c.passes k is.tree is.values to) next is.written;
+        kept = subst (λ (s : Tree). Same (λ p. p < suc c.read) c.grammar c.passes s u is.values) both.0 weaker;
+        solved = subst (λ k. Solves (OfPass c.passes k) c.grammar is.tree is.values) next is.solved;
+      } in
+      subst (λ (s : Tree). RanPass version_one c.grammar c.passes c.read s u to) (sym both.0) ran
+
+  pass_counts : (t : Tree) (u : Valuation) → IsTreeOf c.grammar t → IsFileOfTree version_one c.grammar c.passes c.read t u from → (count ≡ node_count t) × (evals ≡ rules_of_pass c.passes (suc c.read) c.grammar t)
+  pass_counts t u tree file =
+      let same = sym (one t u tree file).0 in
+      (is.nodes ∙ ap node_count same, is.rules ∙ ap (λ k. rules_of_pass c.passes k c.grammar is.tree) next ∙ ap (rules_of_pass c.passes (suc c.read) c.grammar) same)
+
+pub passes_are_told : PassesAreTold
+passes_are_told g plan k from to count evals accepted legal positive is =
+    let next : k ≡ suc (k - 1) = omega arith in
+    (pass_runs (setting_of g plan k) from to count evals accepted legal next is, pass_counts (setting_of g plan k) from to count evals accepted legal next is)
+
+-- A refusal of the pass behind some passes is true of what stood before them.
+pub refused_back : (g : Grammar) (plan : List (List ℕ) × Lists) (k n : ℕ) (start now before : List ℕ) → RunsPasses version_one g (passes_of plan.0) (k - 1) (n - 1) start now before → (f : RunFault) → IsRunFault (setting_of g plan n) now f → IsRunFault (setting_of g plan k) start f
+refused_back g plan k n start now before runs (fault.Damaged at) none = refusal_goes_back version_one g (passes_of plan.0) (k - 1) (n - 1) start now before runs none
+refused_back g plan k n start now before runs fault.TooDeep none = refusal_within_goes_back most_depth most_nodes version_one g (passes_of plan.0) (k - 1) (n - 1) start now before runs none
+refused_back g plan k n start now before runs fault.TooManyNodes none = refusal_within_goes_back most_depth most_nodes version_one g (passes_of plan.0) (k - 1) (n - 1) start now before runs none
+refused_back g plan k n start now before runs fault.Device none = tt
+refused_back g plan k n start now before runs fault.NoMemory none = tt

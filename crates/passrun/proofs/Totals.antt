@@ -1,0 +1,27 @@
+-- What all passes come to.
+use Rattle.std.proofs.Common.{◌≡◌, ℕ, zero, suc, ◌-◌, ◌≤◌, List, [], ◌∷◌, Some, None, refl, ap, ◌∙◌, arith}
+use Rattle.ag_grammar.specs.Lists.{Each}
+use Rattle.ag_grammar.specs.grammars.Counts.{rules_of_pass, sum_of_passes}
+use Rattle.ag_grammar.proofs.grammars.Counting.{passes_have_all_rules}
+use Rattle.ag_grammar.proofs.grammars.Running.{run_is_the_solution}
+use Rattle.passassign.specs.Rows.{AreAtMost, passes_of}
+use Rattle.passrun.specs.Laws.{AllRulesAreRun, GreatestIsLast, ValuesAreTheSolution}
+
+pub all_rules_are_run : AllRulesAreRun
+all_rules_are_run g m last start which a b evals sum accepted legal is h t u tree file =
+    let none : last - 0 ≡ last = omega arith in
+    (h.counts t u tree file).evals_are ∙ ap (sum_of_passes (λ p. rules_of_pass m p g t) 0) none ∙ passes_have_all_rules g m t last accepted legal is
+
+pub values_are_the_solution : ValuesAreTheSolution
+values_are_the_solution g m last start which a b evals sum accepted legal is h t u tree file =
+    let run = h.runs t u tree file in
+    run_is_the_solution g m t u run.values last accepted legal is tree run.ran
+
+-- no symbol has a later pass than the greatest number of the rows
+row_within : (last : ℕ) (rows : List (List ℕ)) (s : ℕ) → AreAtMost last rows → Each (λ k. k ≤ last) (passes_of rows s)
+row_within last [] s most i k at = absurd (let none : None ≡ Some k = at in let bad : ⊥ = cc in bad)
+row_within last (row ∷ rows) zero most i k at = most 0 row refl i k at
+row_within last (row ∷ rows) (suc s) most i k at = row_within last rows s (λ n r e. most (suc n) r e) i k at
+
+pub greatest_is_last : GreatestIsLast
+greatest_is_last last rows h s = row_within last rows s h.most

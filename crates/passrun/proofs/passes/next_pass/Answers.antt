@@ -1,0 +1,20 @@
+use Rattle.std.proofs.Common.{◌+◌}
+use Rattle.planchecker.specs.Settings.{setting_of}
+use Rattle.passrun.proofs.Stepping.{passed_from_a, passed_from_b, refused_from_a, refused_from_b}
+use Rattle.passrun.proofs.passes.next_pass.Goals as goal
+
+pub returns-in-A-clause-passed : goal.returns-in-A-clause-passed
+returns-in-A-clause-passed g c = λ ha hb.
+    passed_from_a (setting_of c.args.grammar.now c.args.plan.now (c.args.done + 1)) (g.D.Device.content c.args.a.now) (g.D.Device.content c.args.b.now) (g.D.Device.content c.run_pass.new.from) (g.D.Device.content c.run_pass.new.to) _ c.args.last c.in-A.is c.run_pass.result (c.run_pass.ensures.passed ha hb) (c.run_pass.ensures.content ha)
+
+pub returns-in-A-clause-refused : goal.returns-in-A-clause-refused
+returns-in-A-clause-refused g c =
+    refused_from_a (setting_of c.args.grammar.now c.args.plan.now (c.args.done + 1)) (g.D.Device.content c.args.a.now) (g.D.Device.content c.args.b.now) (g.D.Device.is_honest c.args.a.now) (g.D.Device.is_honest c.args.b.now) c.args.last c.in-A.is c.run_pass.result c.run_pass.ensures.refused
+
+pub returns-in-B-clause-passed : goal.returns-in-B-clause-passed
+returns-in-B-clause-passed g c = λ ha hb.
+    passed_from_b (setting_of c.args.grammar.now c.args.plan.now (c.args.done + 1)) (g.D.Device.content c.args.a.now) (g.D.Device.content c.args.b.now) (g.D.Device.content c.run_pass-in-B.new.to) (g.D.Device.content c.run_pass-in-B.new.from) _ c.args.last c.in-B.is c.run_pass-in-B.result (c.run_pass-in-B.ensures.passed hb ha) (c.run_pass-in-B.ensures.content hb)
+
+pub returns-in-B-clause-refused : goal.returns-in-B-clause-refused
+returns-in-B-clause-refused g c =
+    refused_from_b (setting_of c.args.grammar.now c.args.plan.now (c.args.done + 1)) (g.D.Device.content c.args.a.now) (g.D.Device.content c.args.b.now) (g.D.Device.is_honest c.args.b.now) (g.D.Device.is_honest c.args.a.now) c.args.last c.in-B.is c.run_pass-in-B.result c.run_pass-in-B.ensures.refused

@@ -1,0 +1,75 @@
+use Rattle.std.proofs.Common.{suc, ◌≡◌, ◌+◌, ◌-◌, refl, subst, ◌∙◌, arith}
+use Rattle.std.proofs.lemmas.Result.{err_from_is_err_and}
+use Rattle.passassign.specs.Rows.{passes_of}
+use Rattle.passrun.specs.Rounds.{HasRunAll}
+use Rattle.passrun.proofs.Stepping.{all_goes_on, all_refused, all_starts, greatest_most, persists_on, persists_still}
+use Rattle.passrun.proofs.passes.run_all.Goals as goal
+
+pub loop-done-init : goal.loop-done-init
+loop-done-init g c =
+    let given = c.requires.last in
+    let most = greatest_most c.args.plan.now.0 given.0 c.last_pass-passes.result given.1 c.last_pass-passes.ensures in
+    let few = given.2 in
+    record {
+      low = omega arith;
+      high = omega arith;
+      a_persists = persists_still _ _;
+      b_persists = persists_still _ _;
+      meter_low = omega arith;
+      meter_high = omega arith;
+      nodes = omega arith;
+      read = omega arith;
+      written = omega arith;
+      runs = λ ha hb. all_starts c.args.grammar.now (passes_of c.args.plan.now.0) (c.args.first - 1) (c.args.first - 1) (g.D.Device.content c.args.a.now) (g.D.Device.content c.args.b.now) (c.args.meter.now - c.args.meter.now) refl (omega arith);
+    }
+
+pub loop-done-preserved : goal.loop-done-preserved
+loop-done-preserved g c =
+    let old = c.loop-done.invariant in
+    let low = old.low in
+    let less = c.loop-done-test.true in
+    let meter_low = old.meter_low in
+    let meter_high = old.meter_high in
+    let read = old.read in
+    let written = old.written in
+    let rise = c.in_ok-passed.ensures.meter.0 in
+    let most = c.in_ok-passed.ensures.meter.1 in
+    let few = c.in_ok-passed.ensures.few in
+    let same_read = c.in_ok-passed.ensures.counts.0 in
+    let same_written = c.in_ok-passed.ensures.counts.1 in
+    let sum = c.one_more-sum.ensures in
+    record {
+      low = omega arith;
+      high = omega arith;
+      a_persists = persists_on _ _ _ _ _ _ old.a_persists c.in_ok-passed.ensures.a_persists;
+      b_persists = persists_on _ _ _ _ _ _ old.b_persists c.in_ok-passed.ensures.b_persists;
+      meter_low = omega arith;
+      meter_high = omega arith;
+      nodes = rw sum few;
+      read = rw sum (omega arith);
+      written = rw sum (omega arith);
+      runs = λ ha hb.
+          let next : c.loop-done.done + 1 ≡ suc c.loop-done.done = omega arith in
+          let total : c.next_pass.new.meter - c.args.meter.now ≡ (c.loop-done.meter - c.args.meter.now) + (c.next_pass.new.meter - c.loop-done.meter) = omega arith in
+          all_goes_on c.args.grammar.now c.args.plan.now (c.args.first - 1) c.loop-done.done (c.loop-done.done + 1) (g.D.Device.content c.args.a.now) (g.D.Device.content c.loop-done.a) (g.D.Device.content c.loop-done.b) (g.D.Device.content c.next_pass.new.a) (g.D.Device.content c.next_pass.new.b) c.loop-done.last (c.loop-done.meter - c.args.meter.now) (c.next_pass.new.meter - c.loop-done.meter) c.loop-done.sum c.in_ok-passed.passed c.start-start.ensures.accepted c.requires.plan.legal low next (old.runs ha hb)
+          (c.in_ok-passed.ensures.passed (old.a_persists.honest ∙ ha) (old.b_persists.honest ∙ hb)) same_read same_written (c.next_pass.new.meter - c.args.meter.now) c.other-last.result c.one_more-sum.result total c.other-last.ensures sum;
+    }
+
+pub returns-clause-passed : goal.returns-clause-passed
+returns-clause-passed g c = λ passes is ha hb.
+    let a = greatest_most c.args.plan.now.0 passes c.last_pass-passes.result is c.last_pass-passes.ensures in
+    let b = greatest_most c.args.plan.now.0 c.last_pass-passes.result passes c.last_pass-passes.ensures is in
+    let high = c.loop-done.invariant.high in
+    let end = c.loop-done-test.false in
+    let same : c.loop-done.done ≡ passes = omega arith in
+    subst (λ n. HasRunAll c.args.grammar.now (passes_of c.args.plan.now.0) (c.args.first - 1) n (g.D.Device.content c.args.a.now) c.loop-done.last (g.D.Device.content c.loop-done.a) (g.D.Device.content c.loop-done.b) (c.loop-done.meter - c.args.meter.now) c.loop-done.sum) same (c.loop-done.invariant.runs ha hb)
+
+pub returns-in_err-passed-clause-refused : goal.returns-in_err-passed-clause-refused
+returns-in_err-passed-clause-refused g c =
+    let p = err_from_is_err_and c.from_residual.result c.from_residual.ensures.1 in
+    let next : c.loop-done.done + 1 ≡ suc c.loop-done.done = omega arith in
+    let old = c.loop-done.invariant in
+    let said = c.in_err-passed.ensures.refused in
+    rw (p.1, p.2) (λ ha hb.
+    all_refused c.args.grammar.now c.args.plan.now c.args.first c.loop-done.done (c.loop-done.done + 1) (g.D.Device.content c.args.a.now) (g.D.Device.content c.loop-done.a) (g.D.Device.content c.loop-done.b) c.loop-done.last (c.loop-done.meter - c.args.meter.now) c.loop-done.sum next (old.runs ha hb)
+    c.in_err-passed.field-0.0 (said (old.a_persists.honest ∙ ha) (old.b_persists.honest ∙ hb)))

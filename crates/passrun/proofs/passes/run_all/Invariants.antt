@@ -1,0 +1,20 @@
+use Rattle.std.proofs.Common.{◌+◌, ◌-◌, ◌*◌, ◌≤◌}
+use Rattle.ag_grammar.specs.grammars.Tree.{most_nodes}
+use Rattle.passassign.specs.Rows.{passes_of}
+use Rattle.treefile.specs.Device.{Persists, WhenHonest}
+use Rattle.passrun.specs.Rounds.{HasRunAll}
+use Rattle.passrun.proofs.passes.run_all.Given as goal
+
+abbrev pub invariant-loop-done : goal.invariant-loop-done
+invariant-loop-done g l = record {
+  low : l.first - 1 ≤ l.done;
+  high : l.done ≤ l.passes;
+  a_persists : Persists (g.D.Device.is_honest l.fn.a) (g.D.Device.is_honest l.a) (g.D.Device.failures l.fn.a) (g.D.Device.failures l.a) ⊥;
+  b_persists : Persists (g.D.Device.is_honest l.fn.b) (g.D.Device.is_honest l.b) (g.D.Device.failures l.fn.b) (g.D.Device.failures l.b) ⊥;
+  meter_low : l.fn.meter ≤ l.meter;
+  meter_high : l.meter ≤ l.fn.meter + l.done * 4294967296;
+  nodes : l.sum.nodes ≤ most_nodes;
+  read : l.sum.read ≤ l.done * 65536;
+  written : l.sum.written ≤ l.done * 65536;
+  runs : WhenHonest (g.D.Device.is_honest l.fn.a) (WhenHonest (g.D.Device.is_honest l.fn.b) (HasRunAll l.grammar (passes_of l.plan.0) (l.first - 1) l.done (g.D.Device.content l.fn.a) l.last (g.D.Device.content l.a) (g.D.Device.content l.b) (l.meter - l.fn.meter) l.sum));
+}

@@ -1,0 +1,69 @@
+-- Passes one after the other, to and fro between two devices (after Jazayeri and Walter 1975). How it is told here, and the counts,
+-- are this project's.
+use Rattle.std.specs.Prelude.{ℕ, ◌≡◌, ◌+◌, ◌*◌, ◌-◌, ◌<◌, List}
+use Rattle.ag_grammar.specs.grammars.AttributeGrammar.{Grammar}
+use Rattle.ag_grammar.specs.grammars.Counts.{rules_of_pass, sum_of_passes}
+use Rattle.ag_grammar.specs.grammars.Passes.{Passes}
+use Rattle.ag_grammar.specs.grammars.Solution.{Valuation}
+use Rattle.ag_grammar.specs.grammars.Tree.{Tree, IsTreeOf, IsWithinLimits, most_depth, most_nodes, node_count}
+use Rattle.treefile.specs.Records.{IsFileOfTree}
+use Rattle.treefile.specs.Runs.{RunsPasses}
+use Rattle.treefile.specs.TreeFile.{version_one}
+use Rattle.planchecker.specs.Settings.{Setting}
+use Rattle.passrun.specs.declared.ends.Passed.{Passed}
+use Rattle.passrun.specs.declared.last.Last.{Last}
+use Rattle.passrun.specs.declared.last.Last.TheVariants.{A, B}
+use Rattle.passrun.specs.Passed.{IsPassed}
+
+-- the content of the device that has the last file,
+abbrev pub last_content : Last → (a b : List ℕ) → List ℕ
+last_content A a b = a
+last_content B a b = b
+
+-- and that of the other one
+abbrev pub other_content : Last → (a b : List ℕ) → List ℕ
+other_content A a b = b
+other_content B a b = a
+
+-- the other device
+abbrev pub other_last : Last → Last
+other_last A = B
+other_last B = A
+
+-- A pass ran from the device that has the last file to the other one, and left the content of the first as it was.
+pub record IsPassedOn (c : Setting) (last : Last) (a b a_new b_new : List ℕ) (count evals : ℕ) : Type 0 where
+  pub passed : IsPassed c (last_content last a b) (other_content last a_new b_new) count evals
+  pub kept : last_content last a_new b_new ≡ last_content last a b
+
+-- what was counted before, and in one pass more: the nodes are those of the pass
+abbrev pub one_more : Passed → Passed → Passed
+one_more sum passed = record { nodes = passed.nodes; read = sum.read + passed.read; written = sum.written + passed.written }
+
+-- What so many passes behind pass k counted over a tree: the rules of each of them were evaluated, each once, and each pass read and
+-- wrote the record of each node. The nodes are told where a pass ran.
+pub record HasCounted (g : Grammar) (m : Passes) (t : Tree) (k count evals : ℕ) (sum : Passed) : Type 0 where
+  pub evals_are : evals ≡ sum_of_passes (λ p. rules_of_pass m p g t) k count
+  pub none : count ≡ 0 → sum.nodes ≡ 0
+  pub nodes : 0 < count → sum.nodes ≡ node_count t
+  pub read : sum.read ≡ count * node_count t
+  pub written : sum.written ≡ count * node_count t
+
+-- they counted so over whichever tree has the start as its file of pass k
+abbrev pub CountsPasses : Grammar → Passes → (k count : ℕ) → (start : List ℕ) → (evals : ℕ) → Passed → Type 0
+CountsPasses g m k count start evals sum = (t : Tree) (u : Valuation) → IsTreeOf g t → IsFileOfTree version_one g m k t u start → HasCounted g m t k count evals sum
+
+-- A content is the file of pass k of a tree of the grammar within the limits, with some values.
+pub record HoldsTree (g : Grammar) (m : Passes) (k : ℕ) (content : List ℕ) : Type 0 where
+  pub tree : Tree
+  pub values : Valuation
+  pub is_tree : IsTreeOf g tree
+  pub within : IsWithinLimits most_depth most_nodes tree
+  pub file : IsFileOfTree version_one g m k tree values content
+
+-- All passes behind pass k ran, up to the last one. They left two contents: that of the device that has the last file, and that of
+-- the other. They counted so. Where one ran, the start is the file of a tree within the limits; where none did, it is the last file.
+pub record HasRunAll (g : Grammar) (m : Passes) (k last : ℕ) (start : List ℕ) (which : Last) (a b : List ℕ) (evals : ℕ) (sum : Passed) : Type 0 where
+  pub runs : RunsPasses version_one g m k last start (last_content which a b) (other_content which a b)
+  pub counts : CountsPasses g m k (last - k) start evals sum
+  pub held : k < last → HoldsTree g m k start
+  pub fresh : last ≡ k → last_content which a b ≡ start
