@@ -4,3 +4,5 @@ pub mod Listing
 pub mod Sentences
 pub mod Showing
 pub mod Status
+pub mod Translating
+pub mod Translation

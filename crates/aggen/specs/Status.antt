@@ -6,8 +6,12 @@ use Rattle.ag_scan.specs.declared.fault.ScanFault.{ScanFault}
 use Rattle.ag_scan.specs.declared.fault.ScanFault.TheVariants as scan
 use Rattle.agoutput.specs.declared.fault.ListingFault.{ListingFault}
 use Rattle.agoutput.specs.declared.fault.ListingFault.TheVariants as listing
+use Rattle.agoutput.specs.declared.fault.OutFault.{OutFault}
+use Rattle.agoutput.specs.declared.fault.OutFault.TheVariants as out
 use Rattle.llparse.specs.declared.parse_fault.ParseFault.{ParseFault}
 use Rattle.llparse.specs.declared.parse_fault.ParseFault.TheVariants as parse
+use Rattle.passrun.specs.declared.run_fault.RunFault.{RunFault}
+use Rattle.passrun.specs.declared.run_fault.RunFault.TheVariants as run
 use Rattle.treefile.specs.declared.device.DeviceFault.{DeviceFault}
 use Rattle.treefile.specs.declared.device.DeviceFault.TheVariants as device
 use Rattle.treefile.specs.declared.reading.FrameFault.{FrameFault}
@@ -19,7 +23,8 @@ use Rattle.aggen.specs.declared.build_fault.BuildFault.TheVariants as build
 use Rattle.aggen.specs.declared.fault.Fault.{Fault}
 use Rattle.aggen.specs.declared.fault.Fault.TheVariants as fault
 
--- 2 for the command line, 3 for X, G, N, L and A, 4 for S and P, 5 for B1 and B2, 7 for want of memory, 8 for F1, D1 and O2
+-- 2 for the command line, 3 for X, G, N, L and A, 4 for S and P of a sentence, 5 for B1, B2, R1 and P2 and P3 of a tree file, 6 for
+-- O1, 7 for want of memory, 8 for F1, D1 and O2
 abbrev pub status_of : Fault → ℕ
 status_of fault.Usage = 2
 status_of fault.File = 8
@@ -30,6 +35,8 @@ status_of (fault.Table e) = 3
 status_of (fault.Assign e) = 3
 status_of (fault.Scan e) = 4
 status_of (fault.Parse e) = 4
+status_of (fault.Run e) = 5
+status_of (fault.NoText x) = 6
 status_of fault.NotATreeFile = 5
 status_of (fault.Damaged at) = 5
 status_of fault.Device = 8
@@ -50,6 +57,20 @@ abbrev pub parse_fault_of : ParseFault → Fault
 parse_fault_of parse.Device = fault.Device
 parse_fault_of parse.NoMemory = fault.NoMemory
 parse_fault_of e = fault.Parse e
+
+-- those of passes, where a failed device and want of memory are faults of their own too
+abbrev pub run_fault_of : RunFault → Fault
+run_fault_of run.Device = fault.Device
+run_fault_of run.NoMemory = fault.NoMemory
+run_fault_of e = fault.Run e
+
+-- and of the text of the root
+abbrev pub out_fault_of : OutFault → Fault
+out_fault_of (out.NoText x) = fault.NoText x
+out_fault_of out.NotATreeFile = fault.NotATreeFile
+out_fault_of (out.Damaged at) = fault.Damaged at
+out_fault_of out.Device = fault.Device
+out_fault_of out.NoMemory = fault.NoMemory
 
 -- the faults of making a translator
 abbrev pub build_fault_of : BuildFault → Fault

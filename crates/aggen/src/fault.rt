@@ -2,8 +2,8 @@
 
 ghost use Rattle.std.specs.Prelude.{◌≡◌};
 ghost use Rattle.aggen.specs.Status.{build_fault_of, device_fault_of, expr_fault_of};
-ghost use Rattle.aggen.specs.Status.{frame_fault_of, listing_fault_of, parse_fault_of};
-ghost use Rattle.aggen.specs.Status.{scan_fault_of, status_of};
+ghost use Rattle.aggen.specs.Status.{frame_fault_of, listing_fault_of, out_fault_of};
+ghost use Rattle.aggen.specs.Status.{parse_fault_of, run_fault_of, scan_fault_of, status_of};
 ghost use Rattle.aggen.specs.Status.{write_fault_of};
 ghost use Rattle.aggen.specs.declared.fault.Fault.TheVariants as program_fault;
 
@@ -12,10 +12,11 @@ use crate::stuck_grammar::StuckGrammar;
 use ag_expr::ExprFault;
 use ag_scan::ScanFault;
 use ag_text::TextFault;
-use ag_value::NoMemory;
-use agoutput::{ListingFault, TextOutFault};
+use ag_value::{NoMemory, Value};
+use agoutput::{ListingFault, OutFault, TextOutFault};
 use llparse::{ParseFault, TableFault};
 use normalform::NormalFault;
+use passrun::RunFault;
 use std::alloc::AllocError;
 use thiserror::Error;
 use treefile::{DeviceFault, FileFault, FrameFault, WriteFault};
@@ -53,6 +54,13 @@ pub enum Fault {
     /// never in it.
     #[error("{0}")]
     Parse(ParseFault),
+    /// R1, P2 and P3 of a tree file that a pass read. A failed device and want of memory are never in
+    /// it.
+    #[error("{0}")]
+    Run(RunFault),
+    /// O1: the translation is this value, and no text.
+    #[error("O1 the translation is no text")]
+    NoText(Value),
     /// B1: a device holds no tree file.
     #[error("B1 the device holds no tree file")]
     NotATreeFile,
@@ -71,8 +79,8 @@ pub enum Fault {
     NoMemory,
 }
 
-/// The status that the program ends with after a fault: 2 usage; 3 X, G, N, L and A; 4 S and P; 5 B1
-/// and B2; 7 want of memory; 8 F1, D1 and O2.
+/// The status that the program ends with after a fault: 2 usage; 3 X, G, N, L and A; 4 S and P of a
+/// sentence; 5 B1, B2, R1, and P2 and P3 of a tree file; 6 O1; 7 want of memory; 8 F1, D1 and O2.
 pub fn status(fault: &Fault) -> u8
     ensures { result ≡ status_of fault.now }
 {
@@ -81,7 +89,8 @@ pub fn status(fault: &Fault) -> u8
         Fault::Expr(_) | Fault::Text(_) => 3,
         Fault::Normal(_) | Fault::Table(_) | Fault::Assign(_) => 3,
         Fault::Scan(_) | Fault::Parse(_) => 4,
-        Fault::NotATreeFile | Fault::Damaged(_) => 5,
+        Fault::Run(_) | Fault::NotATreeFile | Fault::Damaged(_) => 5,
+        Fault::NoText(_) => 6,
         Fault::NoMemory => 7,
         Fault::File | Fault::Device | Fault::Write => 8,
     }
@@ -131,6 +140,32 @@ impl From<ParseFault> for Fault {
             ParseFault::Device => Fault::Device,
             ParseFault::NoMemory => Fault::NoMemory,
             _ => Fault::Parse(fault),
+        }
+    }
+}
+
+impl From<RunFault> for Fault {
+    ghost from_gives = { λ fault e. e ≡ run_fault_of fault };
+
+    fn from(fault: RunFault) -> Fault {
+        match fault {
+            RunFault::Device => Fault::Device,
+            RunFault::NoMemory => Fault::NoMemory,
+            _ => Fault::Run(fault),
+        }
+    }
+}
+
+impl From<OutFault> for Fault {
+    ghost from_gives = { λ fault e. e ≡ out_fault_of fault };
+
+    fn from(fault: OutFault) -> Fault {
+        match fault {
+            OutFault::NoText(value) => Fault::NoText(value),
+            OutFault::NotATreeFile => Fault::NotATreeFile,
+            OutFault::Damaged(at) => Fault::Damaged(at),
+            OutFault::Device => Fault::Device,
+            OutFault::NoMemory => Fault::NoMemory,
         }
     }
 }

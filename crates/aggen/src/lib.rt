@@ -1,6 +1,6 @@
 //! Translators from attribute grammars: a grammar's text makes one or is refused, its plan is
-//! listed, and it makes of a sentence the file of its one tree. Beside it the value of an
-//! expression, by way of a tree file.
+//! listed, it makes of a sentence the file of its one tree, and translates it. Beside it the value
+//! of an expression, by way of a tree file.
 #![tactic(auto)]
 
 mod build_fault;
@@ -9,8 +9,10 @@ mod fault;
 mod file;
 pub mod laws;
 mod listing;
+mod report;
 mod source;
 mod stuck_grammar;
+mod translating;
 mod translator;
 mod value;
 
@@ -18,6 +20,7 @@ pub use build_fault::BuildFault;
 pub use checking::{grammar_of, print_counts};
 pub use fault::{Fault, status};
 pub use listing::{print_code, print_plan};
+pub use report::Report;
 pub use source::{bytes_of, source_of};
 pub use stuck_grammar::StuckGrammar;
 pub use translator::{Translator, nodes_line};

@@ -1,31 +1,39 @@
 //! Translators: made once of a grammar's text, and then used for any number of sentences.
 
-ghost use Rattle.std.specs.Prelude.{◌≡◌, ◌≤◌, IfErr, IfOk, IsErrOf, OnOk, length, string_bytes};
+ghost use Rattle.std.specs.Prelude.{◌≡◌, ◌≢◌, ◌≤◌, ◌⊎◌, IfErr, IfOk, IsErrOf, OnOk};
+ghost use Rattle.std.specs.Prelude.{length, string_bytes};
+ghost use Rattle.ag_grammar.specs.grammars.Accepted.{IsAccepted as IsAcceptedGrammar};
 ghost use Rattle.ag_grammar.specs.grammars.Tree.{node_count, IsWithinLimits, Tree};
 ghost use Rattle.ag_grammar.specs.grammars.Tree.{most_depth, most_nodes};
 ghost use Rattle.llparse.specs.Ahead.{HasNoConflict};
 ghost use Rattle.llparse.specs.Sentences.{IsFirstFile};
 ghost use Rattle.llparse.specs.Tables.{FitsGrammar};
-ghost use Rattle.treefile.specs.Device.{Persists, WhenHonest};
+ghost use Rattle.treefile.specs.Device.{HasRisen, Persists, WhenHonest};
 ghost use Rattle.passassign.specs.Least.{IsAlternating, IsLeast};
 ghost use Rattle.passassign.specs.Rows.{passes_of, AreFew};
 ghost use Rattle.aggen.specs.Building.{IsBuildFault, IsLeastPlan};
 ghost use Rattle.aggen.specs.Checking.{IsGrammarOf};
 ghost use Rattle.aggen.specs.Sentences.{IsScanFault, IsSentenceFault, IsTreeOfSentence};
 ghost use Rattle.aggen.specs.Sentences.{nodes_line as line_of};
+ghost use Rattle.aggen.specs.Translating.{IsRefusedSentence, IsTranslationFault};
+ghost use Rattle.aggen.specs.Translating.{TranslatesSentence};
 
 use crate::build_fault::BuildFault;
 use crate::checking::grammar_of;
 use crate::fault::Fault;
+use crate::report::Report;
 use crate::stuck_grammar::StuckGrammar;
+use crate::translating::{last_text, leave_files};
 use ag_scan::scan;
 use ag_value::NoMemory;
+use agoutput::write_text;
 use llparse::{Tables, parse, tables};
 use normalform::Grammar;
 use passassign::{AssignFault, Assignment, assign};
 use passcode::generate;
 use planchecker::{Plan, check_plan};
 use std::alloc::{AllocError, Global};
+use std::io::Write;
 use std::marker::Model;
 use treefile::{Device, Writer};
 
@@ -89,7 +97,8 @@ impl Translator {
 
     /// Lends the grammar. Takes no memory.
     pub fn grammar(&self) -> &Grammar
-        ensures { result.now ≡ self.now }
+        ensures grammar { result.now ≡ self.now }
+        ensures accepted { IsAcceptedGrammar self.now }
     {
         &self.grammar
     }
@@ -144,6 +153,50 @@ impl Translator {
             &mut writer,
         )?;
         Ok(count)
+    }
+
+    /// Translates a sentence: leaves the file of its one tree on `a`, runs all passes to and fro
+    /// between `a` and `b`, takes the text of the root's `out` out of the file of the last pass,
+    /// and writes it. Nothing goes out before the last pass has ended.
+    ///
+    /// S1 to S4, before a device is touched, and P1 to P3, before `b` is, as `parse_tree` has
+    /// them; O1 NoText where the translation is no text; O2 Write where a write failed or took no
+    /// byte; D1 Device where a call of a device failed. Of a device that does not give back what
+    /// was written, R1, P2 or P3 of a tree file, B1 or B2 may come. On every refusal but O2 the
+    /// writer is as before; what is left on the devices need not be mended for the next call.
+    pub fn translate<D: Device, W: Write>(
+        &self,
+        sentence: &[u8],
+        a: &mut D,
+        b: &mut D,
+        out: &mut W,
+    ) -> Result<Report, Fault>
+        // the translation theorem
+        ensures translates { IfOk result (λ report. TranslatesSentence self.now sentence.now
+            (D.is_honest a.old) (D.is_honest b.old) (D.content a.new) (D.content b.new)
+            (W.contents out.old) (W.contents out.new) report) }
+
+        // a refusal: what it says of the sentence is true
+        ensures refused { IfErr result (λ e. IsTranslationFault self.now sentence.now
+            (D.is_honest a.old) (D.is_honest b.old)
+            (W.contents out.old) (W.contents out.new) e) }
+        ensures kept { IfErr result (λ e. e ≢ Fault.Write → out.new ≡ out.old) }
+        ensures untouched { IfErr result (λ e. IsScanFault e → a.new ≡ a.old) }
+        ensures b_untouched { IfErr result (λ e. IsRefusedSentence e → b.new ≡ b.old) }
+        ensures a_persists { Persists (D.is_honest a.old) (D.is_honest a.new)
+            (D.failures a.old) (D.failures a.new) ⊥ }
+        ensures b_persists { Persists (D.is_honest b.old) (D.is_honest b.new)
+            (D.failures b.old) (D.failures b.new) ⊥ }
+        // D1 only where the number of failures rose on one of the two
+        ensures cause { IsErrOf result Fault.Device →
+            HasRisen (D.failures a.old) (D.failures a.new)
+            ⊎ HasRisen (D.failures b.old) (D.failures b.new) }
+    {
+        let plan = self.plan();
+        let report = leave_files(self.alloc, self, plan, sentence, a, b)?;
+        let text = last_text(self.alloc, self.grammar(), plan, report.last, a, b)?;
+        write_text(out, text.as_str())?;
+        Ok(report)
     }
 }
 

@@ -13,6 +13,8 @@ mod parsing;
 #[cfg(test)]
 mod sources;
 #[cfg(test)]
+mod translations;
+#[cfg(test)]
 mod translators;
 #[cfg(test)]
 mod writing;

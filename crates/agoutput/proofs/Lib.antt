@@ -1,3 +1,4 @@
 pub mod Loops
 pub mod Names
+pub mod Roots
 pub mod Written

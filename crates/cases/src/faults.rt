@@ -2,8 +2,10 @@
 
 use ag_expr::ExprFault;
 use ag_text::TextFault;
+use ag_value::Value;
 use aggen::{Fault, bytes_of, show_value, status};
 use normalform::NormalFault;
+use passrun::RunFault;
 use rows::{Mistake, first_word, number, shown_bytes};
 use std::alloc::Global;
 use treefile::MemDevice;
@@ -17,6 +19,9 @@ fn fault(text: &str) -> Result<Fault, Mistake> {
         "expression" => Ok(Fault::Expr(ExprFault::Unexpected(number(rest)? as usize))),
         "text" => Ok(Fault::Text(TextFault::TooLong)),
         "grammar" => Ok(Fault::Normal(NormalFault::BadStart)),
+        "pass" => Ok(Fault::Run(RunFault::Damaged(number(rest)? as u64))),
+        "deep-file" => Ok(Fault::Run(RunFault::TooDeep)),
+        "no-text" => Ok(Fault::NoText(Value::Num(i64::from(number(rest)?)))),
         "no-tree-file" => Ok(Fault::NotATreeFile),
         "damaged" => Ok(Fault::Damaged(number(rest)? as u64)),
         "device" => Ok(Fault::Device),

@@ -9,9 +9,11 @@ mod passes;
 mod plans;
 mod questions;
 mod raw_grammars;
+mod roots;
 mod sentences;
 mod sheet;
 mod stuck;
+mod translations;
 
 use sheet::Sheet;
 use std::io;

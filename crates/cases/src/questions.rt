@@ -5,8 +5,10 @@ use crate::grammars::{check_told, could_told, listing_told, parts_told, read_tol
 use crate::passes::{pass_told, run_bytes_told, run_told, through_told};
 use crate::plans::{list_told, passes_told, plan_told};
 use crate::raw_grammars::chain_told;
+use crate::roots::{root_bytes_told, root_told};
 use crate::sentences::{choice_told, fits_told, parse_told, scan_told, stand_told, table_told};
 use crate::stuck::{assign_told, stuck_told};
+use crate::translations::translate_told;
 use rows::{Mistake, Written, bytes_of, first_word, number};
 use std::alloc::Global;
 
@@ -71,6 +73,9 @@ fn answer_of_sentences(
         "fits" => fits_told(alloc, grammar, rest),
         "parse" => parse_told(alloc, grammar, sentence),
         "stand" => stand_told(alloc, grammar, sentence),
+        "root" => root_told(alloc, grammar, sentence),
+        "root-bytes" => root_bytes_told(alloc, grammar, sentence),
+        "translate" => translate_told(alloc, grammar, sentence),
         _ => answer_of_faults(alloc, written, verb, rest),
     }
 }

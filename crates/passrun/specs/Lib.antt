@@ -17,3 +17,4 @@ pub mod Ahead
 pub mod Laid
 pub mod Starts
 pub mod Rounds
+pub mod Printed

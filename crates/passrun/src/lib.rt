@@ -5,6 +5,7 @@
 //! the one in which the pass is, and of their children that were read.
 #![tactic(auto)]
 
+mod display;
 mod ends;
 mod evaluating;
 mod fetching;
@@ -26,4 +27,5 @@ pub use ends::Passed;
 pub use last::Last;
 pub use pass::run_pass;
 pub use passes::run_all;
+pub use record::{RecordFault, read_node};
 pub use run_fault::RunFault;

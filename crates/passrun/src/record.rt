@@ -18,7 +18,7 @@ use treefile::{Kind, split_body};
 
 /// Why no record was read.
 #[derive(Clone, Copy, Debug, PartialEq, Eq)]
-pub(crate) enum RecordFault {
+pub enum RecordFault {
     /// The body is no record of what is expected.
     Damaged,
     /// A growth was refused.
@@ -107,9 +107,16 @@ fn read_row(
     }
 }
 
-/// Reads the body of a node of a symbol: its row goes to the values. The number of its production.
+/// Reads the body of a node of a symbol from the file of pass k - 1: its row goes to the values, in
+/// which the values of pass k, which are still to come, are numbers. Gives the number of the node's
+/// production.
+///
+/// Damaged where the body is no record of a node of the symbol in the file of that pass: of a
+/// production of it, with as many well values as it has attributes of passes before k, and with no
+/// bytes behind them. NoMemory where a growth was refused. After a refusal the values have a
+/// beginning of a row more, or none. Takes memory for what is read.
 #[tactic(auto, using(crate::proofs::Recorded::node_read, crate::proofs::Recorded::no_node))]
-fn read_node(
+pub fn read_node(
     alloc: Global,
     grammar: &Grammar,
     plan: &Plan,

@@ -1,0 +1,145 @@
+-- A sentence is translated: its files are those of the one solution, and the text that goes out is the root's.
+use Rattle.std.proofs.Common.{◌≡◌, ℕ, ◌-◌, ◌≤◌, Bool, true, List, [], ◌∷◌, ◌++◌, length, map, Option, Some, Result, Ok, Err, slice_get, refl, sym, subst, ◌∙◌, arith}
+use Rattle.std.specs.Io.KnownBytes.{Appends}
+use Rattle.ag_value.specs.declared.value.Value.{Text}
+use Rattle.ag_grammar.specs.Lists.{Each}
+use Rattle.ag_grammar.specs.grammars.Accepted.{IsAccepted, out_name}
+use Rattle.ag_grammar.specs.grammars.AttributeGrammar.{Grammar, Inherited, Kind, Synthesized, symbol_kinds}
+use Rattle.ag_grammar.specs.grammars.Passes.{IsLegal, Passes}
+use Rattle.ag_grammar.specs.grammars.Solution.{IsTranslation}
+use Rattle.ag_grammar.specs.grammars.Tree.{IsWithinLimits, Tree, IsTreeOf, most_depth, most_nodes, node_count}
+use Rattle.passassign.specs.Rows.{IsGreatest, passes_of}
+use Rattle.passcode.specs.Rows.{Lists}
+use Rattle.planchecker.specs.Plans.{IsPlan}
+use Rattle.treefile.specs.Device.{WhenHonest}
+use Rattle.llparse.proofs.Texts.{texts_are_given}
+use Rattle.llparse.specs.Sentences.{IsFirstFile}
+use Rattle.aggen.specs.Building.{IsLeastPlan}
+use Rattle.aggen.specs.Sentences.{IsTreeOfSentence}
+use Rattle.agoutput.specs.Writing.{AppendsBeginning}
+use Rattle.passrun.specs.declared.ends.Passed.{Passed}
+use Rattle.aggen.specs.declared.report.Report.{Report}
+use Rattle.passrun.specs.declared.run_fault.RunFault.{RunFault}
+use Rattle.passrun.specs.declared.run_fault.RunFault.TheVariants as run
+use Rattle.agoutput.specs.declared.fault.OutFault.{OutFault}
+use Rattle.agoutput.specs.declared.fault.OutFault.TheVariants as out
+use Rattle.aggen.specs.Status.{out_fault_of, run_fault_of}
+use Rattle.aggen.specs.Translation.{BeginsTranslation, IsOneTree}
+use Rattle.passrun.specs.Rounds.{last_content}
+use Rattle.agoutput.specs.Roots.{IsRootText, TellsRoot}
+use Rattle.passrun.specs.Rounds.{HasCounted, HasRunAll}
+use Rattle.ag_grammar.specs.grammars.Running.{IsLastPass}
+use Rattle.passrun.specs.Ahead.{IsRunFault}
+use Rattle.planchecker.specs.Settings.{setting_of}
+use Rattle.aggen.specs.Translating.{AreLeft, IsFilesFault, IsTranslationFault, LeavesFiles, TranslatesSentence}
+use Rattle.ag_grammar.proofs.grammars.Counting.{passes_have_all_rules}
+use Rattle.ag_grammar.proofs.grammars.Running.{run_is_the_solution}
+use Rattle.passrun.proofs.Totals.{greatest_is_last}
+
+some_of : (ps : List ℕ) (last : ℕ) → 1 ≤ length ps → Each (λ k. 1 ≤ k) ps → Each (λ k. k ≤ last) ps → 1 ≤ last
+some_of [] last few one most = absurd (omega arith)
+some_of (p ∷ ps) last few one most = let a = one 0 p refl in let b = most 0 p refl in omega arith
+
+some_kind : (names : List (List ℕ)) (others : List Kind) (name : List ℕ) (i : ℕ) → slice_get names i ≡ Some name → 1 ≤ length (map (λ n. Synthesized) names ++ others)
+some_kind [] others name i is = absurd (let bad : ⊥ = cc in bad)
+some_kind (x ∷ names) others name i is = omega arith
+
+-- the start symbol's `out` has a pass
+pub some_pass : (g : Grammar) (m : Passes) (last : ℕ) → IsAccepted g → IsLegal g m → IsLastPass last m → 1 ≤ last
+some_pass g m last accepted legal is =
+    let start = accepted.start in
+    let few : 1 ≤ length (symbol_kinds (slice_get g.symbols g.start)) = subst (λ s. 1 ≤ length (symbol_kinds s)) (sym start.declared) (some_kind start.symbol.syn (map (λ n. Inherited) start.symbol.inh) out_name start.out.0 start.out.1) in
+    let same = legal.whole g.start in
+    some_of (m g.start) last (omega arith) (legal.positive g.start) (is g.start)
+
+module _ (g : Grammar) (sentence : List ℕ) (rows : List (List ℕ)) (code : Lists) (accepted : IsAccepted g) (plan : IsPlan g rows code) where
+  -- all passes over the tree of a sentence leave its solution
+  pub are_left : (t : Tree) (start a b : List ℕ) (report : Report) (passed : Passed) → IsGreatest report.passes rows → IsTreeOf g t → IsFirstFile g t start → HasRunAll g (passes_of rows) 0 report.passes start report.last a b report.evals passed → report.nodes ≡ node_count t → report.read ≡ passed.read → report.written ≡ passed.written → AreLeft g (passes_of rows) t a b report
+  are_left t start a b report passed greatest tree file all nodes read written =
+      let m = passes_of rows in
+      let end : IsLastPass report.passes (passes_of rows) = greatest_is_last report.passes rows greatest in
+      let one : 1 ≤ report.passes = some_pass g (passes_of rows) report.passes accepted plan.legal end in
+      let texts = texts_are_given g t in
+      let first = file (passes_of rows) texts.0 plan.legal.positive texts.1 in
+      let run = all.runs t texts.0 tree first in
+      let count : report.passes - 0 ≡ report.passes = omega arith in
+      let counted : HasCounted g (passes_of rows) t 0 report.passes report.evals passed = subst (λ n. HasCounted g (passes_of rows) t 0 n report.evals passed) count (all.counts t texts.0 tree first) in
+      record {
+        values = run.values;
+        leaves = record {
+          solution = run_is_the_solution g (passes_of rows) t texts.0 run.values report.passes accepted plan.legal end tree run.ran;
+          file = run.file;
+          other = λ k e. run.other k one e;
+        };
+        report_is = record {
+          nodes = nodes;
+          passes_are = refl;
+          evals = counted.evals_are ∙ passes_have_all_rules g (passes_of rows) t report.passes accepted plan.legal end;
+          read = read ∙ counted.read;
+          written = written ∙ counted.written;
+        };
+      }
+
+  -- no pass refuses a file of the tree of a sentence
+  pub never_refused : (t : Tree) (start : List ℕ) (f : RunFault) (ha hb : Bool) → IsTreeOf g t → IsWithinLimits most_depth most_nodes t → WhenHonest ha (IsFirstFile g t start) → WhenHonest ha (WhenHonest hb (IsRunFault (setting_of g (rows, code) 1) start f)) → IsFilesFault g sentence ha hb (run_fault_of f)
+  never_refused t start (run.Damaged at) ha hb tree within file told = λ a b. let texts = texts_are_given g t in told a b t texts.0 tree (file a (passes_of rows) texts.0 plan.legal.positive texts.1)
+  never_refused t start run.TooDeep ha hb tree within file told = λ a b. let texts = texts_are_given g t in told a b t texts.0 tree within (file a (passes_of rows) texts.0 plan.legal.positive texts.1)
+  never_refused t start run.TooManyNodes ha hb tree within file told = λ a b. let texts = texts_are_given g t in told a b t texts.0 tree within (file a (passes_of rows) texts.0 plan.legal.positive texts.1)
+  never_refused t start run.Device ha hb tree within file told = tt
+  never_refused t start run.NoMemory ha hb tree within file told = tt
+
+-- the one tree of a sentence, as parsing tells it
+pub one_tree : (g : Grammar) (sentence : List ℕ) (t : Tree) → IsTreeOfSentence g sentence t → ((t u : Tree) → IsTreeOfSentence g sentence t → IsTreeOfSentence g sentence u → t ≡ u) → IsWithinLimits most_depth most_nodes t → IsOneTree (IsTreeOfSentence g sentence) t
+one_tree g sentence t is one within = record { is_tree = is; only = λ s other. one s t other is; within = within }
+
+module _ (g : Grammar) (sentence : List ℕ) (rows : List (List ℕ)) (code : Lists) (least : IsLeastPlan g rows code) (ha hb : Bool) (a b : List ℕ) (report : Report) (files : LeavesFiles g sentence rows ha hb a b report) where
+  module _ (r : Result (List ℕ) OutFault) (told : WhenHonest ha (WhenHonest hb (TellsRoot g rows (last_content report.last a b) r))) where
+    -- what was found in the last file is so of the values left
+    root_of : (x : ha ≡ true) (y : hb ≡ true) → IsRootText g (files.left x y).values r
+    root_of x y = told x y report.passes files.greatest files.tree (files.left x y).values files.one.is_tree.tree.tree (files.left x y).leaves.file
+
+  -- the text of the root was written: the sentence is translated
+  pub translates : (a_new b_new : List ℕ) (old new : Option (List ℕ)) (text : List ℕ) → WhenHonest ha (a_new ≡ a) → WhenHonest hb (b_new ≡ b) → WhenHonest ha (WhenHonest hb (TellsRoot g rows (last_content report.last a b) (Ok text))) → Appends old new text → TranslatesSentence g sentence ha hb a_new b_new old new report
+  translates a_new b_new old new text same_a same_b told put = record {
+    tree = files.tree;
+    one = files.one;
+    assignment = passes_of rows;
+    passes = report.passes;
+    plan = record { rows = rows; code = code; least = least; same = refl; greatest = files.greatest };
+    translated = λ x y. let left = files.left x y in rw (same_a x, same_b y) (record {
+      values = left.values;
+      leaves = left.leaves;
+      text = text;
+      root = root_of (Ok text) told x y;
+      written = put;
+      report_is = left.report_is;
+    });
+  }
+
+  -- a beginning of it was
+  pub begins : (old new : Option (List ℕ)) (text : List ℕ) → WhenHonest ha (WhenHonest hb (TellsRoot g rows (last_content report.last a b) (Ok text))) → AppendsBeginning old new text → WhenHonest ha (WhenHonest hb (BeginsTranslation (IsTreeOfSentence g sentence) g old new))
+  begins old new text told front x y = let left = files.left x y in record {
+    tree = files.tree;
+    one = files.one;
+    values = left.values;
+    solves = left.leaves.solution.solves;
+    front = front.front;
+    rest = front.rest;
+    root = subst (λ (bytes : List ℕ). IsTranslation g left.values (Text bytes)) front.cut (root_of (Ok text) told x y);
+    written = front.put;
+  }
+
+  -- what a refusal of the text says
+  pub root_refused : (old new : Option (List ℕ)) (f : OutFault) → WhenHonest ha (WhenHonest hb (TellsRoot g rows (last_content report.last a b) (Err f))) → IsTranslationFault g sentence ha hb old new (out_fault_of f)
+  root_refused old new (out.NoText x) told = λ h k. let left = files.left h k in let root = root_of (Err (out.NoText x)) told h k in record {
+    tree = files.tree;
+    one = files.one;
+    values = left.values;
+    solves = left.leaves.solution.solves;
+    root = root.0;
+    no_text = root.1;
+  }
+  root_refused old new out.NotATreeFile told = λ h k. root_of (Err out.NotATreeFile) told h k
+  root_refused old new (out.Damaged at) told = λ h k. root_of (Err (out.Damaged at)) told h k
+  root_refused old new out.Device told = tt
+  root_refused old new out.NoMemory told = tt

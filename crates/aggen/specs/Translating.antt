@@ -1,0 +1,73 @@
+-- What a call that translates a sentence tells: the files that it leaves, and what its refusals say. All of this is this
+-- project's.
+use Rattle.std.specs.Prelude.{ℕ, ◌≡◌, List, Bool, Option}
+use Rattle.ag_grammar.specs.grammars.AttributeGrammar.{Grammar}
+use Rattle.ag_grammar.specs.grammars.Passes.{Passes}
+use Rattle.ag_grammar.specs.grammars.Solution.{Valuation}
+use Rattle.ag_grammar.specs.grammars.Tree.{Tree}
+use Rattle.passassign.specs.Rows.{IsGreatest, passes_of}
+use Rattle.passcode.specs.Rows.{Lists}
+use Rattle.passrun.specs.Rounds.{last_content, other_content}
+use Rattle.treefile.specs.Device.{WhenHonest}
+use Rattle.aggen.specs.Building.{IsLeastPlan}
+use Rattle.aggen.specs.Sentences.{IsParseFaultOf, IsScanFaultOf, IsTreeOfSentence}
+use Rattle.aggen.specs.Translation.{BeginsTranslation, HasNoText, IsOneTree, IsReport, LeavesSolution, Translates}
+use Rattle.aggen.specs.declared.fault.Fault.{Fault}
+use Rattle.aggen.specs.declared.fault.Fault.TheVariants as fault
+use Rattle.aggen.specs.declared.report.Report.{Report}
+
+-- The passes are those of a least plan, and so many: its greatest number.
+pub record ArePassesOf (g : Grammar) (m : Passes) (passes : ℕ) : Type 0 where
+  pub rows : List (List ℕ)
+  pub code : Lists
+  pub least : IsLeastPlan g rows code
+  pub same : m ≡ passes_of rows
+  pub greatest : IsGreatest passes rows
+
+-- the translation theorem for a sentence: its trees are those of the sentence, and its passes those of the least plan
+abbrev pub TranslatesSentence : Grammar → (sentence : List ℕ) → (honest_a honest_b : Bool) → (a b : List ℕ) → (old new : Option (List ℕ)) → Report → Type 0
+TranslatesSentence g sentence = Translates (IsTreeOfSentence g sentence) (ArePassesOf g) g
+
+-- All passes ran over a tree: its solution is left, and the report is true.
+pub record AreLeft (g : Grammar) (m : Passes) (t : Tree) (a b : List ℕ) (report : Report) : Type 0 where
+  pub values : Valuation
+  pub leaves : LeavesSolution g m report.passes t values (last_content report.last a b) (other_content report.last a b)
+  pub report_is : IsReport g report.passes t report
+
+-- The sentence has one tree, and where the devices are honest all passes of an assignment ran over it.
+pub record LeavesFiles (g : Grammar) (sentence : List ℕ) (rows : List (List ℕ)) (honest_a honest_b : Bool) (a b : List ℕ) (report : Report) : Type 0 where
+  pub tree : Tree
+  pub one : IsOneTree (IsTreeOfSentence g sentence) tree
+  pub greatest : IsGreatest report.passes rows
+  pub left : WhenHonest honest_a (WhenHonest honest_b (AreLeft g (passes_of rows) tree a b report))
+
+-- What a refusal before the text is taken says: S and P are true of the sentence, and honest devices never bring R1, P2 or P3 of a
+-- tree file. A failed device and want of memory say nothing, and no other fault comes.
+abbrev pub IsFilesFault : Grammar → (sentence : List ℕ) → (honest_a honest_b : Bool) → Fault → Type 0
+IsFilesFault g sentence ha hb (fault.Scan f) = IsScanFaultOf g sentence f
+IsFilesFault g sentence ha hb (fault.Parse f) = IsParseFaultOf g sentence f
+IsFilesFault g sentence ha hb (fault.Run f) = WhenHonest ha (WhenHonest hb ⊥)
+IsFilesFault g sentence ha hb fault.Device = Unit {0}
+IsFilesFault g sentence ha hb fault.NoMemory = Unit {0}
+IsFilesFault g sentence ha hb _ = ⊥
+
+-- What a refusal of a translation says: S, P and O1 are true of the sentence, honest devices never bring R1, B1, B2, nor P2 and P3 of
+-- a tree file, and after O2 a beginning of the translation was written. A failed device and want of memory say nothing, and no
+-- other fault comes.
+abbrev pub IsTranslationFault : Grammar → (sentence : List ℕ) → (honest_a honest_b : Bool) → (old new : Option (List ℕ)) → Fault → Type 0
+IsTranslationFault g sentence ha hb old new (fault.Scan f) = IsScanFaultOf g sentence f
+IsTranslationFault g sentence ha hb old new (fault.Parse f) = IsParseFaultOf g sentence f
+IsTranslationFault g sentence ha hb old new (fault.Run f) = WhenHonest ha (WhenHonest hb ⊥)
+IsTranslationFault g sentence ha hb old new (fault.NoText x) = WhenHonest ha (WhenHonest hb (HasNoText (IsTreeOfSentence g sentence) g x))
+IsTranslationFault g sentence ha hb old new fault.NotATreeFile = WhenHonest ha (WhenHonest hb ⊥)
+IsTranslationFault g sentence ha hb old new (fault.Damaged at) = WhenHonest ha (WhenHonest hb ⊥)
+IsTranslationFault g sentence ha hb old new fault.Write = WhenHonest ha (WhenHonest hb (BeginsTranslation (IsTreeOfSentence g sentence) g old new))
+IsTranslationFault g sentence ha hb old new fault.Device = Unit {0}
+IsTranslationFault g sentence ha hb old new fault.NoMemory = Unit {0}
+IsTranslationFault g sentence ha hb old new _ = ⊥
+
+-- a sentence is refused, by S1 to S4 or P1 to P3
+abbrev pub IsRefusedSentence : Fault → Type 0
+IsRefusedSentence (fault.Scan f) = Unit {0}
+IsRefusedSentence (fault.Parse f) = Unit {0}
+IsRefusedSentence _ = ⊥

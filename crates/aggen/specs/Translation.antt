@@ -1,0 +1,80 @@
+-- What a translation is: the one tree that a sentence has, the only values that meet all its equations, the files in which they are
+-- left, and the text that is written (Knuth 1968). How it is told here, the files and the limits are this project's.
+use Rattle.std.specs.Prelude.{ℕ, suc, ◌≡◌, ◌*◌, Bool, List, ◌++◌, Option}
+use Rattle.std.specs.Io.KnownBytes.{Appends}
+use Rattle.ag_value.specs.declared.value.Value.{Value, Text}
+use Rattle.ag_grammar.specs.grammars.AttributeGrammar.{Grammar}
+use Rattle.ag_grammar.specs.grammars.Counts.{rules_of}
+use Rattle.ag_grammar.specs.grammars.Passes.{Passes}
+use Rattle.ag_grammar.specs.grammars.Running.{IsTheSolution}
+use Rattle.ag_grammar.specs.grammars.Solution.{AnyRule, IsTranslation, Solves, Valuation}
+use Rattle.ag_grammar.specs.grammars.Tree.{Tree, IsWithinLimits, most_depth, most_nodes, node_count}
+use Rattle.agoutput.specs.Roots.{IsNoText}
+use Rattle.passrun.specs.Rounds.{last_content, other_content}
+use Rattle.treefile.specs.Device.{WhenHonest}
+use Rattle.treefile.specs.Records.{IsFileOfTree}
+use Rattle.treefile.specs.TreeFile.{version_one}
+use Rattle.aggen.specs.declared.report.Report.{Report}
+
+-- Of trees of a kind there is exactly one, and it is within the limits.
+pub record IsOneTree (IsTree : Tree → Type 0) (t : Tree) : Type 0 where
+  pub is_tree : IsTree t
+  pub only : (s : Tree) → IsTree s → s ≡ t
+  pub within : IsWithinLimits most_depth most_nodes t
+
+-- The solution of a tree is left: one content is the file of its last pass, and the other that of the pass before it, of values
+-- that meet each equation at each node, as no others do (Knuth 1968; Jazayeri and Walter 1975).
+pub record LeavesSolution (g : Grammar) (m : Passes) (passes : ℕ) (t : Tree) (v : Valuation) (now before : List ℕ) : Type 0 where
+  pub solution : IsTheSolution g m t v
+  pub file : IsFileOfTree version_one g m passes t v now
+  pub other : (k : ℕ) → passes ≡ suc k → IsFileOfTree version_one g m k t v before
+
+-- A report is true of a tree and so many passes: it has the tree's nodes, each of its rules was evaluated once, and each pass read
+-- and wrote one record for each node.
+pub record IsReport (g : Grammar) (passes : ℕ) (t : Tree) (report : Report) : Type 0 where
+  pub nodes : report.nodes ≡ node_count t
+  pub passes_are : report.passes ≡ passes
+  pub evals : report.evals ≡ rules_of g t
+  pub read : report.read ≡ passes * node_count t
+  pub written : report.written ≡ passes * node_count t
+
+-- The translation of a tree went out: its solution is left, the bytes that were added are the text of its root, and the report is
+-- true.
+pub record IsTranslated (g : Grammar) (m : Passes) (passes : ℕ) (t : Tree) (now before : List ℕ) (old new : Option (List ℕ)) (report : Report) : Type 0 where
+  pub values : Valuation
+  pub leaves : LeavesSolution g m passes t values now before
+  pub text : List ℕ
+  pub root : IsTranslation g values (Text text)
+  pub written : Appends old new text
+  pub report_is : IsReport g passes t report
+
+-- The translation theorem: there is exactly one tree; the values left in the last tree file meet every equation at every node; no
+-- other values meet them all; and the bytes written are the root's text. `IsTree` tells which trees are meant, and `ArePasses` which
+-- assignment the passes follow, and how many there are. What is said of files and bytes holds where the devices are honest.
+pub record Translates (IsTree : Tree → Type 0) (ArePasses : Passes → ℕ → Type 0) (g : Grammar) (honest_a honest_b : Bool) (a b : List ℕ) (old new : Option (List ℕ)) (report : Report) : Type 0 where
+  pub tree : Tree
+  pub one : IsOneTree IsTree tree
+  pub assignment : Passes
+  pub passes : ℕ
+  pub plan : ArePasses assignment passes
+  pub translated : WhenHonest honest_a (WhenHonest honest_b (IsTranslated g assignment passes tree (last_content report.last a b) (other_content report.last a b) old new report))
+
+-- O1: there is one tree, whose translation is this value, and that is no text.
+pub record HasNoText (IsTree : Tree → Type 0) (g : Grammar) (value : Value) : Type 0 where
+  pub tree : Tree
+  pub one : IsOneTree IsTree tree
+  pub values : Valuation
+  pub solves : Solves AnyRule g tree values
+  pub root : IsTranslation g values value
+  pub no_text : IsNoText value
+
+-- O2: there is one tree, and a beginning of its translation was written.
+pub record BeginsTranslation (IsTree : Tree → Type 0) (g : Grammar) (old new : Option (List ℕ)) : Type 0 where
+  pub tree : Tree
+  pub one : IsOneTree IsTree tree
+  pub values : Valuation
+  pub solves : Solves AnyRule g tree values
+  pub front : List ℕ
+  pub rest : List ℕ
+  pub root : IsTranslation g values (Text (front ++ rest))
+  pub written : Appends old new front

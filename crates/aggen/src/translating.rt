@@ -1,0 +1,89 @@
+//! A sentence is translated: its tree goes into a file, all passes run over it, and the text of the
+//! root is taken out of the last file.
+
+ghost use Rattle.std.specs.Prelude.{◌≡◌, ◌⊎◌, IfErr, IfOk, IsErrOf};
+ghost use Rattle.aggen.specs.Building.{IsLeastPlan};
+ghost use Rattle.aggen.specs.Sentences.{IsScanFault};
+ghost use Rattle.aggen.specs.Translating.{IsFilesFault, IsRefusedSentence, LeavesFiles};
+ghost use Rattle.agoutput.specs.Roots.{TellsRoot};
+ghost use Rattle.passrun.specs.Rounds.{last_content};
+ghost use Rattle.planchecker.specs.Plans.{IsPlan};
+ghost use Rattle.treefile.specs.Device.{HasRisen, LeavesContent, Persists, WhenHonest};
+
+use crate::fault::Fault;
+use crate::report::Report;
+use crate::translator::Translator;
+use ag_expr::Meter;
+use ag_value::Text;
+use agoutput::{OutFault, root_text};
+use normalform::Grammar;
+use passrun::{Last, run_all};
+use planchecker::Plan;
+use std::alloc::Global;
+use treefile::Device;
+
+/// The tree of a sentence goes into `a`, and all passes of the plan run over it.
+pub(crate) fn leave_files<D: Device>(
+    alloc: Global,
+    translator: &Translator,
+    plan: &Plan,
+    sentence: &[u8],
+    a: &mut D,
+    b: &mut D,
+) -> Result<Report, Fault>
+    requires least { IsLeastPlan translator.now plan.now.0 plan.now.1 }
+    ensures left { IfOk result (λ report. LeavesFiles translator.now sentence.now plan.now.0
+        (D.is_honest a.old) (D.is_honest b.old) (D.content a.new) (D.content b.new) report) }
+    ensures refused { IfErr result (λ e. IsFilesFault translator.now sentence.now
+        (D.is_honest a.old) (D.is_honest b.old) e) }
+    ensures untouched { IfErr result (λ e. IsScanFault e → a.new ≡ a.old) }
+    ensures b_untouched { IfErr result (λ e. IsRefusedSentence e → b.new ≡ b.old) }
+    ensures a_persists { Persists (D.is_honest a.old) (D.is_honest a.new)
+        (D.failures a.old) (D.failures a.new) ⊥ }
+    ensures b_persists { Persists (D.is_honest b.old) (D.is_honest b.new)
+        (D.failures b.old) (D.failures b.new) ⊥ }
+    ensures cause { IsErrOf result Fault.Device →
+        HasRisen (D.failures a.old) (D.failures a.new)
+        ⊎ HasRisen (D.failures b.old) (D.failures b.new) }
+{
+    let nodes = translator.parse_tree(sentence, a)?;
+    let mut meter = Meter::new();
+    let (last, passed) = run_all(alloc, translator.grammar(), plan, 1, a, b, &mut meter)?;
+    Ok(Report {
+        nodes,
+        passes: plan.assignment().passes(),
+        evals: meter.count(),
+        read: passed.read,
+        written: passed.written,
+        last,
+    })
+}
+
+/// The text of the root, out of the file of the last pass.
+pub(crate) fn last_text<D: Device>(
+    alloc: Global,
+    grammar: &Grammar,
+    plan: &Plan,
+    last: Last,
+    a: &mut D,
+    b: &mut D,
+) -> Result<Text, OutFault>
+    requires plan { IsPlan grammar.now plan.now.0 plan.now.1 }
+    ensures root { WhenHonest (D.is_honest a.old) (WhenHonest (D.is_honest b.old)
+        (TellsRoot grammar.now plan.now.0
+        (last_content last (D.content a.old) (D.content b.old)) result)) }
+    ensures a_content { LeavesContent (D.is_honest a.old) (D.content a.old) (D.content a.new) }
+    ensures b_content { LeavesContent (D.is_honest b.old) (D.content b.old) (D.content b.new) }
+    ensures a_persists { Persists (D.is_honest a.old) (D.is_honest a.new)
+        (D.failures a.old) (D.failures a.new) ⊥ }
+    ensures b_persists { Persists (D.is_honest b.old) (D.is_honest b.new)
+        (D.failures b.old) (D.failures b.new) ⊥ }
+    ensures cause { IsErrOf result OutFault.Device →
+        HasRisen (D.failures a.old) (D.failures a.new)
+        ⊎ HasRisen (D.failures b.old) (D.failures b.new) }
+{
+    match last {
+        Last::A => root_text(alloc, grammar, plan, a),
+        Last::B => root_text(alloc, grammar, plan, b),
+    }
+}
