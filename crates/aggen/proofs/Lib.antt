@@ -1,7 +1,9 @@
 pub mod Building
 pub mod Closed
+pub mod Composed
+pub mod Evaluated
 pub mod FromTexts
 pub mod Front
+pub mod Joined
 pub mod Reading
 pub mod Sentences
-pub mod Composed

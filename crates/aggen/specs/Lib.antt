@@ -1,5 +1,6 @@
 pub mod Building
 pub mod Checking
+pub mod Evaluating
 pub mod Listing
 pub mod Sentences
 pub mod Showing

@@ -1,6 +1,6 @@
 -- What a translation is: the one tree that a sentence has, the only values that meet all its equations, the files in which they are
 -- left, and the text that is written (Knuth 1968). How it is told here, the files and the limits are this project's.
-use Rattle.std.specs.Prelude.{ℕ, suc, ◌≡◌, ◌*◌, Bool, List, ◌++◌, Option}
+use Rattle.std.specs.Prelude.{ℕ, zero, suc, ◌≡◌, ◌*◌, Bool, List, ◌++◌, Option}
 use Rattle.std.specs.Io.KnownBytes.{Appends}
 use Rattle.ag_value.specs.declared.value.Value.{Value, Text}
 use Rattle.ag_grammar.specs.grammars.AttributeGrammar.{Grammar}
@@ -8,8 +8,10 @@ use Rattle.ag_grammar.specs.grammars.Counts.{rules_of}
 use Rattle.ag_grammar.specs.grammars.Passes.{Passes}
 use Rattle.ag_grammar.specs.grammars.Running.{IsTheSolution}
 use Rattle.ag_grammar.specs.grammars.Solution.{AnyRule, IsTranslation, Solves, Valuation}
-use Rattle.ag_grammar.specs.grammars.Tree.{Tree, IsWithinLimits, most_depth, most_nodes, node_count}
+use Rattle.ag_grammar.specs.grammars.Tree.{Tree, IsTreeOf, IsWithinLimits, most_depth, most_nodes, node_count}
+use Rattle.llparse.specs.Sentences.{IsFirstFile}
 use Rattle.agoutput.specs.Roots.{IsNoText}
+use Rattle.passrun.specs.declared.last.Last.{Last}
 use Rattle.passrun.specs.Rounds.{last_content, other_content}
 use Rattle.treefile.specs.Device.{WhenHonest}
 use Rattle.treefile.specs.Records.{IsFileOfTree}
@@ -78,3 +80,28 @@ pub record BeginsTranslation (IsTree : Tree → Type 0) (g : Grammar) (old new :
   pub rest : List ℕ
   pub root : IsTranslation g values (Text (front ++ rest))
   pub written : Appends old new front
+
+-- A content is the file of pass 0 of a tree of the grammar.
+pub record IsTreeInFile (g : Grammar) (content : List ℕ) (t : Tree) : Type 0 where
+  pub tree : IsTreeOf g t
+  pub file : IsFirstFile g t content
+
+-- Where a tree comes in a file of its own, the file of the pass before the last one is that file where one pass runs, and else on the
+-- other device.
+abbrev pub before_last : (passes : ℕ) → Last → (tree a b : List ℕ) → List ℕ
+before_last zero last tree a b = tree
+before_last (suc zero) last tree a b = tree
+before_last (suc (suc k)) last tree a b = other_content last a b
+
+-- There is exactly one tree that a content is the file of, and its translation went out.
+pub record IsEvaluated (g : Grammar) (m : Passes) (passes : ℕ) (content a b : List ℕ) (old new : Option (List ℕ)) (report : Report) : Type 0 where
+  pub tree : Tree
+  pub one : IsOneTree (IsTreeInFile g content) tree
+  pub translated : IsTranslated g m passes tree (last_content report.last a b) (before_last passes report.last content a b) old new report
+
+-- The translation theorem for the file of a tree: what it says of a sentence holds of the one tree that the content is the file of.
+pub record Evaluates (ArePasses : Passes → ℕ → Type 0) (g : Grammar) (honest_tree honest_a honest_b : Bool) (content a b : List ℕ) (old new : Option (List ℕ)) (report : Report) : Type 0 where
+  pub assignment : Passes
+  pub passes : ℕ
+  pub plan : ArePasses assignment passes
+  pub evaluated : WhenHonest honest_tree (WhenHonest honest_a (WhenHonest honest_b (IsEvaluated g assignment passes content a b old new report)))

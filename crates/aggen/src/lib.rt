@@ -5,6 +5,7 @@
 
 mod build_fault;
 mod checking;
+mod evaluating;
 mod fault;
 mod file;
 pub mod laws;

@@ -8,11 +8,12 @@ ghost use Rattle.ag_grammar.specs.grammars.Tree.{most_depth, most_nodes};
 ghost use Rattle.llparse.specs.Ahead.{HasNoConflict};
 ghost use Rattle.llparse.specs.Sentences.{IsFirstFile};
 ghost use Rattle.llparse.specs.Tables.{FitsGrammar};
-ghost use Rattle.treefile.specs.Device.{HasRisen, Persists, WhenHonest};
+ghost use Rattle.treefile.specs.Device.{HasRisen, LeavesContent, Persists, WhenHonest};
 ghost use Rattle.passassign.specs.Least.{IsAlternating, IsLeast};
 ghost use Rattle.passassign.specs.Rows.{passes_of, AreFew};
 ghost use Rattle.aggen.specs.Building.{IsBuildFault, IsLeastPlan};
 ghost use Rattle.aggen.specs.Checking.{IsGrammarOf};
+ghost use Rattle.aggen.specs.Evaluating.{EvaluatesTree, IsEvaluationFault};
 ghost use Rattle.aggen.specs.Sentences.{IsScanFault, IsSentenceFault, IsTreeOfSentence};
 ghost use Rattle.aggen.specs.Sentences.{nodes_line as line_of};
 ghost use Rattle.aggen.specs.Translating.{IsRefusedSentence, IsTranslationFault};
@@ -20,6 +21,7 @@ ghost use Rattle.aggen.specs.Translating.{TranslatesSentence};
 
 use crate::build_fault::BuildFault;
 use crate::checking::grammar_of;
+use crate::evaluating::run_tree;
 use crate::fault::Fault;
 use crate::report::Report;
 use crate::stuck_grammar::StuckGrammar;
@@ -194,6 +196,56 @@ impl Translator {
     {
         let plan = self.plan();
         let report = leave_files(self.alloc, self, plan, sentence, a, b)?;
+        let text = last_text(self.alloc, self.grammar(), plan, report.last, a, b)?;
+        write_text(out, text.as_str())?;
+        Ok(report)
+    }
+
+    /// Translates the tree whose file of pass 0 the device `tree` has: runs pass 1 from there to
+    /// `b`, the others to and fro between `b` and `a`, takes the text of the root's `out` out of
+    /// the file of the last pass, and writes it. The report tells on which of `a` and `b` that file
+    /// is; with one pass the file of the pass before it is that of the tree. Nothing goes out before
+    /// the last pass has ended, and `tree` is only read.
+    ///
+    /// R1 where the content of `tree` is the file of pass 0 of no tree of the grammar; P2 and P3
+    /// where it is that of none within the limits; O1 NoText where the translation is no text; O2
+    /// Write where a write failed or took no byte; D1 Device where a call of a device failed. Of a
+    /// device that does not give back what was written, B1 or B2 may come. On every refusal but O2
+    /// the writer is as before.
+    pub fn evaluate_tree<D: Device, W: Write>(
+        &self,
+        tree: &mut D,
+        a: &mut D,
+        b: &mut D,
+        out: &mut W,
+    ) -> Result<Report, Fault>
+        // the translation theorem, for the tree of a file
+        ensures evaluates { IfOk result (λ report. EvaluatesTree self.now
+            (D.is_honest tree.old) (D.is_honest a.old) (D.is_honest b.old)
+            (D.content tree.old) (D.content a.new) (D.content b.new)
+            (W.contents out.old) (W.contents out.new) report) }
+
+        // a refusal: what it says of the content is true
+        ensures refused { IfErr result (λ e. IsEvaluationFault self.now
+            (D.is_honest tree.old) (D.is_honest a.old) (D.is_honest b.old)
+            (D.content tree.old) (W.contents out.old) (W.contents out.new) e) }
+        ensures kept { IfErr result (λ e. e ≢ Fault.Write → out.new ≡ out.old) }
+        ensures content { LeavesContent (D.is_honest tree.old)
+            (D.content tree.old) (D.content tree.new) }
+        ensures tree_persists { Persists (D.is_honest tree.old) (D.is_honest tree.new)
+            (D.failures tree.old) (D.failures tree.new) ⊥ }
+        ensures a_persists { Persists (D.is_honest a.old) (D.is_honest a.new)
+            (D.failures a.old) (D.failures a.new) ⊥ }
+        ensures b_persists { Persists (D.is_honest b.old) (D.is_honest b.new)
+            (D.failures b.old) (D.failures b.new) ⊥ }
+        // D1 only where the number of failures rose on one of the three
+        ensures cause { IsErrOf result Fault.Device →
+            HasRisen (D.failures tree.old) (D.failures tree.new)
+            ⊎ (HasRisen (D.failures a.old) (D.failures a.new)
+            ⊎ HasRisen (D.failures b.old) (D.failures b.new)) }
+    {
+        let plan = self.plan();
+        let report = run_tree(self.alloc, self, plan, tree, a, b)?;
         let text = last_text(self.alloc, self.grammar(), plan, report.last, a, b)?;
         write_text(out, text.as_str())?;
         Ok(report)

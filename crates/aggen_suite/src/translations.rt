@@ -37,6 +37,25 @@ fn nothing_goes_out_where_a_device_fails(rt: HostRuntime) -> Result<(), Fail> {
 }
 
 #[test]
+fn a_refused_sentence_leaves_the_translator_as_it_was(rt: HostRuntime) -> Result<(), Fail> {
+    let alloc = rt.alloc();
+    let translator = fractions(alloc)?;
+    let mut a = MemDevice::new(alloc);
+    let mut b = MemDevice::new(alloc);
+    for (sentence, wanted) in [
+        ("1101.01", "Done 868352"),
+        ("12", "Other "),
+        ("1", "Done 65536"),
+    ] {
+        let mut out = Vec::new(alloc);
+        let ended = translator.translate(sentence.as_bytes(), &mut a, &mut b, &mut out);
+        let told = Ending::of(ended).told(alloc, out.as_slice())?;
+        assert_eq!(rt; told.as_str(), wanted);
+    }
+    Ok(())
+}
+
+#[test]
 fn a_beginning_goes_out_where_the_writer_fails(rt: HostRuntime) -> Result<(), Fail> {
     let alloc = rt.alloc();
     let translator = fractions(alloc)?;

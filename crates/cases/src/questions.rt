@@ -8,7 +8,7 @@ use crate::raw_grammars::chain_told;
 use crate::roots::{root_bytes_told, root_told};
 use crate::sentences::{choice_told, fits_told, parse_told, scan_told, stand_told, table_told};
 use crate::stuck::{assign_told, stuck_told};
-use crate::translations::translate_told;
+use crate::translations::{evaluate_told, translate_told};
 use rows::{Mistake, Written, bytes_of, first_word, number};
 use std::alloc::Global;
 
@@ -76,6 +76,7 @@ fn answer_of_sentences(
         "root" => root_told(alloc, grammar, sentence),
         "root-bytes" => root_bytes_told(alloc, grammar, sentence),
         "translate" => translate_told(alloc, grammar, sentence),
+        "evaluate" => evaluate_told(alloc, grammar, sentence),
         _ => answer_of_faults(alloc, written, verb, rest),
     }
 }

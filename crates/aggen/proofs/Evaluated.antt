@@ -1,0 +1,175 @@
+-- The tree of a file is evaluated: the files that are left are those of its one solution, and a refusal is true of its content.
+use Rattle.std.proofs.Common.{◌≡◌, ℕ, suc, ◌-◌, ◌+◌, ◌*◌, ◌≤◌, Bool, List, Option, Result, Ok, Err, ◌++◌, refl, ap, sym, subst, ◌∙◌, true, arith}
+use Rattle.std.specs.Io.KnownBytes.{Appends}
+use Rattle.ag_value.specs.declared.value.Value.{Text}
+use Rattle.ag_grammar.specs.grammars.Accepted.{IsAccepted}
+use Rattle.ag_grammar.specs.grammars.AttributeGrammar.{Grammar}
+use Rattle.ag_grammar.specs.grammars.Counts.{rules_of_pass, sum_of_passes}
+use Rattle.ag_grammar.specs.grammars.Passes.{Passes}
+use Rattle.ag_grammar.specs.grammars.Running.{IsLastPass}
+use Rattle.ag_grammar.specs.grammars.Solution.{IsTranslation, Valuation}
+use Rattle.ag_grammar.specs.grammars.Tree.{Tree, IsTreeOf, node_count}
+use Rattle.ag_grammar.proofs.grammars.Counting.{passes_have_all_rules}
+use Rattle.ag_grammar.proofs.grammars.Running.{run_is_the_solution}
+use Rattle.treefile.specs.Device.{WhenHonest}
+use Rattle.treefile.specs.Ending.{version_one_usable}
+use Rattle.treefile.specs.Records.{IsFileOfTree}
+use Rattle.treefile.specs.Runs.{HasRun}
+use Rattle.treefile.specs.TreeFile.{header, version_one}
+use Rattle.treefile.proofs.Fitting.{fits_version_one}
+use Rattle.treefile.proofs.OneTree.{one_file}
+use Rattle.llparse.specs.Parsing.{post}
+use Rattle.llparse.specs.Sentences.{AreFromOne, IsFirstFile}
+use Rattle.llparse.proofs.FirstFile.{first_file}
+use Rattle.llparse.proofs.Texts.{texts_are_given}
+use Rattle.passassign.specs.Rows.{IsGreatest, passes_of}
+use Rattle.passcode.specs.Rows.{Lists}
+use Rattle.planchecker.specs.Plans.{IsPlan}
+use Rattle.planchecker.specs.Settings.{setting_of}
+use Rattle.passrun.specs.declared.ends.Passed.{Passed}
+use Rattle.passrun.specs.declared.last.Last.{Last}
+use Rattle.passrun.specs.declared.last.Last.TheVariants.{A, B}
+use Rattle.passrun.specs.declared.run_fault.RunFault.{RunFault}
+use Rattle.passrun.specs.declared.run_fault.RunFault.TheVariants as run
+use Rattle.passrun.specs.Ahead.{IsRunFault}
+use Rattle.passrun.specs.Passed.{IsPassed}
+use Rattle.passrun.specs.Rounds.{HasRunAll, last_content, other_content, other_last}
+use Rattle.passrun.proofs.Totals.{greatest_is_last}
+use Rattle.agoutput.specs.Roots.{IsRootText, TellsRoot}
+use Rattle.agoutput.specs.Writing.{AppendsBeginning}
+use Rattle.agoutput.specs.declared.fault.OutFault.{OutFault}
+use Rattle.agoutput.specs.declared.fault.OutFault.TheVariants as out
+use Rattle.aggen.specs.Building.{IsLeastPlan}
+use Rattle.aggen.specs.Evaluating.{AreLeftOfTree, EvaluatesTree, IsEvaluationFault, IsPassesFault, LeavesFilesOfTree}
+use Rattle.aggen.specs.Status.{out_fault_of, run_fault_of}
+use Rattle.aggen.specs.Translation.{BeginsTranslation, IsTreeInFile, before_last}
+use Rattle.aggen.specs.declared.report.Report.{Report}
+use Rattle.aggen.proofs.Composed.{some_pass}
+use Rattle.aggen.proofs.Joined.{before_of_more, before_of_one, counts_joined, joined}
+
+-- A file of pass 0 of a tree is one whatever passes from 1 on and values are asked for.
+first_file_of : (g : Grammar) (m : Passes) (t : Tree) (v : Valuation) (content : List ℕ) → AreFromOne m → IsTreeOf g t → IsFileOfTree version_one g m 0 t v content → IsFirstFile g t content
+first_file_of g m t v content from_one tree is =
+    let plain : IsFirstFile g t (header version_one 0 ++ post t) = first_file g t (header version_one 0 ++ post t) tree refl in
+    subst (λ (c : List ℕ). IsFirstFile g t c) ((plain m v from_one is.texts).stands ∙ sym is.stands) plain
+
+-- the second device comes first in the passes behind the first one
+turned_last : (which last : Last) (a b : List ℕ) → last ≡ other_last which → last_content last a b ≡ last_content which b a
+turned_last A last a b e = ap (λ (l : Last). last_content l a b) e
+turned_last B last a b e = ap (λ (l : Last). last_content l a b) e
+
+turned_other : (which last : Last) (a b : List ℕ) → last ≡ other_last which → other_content last a b ≡ other_content which b a
+turned_other A last a b e = ap (λ (l : Last). other_content l a b) e
+turned_other B last a b e = ap (λ (l : Last). other_content l a b) e
+
+module _ (g : Grammar) (rows : List (List ℕ)) (code : Lists) (accepted : IsAccepted g) (plan : IsPlan g rows code) where
+  -- a tree in a file has it as its file of pass 0, with some values
+  file_in : (content : List ℕ) (t : Tree) (is : IsTreeInFile g content t) → IsFileOfTree version_one g (passes_of rows) 0 t (texts_are_given g t).0 content
+  file_in content t is = let texts = texts_are_given g t in is.file (passes_of rows) texts.0 plan.legal.positive texts.1
+
+  -- what a refusal of pass 1 says of the content
+  pub first_refused : (content : List ℕ) (f : RunFault) (ht ha hb : Bool) → WhenHonest ht (IsRunFault (setting_of g (rows, code) 1) content f) → IsPassesFault g ht ha hb content (run_fault_of f)
+  first_refused content (run.Damaged at) ht ha hb told = λ x y z t is. told x t (texts_are_given g t).0 is.tree (file_in content t is)
+  first_refused content run.TooDeep ht ha hb told = λ x y z t is within. told x t (texts_are_given g t).0 is.tree within (file_in content t is)
+  first_refused content run.TooManyNodes ht ha hb told = λ x y z t is within. told x t (texts_are_given g t).0 is.tree within (file_in content t is)
+  first_refused content run.Device ht ha hb told = tt
+  first_refused content run.NoMemory ht ha hb told = tt
+
+  -- honest devices give back a file that no later pass refuses
+  pub never_later : (content first : List ℕ) (count evals : ℕ) (f : RunFault) (ht ha hb : Bool) → WhenHonest ht (WhenHonest hb (IsPassed (setting_of g (rows, code) 1) content first count evals)) → WhenHonest hb (WhenHonest ha (IsRunFault (setting_of g (rows, code) 2) first f)) → IsPassesFault g ht ha hb content (run_fault_of f)
+  never_later content first count evals (run.Damaged at) ht ha hb passed told = λ x y z. let is = passed x z in absurd (told z y is.tree is.values is.fits is.written)
+  never_later content first count evals run.TooDeep ht ha hb passed told = λ x y z. let is = passed x z in absurd (told z y is.tree is.values is.fits is.limits is.written)
+  never_later content first count evals run.TooManyNodes ht ha hb passed told = λ x y z. let is = passed x z in absurd (told z y is.tree is.values is.fits is.limits is.written)
+  never_later content first count evals run.Device ht ha hb passed told = tt
+  never_later content first count evals run.NoMemory ht ha hb passed told = tt
+
+  module _ (content first a b : List ℕ) (evals more : ℕ) (one others : Passed) (which : Last) (report : Report) (greatest : IsGreatest report.passes rows) (passed : IsPassed (setting_of g (rows, code) 1) content first one.nodes evals) (counts : (one.read ≡ one.nodes) × (one.written ≡ one.nodes)) (all : HasRunAll g (passes_of rows) 1 report.passes first which b a more others) (last : report.last ≡ other_last which) (nodes : report.nodes ≡ one.nodes) (evals_are : report.evals ≡ evals + more) (read : report.read ≡ one.read + others.read) (written : report.written ≡ one.written + others.written) where
+    end : IsLastPass report.passes (passes_of rows)
+    end = greatest_is_last report.passes rows greatest
+
+    -- a content is the file of one tree at most
+    only : (s : Tree) → IsTreeInFile g content s → s ≡ passed.tree
+    only s is =
+        let fit = fits_version_one g (passes_of rows) accepted plan.legal in
+        (one_file version_one g (passes_of rows) 0 s passed.tree (texts_are_given g s).0 passed.values content version_one_usable fit.1 fit.0 is.tree passed.fits (file_in content s is) passed.from).0
+
+    pub are_left_of_tree : AreLeftOfTree g (passes_of rows) content a b report
+    are_left_of_tree =
+        let m = passes_of rows in
+        let t = passed.tree in
+        let some : 1 ≤ report.passes = some_pass g (passes_of rows) report.passes accepted plan.legal end in
+        let run : HasRun version_one g (passes_of rows) passed.tree passed.values 2 report.passes (last_content which b a) (other_content which b a) = all.runs passed.tree passed.values passed.fits passed.written in
+        let whole : HasRun version_one g (passes_of rows) passed.tree passed.values 1 report.passes (last_content which b a) (before_last report.passes report.last content a b) = joined version_one g (passes_of rows) plan.legal passed.tree passed.values passed.fits report.passes content (last_content which b a) (other_content which b a) passed.from passed.solved run (before_last report.passes report.last content a b) (λ le. before_of_more report.passes report.last content a b le ∙ turned_other which report.last a b last) (λ e. before_of_one report.passes report.last content a b e) in
+        let sums = counts_joined g (passes_of rows) passed.tree (report.passes - 1) evals more one others passed.rules (counts.0 ∙ passed.nodes) (counts.1 ∙ passed.nodes) (all.counts passed.tree passed.values passed.fits passed.written) in
+        let count : suc (report.passes - 1) ≡ report.passes = omega arith in
+        record {
+          tree = passed.tree;
+          one = record { is_tree = record { tree = passed.fits; file = first_file_of g (passes_of rows) passed.tree passed.values content plan.legal.positive passed.fits passed.from }; only = only; within = passed.limits };
+          values = whole.values;
+          leaves = record {
+            solution = run_is_the_solution g (passes_of rows) passed.tree passed.values whole.values report.passes accepted plan.legal end passed.fits whole.ran;
+            file = subst (λ (c : List ℕ). IsFileOfTree version_one g (passes_of rows) report.passes passed.tree whole.values c) (sym (turned_last which report.last a b last)) whole.file;
+            other = λ k e. whole.other k some e;
+          };
+          report_is = record {
+            nodes = nodes ∙ passed.nodes;
+            passes_are = refl;
+            evals = evals_are ∙ sums.0 ∙ ap (λ n. sum_of_passes (λ p. rules_of_pass (passes_of rows) p g passed.tree) 0 n) count ∙ passes_have_all_rules g (passes_of rows) passed.tree report.passes accepted plan.legal end;
+            read = read ∙ sums.1 ∙ ap (λ n. n * node_count passed.tree) count;
+            written = written ∙ sums.2 ∙ ap (λ n. n * node_count passed.tree) count;
+          };
+        }
+
+module _ (g : Grammar) (rows : List (List ℕ)) (code : Lists) (least : IsLeastPlan g rows code) (ht ha hb : Bool) (content a b : List ℕ) (report : Report) (files : LeavesFilesOfTree g rows ht ha hb content a b report) where
+  module _ (r : Result (List ℕ) OutFault) (told : WhenHonest ha (WhenHonest hb (TellsRoot g rows (last_content report.last a b) r))) where
+    -- what was found in the last file is so of the values left
+    root_of : (h : ht ≡ true) (x : ha ≡ true) (y : hb ≡ true) → IsRootText g (files.left h x y).values r
+    root_of h x y = let left = files.left h x y in told x y report.passes files.greatest left.tree left.values left.one.is_tree.tree left.leaves.file
+
+  -- the text of the root was written: the tree is evaluated
+  pub evaluates : (a_new b_new : List ℕ) (old new : Option (List ℕ)) (text : List ℕ) → WhenHonest ha (a_new ≡ a) → WhenHonest hb (b_new ≡ b) → WhenHonest ha (WhenHonest hb (TellsRoot g rows (last_content report.last a b) (Ok text))) → Appends old new text → EvaluatesTree g ht ha hb content a_new b_new old new report
+  evaluates a_new b_new old new text same_a same_b told put = record {
+    assignment = passes_of rows;
+    passes = report.passes;
+    plan = record { rows = rows; code = code; least = least; same = refl; greatest = files.greatest };
+    evaluated = λ h x y. let left = files.left h x y in rw (same_a x, same_b y) (record {
+      tree = left.tree;
+      one = left.one;
+      translated = record {
+        values = left.values;
+        leaves = left.leaves;
+        text = text;
+        root = root_of (Ok text) told h x y;
+        written = put;
+        report_is = left.report_is;
+      };
+    });
+  }
+
+  -- a beginning of it was
+  pub begins : (old new : Option (List ℕ)) (text : List ℕ) → WhenHonest ha (WhenHonest hb (TellsRoot g rows (last_content report.last a b) (Ok text))) → AppendsBeginning old new text → WhenHonest ht (WhenHonest ha (WhenHonest hb (BeginsTranslation (IsTreeInFile g content) g old new)))
+  begins old new text told front h x y = let left = files.left h x y in record {
+    tree = left.tree;
+    one = left.one;
+    values = left.values;
+    solves = left.leaves.solution.solves;
+    front = front.front;
+    rest = front.rest;
+    root = subst (λ (bytes : List ℕ). IsTranslation g left.values (Text bytes)) front.cut (root_of (Ok text) told h x y);
+    written = front.put;
+  }
+
+  -- what a refusal of the text says
+  pub root_refused : (old new : Option (List ℕ)) (f : OutFault) → WhenHonest ha (WhenHonest hb (TellsRoot g rows (last_content report.last a b) (Err f))) → IsEvaluationFault g ht ha hb content old new (out_fault_of f)
+  root_refused old new (out.NoText x) told = λ h i k. let left = files.left h i k in let root = root_of (Err (out.NoText x)) told h i k in record {
+    tree = left.tree;
+    one = left.one;
+    values = left.values;
+    solves = left.leaves.solution.solves;
+    root = root.0;
+    no_text = root.1;
+  }
+  root_refused old new out.NotATreeFile told = λ h i k. root_of (Err out.NotATreeFile) told h i k
+  root_refused old new (out.Damaged at) told = λ h i k. root_of (Err (out.Damaged at)) told h i k
+  root_refused old new out.Device told = tt
+  root_refused old new out.NoMemory told = tt

@@ -1,0 +1,63 @@
+-- What a call that evaluates the tree of a file tells: the files that it leaves, and what its refusals say. All of this is this
+-- project's.
+use Rattle.std.specs.Prelude.{ℕ, List, Bool, Option}
+use Rattle.ag_grammar.specs.grammars.AttributeGrammar.{Grammar}
+use Rattle.ag_grammar.specs.grammars.Passes.{Passes}
+use Rattle.ag_grammar.specs.grammars.Solution.{Valuation}
+use Rattle.ag_grammar.specs.grammars.Tree.{Tree, IsWithinLimits, most_depth, most_nodes}
+use Rattle.passassign.specs.Rows.{IsGreatest, passes_of}
+use Rattle.passrun.specs.declared.run_fault.RunFault.{RunFault}
+use Rattle.passrun.specs.declared.run_fault.RunFault.TheVariants as run
+use Rattle.passrun.specs.Rounds.{last_content}
+use Rattle.treefile.specs.Device.{WhenHonest}
+use Rattle.aggen.specs.Translating.{ArePassesOf}
+use Rattle.aggen.specs.Translation.{BeginsTranslation, Evaluates, HasNoText, IsOneTree, IsReport, IsTreeInFile, LeavesSolution, before_last}
+use Rattle.aggen.specs.declared.fault.Fault.{Fault}
+use Rattle.aggen.specs.declared.fault.Fault.TheVariants as fault
+use Rattle.aggen.specs.declared.report.Report.{Report}
+
+-- the translation theorem for the file of a tree: its passes are those of the least plan
+abbrev pub EvaluatesTree : Grammar → (honest_tree honest_a honest_b : Bool) → (content a b : List ℕ) → (old new : Option (List ℕ)) → Report → Type 0
+EvaluatesTree g = Evaluates (ArePassesOf g) g
+
+-- All passes ran over the one tree that a content is the file of: its solution is left, and the report is true.
+pub record AreLeftOfTree (g : Grammar) (m : Passes) (content a b : List ℕ) (report : Report) : Type 0 where
+  pub tree : Tree
+  pub one : IsOneTree (IsTreeInFile g content) tree
+  pub values : Valuation
+  pub leaves : LeavesSolution g m report.passes tree values (last_content report.last a b) (before_last report.passes report.last content a b)
+  pub report_is : IsReport g report.passes tree report
+
+-- The report has the greatest pass of an assignment, and where the devices are honest all its passes ran over the tree of a content.
+pub record LeavesFilesOfTree (g : Grammar) (rows : List (List ℕ)) (honest_tree honest_a honest_b : Bool) (content a b : List ℕ) (report : Report) : Type 0 where
+  pub greatest : IsGreatest report.passes rows
+  pub left : WhenHonest honest_tree (WhenHonest honest_a (WhenHonest honest_b (AreLeftOfTree g (passes_of rows) content a b report)))
+
+-- R1: the content is the file of no tree of the grammar. P2 and P3: of none within the limits. The others say nothing of it.
+abbrev pub IsFileFault : Grammar → List ℕ → RunFault → Type 0
+IsFileFault g content (run.Damaged at) = (t : Tree) → IsTreeInFile g content t → ⊥
+IsFileFault g content run.TooDeep = (t : Tree) → IsTreeInFile g content t → IsWithinLimits most_depth most_nodes t → ⊥
+IsFileFault g content run.TooManyNodes = (t : Tree) → IsTreeInFile g content t → IsWithinLimits most_depth most_nodes t → ⊥
+IsFileFault g content run.Device = Unit {0}
+IsFileFault g content run.NoMemory = Unit {0}
+
+-- What a refusal before the text is taken says: R1, P2 and P3 are true of the content. A failed device and want of memory say
+-- nothing, and no other fault comes.
+abbrev pub IsPassesFault : Grammar → (honest_tree honest_a honest_b : Bool) → List ℕ → Fault → Type 0
+IsPassesFault g ht ha hb content (fault.Run f) = WhenHonest ht (WhenHonest ha (WhenHonest hb (IsFileFault g content f)))
+IsPassesFault g ht ha hb content fault.Device = Unit {0}
+IsPassesFault g ht ha hb content fault.NoMemory = Unit {0}
+IsPassesFault g ht ha hb content _ = ⊥
+
+-- What a refusal of the evaluation of a tree says: R1, P2 and P3 are true of the content that the tree comes in, and O1 of its one
+-- tree; honest devices never bring B1 or B2; after O2 a beginning of the translation was written. A failed device and want of
+-- memory say nothing, and no other fault comes.
+abbrev pub IsEvaluationFault : Grammar → (honest_tree honest_a honest_b : Bool) → List ℕ → (old new : Option (List ℕ)) → Fault → Type 0
+IsEvaluationFault g ht ha hb content old new (fault.Run f) = WhenHonest ht (WhenHonest ha (WhenHonest hb (IsFileFault g content f)))
+IsEvaluationFault g ht ha hb content old new (fault.NoText x) = WhenHonest ht (WhenHonest ha (WhenHonest hb (HasNoText (IsTreeInFile g content) g x)))
+IsEvaluationFault g ht ha hb content old new fault.NotATreeFile = WhenHonest ht (WhenHonest ha (WhenHonest hb ⊥))
+IsEvaluationFault g ht ha hb content old new (fault.Damaged at) = WhenHonest ht (WhenHonest ha (WhenHonest hb ⊥))
+IsEvaluationFault g ht ha hb content old new fault.Write = WhenHonest ht (WhenHonest ha (WhenHonest hb (BeginsTranslation (IsTreeInFile g content) g old new)))
+IsEvaluationFault g ht ha hb content old new fault.Device = Unit {0}
+IsEvaluationFault g ht ha hb content old new fault.NoMemory = Unit {0}
+IsEvaluationFault g ht ha hb content old new _ = ⊥

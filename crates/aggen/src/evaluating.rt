@@ -1,0 +1,69 @@
+//! The tree of a file is evaluated: pass 1 runs from that file, and the others to and fro.
+
+ghost use Rattle.std.specs.Prelude.{◌≡◌, ◌⊎◌, IfErr, IfOk, IsErrOf};
+ghost use Rattle.aggen.specs.Building.{IsLeastPlan};
+ghost use Rattle.aggen.specs.Evaluating.{IsPassesFault, LeavesFilesOfTree};
+ghost use Rattle.passrun.specs.Rounds.{other_last};
+ghost use Rattle.treefile.specs.Device.{HasRisen, LeavesContent, Persists};
+
+use crate::fault::Fault;
+use crate::report::Report;
+use crate::translator::Translator;
+use ag_expr::Meter;
+use passrun::{Last, run_all, run_pass};
+use planchecker::Plan;
+use std::alloc::Global;
+use treefile::Device;
+
+/// The other device.
+fn other(last: Last) -> Last
+    ensures { result ≡ other_last last }
+{
+    match last {
+        Last::A => Last::B,
+        Last::B => Last::A,
+    }
+}
+
+/// All passes of the plan run over the tree whose file a device has: pass 1 from there to `b`, and
+/// the others to and fro between `b` and `a`.
+pub(crate) fn run_tree<D: Device>(
+    alloc: Global,
+    translator: &Translator,
+    plan: &Plan,
+    tree: &mut D,
+    a: &mut D,
+    b: &mut D,
+) -> Result<Report, Fault>
+    requires least { IsLeastPlan translator.now plan.now.0 plan.now.1 }
+    ensures left { IfOk result (λ report. LeavesFilesOfTree translator.now plan.now.0
+        (D.is_honest tree.old) (D.is_honest a.old) (D.is_honest b.old) (D.content tree.old)
+        (D.content a.new) (D.content b.new) report) }
+    ensures refused { IfErr result (λ e. IsPassesFault translator.now (D.is_honest tree.old)
+        (D.is_honest a.old) (D.is_honest b.old) (D.content tree.old) e) }
+    ensures content { LeavesContent (D.is_honest tree.old)
+        (D.content tree.old) (D.content tree.new) }
+    ensures tree_persists { Persists (D.is_honest tree.old) (D.is_honest tree.new)
+        (D.failures tree.old) (D.failures tree.new) ⊥ }
+    ensures a_persists { Persists (D.is_honest a.old) (D.is_honest a.new)
+        (D.failures a.old) (D.failures a.new) ⊥ }
+    ensures b_persists { Persists (D.is_honest b.old) (D.is_honest b.new)
+        (D.failures b.old) (D.failures b.new) ⊥ }
+    ensures cause { IsErrOf result Fault.Device →
+        HasRisen (D.failures tree.old) (D.failures tree.new)
+        ⊎ (HasRisen (D.failures a.old) (D.failures a.new)
+        ⊎ HasRisen (D.failures b.old) (D.failures b.new)) }
+{
+    let grammar = translator.grammar();
+    let mut meter = Meter::new();
+    let first = run_pass(alloc, grammar, plan, 1, tree, b, &mut meter)?;
+    let (last, others) = run_all(alloc, grammar, plan, 2, b, a, &mut meter)?;
+    Ok(Report {
+        nodes: first.nodes,
+        passes: plan.assignment().passes(),
+        evals: meter.count(),
+        read: first.read + others.read,
+        written: first.written + others.written,
+        last: other(last),
+    })
+}
