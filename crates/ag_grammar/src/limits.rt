@@ -22,7 +22,19 @@ pub const MOST_LITERALS: usize = 1_024;
 /// How many bytes a literal has at most.
 pub const MOST_LITERAL_BYTES: usize = 255;
 
-/// How many classes of tokens there are: 0 is NAME, 1 is NUMBER, 2 is TEXT.
+/// How many bytes the text of a grammar has at most, and a sentence.
+pub const MOST_TEXT_BYTES: usize = 1_048_576;
+
+/// The number of the class of tokens NAME.
+pub const NAME: u16 = 0;
+
+/// The number of the class of tokens NUMBER.
+pub const NUMBER: u16 = 1;
+
+/// The number of the class of tokens TEXT.
+pub const TEXT: u16 = 2;
+
+/// How many classes of tokens there are.
 pub const CLASS_COUNT: u16 = 3;
 
 /// How many bytes the text of a token has at most.
@@ -30,6 +42,12 @@ pub const MOST_TOKEN_BYTES: usize = 65_535;
 
 /// How many levels deep an expression nests at most.
 pub const MOST_LEVELS: usize = 64;
+
+/// The greatest place that an occurrence in a text may name.
+pub const MOST_PLACE: u16 = 65_535;
+
+/// How many passes a grammar needs at most: two for each attribute that it may have.
+pub const MOST_PASSES: u16 = 8_192;
 
 /// The depth that a tree has at most; a leaf's is 1.
 pub const MOST_DEPTH: usize = 256;

@@ -4,6 +4,7 @@ use Rattle.std.specs.Str.Lossy.{utf8_valid_len}
 use Rattle.ag_grammar.specs.Lists.{Each, Has}
 use Rattle.ag_grammar.specs.declared.grammar.Terminal.{Terminal}
 use Rattle.ag_grammar.specs.declared.grammar.Terminal.TheVariants.{Literal, Class}
+use Rattle.ag_grammar.specs.grammars.Accepted.{most_text_bytes}
 use Rattle.ag_grammar.specs.grammars.Tree.{most_token_bytes, IsTokenText}
 use Rattle.ag_expr.specs.language.Tokens.{is_separator, width}
 use Rattle.ag_scan.specs.Words.{Vocabulary, IsAnyWord, BeginsNone, IsToken}
@@ -11,9 +12,9 @@ use Rattle.ag_scan.specs.declared.fault.ScanFault.{ScanFault}
 use Rattle.ag_scan.specs.declared.fault.ScanFault.TheVariants as fault
 use Rattle.ag_scan.specs.declared.token.Token.{Token}
 
--- how many bytes a sentence has at most
+-- how many bytes a sentence has at most: as many as the text of a grammar
 abbrev pub most_sentence_bytes : ℕ
-most_sentence_bytes = 1048576
+most_sentence_bytes = most_text_bytes
 
 -- From the byte offset `at` on, the characters are separators and the tokens `ts`, each at its offset, up to the offset `end`, from which on `rest`
 -- stands.

@@ -6,13 +6,7 @@ ghost use Rattle.ag_expr.specs.language.Tokens as tokens_spec;
 ghost use Rattle.ag_scan.specs.Cutting as cutting;
 
 use ag_grammar::Terminal;
-
-/// The numbers of the classes.
-const NAME: u16 = 0;
-
-const NUMBER: u16 = 1;
-
-const TEXT: u16 = 2;
+use ag_grammar::limits::{NAME, NUMBER, TEXT};
 
 /// A span of characters.
 #[derive(Clone, Copy, Debug, PartialEq, Eq)]

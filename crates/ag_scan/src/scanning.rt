@@ -19,13 +19,10 @@ use crate::front::{Front, class_in_front, skip_separators};
 use crate::literals::Literals;
 use crate::token::Token;
 use ag_grammar::Terminal;
-use ag_grammar::limits::MOST_TOKEN_BYTES;
+use ag_grammar::limits::{MOST_TEXT_BYTES, MOST_TOKEN_BYTES};
 use ag_value::Text;
 use normalform::Grammar;
 use std::alloc::Global;
-
-/// How many bytes a sentence has at most.
-const MOST_SENTENCE_BYTES: usize = 1_048_576;
 
 /// What stands in a text behind a word in front.
 fn split_word<'t>(text: &'t str, word: &str) -> (&'t str, &'t str)
@@ -155,7 +152,7 @@ fn scan_over(
     ensures refused { IfErr result (λ e.
         IsRefused (over literals.now classes.now) sentence.now e) }
 {
-    if sentence.len() > MOST_SENTENCE_BYTES {
+    if sentence.len() > MOST_TEXT_BYTES {
         return Err(ScanFault::TooLong);
     }
     let text = match str::from_utf8(sentence) {

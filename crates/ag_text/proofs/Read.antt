@@ -14,7 +14,8 @@ use Rattle.ag_expr.proofs.language.Lexed.{width-chars}
 use Rattle.ag_expr.proofs.language.Lexes.{one_input}
 use Rattle.ag_expr.proofs.language.Texts.{ends_wide}
 use Rattle.ag_text.specs.Answers.{fault_of, answer_of, read_text, line_of, IsRead, IsReadText, IsFirstOf, IsRefused}
-use Rattle.ag_text.specs.Grammar.{max_length, ReadsAsGrammar, ReadsAsNone}
+use Rattle.ag_grammar.specs.grammars.Accepted.{most_text_bytes}
+use Rattle.ag_text.specs.Grammar.{ReadsAsGrammar, ReadsAsNone}
 use Rattle.ag_text.specs.Places.{IsFirstWrong}
 use Rattle.ag_text.specs.Reading.{Outcome, grammar_of}
 use Rattle.ag_text.specs.declared.fault.TextFault.{TextFault}
@@ -50,13 +51,13 @@ no_end e ps raw j never read =
 
 -- ---- of a whole text
 
-module _ (text : List ℕ) (utf8 : IsUtf8 text) (short : length text ≤ max_length) where
-  within : (b : Bool) → nat_lt max_length (length text) ≡ b → b ≡ false
+module _ (text : List ℕ) (utf8 : IsUtf8 text) (short : length text ≤ most_text_bytes) where
+  within : (b : Bool) → nat_lt most_text_bytes (length text) ≡ b → b ≡ false
   within false e = refl
-  within true e = let less : max_length < length text = ltb-true max_length (length text) e in let bad : ⊥ = omega (arith, short, less) in absurd bad
+  within true e = let less : most_text_bytes < length text = ltb-true most_text_bytes (length text) e in let bad : ⊥ = omega (arith, short, less) in absurd bad
 
   read_short : (i : Input) → read_text text i ≡ answer_of text (grammar_of i)
-  read_short i = rw (within (nat_lt max_length (length text)) refl, is_utf8-from_IsUtf8 text utf8) refl
+  read_short i = rw (within (nat_lt most_text_bytes (length text)) refl, is_utf8-from_IsUtf8 text utf8) refl
 
   pub is_read : (r : Result RawGrammar TextFault) → IsReadText text r → IsRead text r
   is_read r is i lexes memory = read_short i ∙ is i lexes memory
@@ -136,12 +137,12 @@ pub is_text : (text part : List ℕ) → part ≡ text → (r : Result RawGramma
 is_text text part same r is = subst (λ t. IsReadText t r) same is
 
 -- a text that is not UTF-8
-pub bad_utf8 : (text : List ℕ) (at : ℕ) → (IsUtf8 text → ⊥) → at ≡ utf8_valid_len text → length text ≤ max_length → IsRead text (Err (fault.BadUtf8 at))
-bad_utf8 text at bad there short i lexes memory = rw (inside (nat_lt max_length (length text)) refl, none (is_utf8 text) refl) (ap (λ n. Err (fault.BadUtf8 n)) (sym there))
+pub bad_utf8 : (text : List ℕ) (at : ℕ) → (IsUtf8 text → ⊥) → at ≡ utf8_valid_len text → length text ≤ most_text_bytes → IsRead text (Err (fault.BadUtf8 at))
+bad_utf8 text at bad there short i lexes memory = rw (inside (nat_lt most_text_bytes (length text)) refl, none (is_utf8 text) refl) (ap (λ n. Err (fault.BadUtf8 n)) (sym there))
   where
-    inside : (b : Bool) → nat_lt max_length (length text) ≡ b → b ≡ false
+    inside : (b : Bool) → nat_lt most_text_bytes (length text) ≡ b → b ≡ false
     inside false e = refl
-    inside true e = let less : max_length < length text = ltb-true max_length (length text) e in let never : ⊥ = omega (arith, short, less) in absurd never
+    inside true e = let less : most_text_bytes < length text = ltb-true most_text_bytes (length text) e in let never : ⊥ = omega (arith, short, less) in absurd never
 
     none : (b : Bool) → is_utf8 text ≡ b → b ≡ false
     none false e = refl

@@ -12,7 +12,8 @@ use Rattle.ag_text.specs.declared.fault.TextFault.TheVariants as fault
 use Rattle.ag_grammar.specs.declared.raw.RawGrammar.{RawGrammar}
 use Rattle.ag_text.specs.declared.stop.Stop.{Stop}
 use Rattle.ag_text.specs.declared.stop.Stop.TheVariants as stop
-use Rattle.ag_text.specs.Grammar.{max_length, ReadsAsNone}
+use Rattle.ag_grammar.specs.grammars.Accepted.{most_text_bytes}
+use Rattle.ag_text.specs.Grammar.{ReadsAsNone}
 use Rattle.ag_text.specs.Places.{IsFirstWrong}
 use Rattle.ag_text.specs.Reading.{Outcome, grammar_of}
 
@@ -39,7 +40,7 @@ answer_of text (Err s) = Err (fault_of text s)
 
 -- what reading a text gives, whose tokens these are: too long before not UTF-8 before what its tokens give
 abbrev pub read_text : List ℕ → Input → Result RawGrammar TextFault
-read_text text i = cond (nat_lt max_length (length text)) (Err fault.TooLong) (cond (is_utf8 text) (answer_of text (grammar_of i)) (Err (fault.BadUtf8 (utf8_valid_len text))))
+read_text text i = cond (nat_lt most_text_bytes (length text)) (Err fault.TooLong) (cond (is_utf8 text) (answer_of text (grammar_of i)) (Err (fault.BadUtf8 (utf8_valid_len text))))
 
 -- The answer is what reading gives, or that memory ran out.
 abbrev pub IsRead : List ℕ → Result RawGrammar TextFault → Type 0

@@ -4,16 +4,13 @@ use Rattle.ag_expr.specs.language.Ending as ending
 use Rattle.ag_expr.specs.language.Placed.{Placed}
 use Rattle.ag_expr.specs.language.Tokens.{Lexes}
 use Rattle.ag_grammar.specs.declared.raw.RawGrammar.{RawGrammar}
+use Rattle.ag_grammar.specs.grammars.Accepted.{most_text_bytes}
 use Rattle.ag_text.specs.Syntax.{IsGrammar}
-
--- how many bytes a grammar's text has at most
-abbrev pub max_length : ℕ
-max_length = 1048576
 
 -- The text reads as the grammar: it is short enough and UTF-8; it is separators and longest tokens, each number within its limit; and
 -- they spell the grammar.
 pub record ReadsAsGrammar (text : List ℕ) (raw : RawGrammar) : Type 0 where
-  pub short : length text ≤ max_length
+  pub short : length text ≤ most_text_bytes
   pub utf8 : IsUtf8 text
   pub placed : List Placed
   pub lexes : Lexes 0 (chars text) (record { left = placed; ending = ending.EndsAt (length text) })

@@ -8,6 +8,7 @@ use Rattle.ag_expr.specs.language.Token.{Token, mark, word}
 use Rattle.ag_expr.specs.language.Token as token
 use Rattle.ag_expr.specs.language.Tokens.{is_separator}
 use Rattle.ag_grammar.specs.declared.raw.Named.{Named}
+use Rattle.ag_grammar.specs.grammars.Accepted.{name_class, number_class, text_class}
 use Rattle.ag_grammar.specs.declared.raw.RawItem.{RawItem}
 use Rattle.ag_grammar.specs.declared.raw.RawItem.TheVariants as item
 
@@ -51,7 +52,7 @@ literal_of bytes = some_where (is_literal bytes) (item.Literal bytes)
 
 -- the class of tokens that a reserved name means
 abbrev pub class_of : List ℕ → Option ℕ
-class_of name = cond (bytes_eq name (codes "NAME")) (Some 0) (cond (bytes_eq name (codes "NUMBER")) (Some 1) (cond (bytes_eq name (codes "TEXT")) (Some 2) None))
+class_of name = cond (bytes_eq name (codes "NAME")) (Some name_class) (cond (bytes_eq name (codes "NUMBER")) (Some number_class) (cond (bytes_eq name (codes "TEXT")) (Some text_class) None))
 
 abbrev pub class_or_name : Option ℕ → Option Named → Option RawItem
 class_or_name (Some class) name = Some (item.Class class)

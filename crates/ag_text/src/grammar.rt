@@ -13,10 +13,8 @@ use crate::reader::Reader;
 use crate::stop::Stop;
 use ag_expr::ExprFault;
 use ag_grammar::RawGrammar;
+use ag_grammar::limits::MOST_TEXT_BYTES;
 use std::alloc::Global;
-
-/// How many bytes a grammar's text has at most.
-const MAX_LENGTH: usize = 1_048_576;
 
 /// How many line feeds there are.
 fn line_feeds(bytes: &[u8]) -> usize
@@ -78,7 +76,7 @@ pub fn read_grammar(alloc: Global, text: &[u8]) -> Result<RawGrammar, TextFault>
     ensures refuses { IfErr result (λ e. IsRefused text.now e) }
     ensures never { IfErr result (λ e. e ≢ fault.Expr expr_fault.NoMemory) }
 {
-    if text.len() > MAX_LENGTH {
+    if text.len() > MOST_TEXT_BYTES {
         return Err(TextFault::TooLong);
     }
     match str::from_utf8(text) {

@@ -15,6 +15,7 @@ ghost use Rattle.ag_text.specs.declared.stop.Stop.TheVariants as stop;
 use crate::reader::Reader;
 use crate::stop::Stop;
 use ag_expr::{Punctuation, Token, unescaped};
+use ag_grammar::limits::{NAME, NUMBER, TEXT};
 use ag_grammar::{Named, Occ, RawItem};
 use ag_value::{NoMemory, Text};
 use std::alloc::Global;
@@ -149,11 +150,11 @@ fn class(name: &str) -> Option<u16>
     ensures { result ≡ words.class_of name.now }
 {
     if name == "NAME" {
-        Some(0)
+        Some(NAME)
     } else if name == "NUMBER" {
-        Some(1)
+        Some(NUMBER)
     } else if name == "TEXT" {
-        Some(2)
+        Some(TEXT)
     } else {
         None
     }

@@ -5,11 +5,9 @@ ghost use Rattle.llparse.specs.Nodes.{node_of, place_of};
 ghost use Rattle.llparse.specs.Tables.{is_known};
 
 use crate::ahead::Ahead;
+use ag_grammar::limits::CLASS_COUNT;
 use ag_grammar::{Item, Terminal};
 use normalform::Grammar;
-
-/// How many classes there are: NAME, NUMBER and TEXT.
-pub(crate) const CLASS_COUNT: u16 = 3;
 
 /// How many symbols and literals a grammar has.
 #[derive(Clone, Copy, Debug, PartialEq, Eq)]

@@ -5,6 +5,7 @@ ghost use Rattle.normalform.specs.Faults.{IsReadable};
 ghost use Rattle.normalform.specs.Readable.{is_separator, readable_text, readable_item};
 ghost use Rattle.normalform.specs.Readable.{readable_in};
 
+use ag_grammar::limits::CLASS_COUNT;
 use ag_grammar::{RawGrammar, RawItem, RawProduction};
 
 /// A byte separates the words of a sentence.
@@ -36,7 +37,7 @@ fn is_readable_item(item: &RawItem) -> bool
     match item {
         RawItem::Name(_) => true,
         RawItem::Literal(text) => is_readable_text(text.as_str().as_bytes()),
-        RawItem::Class(class) => *class < 3,
+        RawItem::Class(class) => *class < CLASS_COUNT,
     }
 }
 

@@ -10,7 +10,8 @@ use Rattle.passassign.specs.Dependencies.{AreDependencies}
 use Rattle.passassign.specs.Least.{partial_of, IsLeast}
 use Rattle.passassign.specs.Making.{IsMade, start}
 use Rattle.passassign.specs.Progress.{IsWith, IsProgress, open_count}
-use Rattle.passassign.specs.Rows.{most_passes, passes_of, AreFew}
+use Rattle.ag_grammar.specs.grammars.Accepted.{most_passes}
+use Rattle.passassign.specs.Rows.{passes_of, AreFew}
 use Rattle.passassign.specs.Searching.{AreOf}
 use Rattle.passassign.specs.Tables.{slot_of, state_at, state_of, given, first_state, attribute_count, table_passes, IsFirstTable, IsTable, IsDeclared, AreRowsOfTable}
 use Rattle.passassign.specs.declared.assigning.Progress.{Progress}

@@ -1,7 +1,8 @@
 //! The least assignment of passes, one pass after the other.
 
-ghost use Rattle.std.specs.Prelude.{ℕ, ◌≡◌, ◌+◌, ◌<◌, ◌≤◌, ◌↔◌, IfErr, IfOk, OnOk, length};
+ghost use Rattle.std.specs.Prelude.{ℕ, ◌≡◌, ◌+◌, ◌^◌, ◌<◌, ◌≤◌, ◌↔◌, IfErr, IfOk, OnOk, length};
 ghost use Rattle.ag_grammar.specs.Lists.{Each, Has};
+ghost use Rattle.ag_grammar.specs.grammars.Accepted.{most_attributes, most_symbols};
 ghost use Rattle.ag_grammar.specs.grammars.AttributeGrammar.{Grammar as Plain, attribute_names};
 ghost use Rattle.passassign.specs.Answer.{IsInDeclaredOrder, IsFault};
 ghost use Rattle.passassign.specs.Certificate.{stuck_of};
@@ -10,7 +11,7 @@ ghost use Rattle.passassign.specs.Least.{IsLeast};
 ghost use Rattle.passassign.specs.Progress.{AreOpenIn, AreReady, IsLeft, IsNext, IsProgress};
 ghost use Rattle.passassign.specs.Progress.{IsWith, open_count};
 ghost use Rattle.passassign.specs.Rows.{passes_of, AreFew};
-ghost use Rattle.passassign.specs.Tables.{slot_of, state_at};
+ghost use Rattle.passassign.specs.Tables.{most_slots, slot_of, state_at};
 ghost use Rattle.passassign.specs.declared.assigning.AssignFault.TheVariants as fault;
 ghost use Rattle.passassign.specs.declared.table.State.TheVariants.{Open};
 
@@ -56,7 +57,7 @@ fn make_pass(
     progress: &mut Progress,
 ) -> Result<Vec<Strike>, NoMemory>
     requires ready { AreReady dependencies.now (length progress.old.states.items) }
-    requires next { progress.old.next < 65535 }
+    requires next { progress.old.next + 1 < 2 ^ 16 }
     ensures len { OnOk result
         (length progress.new.states.items ≡ length progress.old.states.items) }
     ensures next { OnOk result (progress.new.next ≡ progress.old.next + 1) }
@@ -85,11 +86,11 @@ fn left_of(
     first: Vec<Strike>,
     second: Vec<Strike>,
 ) -> Result<Stuck, NoMemory>
-    requires { length progress.now.states.items ≤ 4096 }
+    requires { length progress.now.states.items ≤ most_slots }
     ensures strikes { IfOk result (λ c.
         c ≡ stuck_of progress.now.direction c.set first.items second.items) }
     ensures all { IfOk result (λ c. (s a : ℕ) → Has c.set (s, a)
-        ↔ (a < 16) × (state_at progress.now.states.items (slot_of s a) ≡ Open)) }
+        ↔ (a < most_attributes) × (state_at progress.now.states.items (slot_of s a) ≡ Open)) }
     ensures ordered { IfOk result (λ c. IsInDeclaredOrder c.set) }
 {
     let set = Items::from_vec(open_ones(alloc, progress.states.as_slice())?);
@@ -118,8 +119,8 @@ fn advance(
     open_before: usize,
 ) -> Result<usize, AssignFault>
     requires ready { AreReady dependencies.now (length progress.old.states.items) }
-    requires len { length progress.old.states.items ≤ 4096 }
-    requires next { progress.old.next + 2 < 65536 }
+    requires len { length progress.old.states.items ≤ most_slots }
+    requires next { progress.old.next + 2 < 2 ^ 16 }
     requires some { 0 < open_before }
     requires count { open_before ≡ open_count progress.old.states.items }
     ensures len { OnOk result
@@ -152,8 +153,8 @@ pub(crate) fn assign_all(
     productions: &[Production],
 ) -> Result<Assignment, AssignFault>
     requires accepted { AreAccepted productions.now }
-    requires count { length symbols.now ≤ 256 }
-    requires attributes { Each (λ s. length (attribute_names s) ≤ 16) symbols.now }
+    requires count { length symbols.now ≤ most_symbols }
+    requires attributes { Each (λ s. length (attribute_names s) ≤ most_attributes) symbols.now }
     ensures least { IfOk result (λ m. (g : Plain)
         → IsWith symbols.now productions.now g → IsLeast g (passes_of m)) }
     ensures few { IfOk result (λ m. (g : Plain)

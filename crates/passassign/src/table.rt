@@ -4,10 +4,11 @@ ghost use Rattle.std.specs.Prelude.{ℕ, ◌≡◌, ◌+◌, ◌*◌, ◌/◌, �
 ghost use Rattle.std.specs.Prelude.{[], ◌∷◌, count_by, length};
 ghost use Rattle.std.specs.Prelude.{true, false, IfOk, OnOk, Some, slice_get, unwrap_or};
 ghost use Rattle.ag_grammar.specs.Lists.{Each, Has};
+ghost use Rattle.ag_grammar.specs.grammars.Accepted.{most_attributes, most_symbols};
 ghost use Rattle.ag_grammar.specs.grammars.AttributeGrammar.{attribute_names};
 ghost use Rattle.passassign.specs.Answer.{IsInDeclaredOrder};
 ghost use Rattle.passassign.specs.Rows.{numbers_of};
-ghost use Rattle.passassign.specs.Tables.{slot_of, state_at, first_state, given, is_open};
+ghost use Rattle.passassign.specs.Tables.{most_slots, slot_of, state_at, first_state, given, is_open};
 ghost use Rattle.passassign.specs.Tables.{after_pass, is_marked, AreRowsOfTable, IsFirstTable};
 ghost use Rattle.passassign.specs.declared.table.State.TheVariants.{Open};
 
@@ -69,10 +70,10 @@ fn state_at_first(attr: usize, count: usize) -> State
 
 /// Puts the slots of a symbol with so many attributes at the end of a table.
 fn open_symbol(states: &mut Vec<State>, count: usize) -> Result<(), NoMemory>
-    ensures len { OnOk result (length states.new.items ≡ length states.old.items + 16) }
+    ensures len { OnOk result (length states.new.items ≡ length states.old.items + most_attributes) }
     ensures kept { OnOk result ((k : ℕ) → k < length states.old.items
         → state_at states.new.items k ≡ state_at states.old.items k) }
-    ensures put { OnOk result ((a : ℕ) → a < 16
+    ensures put { OnOk result ((a : ℕ) → a < most_attributes
         → state_at states.new.items (length states.old.items + a) ≡ first_state count a) }
 {
     for attr in 0..MOST_ATTRIBUTES {
@@ -83,7 +84,7 @@ fn open_symbol(states: &mut Vec<State>, count: usize) -> Result<(), NoMemory>
 
 /// The table of all attributes, none of which has a pass.
 pub(crate) fn open_all(alloc: Global, symbols: &[Symbol]) -> Result<Vec<State>, NoMemory>
-    requires { Each (λ s. length (attribute_names s) ≤ 16) symbols.now }
+    requires { Each (λ s. length (attribute_names s) ≤ most_attributes) symbols.now }
     ensures { IfOk result (λ states. IsFirstTable symbols.now states.items) }
 {
     let mut states = Vec::new(alloc);
@@ -107,7 +108,7 @@ fn pass_at(states: &[State], slot: usize) -> u16
 /// The passes of so many slots of a table from one on.
 fn row(alloc: Global, states: &[State], from: usize, count: usize) -> Result<Vec<u16>, NoMemory>
     requires from { from < 2 ^ 32 }
-    requires count { count ≤ 16 }
+    requires count { count ≤ most_attributes }
     ensures len { IfOk result (λ row. length row.items ≡ count) }
     ensures passes { IfOk result (λ row. (a : ℕ) → a < count
         → slice_get row.items a ≡ Some (unwrap_or (given (state_at states.now (from + a))) 0)) }
@@ -125,8 +126,8 @@ pub(crate) fn rows(
     symbols: &[Symbol],
     states: &[State],
 ) -> Result<Vec<Vec<u16>>, NoMemory>
-    requires count { length symbols.now ≤ 256 }
-    requires attributes { Each (λ s. length (attribute_names s) ≤ 16) symbols.now }
+    requires count { length symbols.now ≤ most_symbols }
+    requires attributes { Each (λ s. length (attribute_names s) ≤ most_attributes) symbols.now }
     ensures { IfOk result (λ rows. AreRowsOfTable symbols.now states.now (numbers_of rows.items)) }
 {
     let mut rows = Vec::new(alloc);
@@ -159,9 +160,9 @@ fn put_open(found: &mut Vec<(u16, u16)>, state: State, slot: usize) -> Result<()
 
 /// The attributes that have no pass, in the order of the table.
 pub(crate) fn open_ones(alloc: Global, states: &[State]) -> Result<Vec<(u16, u16)>, NoMemory>
-    requires { length states.now ≤ 4096 }
+    requires { length states.now ≤ most_slots }
     ensures all { IfOk result (λ found. (s a : ℕ)
-        → Has found.items (s, a) ↔ (a < 16) × (state_at states.now (slot_of s a) ≡ Open)) }
+        → Has found.items (s, a) ↔ (a < most_attributes) × (state_at states.now (slot_of s a) ≡ Open)) }
     ensures ordered { IfOk result (λ found. IsInDeclaredOrder found.items) }
 {
     let mut found = Vec::new(alloc);

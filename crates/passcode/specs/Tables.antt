@@ -6,14 +6,15 @@ use Rattle.ag_grammar.specs.declared.grammar.Item.{Item}
 use Rattle.ag_grammar.specs.declared.grammar.Production.{Production}
 use Rattle.ag_grammar.specs.declared.grammar.Rule.{Rule}
 use Rattle.ag_grammar.specs.declared.grammar.Target.{Target}
+use Rattle.ag_grammar.specs.grammars.Accepted.{most_attributes, most_stored}
 use Rattle.ag_grammar.specs.grammars.AttributeGrammar.{item_at, stored_items}
 use Rattle.ag_grammar.specs.grammars.Passes.{Passes, HasPass, IsLegalFor, item_passes}
 use Rattle.passcode.specs.declared.table.Given.{Given}
 use Rattle.passcode.specs.Agreement.{IsRuleAt}
 
--- the slot of an attribute at a place: each place has 16 slots, as many as a symbol may have attributes
+-- the slot of an attribute at a place: each place has as many slots as a symbol may have attributes
 abbrev pub slot_of : ℕ → ℕ → ℕ
-slot_of j a = j * 16 + a
+slot_of j a = j * most_attributes + a
 
 -- what a table has in a slot
 abbrev pub slot_at : List (Option Given) → ℕ → Option Given
@@ -21,7 +22,7 @@ slot_at table k = slice_index_or table k None
 
 -- what a table has of an attribute at a place
 abbrev pub given_at : List (Option Given) → ℕ → ℕ → Option Given
-given_at table j a = cond (nat_lt a 16) (slot_at table (slot_of j a)) None
+given_at table j a = cond (nat_lt a most_attributes) (slot_at table (slot_of j a)) None
 
 -- an attribute at one of some places has this pass
 abbrev pub HasPassAt : Passes → List Item → Target → ℕ → Type 0
@@ -33,11 +34,11 @@ pub record IsPlannedRule (m : Passes) (q : Production) (u : Rule) : Type 0 where
   pub pass : ℕ
   pub stands : item_at q u.target.place ≡ Some (item.Symbol symbol)
   pub passed : slice_get (m symbol) u.target.attr ≡ Some pass
-  pub within : u.target.attr < 16
+  pub within : u.target.attr < most_attributes
 
 -- What an accepted grammar and a legal assignment tell of a production.
 pub record IsPlanned (m : Passes) (q : Production) : Type 0 where
-  pub stored : length (stored_items q.items) ≤ 16
+  pub stored : length (stored_items q.items) ≤ most_stored
   pub rules : Each (IsPlannedRule m q) q.rules
   pub single : DifferIn (λ u. u.target) q.rules
   pub positive : (s : ℕ) → Each (λ k. 1 ≤ k) (m s)

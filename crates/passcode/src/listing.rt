@@ -10,6 +10,7 @@ ghost use Rattle.passcode.specs.Listing.{giving_key, last_key};
 
 use crate::instr::Instr;
 use crate::table::{Given, look_up};
+use ag_grammar::limits::MOST_ATTRIBUTES;
 use ag_grammar::{Direction, Item};
 use ag_value::NoMemory;
 use std::alloc::Global;
@@ -60,7 +61,7 @@ fn put_all_given(
         (giving_key (direction_of pass) place)
         (giving_key (direction_of pass) place + 16) list.old.items list.new.items) }
 {
-    for attr in 0..16 {
+    for attr in 0..MOST_ATTRIBUTES as u16 {
         put_given(list, table, pass, place, attr)?;
     }
     Ok(())

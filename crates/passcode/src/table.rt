@@ -1,9 +1,10 @@
 //! The rules of a production by what they give a value, each with its pass.
 
 ghost use Rattle.std.specs.Prelude.{ℕ, ◌≡◌, ◌≤◌, ◌*◌, ◌+◌, IfOk, count_by, is_some, length};
+ghost use Rattle.ag_grammar.specs.grammars.Accepted.{most_attributes, most_stored};
 ghost use Rattle.ag_grammar.specs.grammars.AttributeGrammar.{places_of};
 ghost use Rattle.passassign.specs.Rows.{passes_of};
-ghost use Rattle.passcode.specs.Tables.{HasPassAt, IsPlanned, IsTable, given_at, slot_at};
+ghost use Rattle.passcode.specs.Tables.{HasPassAt, IsPlanned, IsTable, given_at, slot_at, slot_of};
 
 use ag_grammar::limits::MOST_ATTRIBUTES;
 use ag_grammar::{Item, Production, Target};
@@ -20,7 +21,7 @@ pub(crate) struct Given {
 
 /// The slot of an attribute at a place.
 fn slot(place: u16, attr: u16) -> usize
-    ensures { result ≡ place * 16 + attr }
+    ensures { result ≡ slot_of place attr }
 {
     place as usize * MOST_ATTRIBUTES + attr as usize
 }
@@ -50,8 +51,8 @@ fn pass_at(assignment: &Assignment, places: &[Item], target: Target) -> u16
 
 /// A table in which nothing is given, with slots for so many places.
 fn empty_table(alloc: Global, places: usize) -> Result<Vec<Option<Given>>, NoMemory>
-    requires { places ≤ 17 }
-    ensures len { IfOk result (λ table. length table.items ≡ places * 16) }
+    requires { places ≤ most_stored + 1 }
+    ensures len { IfOk result (λ table. length table.items ≡ places * most_attributes) }
     ensures count { IfOk result (λ table. count_by is_some table.items ≡ 0) }
     ensures none { IfOk result (λ table. (k : ℕ) → slot_at table.items k ≡ None) }
 {

@@ -9,7 +9,8 @@ use Rattle.ag_grammar.specs.declared.grammar.Production.{Production}
 use Rattle.ag_grammar.specs.declared.grammar.Symbol.{Symbol}
 use Rattle.ag_grammar.specs.grammars.AttributeGrammar.{Grammar, symbol_kinds}
 use Rattle.ag_grammar.specs.grammars.Passes.{Passes, IsLegal}
-use Rattle.passassign.specs.Rows.{most_passes, passes_of, IsGreatest}
+use Rattle.ag_grammar.specs.grammars.Accepted.{most_passes}
+use Rattle.passassign.specs.Rows.{passes_of, IsGreatest}
 use Rattle.passcode.specs.declared.instr.Instr.{Instr}
 use Rattle.passcode.specs.declared.instr.Instr.TheVariants as instr
 use Rattle.passcode.specs.Agreement.{Agrees, IsListFor, StandsBefore}

@@ -4,19 +4,21 @@ use Rattle.std.specs.Prelude.{ℕ, ◌≡◌, ◌≤◌, List, length}
 use Rattle.ag_grammar.specs.declared.grammar.Production.{Production}
 use Rattle.ag_grammar.specs.declared.grammar.Rule.{Rule}
 use Rattle.ag_grammar.specs.declared.grammar.Target.{Target}
+use Rattle.ag_grammar.specs.grammars.Accepted.{most_stored}
 use Rattle.ag_grammar.specs.grammars.AttributeGrammar.{IsArgument, stored_items}
 use Rattle.ag_grammar.specs.grammars.Passes.{Passes, HasPass, IsBefore, direction_of}
 use Rattle.passcode.specs.declared.instr.Instr.{Instr}
 use Rattle.passcode.specs.declared.instr.Instr.TheVariants as instr
 use Rattle.passcode.specs.Agreement.{StandsBefore, HasPlace, IsChild, IsRuleAt, IsAtHand, instruction_of}
+use Rattle.planchecker.specs.Course.{most_rules}
 use Rattle.planchecker.specs.declared.following.At.{At}
 
 -- An index is within its list or at its end. The production has no more rules than a `u16` can number, and no more places than
 -- one of an accepted grammar.
 pub record IsWithin (at : At) : Type 0 where
   pub end : at.end ≤ length at.list.now
-  pub rules : length at.production.now.rules ≤ 65536
-  pub places : length (stored_items at.production.now.items) ≤ 16
+  pub rules : length at.production.now.rules ≤ most_rules
+  pub places : length (stored_items at.production.now.items) ≤ most_stored
 
 -- the places before place j in the direction of the pass are done with
 abbrev pub ArePutBefore : Production → ℕ → List Instr → ℕ → ℕ → Type 0

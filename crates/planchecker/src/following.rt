@@ -3,6 +3,7 @@
 ghost use Rattle.std.specs.Prelude.{ℕ, ◌≡◌, ◌<◌, ◌≤◌, ◌↔◌, IsTrue, Some, length, slice_get};
 ghost use Rattle.ag_grammar.specs.Lists.{Has};
 ghost use Rattle.ag_grammar.specs.declared.grammar.Target.{Target as TheTarget};
+ghost use Rattle.ag_grammar.specs.grammars.Accepted.{most_passes};
 ghost use Rattle.ag_grammar.specs.grammars.Passes.{HasPass};
 ghost use Rattle.passassign.specs.Rows.{passes_of};
 ghost use Rattle.passcode.specs.Agreement.{HasPlace, IsAtHand, IsChild, StandsBefore};
@@ -11,6 +12,7 @@ ghost use Rattle.passcode.specs.Rows.{row_of};
 ghost use Rattle.passcode.specs.Tables.{IsPlanned};
 ghost use Rattle.passcode.specs.declared.instr.Instr.TheVariants as instr;
 ghost use Rattle.planchecker.specs.Agreeing.{IsListWrongOrNone, IsWrongOrNone};
+ghost use Rattle.planchecker.specs.Course.{most_rules};
 ghost use Rattle.planchecker.specs.Following.{AreGiven, ArePut, ArePutBefore, IsDue, IsOwnRule};
 ghost use Rattle.planchecker.specs.Following.{IsReady, IsWithin};
 
@@ -282,7 +284,7 @@ fn first_wrong(
     list: &[Instr],
 ) -> Option<usize>
     requires planned { IsPlanned (passes_of assignment.now) production.now }
-    requires rules { length production.now.rules ≤ 65536 }
+    requires rules { length production.now.rules ≤ most_rules }
     requires pass { 1 ≤ pass }
     ensures { IsWrongOrNone (passes_of assignment.now) production.now pass list.now result }
 {
@@ -313,8 +315,8 @@ pub(crate) fn first_list(
     lists: &[Vec<Instr>],
 ) -> Option<(u16, usize)>
     requires planned { IsPlanned (passes_of assignment.now) production.now }
-    requires rules { length production.now.rules ≤ 65536 }
-    requires few { length lists.now ≤ 8192 }
+    requires rules { length production.now.rules ≤ most_rules }
+    requires few { length lists.now ≤ most_passes }
     ensures { IsListWrongOrNone (passes_of assignment.now) production.now (row_of lists.now) result }
 {
     for (index, list) in lists.iter().enumerate() {

@@ -2,20 +2,19 @@
 
 ghost use Rattle.std.specs.Prelude.{ℕ, ◌≡◌, ◌≤◌, ◌↔◌, IsTrue, Some, length};
 ghost use Rattle.ag_grammar.specs.Lists.{Each};
+ghost use Rattle.ag_grammar.specs.grammars.Accepted.{most_attributes, most_passes};
 ghost use Rattle.ag_grammar.specs.grammars.AttributeGrammar.{attribute_names, symbol_kinds};
-ghost use Rattle.passassign.specs.Rows.{most_passes, numbers_of, passes_of};
+ghost use Rattle.passassign.specs.Rows.{numbers_of, passes_of};
 ghost use Rattle.passcode.specs.Rows.{row_of, rows_of};
 ghost use Rattle.passcode.specs.Shape.{HasShape};
 ghost use Rattle.planchecker.specs.Shapes.{AreRows, AreLists, IsRow};
 
+use ag_grammar::limits::MOST_PASSES;
 use normalform::{Grammar, Symbol};
 use passassign::Assignment;
 use passcode::{Code, Instr};
 
-/// The most passes that a grammar may need: two for each attribute that it may have.
-const MOST_PASSES: u16 = 8192;
-
-/// A pass is at least 1 and at most 8,192.
+/// A pass is at least 1 and at most `MOST_PASSES`.
 fn is_pass(number: u16) -> bool
     ensures { IsTrue result ↔ ((1 ≤ number) × (number ≤ most_passes)) }
 {
@@ -50,7 +49,7 @@ fn row_at(rows: &[Vec<u16>], symbol: usize) -> &[u16]
 
 /// A row has a pass for each attribute of a symbol.
 fn is_row_of(row: &[u16], symbol: &Symbol) -> bool
-    requires { length (attribute_names symbol.now) ≤ 16 }
+    requires { length (attribute_names symbol.now) ≤ most_attributes }
     ensures { IsTrue result ↔ IsRow (length (symbol_kinds (Some symbol.now))) row.now }
 {
     is_row(row, symbol.attribute_count())
@@ -58,7 +57,7 @@ fn is_row_of(row: &[u16], symbol: &Symbol) -> bool
 
 /// The rows have passes for the attributes of these symbols, and there is no other row.
 fn are_rows(symbols: &[Symbol], rows: &[Vec<u16>]) -> bool
-    requires { Each (λ s. length (attribute_names s) ≤ 16) symbols.now }
+    requires { Each (λ s. length (attribute_names s) ≤ most_attributes) symbols.now }
     ensures { IsTrue result ↔ AreRows symbols.now (numbers_of rows.now) }
 {
     if rows.len() > symbols.len() {

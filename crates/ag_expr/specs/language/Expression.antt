@@ -5,6 +5,7 @@ use Rattle.ag_expr.specs.declared.fault.ExprFault.TheVariants as fault
 use Rattle.ag_expr.specs.declared.token.Punctuation.TheVariants as punctuation
 use Rattle.ag_expr.specs.language.Token.{Token}
 use Rattle.ag_expr.specs.language.Token as token
+use Rattle.ag_grammar.specs.declared.limits.TheConstants.{MOST_LEVELS}
 use Rattle.ag_grammar.specs.declared.node.Node.{Node}
 use Rattle.ag_grammar.specs.declared.occurrence.Occ.{Occ}
 use Rattle.ag_expr.specs.language.Ending as ending
@@ -16,7 +17,7 @@ use Rattle.ag_expr.specs.language.Syntax.{IsExpr}
 
 -- how many levels an expression has at most
 abbrev pub max_levels : ℕ
-max_levels = 64
+max_levels = MOST_LEVELS
 
 -- The text reads as the expression, which is a tree and a list of occurrences: the text is separators and longest tokens, each number within
 -- its limit; the list has the different occurrences among them; and they spell the tree.

@@ -11,6 +11,7 @@ use Rattle.ag_expr.specs.language.Token as token
 use Rattle.ag_expr.specs.language.Ending.{Ending, offset_of}
 use Rattle.ag_expr.specs.language.Ending as ending
 use Rattle.ag_expr.specs.language.Placed.{Placed, Input}
+use Rattle.ag_grammar.specs.declared.limits.TheConstants.{MOST_PLACE}
 
 -- space, tab, CR and LF separate tokens
 abbrev pub is_separator : ℕ → Bool
@@ -88,10 +89,10 @@ pub data AreTokens : ℕ → List ℕ → List Placed → ℕ → List ℕ → T
   word : (at : ℕ) (all word cs : List ℕ) (t : Token) (placed : List Placed) (end : ℕ) (rest : List ℕ) → all ≡ word ++ cs → IsToken word t → IsLongest word cs → AreTokens (at + width word) cs placed end rest
       → AreTokens at all (record { at = at; token = t } ∷ placed) end rest
 
--- A number literal is at most 9223372036854775807, and a place at most 65535.
+-- A number literal is at most the greatest value of 64 bits with a sign, and a place at most the greatest of 16 bits.
 abbrev pub is_within : Token → Bool
 is_within (token.Number n) = int_le n (pos 9223372036854775807)
-is_within (token.Occurrence place attr) = nat_le place 65535
+is_within (token.Occurrence place attr) = nat_le place MOST_PLACE
 is_within _ = true
 
 -- From the byte offset `from` on, where the characters `cs` stand, whole tokens and separators stand up to the offset `at`,

@@ -10,7 +10,7 @@ use Rattle.ag_grammar.specs.declared.grammar.Symbol.{Symbol}
 use Rattle.ag_grammar.specs.declared.grammar.Target.{Target}
 use Rattle.ag_grammar.specs.declared.grammar.Terminal.TheVariants.{Literal, Class}
 use Rattle.ag_grammar.specs.declared.grammar.Terminal.{Terminal}
-use Rattle.ag_grammar.specs.declared.limits.TheConstants.{CLASS_COUNT, MOST_ATTRIBUTES, MOST_ITEMS, MOST_LITERALS, MOST_LITERAL_BYTES, MOST_PRODUCTIONS, MOST_STORED, MOST_SYMBOLS}
+use Rattle.ag_grammar.specs.declared.limits.TheConstants.{CLASS_COUNT, MOST_ATTRIBUTES, MOST_ITEMS, MOST_LITERALS, MOST_LITERAL_BYTES, MOST_PASSES, MOST_PRODUCTIONS, MOST_STORED, MOST_SYMBOLS, MOST_TEXT_BYTES, NAME, NUMBER, TEXT}
 use Rattle.ag_grammar.specs.grammars.AttributeGrammar.{attribute_names, Grammar, stored_items, IsProduction, IsRule, Kind, HasKind, StandsFor, given_kind, found_kind}
 
 -- The limits of a grammar (this project's): how many symbols there are at most,
@@ -37,11 +37,29 @@ most_stored = MOST_STORED
 abbrev pub most_literals : ℕ
 most_literals = MOST_LITERALS
 
--- and bytes of a literal.
+-- bytes of a literal,
 abbrev pub most_literal_bytes : ℕ
 most_literal_bytes = MOST_LITERAL_BYTES
 
--- how many classes there are: NAME, NUMBER and TEXT (this project's)
+-- and bytes of its text; a sentence has no more.
+abbrev pub most_text_bytes : ℕ
+most_text_bytes = MOST_TEXT_BYTES
+
+-- How many passes a grammar needs at most: two for each attribute that it may have (Jazayeri and Walter 1975).
+abbrev pub most_passes : ℕ
+most_passes = MOST_PASSES
+
+-- the numbers of the classes NAME, NUMBER and TEXT (this project's),
+abbrev pub name_class : ℕ
+name_class = NAME
+
+abbrev pub number_class : ℕ
+number_class = NUMBER
+
+abbrev pub text_class : ℕ
+text_class = TEXT
+
+-- and how many classes there are
 abbrev pub class_count : ℕ
 class_count = CLASS_COUNT
 
