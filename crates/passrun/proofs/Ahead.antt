@@ -1,5 +1,5 @@
 -- What is to come at each step.
-use Rattle.std.proofs.Common.{ℕ, suc, ◌≡◌, ◌+◌, ◌^◌, ◌≤◌, ◌⊎◌, inl, inr, Bool, true, false, if◌then◌else◌, List, [], ◌∷◌, Option, Some, None, Result, Ok, Err, slice_get, drop, length, refl, ap, ◌∙◌, sym, subst, arith}
+use Rattle.std.proofs.Common.{ℕ, suc, ◌≡◌, ◌+◌, ◌⊎◌, inl, inr, Bool, true, false, if◌then◌else◌, List, [], ◌∷◌, ◌++◌, Option, Some, None, Result, Ok, Err, Bor, slice_get, drop, length, refl, ap, ◌∙◌, sym, subst, arith}
 use Rattle.ag_value.specs.declared.value.Value.{Value}
 use Rattle.ag_grammar.specs.declared.grammar.Item.{Item}
 use Rattle.ag_grammar.specs.declared.grammar.Item.TheVariants as item
@@ -11,15 +11,16 @@ use Rattle.ag_grammar.specs.grammars.Tree.{most_depth, most_nodes}
 use Rattle.ag_grammar.specs.grammars.Solution.{left_passes}
 use Rattle.treefile.specs.declared.body.Kind.TheVariants.{Node}
 use Rattle.treefile.specs.declared.reading.FrameFault.{FrameFault}
-use Rattle.treefile.specs.Backward.{before_frame, next_before}
-use Rattle.treefile.specs.Ending.{version_one_usable}
+use Rattle.treefile.specs.declared.reading.FrameFault.TheVariants as frame_fault
+use Rattle.treefile.specs.Backward.{next_before}
+use Rattle.treefile.specs.Ending.{Told}
 use Rattle.treefile.specs.Records.{values_up_to}
 use Rattle.treefile.specs.TreeFile.{body_of, version_one}
 use Rattle.treefile.specs.Awaited as awaited
-use Rattle.treefile.specs.Awaited.{IsNodeRecord, IsOnTheWay, IsRecordOf, ToCome, before_others, unvisited}
+use Rattle.treefile.specs.Awaited.{IsNodeRecord, IsRecordOf, ToCome, before_others, root_to_come, unvisited}
 use Rattle.treefile.proofs.Coming.{all_to_come, next_to_come}
-use Rattle.treefile.proofs.Way.{way_begins, way_breaks, way_goes_on, way_is_too_long}
-use Rattle.treefile.proofs.Fitting.{fits_version_one}
+use Rattle.treefile.proofs.Backward.{damage_is_there, never_no_file}
+use Rattle.treefile.proofs.Way.{way_is_too_long}
 use Rattle.backreader.specs.Place.{Place}
 use Rattle.passcode.specs.declared.instr.Instr.{Instr}
 use Rattle.passcode.specs.declared.instr.Instr.TheVariants as instr
@@ -30,10 +31,13 @@ use Rattle.passrun.specs.declared.open_node.OpenNode.{OpenNode}
 use Rattle.passrun.specs.declared.run_fault.RunFault.{RunFault}
 use Rattle.passrun.specs.declared.run_fault.RunFault.TheVariants as fault
 use Rattle.passrun.specs.Ahead.{IsRunFault, ahead, asked, asked_in, in_front, to_come, goes_next}
+use Rattle.passrun.specs.Damage.{AreRecords, ComesTo, IsDamaged, IsReadable}
+use Rattle.passrun.specs.Faults.{run_fault_of_frame}
 use Rattle.passrun.specs.Fetching.{IsMissing, IsUnfetched}
 use Rattle.passrun.specs.Passing.{Passing, Tapes}
 use Rattle.passrun.specs.Places.{rest_of}
 use Rattle.passrun.specs.Reading.{IsRead, IsNoRecord}
+use Rattle.passrun.proofs.Damage.{broken, leaves_on, way_to}
 use Rattle.passrun.proofs.Recorded.{mended}
 use Rattle.passrun.proofs.Steps.{follows_next, next_is, stepped}
 use Rattle.passrun.proofs.Stays.{between_stays, gone_stays}
@@ -203,49 +207,44 @@ module _ (c : Setting) (sound : IsSound c) where
       others [] h = refl
       others (y ∷ ys) h = not_going y ys (h y ys refl)
 
-  numbered : length c.grammar.productions ≤ 2 ^ 16
-  numbered = (fits_version_one c.grammar c.passes sound.accepted sound.legal).0
-
-  pub got_way : (root : ℕ) (x : OpenNode) (xs : List OpenNode) (values : List Value) (t : Tapes) (now j p at count at' count' : ℕ) (q : Production) (x' : Item) (content body : List ℕ) (old new : List Value)
+  -- one record more is read
+  pub got_records : (root : ℕ) (x : OpenNode) (xs : List OpenNode) (values : List Value) (t : Tapes) (now j p : ℕ) (q : Production) (x' : Item) (body : List ℕ) (old new : List Value)
       → slice_get (list_at c x.production) x.at ≡ Some (instr.Get j) → IsProduction c.grammar x.production q → item_at q j ≡ Some x' → Passing c root (x ∷ xs) values t now → IsRead c x' p body old new
-      → next_before version_one content at ≡ Ok (Some body) → at' ≡ before_frame at body → count' ≡ count + 1
-      → IsOnTheWay version_one c.grammar c.passes c.read content at count (to_come c (x ∷ xs)) → IsOnTheWay version_one c.grammar c.passes c.read content at' count' (to_come c (stepped x p ∷ xs))
-  got_way root x xs values t now j p at count at' count' q x' content body old new next there stands (s, f, under, old', before, waits, ph, o) read found is_at is_count way_here =
-      let g = c.grammar in
+      → AreRecords c t.read (to_come c (x ∷ xs)) → AreRecords c (t.read ++ body ∷ []) (to_come c (stepped x p ∷ xs))
+  got_records root x xs values t now j p q x' body old new next there stands (s, f, under, old', before, waits, ph, o) read here =
       let level = suc (suc (length xs)) in
       let todo = asked q level (drop (x.at + 1) (list_at c x.production)) (ahead c xs) in
       let qs : Some o.production ≡ Some q = sym o.stays.there ∙ there in
       let same : o.production ≡ q = cc in
-      let here = subst (IsOnTheWay version_one g c.passes c.read content at count) (get_ahead x xs j q x' next there stands) way_here in
-      let on = way_goes_on version_one g c.passes c.read content body at count level x' (children_of c x' p body old new read) todo numbered here found (is_record c x' p body old new read) in
-      let n : suc count ≡ count' = omega arith in
-      subst (IsOnTheWay version_one g c.passes c.read content at' count') (got_ahead x xs ph o.i o.done j p q x' body old new read next there stands (subst (λ q. Follows c q ph o.i o.done (rest_of c x)) same o.stays.follows))
-      (subst (λ n. IsOnTheWay version_one g c.passes c.read content at' n (before_others (other (direction_of c.read)) (suc level) (children_of c x' p body old new read) todo)) n
-      (subst (λ a. IsOnTheWay version_one g c.passes c.read content a (suc count) (before_others (other (direction_of c.read)) (suc level) (children_of c x' p body old new read) todo)) (sym is_at) on))
+      let first = subst (AreRecords c t.read) (get_ahead x xs j q x' next there stands) here in
+      subst (AreRecords c (t.read ++ body ∷ [])) (got_ahead x xs ph o.i o.done j p q x' body old new read next there stands (subst (λ q. Follows c q ph o.i o.done (rest_of c x)) same o.stays.follows))
+      (leaves_on c.grammar c.passes c.read (other (direction_of c.read)) t.read body level x' (children_of c x' p body old new read) (root_to_come c.grammar) todo first (is_record c x' p body old new read))
 
   -- the root's record was read
-  pub root_way : (p : ℕ) (content body : List ℕ) (old new : List Value) (at' count' base : ℕ) → (read : IsRead c (item.Symbol c.grammar.start) p body old new) → next_before version_one content (length content) ≡ Ok (Some body) → at' ≡ before_frame (length content) body → count' ≡ 1
-      → IsOnTheWay version_one c.grammar c.passes c.read content at' count' (to_come c (record { production = p; child = 0; at = 0; base = base } ∷ []))
-  root_way p content body old new at' count' base read found is_at is_count =
-      let g = c.grammar in
+  pub root_records : (p : ℕ) (body : List ℕ) (old new : List Value) (base : ℕ) → IsRead c (item.Symbol c.grammar.start) p body old new → AreRecords c (body ∷ []) (to_come c (record { production = p; child = 0; at = 0; base = base } ∷ []))
+  root_records p body old new base read =
       let x : OpenNode = record { production = p; child = 0; at = 0; base = base } in
-      let begins = way_begins version_one g c.passes c.read content version_one_usable (fits_version_one g c.passes sound.accepted sound.legal).1 in
-      let on = way_goes_on version_one g c.passes c.read content body (length content) 0 1 (item.Symbol g.start) (stored_items read.production.items) [] numbered begins found (is_record c (item.Symbol g.start) p body old new read) in
       let stays = between_stays c read.production 0 [] (list_at c p) (sound.course p read.production read.there) in
       let items = sym (children_asked p read.production 2 [] read.there) ∙ sym (not_going x [] stays) in
-      subst (IsOnTheWay version_one g c.passes c.read content at' count') items
-      (subst (λ n. IsOnTheWay version_one g c.passes c.read content at' n (before_others (other (direction_of c.read)) 2 (stored_items read.production.items) [])) (sym is_count)
-      (subst (λ a. IsOnTheWay version_one g c.passes c.read content a 1 (before_others (other (direction_of c.read)) 2 (stored_items read.production.items) [])) (sym is_at) on))
+      subst (AreRecords c (body ∷ [])) items (stored_items read.production.items, is_record c (item.Symbol c.grammar.start) p body old new read, refl)
 
   missing_breaks : (x : Item) (level : ℕ) (todo : ToCome) (found : Result (Option (List ℕ)) FrameFault) → IsMissing c x found → awaited.Breaks c.grammar c.passes c.read ((level, x) ∷ todo) found
   missing_breaks x level todo (Err e) h = tt
   missing_breaks x level todo (Ok None) h = tt
   missing_breaks x level todo (Ok (Some body)) h = no_record c x body h
 
-  pub unfetched : (x : Item) (open_count : ℕ) (content : List ℕ) (place : Place) (todo : ToCome) (f : RunFault) → IsOnTheWay version_one c.grammar c.passes c.read content place.progress.at place.progress.records ((suc open_count, x) ∷ todo)
+  pub unfetched : (x : Item) (open_count : ℕ) (content : List ℕ) (place : Place) (todo : ToCome) (f : RunFault) → IsReadable c content → (h : ComesTo c content place.progress.at ((suc open_count, x) ∷ todo)) → place.progress.records ≡ length h.bodies
       → IsUnfetched c x open_count content place f → IsRunFault c content f
-  unfetched x n content place todo (fault.Damaged at) way_here h = way_breaks version_one c.grammar c.passes c.read content place.progress.at place.progress.records ((suc n, x) ∷ todo) way_here (missing_breaks x (suc n) todo (next_before version_one content place.progress.at) h)
-  unfetched x n content place todo fault.TooDeep way_here h = way_is_too_long version_one c.grammar c.passes c.read content place.progress.at place.progress.records (suc n) most_depth most_nodes x todo way_here (inl (omega arith))
-  unfetched x n content place todo fault.TooManyNodes way_here h = way_is_too_long version_one c.grammar c.passes c.read content place.progress.at place.progress.records (suc n) most_depth most_nodes x todo way_here (inr h)
-  unfetched x n content place todo fault.Device way_here h = tt
-  unfetched x n content place todo fault.NoMemory way_here h = tt
+  unfetched x n content place todo (fault.Damaged at) readable h count (same, missing) =
+      subst (IsDamaged c content) (sym same) (broken c sound content place.progress.at readable ((suc n, x) ∷ todo, h, missing_breaks x (suc n) todo (next_before version_one content place.progress.at) missing))
+  unfetched x n content place todo fault.TooDeep readable h count deep = way_is_too_long version_one c.grammar c.passes c.read content place.progress.at (length h.bodies) (suc n) most_depth most_nodes x todo (way_to c sound content place.progress.at ((suc n, x) ∷ todo) h) (inl (omega arith))
+  unfetched x n content place todo fault.TooManyNodes readable h count many = way_is_too_long version_one c.grammar c.passes c.read content place.progress.at (length h.bodies) (suc n) most_depth most_nodes x todo (way_to c sound content place.progress.at ((suc n, x) ∷ todo) h) (inr (omega arith))
+  unfetched x n content place todo fault.Device readable h count u = tt
+  unfetched x n content place todo fault.NoMemory readable h count u = tt
+
+-- no frame is found
+pub frame_unfetched : (c : Setting) (x : Item) (open_count : ℕ) (content : List ℕ) (place : Place) (view : Option (Bor (List ℕ)) → Option (List ℕ)) (f : FrameFault) → Told view (Err f) (next_before version_one content place.progress.at) → IsUnfetched c x open_count content place (run_fault_of_frame f)
+frame_unfetched c x n content place view frame_fault.NotATreeFile told = absurd (never_no_file version_one content place.progress.at told)
+frame_unfetched c x n content place view (frame_fault.Damaged at) told = (damage_is_there version_one content place.progress.at at told, subst (IsMissing c x) (sym told) tt)
+frame_unfetched c x n content place view frame_fault.Device told = tt
+frame_unfetched c x n content place view frame_fault.NoMemory told = tt

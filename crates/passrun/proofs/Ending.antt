@@ -12,7 +12,6 @@ use Rattle.treefile.specs.Device.{LeavesContent, WhenHonest}
 use Rattle.treefile.specs.Records.{values_up_to}
 use Rattle.treefile.specs.TreeFile.{header, version_one}
 use Rattle.treefile.specs.Writing as writing
-use Rattle.treefile.specs.Awaited.{IsOnTheWay}
 use Rattle.treefile.proofs.Backward.{none_at_header}
 use Rattle.treefile.proofs.Records.{values_well}
 use Rattle.backreader.specs.Place.{HasRead, Place, IsOver, lent_body, progress_after}
@@ -22,14 +21,14 @@ use Rattle.planchecker.specs.Settings.{Setting}
 use Rattle.planchecker.specs.Sound.{IsSound}
 use Rattle.passrun.specs.declared.machine.Machine.{Machine}
 use Rattle.passrun.specs.declared.open_node.OpenNode.{OpenNode}
-use Rattle.passrun.specs.Ends.{IsReadable, RunsBetween, first_node}
+use Rattle.passrun.specs.Damage.{IsReadable}
+use Rattle.passrun.specs.Ends.{RunsBetween, first_node}
 use Rattle.passrun.specs.Fetching.{HasFetched}
 use Rattle.passrun.specs.Passed.{IsPassed, IsRunning}
 use Rattle.passrun.specs.Passing.{Passing, Tapes, met}
 use Rattle.passrun.specs.Putting.{HasPut, item_width, last_body}
 use Rattle.passrun.specs.Running.{Runs}
-use Rattle.passrun.specs.Ahead.{to_come}
-use Rattle.passrun.proofs.Ahead.{root_way}
+use Rattle.passrun.proofs.Ahead.{root_records}
 use Rattle.passrun.proofs.Counted.{ready_counted}
 use Rattle.passrun.proofs.Facts.{few_values}
 use Rattle.passrun.proofs.Finish.{finished}
@@ -52,10 +51,10 @@ reader_kept honest content old now answer found h was none = h.progress ∙ ap (
 module _ (c : Setting) (sound : IsSound c) where
   pub begun_runs : (p meter began start : ℕ) (honest honest' to_honest : Bool) (content content' to : List ℕ) (place back : Place) (out : writing.Progress) (old values : Vec Value) (waiting : Vec OpenNode)
       → old.items ≡ [] → waiting.items ≡ [] → start ≡ c.grammar.start → began ≡ meter → HasFetched c (item.Symbol start) p 0 honest content place back old.items values.items → honest' ≡ honest → LeavesContent honest content content'
-      → WhenHonest honest (IsOver content place) → WhenHonest honest (place.progress.at ≡ length content) → place.progress.records ≡ 0 → place.progress.fault ≡ None
+      → WhenHonest honest (IsReadable c content) → WhenHonest honest (IsOver content place) → WhenHonest honest (place.progress.at ≡ length content) → place.progress.records ≡ 0 → place.progress.fault ≡ None
       → WhenHonest to_honest (to ≡ header version_one c.write) → out ≡ record { written = 0; is_broken = false } → meter ≤ 2 ^ 63
       → Runs c honest' content' to_honest to meter (record { back = back; writer = out; values = values; waiting = waiting; root = p; begun = began }) (Some (first_node p))
-  begun_runs p meter began first honest honest' to_honest content content' to place back out old values waiting none alone is_start is_meter h' same leaves over end fresh unbroken head begun low =
+  begun_runs p meter began first honest honest' to_honest content content' to place back out old values waiting none alone is_start is_meter h' same leaves readable over end fresh unbroken head begun low =
       let h = subst (λ s. HasFetched c (item.Symbol s) p 0 honest content place back old.items values.items) is_start h' in
       let t = h.taken in
       let f = t.values in
@@ -86,10 +85,8 @@ module _ (c : Setting) (sound : IsSound c) where
           unbroken = ap (λ g. g.fault) h.progress ∙ unbroken;
           whole = ap (λ w. w.is_broken) begun;
           well = subst (All IsWell) (sym row) (values_well c.write (c.passes start) f (λ a p is le. t.well a));
-          ahead = λ z.
-              let w = sym same ∙ z in
-              subst (λ bytes. IsOnTheWay version_one c.grammar c.passes c.read bytes back.progress.at back.progress.records (to_come c (first_node p ∷ []))) (sym (leaves w))
-              (root_way c sound p content h.body old.items values.items back.progress.at back.progress.records 0 t (ap (next_before version_one content) (sym (end w)) ∙ h.found w) (at ∙ ap (λ n. before_frame n h.body) (end w)) (records ∙ ap (λ n. n + 1) fresh));
+          readable = λ z. let w = sym same ∙ z in subst (IsReadable c) (sym (leaves w)) (readable w);
+          ahead = root_records c sound p h.body old.items values.items 0 t;
         }));
         begun = omega arith;
         low = omega arith;
@@ -122,15 +119,16 @@ module _ (c : Setting) (sound : IsSound c) where
   start_put m start values honest to to' out is vs h = subst (λ s. HasPut c (item.Symbol s) m.root m.values.items honest to to' m.writer out) is (subst (λ vs. HasPut c (item.Symbol start) m.root vs honest to to' m.writer out) vs h)
 
   pub passed : (honest : Bool) (content : List ℕ) (to_honest : Bool) (to to' : List ℕ) (m : Machine) (out : writing.Progress) (meter count : ℕ)
-      → Runs c honest content to_honest to meter m None → honest ≡ true → to_honest ≡ true → IsReadable c content
+      → Runs c honest content to_honest to meter m None → honest ≡ true → to_honest ≡ true
       → HasPut c (item.Symbol c.grammar.start) m.root m.values.items to_honest to to' m.writer out → next_before version_one content m.back.progress.at ≡ Ok None → count ≡ m.back.progress.records
       → IsPassed c content to' count (meter - m.begun)
-  passed honest content to_honest to to' m out meter count r is to_is file put end counted =
+  passed honest content to_honest to to' m out meter count r is to_is put end counted =
       let run = r.running in
       let h = run.passing in
       let start = item.Symbol c.grammar.start in
       let body = last_body c start m.root m.values.items in
       let own = put_is_root c start h.tree h.valuation [] m.values.items m.root h.ready.took h.ready.number h.values_are in
       let bytes = put_more c sound m.root honest to_honest to_honest content to to' m.back m.writer out m.values.items start m.root run.tapes put refl run.put to_is in
+      let file = run.readable is in
       let bytes' = all_bytes content m.back (run.over is) (none_at_header version_one content m.back.progress.at end) in
       finished c sound m.root content to' m.values.items run.tapes m.back.progress.at count (meter - m.begun) body h own bytes' file.begins file.number (run.read is) end bytes (counted ∙ run.records) run.few

@@ -16,6 +16,8 @@ pub mod Ruled
 pub mod Turning
 pub mod Working
 pub mod Ending
+pub mod Damage
+pub mod WorkedDamage
 pub mod Ahead
 pub mod Stays
 pub mod Refusing

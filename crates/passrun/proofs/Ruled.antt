@@ -14,8 +14,6 @@ use Rattle.ag_grammar.specs.grammars.Solution.{Lends}
 use Rattle.ag_grammar.specs.expressions.Evaluation.{value_of}
 use Rattle.ag_grammar.proofs.expressions.Depending.{rule_has_one_value}
 use Rattle.treefile.specs.Writing as writing
-use Rattle.treefile.specs.Awaited.{IsOnTheWay}
-use Rattle.treefile.specs.TreeFile.{version_one}
 use Rattle.backreader.specs.Place.{Place}
 use Rattle.passcode.specs.declared.instr.Instr.{Instr}
 use Rattle.planchecker.specs.Course.{IsKnown}
@@ -24,6 +22,7 @@ use Rattle.planchecker.specs.Sound.{IsSound}
 use Rattle.passrun.specs.declared.laying.RuleSlots.{RuleSlots}
 use Rattle.passrun.specs.declared.open_node.OpenNode.{OpenNode}
 use Rattle.passrun.specs.Change as change
+use Rattle.passrun.specs.Damage.{AreRecords}
 use Rattle.passrun.specs.Layouts.{AreSlotsOf}
 use Rattle.passrun.specs.Passed.{IsRunning}
 use Rattle.passrun.specs.Places.{Table, place_passes, rows}
@@ -73,7 +72,8 @@ module _ (c : Setting) (sound : IsSound c) where
         unbroken = run.unbroken;
         whole = run.whole;
         well = subst (All IsWell) (sym written) (All-set IsWell values (x.base + slots.target) v well run.well);
-        ahead = λ h. subst (IsOnTheWay version_one c.grammar c.passes c.read content place.progress.at place.progress.records) (give_ahead c sound x xs j a r z giving at) (run.ahead h);
+        readable = run.readable;
+        ahead = subst (AreRecords c run.tapes.read) (give_ahead c sound x xs j a r z giving at) run.ahead;
       }
     where
       premise : (q' : Production) (u' : Rule) (e : Table) (n : ℕ) (rest : List Value) → IsProduction c.grammar x.production q' → slice_get q'.rules r ≡ Some u' → u'.target ≡ record { place = j; attr = a } → HasPass c.passes q' u'.target c.write → n ≤ arity q' → IsKnown c q' n j

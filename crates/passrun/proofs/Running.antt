@@ -22,7 +22,6 @@ use Rattle.treefile.specs.Records.{bodies_of, token_body, values_up_to}
 use Rattle.treefile.specs.TreeFile.{body_of, frame, header, version_one}
 use Rattle.treefile.specs.Writing as writing
 use Rattle.treefile.specs.Listed.{count_up_to}
-use Rattle.treefile.specs.Awaited.{IsOnTheWay}
 use Rattle.treefile.proofs.Backward.{reads_on}
 use Rattle.treefile.proofs.Records.{values_well}
 use Rattle.backreader.specs.Place.{Place, IsOver}
@@ -35,7 +34,8 @@ use Rattle.passrun.specs.Passed.{IsRunning}
 use Rattle.passrun.specs.Passing.{GoesOn, Passing, Tapes, Took, met, root_number}
 use Rattle.passrun.specs.Putting.{HasPut, item_width, last_body}
 use Rattle.passrun.specs.Ahead.{to_come}
-use Rattle.passrun.proofs.Ahead.{end_ahead, got_way, put_ahead}
+use Rattle.passrun.specs.Damage.{AreRecords, IsReadable}
+use Rattle.passrun.proofs.Ahead.{end_ahead, got_records, put_ahead}
 use Rattle.passrun.proofs.Facts.{put_stays, waits_stay}
 use Rattle.passrun.proofs.Moves.{root_body}
 use Rattle.passrun.proofs.Slots.{length_row}
@@ -70,9 +70,9 @@ module _ (c : Setting) (sound : IsSound c) where
   pub read_more : (root : ℕ) (honest honest' to_honest : Bool) (content content' to : List ℕ) (place place' : Place) (out : writing.Progress) (values values' : List Value) (xs ys : List OpenNode) (evals p n : ℕ) (x : Item)
       → (h : HasFetched c x p n honest content place place' values values') → honest' ≡ honest → LeavesContent honest content content' → All IsWell values'
       → (r : IsRunning c root honest content to_honest to place out values xs evals) → Passing c root ys values' (record { read = r.tapes.read ++ h.body ∷ []; put = r.tapes.put }) evals
-      → WhenHonest honest (IsOnTheWay version_one c.grammar c.passes c.read content place'.progress.at place'.progress.records (to_come c ys))
+      → AreRecords c (r.tapes.read ++ h.body ∷ []) (to_come c ys)
       → IsRunning c root honest' content' to_honest to place' out values' ys evals
-  read_more root honest honest' to_honest content content' to place place' out values values' xs ys evals p n x h same leaves well r passing way_on =
+  read_more root honest honest' to_honest content content' to place place' out values values' xs ys evals p n x h same leaves well r passing on =
       let at = ap (λ g. g.at) h.progress in
       let records = ap (λ g. g.records) h.progress in
       let len = length-append r.tapes.read (h.body ∷ []) in
@@ -90,7 +90,8 @@ module _ (c : Setting) (sound : IsSound c) where
         unbroken = ap (λ g. g.fault) h.progress ∙ r.unbroken;
         whole = r.whole;
         well = well;
-        ahead = λ z. let w = sym same ∙ z in subst (λ bytes. IsOnTheWay version_one c.grammar c.passes c.read bytes place'.progress.at place'.progress.records (to_come c ys)) (sym (leaves w)) (way_on w);
+        readable = λ z. let w = sym same ∙ z in subst (IsReadable c) (sym (leaves w)) (r.readable w);
+        ahead = on;
       }
 
   pub got_runs : (root : ℕ) (honest honest' to_honest : Bool) (content content' to : List ℕ) (place place' : Place) (out : writing.Progress) (values values' : List Value) (x : OpenNode) (xs : List OpenNode) (evals j p : ℕ) (q : Production) (x' : Item)
@@ -106,7 +107,7 @@ module _ (c : Setting) (sound : IsSound c) where
       subst (λ z. Passing c root (stepped x p ∷ xs) values' z evals) tape (subst (λ vs. Passing c root (stepped x p ∷ xs) vs (met c p t.values r.tapes) evals) (sym t.row) on) in
       read_more root honest honest' to_honest content content' to place place' out values values' (x ∷ xs) (stepped x p ∷ xs) evals p (suc (length xs)) (item.Symbol s) h same leaves
       (subst (All IsWell) (sym t.row) (All-append IsWell values (values_up_to c.write (c.passes s) t.values) r.well (values_well c.write (c.passes s) t.values (λ a p is le. t.well a)))) r moved
-      (λ w. got_way c sound root x xs values r.tapes evals j p place.progress.at place.progress.records place'.progress.at place'.progress.records q (item.Symbol s) content h.body values values' at there stands r.passing h.taken (h.found w) (ap (λ g. g.at) h.progress) (ap (λ g. g.records) h.progress) (r.ahead w))
+      (got_records c sound root x xs values r.tapes evals j p q (item.Symbol s) h.body values values' at there stands r.passing h.taken r.ahead)
   got_runs root honest honest' to_honest content content' to place place' out values values' x xs evals j p q (item.Terminal (Class d)) at there stands h same leaves r =
       let t = h.taken.1 in
       let on = step_leaf c sound root x xs values r.tapes evals j d q t.text at there stands t.fits t.well h.deep r.passing in
@@ -116,7 +117,7 @@ module _ (c : Setting) (sound : IsSound c) where
       (subst (λ b. Passing c root (stepped x d ∷ xs) values' (record { read = r.tapes.read ++ b ∷ []; put = r.tapes.put }) evals) (sym t.same) (subst (λ vs. Passing c root (stepped x d ∷ xs) vs (record { read = r.tapes.read ++ token_body d t.text ∷ []; put = r.tapes.put }) evals) (sym t.row) on)) in
       read_more root honest honest' to_honest content content' to place place' out values values' (x ∷ xs) (stepped x p ∷ xs) evals p (suc (length xs)) (item.Terminal (Class d)) h same leaves
       (subst (All IsWell) (sym t.row) (All-push IsWell values (Text t.text) r.well t.well)) r moved
-      (λ w. got_way c sound root x xs values r.tapes evals j p place.progress.at place.progress.records place'.progress.at place'.progress.records q (item.Terminal (Class d)) content h.body values values' at there stands r.passing h.taken (h.found w) (ap (λ g. g.at) h.progress) (ap (λ g. g.records) h.progress) (r.ahead w))
+      (got_records c sound root x xs values r.tapes evals j p q (item.Terminal (Class d)) h.body values values' at there stands r.passing h.taken r.ahead)
   got_runs root honest honest' to_honest content content' to place place' out values values' x xs evals j p q (item.Terminal (Literal l)) at there stands h same leaves r = elim h.taken [ ]
 
   -- the bookkeeping of a body that was put
@@ -155,13 +156,14 @@ module _ (c : Setting) (sound : IsSound c) where
         unbroken = r.unbroken;
         whole = ap (λ w. w.is_broken) h.counted ∙ r.whole;
         well = r.well;
-        ahead = λ z. subst (IsOnTheWay version_one c.grammar c.passes c.read content place.progress.at place.progress.records) (put_ahead c sound x xs j at (put_stays c sound root x xs values r.tapes evals j at r.passing)) (r.ahead z);
+        readable = r.readable;
+        ahead = subst (AreRecords c r.tapes.read) (put_ahead c sound x xs j at (put_stays c sound root x xs values r.tapes evals j at r.passing)) r.ahead;
       }
 
   -- nothing was read, put or run
   pub gone_runs : (root : ℕ) (honest to_honest : Bool) (content to : List ℕ) (place : Place) (out : writing.Progress) (values : List Value) (xs ys : List OpenNode) (evals : ℕ) → GoesOn c xs values ys values → to_come c xs ≡ to_come c ys
       → IsRunning c root honest content to_honest to place out values xs evals → IsRunning c root honest content to_honest to place out values ys evals
-  gone_runs root honest to_honest content to place out values xs ys evals goes same r = record { tapes = r.tapes; passing = goes root r.tapes evals r.passing; over = r.over; read = r.read; records = r.records; few = r.few; put = r.put; written = r.written; unbroken = r.unbroken; whole = r.whole; well = r.well; ahead = λ z. subst (IsOnTheWay version_one c.grammar c.passes c.read content place.progress.at place.progress.records) same (r.ahead z) }
+  gone_runs root honest to_honest content to place out values xs ys evals goes same r = record { tapes = r.tapes; passing = goes root r.tapes evals r.passing; over = r.over; read = r.read; records = r.records; few = r.few; put = r.put; written = r.written; unbroken = r.unbroken; whole = r.whole; well = r.well; readable = r.readable; ahead = subst (AreRecords c r.tapes.read) same r.ahead }
 
   pub ended_runs : (root : ℕ) (honest to_honest : Bool) (content to : List ℕ) (place : Place) (out : writing.Progress) (values : List Value) (x : OpenNode) (xs : List OpenNode) (evals n : ℕ) (q : Production)
       → slice_get (list_at c x.production) x.at ≡ Some instr.End → IsProduction c.grammar x.production q → n ≡ x.base + count_up_to c.write (c.passes q.left)
@@ -185,5 +187,6 @@ module _ (c : Setting) (sound : IsSound c) where
         unbroken = r.unbroken;
         whole = r.whole;
         well = All-take IsWell n values r.well;
-        ahead = λ z. subst (IsOnTheWay version_one c.grammar c.passes c.read content place.progress.at place.progress.records) (end_ahead c sound x xs at (λ y ys e. waits_stay c sound root x xs values r.tapes evals y ys e r.passing)) (r.ahead z);
+        readable = r.readable;
+        ahead = subst (AreRecords c r.tapes.read) (end_ahead c sound x xs at (λ y ys e. waits_stay c sound root x xs values r.tapes evals y ys e r.passing)) r.ahead;
       }

@@ -139,10 +139,16 @@ module _ (g : Grammar) (plan : List (List ℕ) × Lists) (k last n : ℕ) (start
       let three : HasRunAll g m k n start which_now a_new b_new total (one_more sum passed) = subst (λ (w : Last). HasRunAll g m k n start w a_new b_new total (one_more sum passed)) (sym h) two in
       subst (HasRunAll g m k n start which_now a_new b_new total) (sym i) three
 
-pub all_refused : (g : Grammar) (plan : List (List ℕ) × Lists) (first last n : ℕ) (start a b : List ℕ) (which : Last) (evals : ℕ) (sum : Passed) → n ≡ suc last → HasRunAll g (passes_of plan.0) (first - 1) last start which a b evals sum → (f : RunFault) → IsRunFault (setting_of g plan n) (last_content which a b) f → IsRunFault (setting_of g plan first) start f
-all_refused g plan first last n start a b which evals sum is h f fault =
-    let here : last ≡ n - 1 = omega arith in
-    refused_back g plan first n start (last_content which a b) (other_content which a b) (subst (λ j. RunsPasses version_one g (passes_of plan.0) (first - 1) j start (last_content which a b) (other_content which a b)) here h.runs) f fault
+pub all_refused : (g : Grammar) (plan : List (List ℕ) × Lists) (first last n : ℕ) (start a b : List ℕ) (which : Last) (evals : ℕ) (sum : Passed) → n ≡ suc last → 1 ≤ first → first - 1 ≤ last → HasRunAll g (passes_of plan.0) (first - 1) last start which a b evals sum → (f : RunFault) → IsRunFault (setting_of g plan n) (last_content which a b) f → IsRunFault (setting_of g plan first) start f
+all_refused g plan first last n start a b which evals sum is positive le h f fault = elim (cases_lt (first - 1) last) [
+  | inl some ↦ (
+      let here : last ≡ n - 1 = omega arith in
+      refused_back g plan first n start (last_content which a b) (other_content which a b) (subst (λ j. RunsPasses version_one g (passes_of plan.0) (first - 1) j start (last_content which a b) (other_content which a b)) here h.runs) (h.held some) f fault)
+  | inr none ↦ (
+      let same : last ≡ first - 1 = omega arith in
+      let here : n ≡ first = omega arith in
+      subst (λ (bytes : List ℕ). IsRunFault (setting_of g plan first) bytes f) (h.fresh same) (subst (λ k. IsRunFault (setting_of g plan k) (last_content which a b) f) here fault))
+]
 
 pub greatest_most : (rows : List (List ℕ)) (a b : ℕ) → IsGreatest a rows → IsGreatest b rows → a ≤ b
 greatest_most rows a b f h = elim f.there [

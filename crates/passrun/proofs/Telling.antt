@@ -23,6 +23,7 @@ use Rattle.passrun.specs.declared.run_fault.RunFault.TheVariants as fault
 use Rattle.passrun.specs.Ahead.{IsRunFault}
 use Rattle.passrun.specs.Laws.{PassesAreTold}
 use Rattle.passrun.specs.Passed.{IsPassed}
+use Rattle.passrun.specs.Rounds.{HoldsTree}
 
 module _ (c : Setting) (from to : List ℕ) (count evals : ℕ) (accepted : IsAccepted c.grammar) (legal : IsLegal c.grammar c.passes) (next : c.write ≡ suc c.read) (is : IsPassed c from to count evals) where
   one : (t : Tree) (u : Valuation) → IsTreeOf c.grammar t → IsFileOfTree version_one c.grammar c.passes c.read t u from → (t ≡ is.tree) × Same (λ p. p ≤ c.read) c.grammar c.passes t u is.values
@@ -52,10 +53,11 @@ passes_are_told g plan k from to count evals accepted legal positive is =
     let next : k ≡ suc (k - 1) = omega arith in
     (pass_runs (setting_of g plan k) from to count evals accepted legal next is, pass_counts (setting_of g plan k) from to count evals accepted legal next is)
 
--- A refusal of the pass behind some passes is true of what stood before them.
-pub refused_back : (g : Grammar) (plan : List (List ℕ) × Lists) (k n : ℕ) (start now before : List ℕ) → RunsPasses version_one g (passes_of plan.0) (k - 1) (n - 1) start now before → (f : RunFault) → IsRunFault (setting_of g plan n) now f → IsRunFault (setting_of g plan k) start f
-refused_back g plan k n start now before runs (fault.Damaged at) none = refusal_goes_back version_one g (passes_of plan.0) (k - 1) (n - 1) start now before runs none
-refused_back g plan k n start now before runs fault.TooDeep none = refusal_within_goes_back most_depth most_nodes version_one g (passes_of plan.0) (k - 1) (n - 1) start now before runs none
-refused_back g plan k n start now before runs fault.TooManyNodes none = refusal_within_goes_back most_depth most_nodes version_one g (passes_of plan.0) (k - 1) (n - 1) start now before runs none
-refused_back g plan k n start now before runs fault.Device none = tt
-refused_back g plan k n start now before runs fault.NoMemory none = tt
+-- A refusal of the pass behind some passes is true of what stood before them, and R1 never comes there: the first file is that of a
+-- tree.
+pub refused_back : (g : Grammar) (plan : List (List ℕ) × Lists) (k n : ℕ) (start now before : List ℕ) → RunsPasses version_one g (passes_of plan.0) (k - 1) (n - 1) start now before → HoldsTree g (passes_of plan.0) (k - 1) start → (f : RunFault) → IsRunFault (setting_of g plan n) now f → IsRunFault (setting_of g plan k) start f
+refused_back g plan k n start now before runs held (fault.Damaged at) damaged = absurd (refusal_goes_back version_one g (passes_of plan.0) (k - 1) (n - 1) start now before runs damaged.none held.tree held.values held.is_tree held.file)
+refused_back g plan k n start now before runs held fault.TooDeep none = refusal_within_goes_back most_depth most_nodes version_one g (passes_of plan.0) (k - 1) (n - 1) start now before runs none
+refused_back g plan k n start now before runs held fault.TooManyNodes none = refusal_within_goes_back most_depth most_nodes version_one g (passes_of plan.0) (k - 1) (n - 1) start now before runs none
+refused_back g plan k n start now before runs held fault.Device none = tt
+refused_back g plan k n start now before runs held fault.NoMemory none = tt

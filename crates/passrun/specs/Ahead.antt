@@ -5,13 +5,14 @@ use Rattle.ag_grammar.specs.declared.grammar.Production.{Production}
 use Rattle.ag_grammar.specs.grammars.AttributeGrammar.{item_at}
 use Rattle.ag_grammar.specs.grammars.Tree.{most_depth, most_nodes}
 use Rattle.treefile.specs.TreeFile.{version_one}
-use Rattle.treefile.specs.Awaited.{HasNoTree, HasNoTreeWithin, ToCome}
+use Rattle.treefile.specs.Awaited.{HasNoTreeWithin, ToCome}
 use Rattle.passcode.specs.declared.instr.Instr.{Instr}
 use Rattle.passcode.specs.declared.instr.Instr.TheVariants as instr
 use Rattle.planchecker.specs.Settings.{Setting, list_at}
 use Rattle.passrun.specs.declared.open_node.OpenNode.{OpenNode}
 use Rattle.passrun.specs.declared.run_fault.RunFault.{RunFault}
 use Rattle.passrun.specs.declared.run_fault.RunFault.TheVariants as fault
+use Rattle.passrun.specs.Damage.{IsDamaged}
 use Rattle.passrun.specs.Places.{rest_of}
 
 -- behind rules that are run the pass goes into a child: its record was read, and the pass wasn't in it yet
@@ -54,9 +55,10 @@ to_come c [] = []
 to_come c (x ∷ xs) =
     if goes_next (rest_of c x) then asked_in (slice_get c.grammar.productions x.child) (suc (suc (suc (length xs)))) (list_at c x.child) (ahead c (x ∷ xs)) else ahead c (x ∷ xs)
 
--- R1: the content is the file of no tree. P2 and P3: of none within the limits. The other refusals say nothing of it.
+-- R1: the content is the file of no tree, and it shows at the offset. P2 and P3: it is that of none within the limits. The other
+-- refusals say nothing of it.
 abbrev pub IsRunFault : Setting → List ℕ → RunFault → Type 0
-IsRunFault c content (fault.Damaged at) = HasNoTree version_one c.grammar c.passes c.read content
+IsRunFault c content (fault.Damaged at) = IsDamaged c content at
 IsRunFault c content fault.TooDeep = HasNoTreeWithin most_depth most_nodes version_one c.grammar c.passes c.read content
 IsRunFault c content fault.TooManyNodes = HasNoTreeWithin most_depth most_nodes version_one c.grammar c.passes c.read content
 IsRunFault c content fault.Device = Unit {0}

@@ -10,13 +10,14 @@ use Rattle.ag_grammar.specs.grammars.Tree.{Tree, IsTreeOf, node_count}
 use Rattle.passassign.specs.Rows.{IsGreatest, passes_of}
 use Rattle.passcode.specs.Rows.{Lists}
 use Rattle.planchecker.specs.Plans.{IsPlan}
-use Rattle.planchecker.specs.Settings.{setting_of}
+use Rattle.planchecker.specs.Settings.{Setting, setting_of}
 use Rattle.treefile.specs.Records.{IsFileOfTree}
 use Rattle.treefile.specs.Runs.{RunsPass}
 use Rattle.treefile.specs.TreeFile.{version_one}
 use Rattle.passrun.specs.declared.ends.Passed.{Passed}
 use Rattle.passrun.specs.declared.job.Job.{Job}
 use Rattle.passrun.specs.declared.last.Last.{Last}
+use Rattle.passrun.specs.Damage.{ShowsAt}
 use Rattle.passrun.specs.Jobs.{CanRun}
 use Rattle.passrun.specs.Layouts.{IsLayout}
 use Rattle.passrun.specs.Passed.{IsPassed}
@@ -26,6 +27,10 @@ use Rattle.passrun.specs.Rounds.{HasRunAll}
 abbrev pub PlansCanRun : Type 0
 PlansCanRun = (job : Job) (passes : ℕ) → IsAccepted job.grammar.now → IsPlan job.grammar.now job.plan.now.0 job.plan.now.1 → IsGreatest passes job.plan.now.0 → 1 ≤ job.pass → job.pass ≤ passes
     → IsLayout (setting_of job.grammar.now job.plan.now job.pass) job.layout.now.productions → CanRun job
+
+-- It shows at one offset at most that a content is the file of no tree.
+abbrev pub ShowsOnce : Type 0
+ShowsOnce = (c : Setting) (content : List ℕ) (at there : ℕ) → IsAccepted c.grammar → IsLegal c.grammar c.passes → ShowsAt c content at → ShowsAt c content there → at ≡ there
 
 -- Pass k + 1 counted so over whichever tree has the content as its file of pass k.
 abbrev pub CountsPass : Grammar → Passes → ℕ → (from : List ℕ) → (count evals : ℕ) → Type 0

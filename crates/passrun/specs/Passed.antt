@@ -12,11 +12,11 @@ use Rattle.treefile.specs.Device.{WhenHonest}
 use Rattle.treefile.specs.Records.{IsFileOfTree}
 use Rattle.treefile.specs.TreeFile.{frame, header, version_one}
 use Rattle.treefile.specs.Writing as writing
-use Rattle.treefile.specs.Awaited.{IsOnTheWay}
 use Rattle.backreader.specs.Place.{IsOver, Place}
 use Rattle.planchecker.specs.Settings.{Setting}
 use Rattle.passrun.specs.declared.open_node.OpenNode.{OpenNode}
 use Rattle.passrun.specs.Ahead.{to_come}
+use Rattle.passrun.specs.Damage.{AreRecords, IsReadable}
 use Rattle.passrun.specs.Passing.{Passing, Tapes}
 
 -- A pass ran from one content to another: there are a tree and values such that the one is the file of the pass before, the other
@@ -33,8 +33,8 @@ pub record IsPassed (c : Setting) (content to : List ℕ) (count evals : ℕ) : 
   pub nodes : count ≡ node_count tree
   pub rules : evals ≡ rules_of_pass c.passes c.write c.grammar tree
 
--- A pass runs between two devices: what it has read and put is what the reader and the writer have. On the way from the end of the
--- content to its header, these open nodes tell what is still to come.
+-- A pass runs between two devices: what it has read and put is what the reader and the writer have. What was read are records of
+-- the grammar at their places, and these open nodes tell what is still to come.
 pub record IsRunning (c : Setting) (root : ℕ) (honest : Bool) (content : List ℕ) (to_honest : Bool) (to : List ℕ) (place : Place) (out : writing.Progress) (values : List Value) (stack : List OpenNode) (evals : ℕ) : Type 0 where
   pub tapes : Tapes
   pub passing : Passing c root stack values tapes evals
@@ -47,4 +47,5 @@ pub record IsRunning (c : Setting) (root : ℕ) (honest : Bool) (content : List 
   pub unbroken : place.progress.fault ≡ None
   pub whole : out.is_broken ≡ false
   pub well : All IsWell values
-  pub ahead : WhenHonest honest (IsOnTheWay version_one c.grammar c.passes c.read content place.progress.at place.progress.records (to_come c stack))
+  pub readable : WhenHonest honest (IsReadable c content)
+  pub ahead : AreRecords c tapes.read (to_come c stack)

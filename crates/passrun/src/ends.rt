@@ -1,10 +1,9 @@
 //! The beginning and the end of a pass.
 
 ghost use Rattle.std.specs.Prelude.{◌≡◌, ◌⊎◌, ◌-◌, ◌^◌, ◌≤◌, ℕ, None, Some, IfErr, IfOk, IsErrOf};
-ghost use Rattle.std.specs.Prelude.{OnOk};
 ghost use Rattle.ag_grammar.specs.grammars.Tree.{most_nodes};
 ghost use Rattle.passrun.specs.Ahead.{IsRunFault};
-ghost use Rattle.passrun.specs.Ends.{IsReadable, RunsBetween, first_node};
+ghost use Rattle.passrun.specs.Ends.{RunsBetween, first_node};
 ghost use Rattle.passrun.specs.Jobs.{CanRun, setting};
 ghost use Rattle.passrun.specs.Passed.{IsPassed};
 ghost use Rattle.passrun.specs.Running.{Runs};
@@ -52,8 +51,6 @@ pub(crate) fn begin<D: Device, E: Device>(
     ensures refused { IfErr result (λ f. WhenHonest (D.is_honest from.old)
         (IsRunFault (setting job.now) (D.content from.old) f)) }
     ensures begun { IfOk result (λ m. m.begun ≡ meter.now) }
-    ensures file { OnOk result (WhenHonest (D.is_honest from.old)
-        (IsReadable (setting job.now) (D.content from.old))) }
     ensures content { LeavesContent (D.is_honest from.old)
         (D.content from.old) (D.content from.new) }
     ensures from_persists { Persists (D.is_honest from.old) (D.is_honest from.new)
@@ -66,7 +63,7 @@ pub(crate) fn begin<D: Device, E: Device>(
         ⊎ HasRisen (E.failures to.old) (E.failures to.new) }
 {
     let mut back = Back::start(alloc, from)?;
-    if back.pass() != job.pass - 1 {
+    if back.pass() != job.file_pass() {
         return Err(RunFault::Damaged(PASS_OFFSET));
     }
     let writer = Writer::begin(alloc, to, job.pass)?;
@@ -96,8 +93,7 @@ pub(crate) fn finish<D: Device, E: Device>(
     ensures passed { (meter : ℕ) → Runs (setting job.now) (D.is_honest from.old)
         (D.content from.old) (E.is_honest to.old) (E.content to.old) meter machine.old None →
         WhenHonest (D.is_honest from.old) (WhenHonest (E.is_honest to.old)
-        (IsReadable (setting job.now) (D.content from.old) →
-        IfOk result (λ p. IsPassed (setting job.now) (D.content from.old) (E.content to.new)
+        (IfOk result (λ p. IsPassed (setting job.now) (D.content from.old) (E.content to.new)
         p.nodes (meter - machine.old.begun)))) }
     ensures refused { IfErr result (λ f. WhenHonest (D.is_honest from.old)
         (IsRunFault (setting job.now) (D.content from.old) f)) }

@@ -41,6 +41,14 @@ fn list_of_row(row: &[Vec<Instr>], pass: u16) -> &[Instr]
 }
 
 impl Job<'_> {
+    /// The pass before, whose file is read.
+    pub(crate) fn file_pass(&self) -> u16
+        requires { 1 ≤ self.now.pass }
+        ensures { result ≡ self.now.pass - 1 }
+    {
+        self.pass - 1
+    }
+
     /// The instructions of the pass for a production, none where it has none.
     pub(crate) fn list(&self, production: u16) -> &[Instr]
         requires { 1 ≤ self.now.pass }

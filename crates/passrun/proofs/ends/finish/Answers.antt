@@ -1,11 +1,12 @@
 use Rattle.std.specs.Option.{option_map}
-use Rattle.std.proofs.Common.{◌≡◌, List, Option, Ok, None, Bor, ℕ, ap, sym, ◌∙◌, arith}
+use Rattle.std.proofs.Common.{◌≡◌, List, Option, Ok, None, Bor, ℕ, ap, sym, subst, ◌∙◌, arith}
 use Rattle.std.proofs.lemmas.Result.{err_from_is_err_and}
 use Rattle.ag_grammar.specs.declared.grammar.Item.TheVariants as item
 use Rattle.treefile.specs.Backward.{next_before}
 use Rattle.treefile.specs.TreeFile.{version_one}
+use Rattle.passrun.specs.Damage.{IsDamaged}
 use Rattle.passrun.specs.Jobs.{setting}
-use Rattle.passrun.proofs.Refusing.{end_refused, end_unbroken, end_way, left_over, some_lent}
+use Rattle.passrun.proofs.Refusing.{end_come, end_refused, end_unbroken, left_over, some_lent}
 use Rattle.passrun.proofs.Facts.{few_values}
 use Rattle.passrun.proofs.Ending.{as_many, none_lent, passed, reader_kept, ready_of, start_put, start_row}
 use Rattle.passrun.proofs.ends.finish.Goals as goal
@@ -29,11 +30,11 @@ put_row-requires-clause-room g c =
     r.3
 
 pub returns-clause-passed : goal.returns-clause-passed
-returns-clause-passed g c = λ meter r is to_is file.
+returns-clause-passed g c = λ meter r is to_is.
     let job = setting c.args.job.now in
     let put = start_put job c.requires.job.sound c.args.machine.now c.start.result c.as_slice-values.result.now (g.E.Device.is_honest c.args.to.now) (g.E.Device.content c.args.to.now) (g.E.Device.content c.put_row.new.to) c.put_row.new.writer c.start.ensures.value c.as_slice-values.ensures.value c.in_ok-put_row.ensures.put in
     let end : next_before version_one (g.D.Device.content c.args.from.now) c.args.machine.now.back.progress.at ≡ Ok None = c.in_ok-back.ensures.told r.running.unbroken is ∙ ap Ok (none_lent c.in_ok-back.field-0 (sym c.is_some.ensures ∙ c.if-is_some.false)) in
-    passed job c.requires.job.sound (g.D.Device.is_honest c.args.from.now) (g.D.Device.content c.args.from.now) (g.E.Device.is_honest c.args.to.now) (g.E.Device.content c.args.to.now) (g.E.Device.content c.put_row.new.to) c.args.machine.now c.put_row.new.writer meter c.records.result r is to_is file put end (c.records.ensures ∙ ap (λ p. p.records) (reader_kept _ _ c.args.machine.now.back c.back.follows.lender-at-none c.back.result c.in_ok-back.field-0 c.back.follows.holds-at-none c.in_ok-back.was (sym c.is_some.ensures ∙ c.if-is_some.false)))
+    passed job c.requires.job.sound (g.D.Device.is_honest c.args.from.now) (g.D.Device.content c.args.from.now) (g.E.Device.is_honest c.args.to.now) (g.E.Device.content c.args.to.now) (g.E.Device.content c.put_row.new.to) c.args.machine.now c.put_row.new.writer meter c.records.result r is to_is put end (c.records.ensures ∙ ap (λ p. p.records) (reader_kept _ _ c.args.machine.now.back c.back.follows.lender-at-none c.back.result c.in_ok-back.field-0 c.back.follows.holds-at-none c.in_ok-back.was (sym c.is_some.ensures ∙ c.if-is_some.false)))
 
 pub returns-clause-counts : goal.returns-clause-counts
 returns-clause-counts g c =
@@ -61,7 +62,9 @@ returns-in_err-back-clause-refused g c =
     let to_honest = g.E.Device.is_honest c.args.to.now in
     let to = g.E.Device.content c.args.to.now in
     let m = c.args.machine.now in
-    rw (p.1, p.2) (λ is. end_refused job c.requires.job.sound content m.back.progress.at m.back.progress.records body_of c.in_err-back.field-0.0 (end_way job c.requires.job.sound honest content to_honest to m c.requires.runs is) (c.in_err-back.ensures.told (end_unbroken job c.requires.job.sound honest content to_honest to m c.requires.runs) is))
+    rw (p.1, p.2) (λ is.
+    let come = end_come job c.requires.job.sound honest content to_honest to m c.requires.runs is in
+    end_refused job c.requires.job.sound content m.back.progress.at body_of c.in_err-back.field-0.0 come.0 come.1 (c.in_err-back.ensures.told (end_unbroken job c.requires.job.sound honest content to_honest to m c.requires.runs) is))
 
 pub returns-then-is_some-clause-refused : goal.returns-then-is_some-clause-refused
 returns-then-is_some-clause-refused g c = λ is.
@@ -72,4 +75,5 @@ returns-then-is_some-clause-refused g c = λ is.
     let to = g.E.Device.content c.args.to.now in
     let m = c.args.machine.now in
     let some = some_lent c.in_ok-back.field-0 (sym c.is_some.ensures ∙ c.if-is_some.true) in
-    left_over job c.requires.job.sound content m.back.progress.at m.back.progress.records some.0 (end_way job c.requires.job.sound honest content to_honest to m c.requires.runs is) (c.in_ok-back.ensures.told (end_unbroken job c.requires.job.sound honest content to_honest to m c.requires.runs) is ∙ ap Ok some.1)
+    let come = end_come job c.requires.job.sound honest content to_honest to m c.requires.runs is in
+    subst (IsDamaged job content) (sym c.end-end.ensures) (left_over job c.requires.job.sound content m.back.progress.at some.0 come.0 come.1 (c.in_ok-back.ensures.told (end_unbroken job c.requires.job.sound honest content to_honest to m c.requires.runs) is ∙ ap Ok some.1))

@@ -71,5 +71,5 @@ returns-in_err-passed-clause-refused g c =
     let old = c.loop-done.invariant in
     let said = c.in_err-passed.ensures.refused in
     rw (p.1, p.2) (λ ha hb.
-    all_refused c.args.grammar.now c.args.plan.now c.args.first c.loop-done.done (c.loop-done.done + 1) (g.D.Device.content c.args.a.now) (g.D.Device.content c.loop-done.a) (g.D.Device.content c.loop-done.b) c.loop-done.last (c.loop-done.meter - c.args.meter.now) c.loop-done.sum next (old.runs ha hb)
+    all_refused c.args.grammar.now c.args.plan.now c.args.first c.loop-done.done (c.loop-done.done + 1) (g.D.Device.content c.args.a.now) (g.D.Device.content c.loop-done.a) (g.D.Device.content c.loop-done.b) c.loop-done.last (c.loop-done.meter - c.args.meter.now) c.loop-done.sum next c.requires.first old.low (old.runs ha hb)
     c.in_err-passed.field-0.0 (said (old.a_persists.honest ∙ ha) (old.b_persists.honest ∙ hb)))
