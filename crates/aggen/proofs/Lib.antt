@@ -3,7 +3,7 @@ pub mod Closed
 pub mod Composed
 pub mod Evaluated
 pub mod FromTexts
-pub mod Front
+pub mod Jobs
 pub mod Joined
 pub mod Reading
 pub mod Sentences

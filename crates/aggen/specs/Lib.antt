@@ -1,6 +1,7 @@
 pub mod Building
 pub mod Checking
 pub mod Evaluating
+pub mod Jobs
 pub mod Listing
 pub mod Sentences
 pub mod Showing

@@ -2,6 +2,8 @@
 use Rattle.std.specs.Prelude.{ℕ}
 use Rattle.ag_expr.specs.declared.fault.ExprFault.{ExprFault}
 use Rattle.ag_expr.specs.declared.fault.ExprFault.TheVariants as expr
+use Rattle.ag_job.specs.declared.fault.JobFault.{JobFault}
+use Rattle.ag_job.specs.declared.fault.JobFault.TheVariants as job
 use Rattle.ag_scan.specs.declared.fault.ScanFault.{ScanFault}
 use Rattle.ag_scan.specs.declared.fault.ScanFault.TheVariants as scan
 use Rattle.agoutput.specs.declared.fault.ListingFault.{ListingFault}
@@ -23,8 +25,8 @@ use Rattle.aggen.specs.declared.build_fault.BuildFault.TheVariants as build
 use Rattle.aggen.specs.declared.fault.Fault.{Fault}
 use Rattle.aggen.specs.declared.fault.Fault.TheVariants as fault
 
--- 2 for the command line, 3 for X, G, N, L and A, 4 for S and P of a sentence, 5 for B1, B2, R1 and P2 and P3 of a tree file, 6 for
--- O1, 7 for want of memory, 8 for F1, D1 and O2
+-- 2 for the command line, J1 and J3, 3 for X, G, N, L and A, 4 for S and P of a sentence, 5 for B1, B2, R1 and P2 and P3 of a tree file, 6 for
+-- O1, 7 for want of memory, 8 for F1, J2, D1 and O2
 abbrev pub status_of : Fault → ℕ
 status_of fault.Usage = 2
 status_of fault.File = 8
@@ -36,6 +38,8 @@ status_of (fault.Assign e) = 3
 status_of (fault.Scan e) = 4
 status_of (fault.Parse e) = 4
 status_of (fault.Run e) = 5
+status_of (fault.Job job.Read) = 8
+status_of (fault.Job e) = 2
 status_of (fault.NoText x) = 6
 status_of fault.NotATreeFile = 5
 status_of (fault.Damaged at) = 5
@@ -51,6 +55,10 @@ expr_fault_of e = fault.Expr e
 abbrev pub scan_fault_of : ScanFault → Fault
 scan_fault_of scan.NoMemory = fault.NoMemory
 scan_fault_of e = fault.Scan e
+
+abbrev pub job_fault_of : JobFault → Fault
+job_fault_of job.NoMemory = fault.NoMemory
+job_fault_of e = fault.Job e
 
 -- so is a failed device
 abbrev pub parse_fault_of : ParseFault → Fault

@@ -27,30 +27,30 @@ fn other(last: Last) -> Last
 
 /// All passes of the plan run over the tree whose file a device has: pass 1 from there to `b`, and
 /// the others to and fro between `b` and `a`.
-pub(crate) fn run_tree<D: Device>(
+pub(crate) fn run_tree<T: Device, D: Device>(
     alloc: Global,
     translator: &Translator,
     plan: &Plan,
-    tree: &mut D,
+    tree: &mut T,
     a: &mut D,
     b: &mut D,
 ) -> Result<Report, Fault>
     requires least { IsLeastPlan translator.now plan.now.0 plan.now.1 }
     ensures left { IfOk result (λ report. LeavesFilesOfTree translator.now plan.now.0
-        (D.is_honest tree.old) (D.is_honest a.old) (D.is_honest b.old) (D.content tree.old)
+        (T.is_honest tree.old) (D.is_honest a.old) (D.is_honest b.old) (T.content tree.old)
         (D.content a.new) (D.content b.new) report) }
-    ensures refused { IfErr result (λ e. IsPassesFault translator.now (D.is_honest tree.old)
-        (D.is_honest a.old) (D.is_honest b.old) (D.content tree.old) e) }
-    ensures content { LeavesContent (D.is_honest tree.old)
-        (D.content tree.old) (D.content tree.new) }
-    ensures tree_persists { Persists (D.is_honest tree.old) (D.is_honest tree.new)
-        (D.failures tree.old) (D.failures tree.new) ⊥ }
+    ensures refused { IfErr result (λ e. IsPassesFault translator.now (T.is_honest tree.old)
+        (D.is_honest a.old) (D.is_honest b.old) (T.content tree.old) e) }
+    ensures content { LeavesContent (T.is_honest tree.old)
+        (T.content tree.old) (T.content tree.new) }
+    ensures tree_persists { Persists (T.is_honest tree.old) (T.is_honest tree.new)
+        (T.failures tree.old) (T.failures tree.new) ⊥ }
     ensures a_persists { Persists (D.is_honest a.old) (D.is_honest a.new)
         (D.failures a.old) (D.failures a.new) ⊥ }
     ensures b_persists { Persists (D.is_honest b.old) (D.is_honest b.new)
         (D.failures b.old) (D.failures b.new) ⊥ }
     ensures cause { IsErrOf result Fault.Device →
-        HasRisen (D.failures tree.old) (D.failures tree.new)
+        HasRisen (T.failures tree.old) (T.failures tree.new)
         ⊎ (HasRisen (D.failures a.old) (D.failures a.new)
         ⊎ HasRisen (D.failures b.old) (D.failures b.new)) }
 {

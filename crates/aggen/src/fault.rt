@@ -2,7 +2,7 @@
 
 ghost use Rattle.std.specs.Prelude.{◌≡◌};
 ghost use Rattle.aggen.specs.Status.{build_fault_of, device_fault_of, expr_fault_of};
-ghost use Rattle.aggen.specs.Status.{frame_fault_of, listing_fault_of, out_fault_of};
+ghost use Rattle.aggen.specs.Status.{frame_fault_of, job_fault_of, listing_fault_of, out_fault_of};
 ghost use Rattle.aggen.specs.Status.{parse_fault_of, run_fault_of, scan_fault_of, status_of};
 ghost use Rattle.aggen.specs.Status.{write_fault_of};
 ghost use Rattle.aggen.specs.declared.fault.Fault.TheVariants as program_fault;
@@ -10,6 +10,7 @@ ghost use Rattle.aggen.specs.declared.fault.Fault.TheVariants as program_fault;
 use crate::build_fault::BuildFault;
 use crate::stuck_grammar::StuckGrammar;
 use ag_expr::ExprFault;
+use ag_job::JobFault;
 use ag_scan::ScanFault;
 use ag_text::TextFault;
 use ag_value::{NoMemory, Value};
@@ -58,6 +59,9 @@ pub enum Fault {
     /// it.
     #[error("{0}")]
     Run(RunFault),
+    /// J1 to J3: what a reader gives is no job. Want of memory is never in it.
+    #[error("{0}")]
+    Job(JobFault),
     /// O1: the translation is this value, and no text.
     #[error("O1 the translation is no text")]
     NoText(Value),
@@ -79,13 +83,15 @@ pub enum Fault {
     NoMemory,
 }
 
-/// The status that the program ends with after a fault: 2 usage; 3 X, G, N, L and A; 4 S and P of a
-/// sentence; 5 B1, B2, R1, and P2 and P3 of a tree file; 6 O1; 7 want of memory; 8 F1, D1 and O2.
+/// The status that the program ends with after a fault: 2 usage, J1 and J3; 3 X, G, N, L and A; 4 S and P of a
+/// sentence; 5 B1, B2, R1, and P2 and P3 of a tree file; 6 O1; 7 want of memory; 8 F1, J2, D1 and
+/// O2.
 pub fn status(fault: &Fault) -> u8
     ensures { result ≡ status_of fault.now }
 {
     match fault {
-        Fault::Usage => 2,
+        Fault::Job(JobFault::Read) => 8,
+        Fault::Usage | Fault::Job(_) => 2,
         Fault::Expr(_) | Fault::Text(_) => 3,
         Fault::Normal(_) | Fault::Table(_) | Fault::Assign(_) => 3,
         Fault::Scan(_) | Fault::Parse(_) => 4,
@@ -103,6 +109,17 @@ impl From<ExprFault> for Fault {
         match fault {
             ExprFault::NoMemory => Fault::NoMemory,
             _ => Fault::Expr(fault),
+        }
+    }
+}
+
+impl From<JobFault> for Fault {
+    ghost from_gives = { λ fault e. e ≡ job_fault_of fault };
+
+    fn from(fault: JobFault) -> Fault {
+        match fault {
+            JobFault::NoMemory => Fault::NoMemory,
+            _ => Fault::Job(fault),
         }
     }
 }

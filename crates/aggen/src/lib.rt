@@ -1,6 +1,6 @@
 //! Translators from attribute grammars: a grammar's text makes one or is refused, its plan is
-//! listed, it makes of a sentence the file of its one tree, and translates it. Beside it the value
-//! of an expression, by way of a tree file.
+//! listed, it makes of a sentence the file of its one tree, and translates it; a job has grammar and
+//! sentence in one text. Beside it the value of an expression, by way of a tree file.
 #![tactic(auto)]
 
 mod build_fault;
@@ -8,6 +8,7 @@ mod checking;
 mod evaluating;
 mod fault;
 mod file;
+mod job;
 pub mod laws;
 mod listing;
 mod report;
@@ -20,6 +21,7 @@ mod value;
 pub use build_fault::BuildFault;
 pub use checking::{grammar_of, print_counts};
 pub use fault::{Fault, status};
+pub use job::run_job;
 pub use listing::{print_code, print_plan};
 pub use report::Report;
 pub use source::{bytes_of, source_of};

@@ -1,16 +1,19 @@
 //! Reading a file into memory.
 
-ghost use Rattle.std.specs.Prelude.{◌≡◌, IfErr, IfOk, IfSome, take};
+ghost use Rattle.std.specs.Prelude.{◌≡◌, ◌+◌, IfErr, IfOk, IfSome, take};
+ghost use Rattle.ag_grammar.specs.grammars.Accepted.{most_text_bytes};
 ghost use Rattle.aggen.specs.Status.{IsSourceFault};
 
 use crate::fault::Fault;
+use ag_grammar::limits::MOST_TEXT_BYTES;
+use ag_job::{ReadFault, read_front};
 use std::alloc::Global;
 use std::fs;
 use std::io::{Error, ErrorKind, Read};
 use std::rt::Files;
 
 /// How many bytes of a file are read at most: one more than a grammar's text may have.
-const MOST: u64 = 1_048_577;
+const MOST: u64 = MOST_TEXT_BYTES as u64 + 1;
 
 /// The bytes of a file, at most 1,048,577 of them. F1 File where it can't be opened or read.
 pub fn source_of<R: Files>(rt: &R, alloc: Global, path: &str) -> Result<Vec<u8>, Fault>
@@ -25,17 +28,17 @@ pub fn source_of<R: Files>(rt: &R, alloc: Global, path: &str) -> Result<Vec<u8>,
 /// What a reader gives, at most 1,048,577 bytes of it. F1 File where it can't be read.
 pub fn bytes_of<R: Read + Drop>(alloc: Global, reader: R) -> Result<Vec<u8>, Fault>
     ensures read { IfOk result (λ bytes. IfSome (R.remaining reader)
-        (λ left. bytes.items ≡ take 1048577 left)) }
+        (λ left. bytes.items ≡ take (most_text_bytes + 1) left)) }
     ensures refused { IfErr result IsSourceFault }
 {
-    let mut bytes = Vec::new(alloc);
-    match reader.take(MOST).read_to_end(&mut bytes) {
-        Ok(_) => Ok(bytes),
-        Err(error) => Err(refusal(&error)),
+    match read_front(alloc, reader, MOST) {
+        Ok(bytes) => Ok(bytes),
+        Err(ReadFault::Read) => Err(Fault::File),
+        Err(ReadFault::NoMemory) => Err(Fault::NoMemory),
     }
 }
 
-/// Why a file is not read.
+/// Why a file is not opened.
 fn refusal(error: &Error) -> Fault
     ensures { IsSourceFault result }
 {

@@ -212,35 +212,35 @@ impl Translator {
     /// Write where a write failed or took no byte; D1 Device where a call of a device failed. Of a
     /// device that does not give back what was written, B1 or B2 may come. On every refusal but O2
     /// the writer is as before.
-    pub fn evaluate_tree<D: Device, W: Write>(
+    pub fn evaluate_tree<T: Device, D: Device, W: Write>(
         &self,
-        tree: &mut D,
+        tree: &mut T,
         a: &mut D,
         b: &mut D,
         out: &mut W,
     ) -> Result<Report, Fault>
         // the translation theorem, for the tree of a file
         ensures evaluates { IfOk result (λ report. EvaluatesTree self.now
-            (D.is_honest tree.old) (D.is_honest a.old) (D.is_honest b.old)
-            (D.content tree.old) (D.content a.new) (D.content b.new)
+            (T.is_honest tree.old) (D.is_honest a.old) (D.is_honest b.old)
+            (T.content tree.old) (D.content a.new) (D.content b.new)
             (W.contents out.old) (W.contents out.new) report) }
 
         // a refusal: what it says of the content is true
         ensures refused { IfErr result (λ e. IsEvaluationFault self.now
-            (D.is_honest tree.old) (D.is_honest a.old) (D.is_honest b.old)
-            (D.content tree.old) (W.contents out.old) (W.contents out.new) e) }
+            (T.is_honest tree.old) (D.is_honest a.old) (D.is_honest b.old)
+            (T.content tree.old) (W.contents out.old) (W.contents out.new) e) }
         ensures kept { IfErr result (λ e. e ≢ Fault.Write → out.new ≡ out.old) }
-        ensures content { LeavesContent (D.is_honest tree.old)
-            (D.content tree.old) (D.content tree.new) }
-        ensures tree_persists { Persists (D.is_honest tree.old) (D.is_honest tree.new)
-            (D.failures tree.old) (D.failures tree.new) ⊥ }
+        ensures content { LeavesContent (T.is_honest tree.old)
+            (T.content tree.old) (T.content tree.new) }
+        ensures tree_persists { Persists (T.is_honest tree.old) (T.is_honest tree.new)
+            (T.failures tree.old) (T.failures tree.new) ⊥ }
         ensures a_persists { Persists (D.is_honest a.old) (D.is_honest a.new)
             (D.failures a.old) (D.failures a.new) ⊥ }
         ensures b_persists { Persists (D.is_honest b.old) (D.is_honest b.new)
             (D.failures b.old) (D.failures b.new) ⊥ }
         // D1 only where the number of failures rose on one of the three
         ensures cause { IsErrOf result Fault.Device →
-            HasRisen (D.failures tree.old) (D.failures tree.new)
+            HasRisen (T.failures tree.old) (T.failures tree.new)
             ⊎ (HasRisen (D.failures a.old) (D.failures a.new)
             ⊎ HasRisen (D.failures b.old) (D.failures b.new)) }
     {

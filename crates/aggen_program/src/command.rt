@@ -8,24 +8,32 @@ use clap::error::ErrorKind;
 use clap::{Arg, ArgMatches, Command, Error};
 use std::alloc::{AllocError, Global};
 
-/// What the program evaluates where it is given no word.
-const EXAMPLE: &str = "2 + 3 * 4";
-
 /// The name of the one argument of `value`.
 const EXPRESSION: &str = "EXPR";
 
-/// The name of the one argument of `check`, `plan` and `code`, and of the first one of `parse`.
+/// The name of the one argument of `check`, `plan` and `code`, and of the first one of `run`,
+/// `parse` and `eval`.
 const GRAMMAR: &str = "G";
 
-/// The names of the others of `parse`.
+/// The name of the second one of `run` and `parse`.
 const SENTENCE: &str = "S";
 
+/// The name of the third one of `parse`, and of the second one of `eval`.
 const TREE: &str = "TREE";
+
+/// The name of the option of `run`.
+const WORK: &str = "work";
 
 /// What a command line asks for.
 pub enum Request<'a> {
     /// Nothing more: help or the version was asked for, and was printed.
     Nothing,
+    /// The translation of the job that standard input has.
+    Job,
+    /// The translation of a sentence.
+    Run(RunPaths<'a>),
+    /// The translation of the tree in a tree file.
+    Eval(EvalPaths<'a>),
     /// The value of an expression.
     Value(&'a str),
     /// The check of the grammar in the file of this name.
@@ -36,6 +44,26 @@ pub enum Request<'a> {
     Code(&'a str),
     /// The tree file of a sentence.
     Parse(Paths<'a>),
+}
+
+/// The names of the files that `run` takes.
+#[derive(Clone, Copy)]
+pub struct RunPaths<'a> {
+    /// Of the grammar's.
+    pub grammar: &'a str,
+    /// Of the sentence's.
+    pub sentence: &'a str,
+    /// Of the folder in which the tree files stay; none: they are in memory.
+    pub work: Option<&'a str>,
+}
+
+/// The names of the files that `eval` takes.
+#[derive(Clone, Copy)]
+pub struct EvalPaths<'a> {
+    /// Of the grammar's.
+    pub grammar: &'a str,
+    /// Of the tree file.
+    pub tree: &'a str,
 }
 
 /// The names of the files that `parse` takes.
@@ -66,6 +94,19 @@ pub fn request_of<'a, R: Print + Eprint>(
 }
 
 fn request_in<'a>(matches: &ArgMatches<'a>) -> Request<'a> {
+    if let Some(run) = matches.subcommand_matches("run") {
+        return Request::Run(RunPaths {
+            grammar: run.get_str(GRAMMAR).unwrap_or(""),
+            sentence: run.get_str(SENTENCE).unwrap_or(""),
+            work: run.get_str(WORK),
+        });
+    }
+    if let Some(eval) = matches.subcommand_matches("eval") {
+        return Request::Eval(EvalPaths {
+            grammar: eval.get_str(GRAMMAR).unwrap_or(""),
+            tree: eval.get_str(TREE).unwrap_or(""),
+        });
+    }
     if let Some(check) = matches.subcommand_matches("check") {
         return Request::Check(check.get_str(GRAMMAR).unwrap_or(""));
     }
@@ -83,8 +124,8 @@ fn request_in<'a>(matches: &ArgMatches<'a>) -> Request<'a> {
         });
     }
     match matches.subcommand_matches("value") {
-        Some(value) => Request::Value(value.get_str(EXPRESSION).unwrap_or(EXAMPLE)),
-        None => Request::Value(EXAMPLE),
+        Some(value) => Request::Value(value.get_str(EXPRESSION).unwrap_or("")),
+        None => Request::Job,
     }
 }
 
@@ -105,6 +146,27 @@ fn refuse<'a, R: Print + Eprint>(rt: &R, error: Error) -> Result<Request<'a>, Fa
         return Err(Fault::Write);
     }
     Ok(Request::Nothing)
+}
+
+/// The command that translates a sentence.
+fn run_command<'a>(alloc: Global) -> Result<Command<'a>, AllocError> {
+    Command::new(alloc, "run")
+        .about("Translates a sentence by a grammar, and prints the translation and nothing else")
+        .arg(file(alloc, GRAMMAR, "The name of the grammar's file"))?
+        .arg(file(alloc, SENTENCE, "The name of the sentence's file"))?
+        .arg(work_folder(alloc))
+}
+
+/// The command that translates the tree in a tree file.
+fn eval_command<'a>(alloc: Global) -> Result<Command<'a>, AllocError> {
+    Command::new(alloc, "eval")
+        .about("Translates the tree in a tree file that `parse` wrote, and prints the translation")
+        .arg(file(alloc, GRAMMAR, "The name of the grammar's file"))?
+        .arg(file(
+            alloc,
+            TREE,
+            "The name of the tree file, which stays as it is",
+        ))
 }
 
 fn command<'a>(alloc: Global) -> Result<Command<'a>, AllocError> {
@@ -137,12 +199,23 @@ fn command<'a>(alloc: Global) -> Result<Command<'a>, AllocError> {
         .bin_name("aggen")?
         .version("0.1.0")
         .about("Makes translators from attribute grammars")
-        .after_help("With no command it does what `aggen value \"2 + 3 * 4\"` does.")
+        .after_help(
+            "With no command it translates a job on standard input: a grammar, the line `%%`, and a sentence.",
+        )
+        .subcommand(run_command(alloc)?)?
+        .subcommand(eval_command(alloc)?)?
         .subcommand(value)?
         .subcommand(check)?
         .subcommand(plan)?
         .subcommand(code)?
         .subcommand(parse)
+}
+
+/// The option that names the folder in which the tree files of `run` stay.
+fn work_folder<'a>(alloc: Global) -> Arg<'a> {
+    Arg::new(alloc, WORK).long(WORK).value_name("DIR").help(
+        "The name of a folder in which the tree files a.agt and b.agt are made, and stay",
+    )
 }
 
 /// An argument that names a file.

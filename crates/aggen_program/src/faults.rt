@@ -1,10 +1,11 @@
 //! Telling a fault in one line on standard error: its number, and what a message says behind it.
 //! Each answers the fault that it told; where the line can't be written, the status still tells.
 
+use ag_value::show;
 use aggen::{Fault, Translator};
 use messages::{
     ConflictMessage, ExpressionMessage, NormalMessage, ParseMessage, PathMessage, ScanMessage,
-    StuckMessage, TextMessage,
+    StuckMessage, TextMessage, TreeMessage, ValueMessage,
 };
 use std::alloc::Global;
 
@@ -69,6 +70,29 @@ pub fn tell_sentence<R: Eprint>(
             let message = ParseMessage::new(alloc, *parse, grammar, tables, sentence);
             eprintln!(rt; "{fault}{message}")
         }
+        _ => return tell_translation(rt, alloc, fault),
+    };
+    fault
+}
+
+/// Tells a fault of the tree in the file of this name.
+pub fn tell_tree<R: Eprint>(rt: &R, alloc: Global, fault: Fault, path: &str) -> Fault {
+    let _ = match &fault {
+        Fault::File | Fault::Device => eprintln!(rt; "{fault}{}", PathMessage::new(path)),
+        Fault::Run(run) => eprintln!(rt; "{fault}{}", TreeMessage::new(*run, path)),
+        _ => return tell_translation(rt, alloc, fault),
+    };
+    fault
+}
+
+/// Tells a fault of a translation: O1 with the value that it is. Where memory for that is short, the
+/// line ends before it.
+fn tell_translation<R: Eprint>(rt: &R, alloc: Global, fault: Fault) -> Fault {
+    let _ = match &fault {
+        Fault::NoText(value) => match show(alloc, value) {
+            Ok(shown) => eprintln!(rt; "{fault}{}", ValueMessage::new(shown.as_str())),
+            Err(_) => rt.eprintln(&fault),
+        },
         _ => rt.eprintln(&fault),
     };
     fault

@@ -1,13 +1,16 @@
 //! `aggen`: translators from attribute grammars.
 //!
-//! The program has five commands so far. `value EXPR` evaluates an expression, takes its value
-//! through a tree file in memory, and prints what it reads back; `check G` reads and checks the
-//! grammar in a file; `plan G` and `code G` print its passes and what they do; `parse G S TREE`
-//! parses the sentence in a file, and writes its tree's file.
+//! `run G S` translates the sentence in a file by the grammar in a file, and prints the translation;
+//! `eval G TREE` does that with the tree in a tree file. With no word the program translates the job
+//! on standard input. `check G` reads and checks a grammar; `plan G` and `code G` print its passes
+//! and what they do; `parse G S TREE` parses a sentence, and writes its tree's file; `value EXPR`
+//! evaluates an expression, takes its value through a tree file in memory, and prints what it reads
+//! back.
 #![tactic(auto)]
 
 mod command;
 mod faults;
+mod translations;
 
 use aggen::{
     Fault, Translator, nodes_line, print_code, print_counts, print_plan, show_value, source_of,
@@ -20,6 +23,7 @@ use std::alloc::{AllocError, Global};
 use std::io;
 use std::process::ExitCode;
 use std::rt::{Env, Files};
+use translations::{evaluate_file, run_files, run_input, sentence_in, translator_in};
 use treefile::{FileDevice, MemDevice};
 
 fn main(rt: HostRuntime) -> ExitCode {
@@ -30,7 +34,7 @@ fn main(rt: HostRuntime) -> ExitCode {
 }
 
 /// Does what the words of the command line ask for. A fault has been told on standard error.
-fn run<R: Env + Files + Print + Eprint + AllocGlobal>(rt: &R) -> Result<(), Fault> {
+fn run<R: Env + Files + Input + Print + Eprint + AllocGlobal>(rt: &R) -> Result<(), Fault> {
     let alloc = rt.alloc();
     let words = match words_of(rt, alloc) {
         Ok(words) => words,
@@ -38,6 +42,9 @@ fn run<R: Env + Files + Print + Eprint + AllocGlobal>(rt: &R) -> Result<(), Faul
     };
     match request_of(rt, alloc, words.as_slice()) {
         Ok(Request::Nothing) => Ok(()),
+        Ok(Request::Job) => run_input(rt, alloc),
+        Ok(Request::Run(paths)) => run_files(rt, alloc, &paths),
+        Ok(Request::Eval(paths)) => evaluate_file(rt, alloc, &paths),
         Ok(Request::Value(text)) => print_value(rt, alloc, text),
         Ok(Request::Check(path)) => print_of(rt, alloc, path, Part::Counts),
         Ok(Request::Plan(path)) => print_of(rt, alloc, path, Part::Plan),
@@ -113,34 +120,12 @@ fn parse_file<R: Files + Print + Eprint>(
     paths: &Paths<'_>,
 ) -> Result<(), Fault> {
     let translator = translator_in(rt, alloc, paths.grammar)?;
-    let sentence = match source_of(rt, alloc, paths.sentence) {
-        Ok(sentence) => sentence,
-        Err(fault) => return Err(tell_file(rt, fault, paths.sentence)),
-    };
+    let sentence = sentence_in(rt, alloc, paths.sentence)?;
     let sentence = sentence.as_slice();
     match write_tree(rt, alloc, &translator, sentence, paths.tree) {
         Ok(()) => Ok(()),
         Err(fault @ (Fault::File | Fault::Device)) => Err(tell_file(rt, fault, paths.tree)),
         Err(fault) => Err(tell_sentence(rt, alloc, fault, &translator, sentence)),
-    }
-}
-
-/// The translator of the grammar in a file. A fault has been told on standard error.
-fn translator_in<R: Files + Eprint>(
-    rt: &R,
-    alloc: Global,
-    path: &str,
-) -> Result<Translator, Fault> {
-    let bytes = match source_of(rt, alloc, path) {
-        Ok(bytes) => bytes,
-        Err(fault) => return Err(tell_file(rt, fault, path)),
-    };
-    match Translator::build(alloc, bytes.as_slice()) {
-        Ok(translator) => Ok(translator),
-        Err(fault) => {
-            let fault = Fault::from(fault);
-            Err(tell_grammar(rt, alloc, fault, bytes.as_slice()))
-        }
     }
 }
 

@@ -1,10 +1,15 @@
 //! What passes make of tree files.
 
+ghost use Rattle.planchecker.specs.Plans.{IsPlan};
+
+use crate::plans::pair;
 use crate::sentences::translator;
 use ag_expr::Meter;
 use aggen::Translator;
+use normalform::Grammar;
 use passrun::{Last, Passed, run_all, run_pass};
-use rows::{Mistake, bytes_of, first_word, printed, short_number, shown_bytes};
+use planchecker::{Plan, check_plan};
+use rows::{Mistake, bytes_of, first_word, halves, printed, short_number, shown_bytes};
 use std::alloc::Global;
 use treefile::MemDevice;
 
@@ -48,16 +53,19 @@ pub fn pass_told(alloc: Global, text: &str, pass: &str, content: &str) -> Result
     pass_over(alloc, &translator, pass, &mut from, &mut to)
 }
 
+/// The file of the tree of a sentence, which has one.
+fn tree_of(alloc: Global, translator: &Translator, sentence: &str) -> Result<MemDevice, Mistake> {
+    let mut device = MemDevice::new(alloc);
+    match translator.parse_tree(sentence.as_bytes(), &mut device) {
+        Ok(_) => Ok(device),
+        Err(_) => Err(Mistake::Unfit),
+    }
+}
+
 /// What all passes make of the tree of a sentence, each on a line of its own.
 pub fn through_told(alloc: Global, text: &str, sentence: &str) -> Result<String, Mistake> {
     let translator = translator(alloc, text)?;
-    let mut from = MemDevice::new(alloc);
-    if translator
-        .parse_tree(sentence.as_bytes(), &mut from)
-        .is_err()
-    {
-        return Err(Mistake::Unfit);
-    }
+    let mut from = tree_of(alloc, &translator, sentence)?;
     let mut told = String::new(alloc);
     for pass in 1..=translator.plan().assignment().passes() {
         let mut to = MemDevice::new(alloc);
@@ -86,17 +94,18 @@ fn sum_told(
 /// nothing, or their fault.
 fn run_from(
     alloc: Global,
-    translator: &Translator,
+    grammar: &Grammar,
+    plan: &Plan,
     first: u16,
     a: &mut MemDevice,
-) -> Result<String, Mistake> {
-    let plan = translator.plan();
+) -> Result<String, Mistake>
+    requires { IsPlan grammar.now plan.now.0 plan.now.1 }
+{
     if first == 0 || plan.assignment().passes() < first - 1 {
         return Err(Mistake::Unfit);
     }
     let mut b = MemDevice::new(alloc);
     let mut meter = Meter::new();
-    let grammar = translator.grammar();
     match run_all(alloc, grammar, plan, first, a, &mut b, &mut meter) {
         Ok((Last::A, sum)) => sum_told(alloc, Last::A, &sum, meter.count(), a),
         Ok((Last::B, sum)) => sum_told(alloc, Last::B, &sum, meter.count(), &b),
@@ -107,14 +116,23 @@ fn run_from(
 /// What all passes of the plan of a text's grammar make of the tree of a sentence.
 pub fn run_told(alloc: Global, text: &str, sentence: &str) -> Result<String, Mistake> {
     let translator = translator(alloc, text)?;
-    let mut device = MemDevice::new(alloc);
-    if translator
-        .parse_tree(sentence.as_bytes(), &mut device)
-        .is_err()
-    {
+    let mut device = tree_of(alloc, &translator, sentence)?;
+    let (grammar, plan) = (translator.grammar(), translator.plan());
+    run_from(alloc, grammar, plan, 1, &mut device)
+}
+
+/// What all passes of another plan for a text's grammar make of the tree of a sentence. The sentence
+/// and the plan's assignment and code stand on both sides of `by`.
+pub fn run_by_told(alloc: Global, text: &str, spelled: &str) -> Result<String, Mistake> {
+    let (sentence, spelled) = halves(spelled, " by ")?;
+    let (assignment, code) = pair(alloc, spelled)?;
+    let translator = translator(alloc, text)?;
+    let grammar = translator.grammar();
+    let Ok(plan) = check_plan(grammar, assignment, code) else {
         return Err(Mistake::Unfit);
-    }
-    run_from(alloc, &translator, 1, &mut device)
+    };
+    let mut device = tree_of(alloc, &translator, sentence)?;
+    run_from(alloc, grammar, &plan, 1, &mut device)
 }
 
 /// What the passes of the plan of a text's grammar, from one on, make of a content.
@@ -127,5 +145,6 @@ pub fn run_bytes_told(
     let first = short_number(first)?;
     let mut device = MemDevice::from_bytes(bytes_of(alloc, content)?);
     let translator = translator(alloc, text)?;
-    run_from(alloc, &translator, first, &mut device)
+    let (grammar, plan) = (translator.grammar(), translator.plan());
+    run_from(alloc, grammar, plan, first, &mut device)
 }

@@ -84,7 +84,7 @@ fn assignment(alloc: Global, text: &str) -> Result<Assignment, Mistake> {
 }
 
 /// The assignment and the code of a text, which stand on both sides of `:`.
-fn pair(alloc: Global, text: &str) -> Result<(Assignment, Code), Mistake> {
+pub fn pair(alloc: Global, text: &str) -> Result<(Assignment, Code), Mistake> {
     let (rows, lists) = halves(text, " : ")?;
     let assignment = assignment(alloc, rows)?;
     Ok((assignment, Code::of_rows(rows_of_lists(alloc, lists)?)))

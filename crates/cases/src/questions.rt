@@ -2,13 +2,13 @@
 
 use crate::faults::{file_told, message_told, source_told, status_told};
 use crate::grammars::{check_told, could_told, listing_told, parts_told, read_told};
-use crate::passes::{pass_told, run_bytes_told, run_told, through_told};
+use crate::passes::{pass_told, run_by_told, run_bytes_told, run_told, through_told};
 use crate::plans::{list_told, passes_told, plan_told};
 use crate::raw_grammars::chain_told;
 use crate::roots::{root_bytes_told, root_told};
 use crate::sentences::{choice_told, fits_told, parse_told, scan_told, stand_told, table_told};
 use crate::stuck::{assign_told, stuck_told};
-use crate::translations::{evaluate_told, translate_told};
+use crate::translations::{evaluate_told, job_told, translate_told};
 use rows::{Mistake, Written, bytes_of, first_word, number};
 use std::alloc::Global;
 
@@ -48,6 +48,7 @@ fn answer_of_plans(
         }
         "through" => through_told(alloc, grammar, written.text_or(rest)),
         "run" => run_told(alloc, grammar, written.text_or(rest)),
+        "run-by" => run_by_told(alloc, grammar, rest),
         "run-bytes" => {
             let (first, content) = first_word(rest);
             run_bytes_told(alloc, grammar, first, written.text_or(content))
@@ -76,6 +77,7 @@ fn answer_of_sentences(
         "root" => root_told(alloc, grammar, sentence),
         "root-bytes" => root_bytes_told(alloc, grammar, sentence),
         "translate" => translate_told(alloc, grammar, sentence),
+        "job" => job_told(alloc, sentence),
         "evaluate" => evaluate_told(alloc, grammar, sentence),
         _ => answer_of_faults(alloc, written, verb, rest),
     }

@@ -1,8 +1,8 @@
-//! What sentences, and the trees of files, are translated to.
+//! What sentences, jobs, and the trees of files are translated to.
 
 use crate::sentences::translator;
 use ag_value::show;
-use aggen::{Fault, Report};
+use aggen::{Fault, Report, run_job};
 use rows::{Mistake, bytes_of, printed};
 use std::alloc::{AllocError, Global};
 use treefile::MemDevice;
@@ -43,6 +43,15 @@ pub fn translate_told(alloc: Global, text: &str, sentence: &str) -> Result<Strin
     let mut b = MemDevice::new(alloc);
     let mut out = Vec::new(alloc);
     let ended = translator.translate(sentence.as_bytes(), &mut a, &mut b, &mut out);
+    ending_told(alloc, ended, out.as_slice())
+}
+
+/// The translation of a job.
+pub fn job_told(alloc: Global, text: &str) -> Result<String, Mistake> {
+    let mut a = MemDevice::new(alloc);
+    let mut b = MemDevice::new(alloc);
+    let mut out = Vec::new(alloc);
+    let ended = run_job(alloc, text.as_bytes(), &mut out, &mut a, &mut b);
     ending_told(alloc, ended, out.as_slice())
 }
 

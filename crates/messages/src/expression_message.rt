@@ -2,7 +2,7 @@
 
 use crate::telling::{begins_with, found_at, tell_expected, tell_found, tell_place};
 use ag_expr::{Expected as Part, ExprFault, expected_at};
-use ag_grammar::limits::MOST_LEVELS;
+use ag_grammar::limits::{MOST_LEVELS, MOST_PLACE};
 use ag_text::Expected;
 use ag_value::NoMemory;
 use std::alloc::Global;
@@ -90,7 +90,8 @@ pub fn tell_expression<W: fmt::Write>(
             tell_found(f, found)?;
             write!(
                 f,
-                ", where 9223372036854775807 is the greatest, and 65535 the greatest place behind $"
+                ", where {} is the greatest, and {MOST_PLACE} the greatest place behind $",
+                i64::MAX
             )
         }
         ExprFault::TooDeep(_) => write!(

@@ -19,6 +19,8 @@ mod stuck_message;
 mod telling;
 mod terminals;
 mod text_message;
+mod tree_message;
+mod value_message;
 
 pub use conflict_message::ConflictMessage;
 pub use expression_message::ExpressionMessage;
@@ -28,3 +30,5 @@ pub use path_message::PathMessage;
 pub use scan_message::ScanMessage;
 pub use stuck_message::StuckMessage;
 pub use text_message::TextMessage;
+pub use tree_message::TreeMessage;
+pub use value_message::ValueMessage;

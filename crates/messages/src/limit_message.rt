@@ -1,6 +1,7 @@
 //! Which limit of grammars is exceeded, in words.
 
 use crate::sites::last_place;
+use crate::telling::tell_number;
 use ag_grammar::limits::{
     MOST_ATTRIBUTES, MOST_ITEMS, MOST_LITERAL_BYTES, MOST_LITERALS, MOST_PRODUCTIONS, MOST_STORED,
     MOST_SYMBOLS,
@@ -61,12 +62,11 @@ fn tell_excess<W: fmt::Write>(f: &mut fmt::Formatter<W>, kind: LimitKind) -> fmt
             f,
             "a literal of more than {MOST_LITERAL_BYTES} bytes, write a shorter one"
         ),
-        LimitKind::Literals => write!(
-            f,
-            "more than {},{:03} different literals, write fewer",
-            MOST_LITERALS / 1_000,
-            MOST_LITERALS % 1_000
-        ),
+        LimitKind::Literals => {
+            write!(f, "more than ")?;
+            tell_number(f, MOST_LITERALS)?;
+            write!(f, " different literals, write fewer")
+        }
     }
 }
 

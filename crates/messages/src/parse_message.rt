@@ -1,6 +1,6 @@
 //! Why a sentence has no tree, in words.
 
-use crate::telling::{front_of, tell_found, tell_place};
+use crate::telling::{front_of, tell_found, tell_number, tell_place};
 use crate::terminals::{class_name, tell_aheads};
 use ag_grammar::limits::{MOST_DEPTH, MOST_NODES};
 use ag_scan::{Token, scan};
@@ -91,12 +91,14 @@ impl fmt::Display for ParseMessage<'_> {
                 f,
                 " no tree of at most {MOST_DEPTH} levels has these tokens, nest them less"
             ),
-            ParseFault::TooManyNodes => write!(
-                f,
-                " no tree of at most {},{:03} nodes has these tokens, cut the sentence into smaller ones",
-                MOST_NODES / 1_000,
-                MOST_NODES % 1_000
-            ),
+            ParseFault::TooManyNodes => {
+                write!(f, " no tree of at most ")?;
+                tell_number(f, MOST_NODES as usize)?;
+                write!(
+                    f,
+                    " nodes has these tokens, cut the sentence into smaller ones"
+                )
+            }
             ParseFault::Device | ParseFault::NoMemory => Ok(()),
         }
     }

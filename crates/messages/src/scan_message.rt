@@ -1,7 +1,8 @@
 //! Why a sentence has no tokens, in words.
 
-use crate::telling::{front_of, tell_found, tell_place};
+use crate::telling::{front_of, tell_found, tell_number, tell_place};
 use crate::terminals::tell_terminals;
+use ag_grammar::limits::{MOST_TEXT_BYTES, MOST_TOKEN_BYTES};
 use ag_scan::ScanFault;
 use normalform::Grammar;
 use std::fmt;
@@ -58,17 +59,19 @@ fn tell_scan<W: fmt::Write>(
         ScanFault::NoToken(at) => {
             write!(f, ": no token begins with ")?;
             tell_found(f, first_character(text, at))?;
-            write!(f, " here, a token is ")?;
+            write!(f, " here, ")?;
             tell_terminals(f, grammar)
         }
-        ScanFault::LongToken(_) => write!(
-            f,
-            ": the token here has more than 65,535 bytes, cut it into smaller ones"
-        ),
-        ScanFault::TooLong => write!(
-            f,
-            " the sentence has more than 1,048,576 bytes, cut it into smaller ones"
-        ),
+        ScanFault::LongToken(_) => {
+            write!(f, ": the token here has more than ")?;
+            tell_number(f, MOST_TOKEN_BYTES)?;
+            write!(f, " bytes, cut it into smaller ones")
+        }
+        ScanFault::TooLong => {
+            write!(f, " the sentence has more than ")?;
+            tell_number(f, MOST_TEXT_BYTES)?;
+            write!(f, " bytes, cut it into smaller ones")
+        }
         ScanFault::NoMemory => Ok(()),
     }
 }

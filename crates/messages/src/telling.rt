@@ -14,6 +14,23 @@ pub fn tell_place<W: fmt::Write>(f: &mut fmt::Formatter<W>, text: &str, at: usiz
     write!(f, " (line {line}, column {column})")
 }
 
+/// A number, with a comma before each of its last two groups of three digits.
+pub fn tell_number<W: fmt::Write>(f: &mut fmt::Formatter<W>, number: usize) -> fmt::Result {
+    let (thousands, rest) = (number / 1_000, number % 1_000);
+    if thousands == 0 {
+        return write!(f, "{rest}");
+    }
+    if thousands < 1_000 {
+        return write!(f, "{thousands},{rest:03}");
+    }
+    write!(
+        f,
+        "{},{:03},{rest:03}",
+        thousands / 1_000,
+        thousands % 1_000
+    )
+}
+
 /// The line of an offset in bytes, and its column in characters, both from 1.
 pub fn place_of(text: &str, at: usize) -> (usize, usize) {
     let mut line = 1usize;

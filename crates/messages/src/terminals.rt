@@ -1,6 +1,7 @@
 //! The terminals of a grammar, in words.
 
 use crate::telling::tell_word;
+use ag_grammar::limits::{NAME, NUMBER};
 use llparse::Ahead;
 use normalform::{Grammar, Terminal};
 use std::fmt;
@@ -30,8 +31,8 @@ pub fn tell_ahead<W: fmt::Write>(
 /// The name of a class of tokens.
 pub fn class_name(number: u16) -> &'static str {
     match number {
-        0 => "NAME",
-        1 => "NUMBER",
+        NAME => "NAME",
+        NUMBER => "NUMBER",
         _ => "TEXT",
     }
 }
@@ -69,10 +70,15 @@ fn tell_rest<W: fmt::Write>(f: &mut fmt::Formatter<W>, left: usize) -> fmt::Resu
     }
 }
 
-/// What a token of the grammar can be: its literals, and the classes that it uses.
+/// What a token of the grammar can be: its literals, and the classes that it uses; or that it has
+/// none.
 pub fn tell_terminals<W: fmt::Write>(f: &mut fmt::Formatter<W>, grammar: &Grammar) -> fmt::Result {
     let literals = grammar.literals().len();
     let mut left = literals.saturating_add(grammar.classes().len());
+    if left == 0 {
+        return write!(f, "the grammar has no literal and no class");
+    }
+    write!(f, "a token is ")?;
     for index in 0..left.min(NAMED) {
         if let Some(terminal) = terminal_at(grammar, index) {
             tell_ahead(f, grammar, Ahead::Terminal(terminal))?;

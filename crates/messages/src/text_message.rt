@@ -2,9 +2,10 @@
 
 use crate::expression_message::{place_in, tell_expression};
 use crate::telling::{
-    begins_with, found_at, front_of, refusal_of, tell_expected, tell_found, tell_place,
+    begins_with, found_at, front_of, refusal_of, tell_expected, tell_found, tell_number, tell_place,
 };
 use ag_expr::ExprFault;
+use ag_grammar::limits::MOST_TEXT_BYTES;
 use ag_text::{Expected, TextFault, expected_at};
 use std::alloc::Global;
 use std::fmt;
@@ -89,10 +90,11 @@ fn tell_text<W: fmt::Write>(
         }
         TextFault::Unexpected(_, _) => tell_unexpected(f, found, expected),
         TextFault::Expr(fault) => tell_expression(f, fault, found, expected),
-        TextFault::TooLong => write!(
-            f,
-            " the file has more than 1,048,576 bytes, write the grammar shorter"
-        ),
+        TextFault::TooLong => {
+            write!(f, " the file has more than ")?;
+            tell_number(f, MOST_TEXT_BYTES)?;
+            write!(f, " bytes, write the grammar shorter")
+        }
         TextFault::NoMemory => Ok(()),
     }
 }

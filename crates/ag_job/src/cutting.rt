@@ -1,0 +1,78 @@
+//! Finding the first line that is exactly `%%`.
+
+ghost use Rattle.std.specs.Prelude.{ℕ, List, ◌≡◌, ◌≤◌, ◌<◌, ◌↔◌, ◌++◌, IfNone, IfSome, IsTrue};
+ghost use Rattle.std.specs.Prelude.{length, take, drop};
+ghost use Rattle.ag_job.specs.Jobs.{AreParts, AreWholeLines, HasNoSeparator, IsCut, IsSeparator};
+
+/// Where a job is cut: offsets in bytes.
+#[derive(Clone, Copy, Debug, Drop)]
+pub(crate) struct Cut {
+    /// The end of the grammar's text.
+    pub text: usize,
+    /// The front of the sentence.
+    pub sentence: usize,
+}
+
+/// Where the first line `%%` cuts the bytes.
+pub(crate) fn cut_of(bytes: &[u8]) -> Option<Cut>
+    ensures text { IfSome result (λ cut. cut.text ≤ length bytes.now) }
+    ensures sentence { IfSome result (λ cut. cut.sentence ≤ length bytes.now) }
+    ensures parts { IfSome result
+        (λ cut. AreParts bytes.now (take cut.text bytes.now) (drop cut.sentence bytes.now)) }
+    ensures none { IfNone result (HasNoSeparator bytes.now) }
+{
+    for at in 0..bytes.len() {
+        if let Some(cut) = cut_at(bytes, at) {
+            return Some(cut);
+        }
+    }
+    None
+}
+
+/// How the line `%%` that begins at an offset cuts the bytes, if one does.
+fn cut_at(bytes: &[u8], at: usize) -> Option<Cut>
+    requires { at < length bytes.now }
+    ensures text { IfSome result (λ cut. cut.text ≡ at) }
+    ensures sentence { IfSome result (λ cut. cut.sentence ≤ length bytes.now) }
+    ensures cut { IfSome result
+        (λ cut. IsCut bytes.now (take at bytes.now) (drop cut.sentence bytes.now)) }
+    ensures none { IfNone result ((text sentence : List ℕ) → length text ≡ at
+        → IsCut bytes.now text sentence → ⊥) }
+{
+    if !begins_a_line(bytes, at) {
+        return None;
+    }
+    let length = separator_length(&bytes[at..])?;
+    Some(Cut {
+        text: at,
+        sentence: at + length,
+    })
+}
+
+/// A line begins at an offset.
+fn begins_a_line(bytes: &[u8], at: usize) -> bool
+    requires { at ≤ length bytes.now }
+    ensures { IsTrue result ↔ AreWholeLines (take at bytes.now) }
+{
+    at == 0 || bytes[at - 1] == b'\n'
+}
+
+/// The length of the line `%%` in front of the bytes, if one stands there.
+fn separator_length(bytes: &[u8]) -> Option<usize>
+    ensures within { IfSome result (λ n. n ≤ length bytes.now) }
+    ensures separator { IfSome result
+        (λ n. IsSeparator (take n bytes.now) (drop n bytes.now)) }
+    ensures none { IfNone result ((separator rest : List ℕ) → IsSeparator separator rest
+        → bytes.now ≡ separator ++ rest → ⊥) }
+{
+    if bytes.starts_with(b"%%\n") {
+        return Some(3);
+    }
+    if bytes.starts_with(b"%%\r\n") {
+        return Some(4);
+    }
+    if bytes == b"%%".as_slice() {
+        return Some(2);
+    }
+    None
+}

@@ -1,0 +1,71 @@
+//! What a reader gives, as a job.
+
+ghost use Rattle.std.specs.Prelude.{◌≡◌, IfErr, IfOk, IfSome};
+ghost use Rattle.ag_job.specs.Jobs.{IsJob, IsJobFault};
+
+use crate::cutting::{Cut, cut_of};
+use crate::fault::JobFault;
+use crate::reading::read_front;
+use ag_grammar::limits::MOST_TEXT_BYTES;
+use std::alloc::Global;
+use std::io::Read;
+use std::marker::Model;
+
+/// How many bytes a job has at most: as many as the text of a grammar, as many as a sentence, and the
+/// 4 of the longest separator.
+pub const MOST_JOB_BYTES: usize = 2 * MOST_TEXT_BYTES + 4;
+
+/// A job that was read. Contracts see it as the text of its grammar, and its sentence.
+#[derive(Debug, Drop)]
+pub struct Job {
+    bytes: Vec<u8>,
+    cut: Cut,
+}
+
+impl Model for Job {
+    ghost use Rattle.std.specs.Prelude.{List, ℕ, ◌≤◌, length, take, drop};
+
+    ghost Value = { List ℕ × List ℕ };
+
+    ghost view = { λ job. (take job.cut.text job.bytes.items, drop job.cut.sentence job.bytes.items) };
+
+    ghost invariant = { λ job. (job.cut.text ≤ length job.bytes.items)
+        × (job.cut.sentence ≤ length job.bytes.items) };
+}
+
+impl Job {
+    /// What a reader gives, up to its end: a grammar, the first line that is exactly `%%`, and a
+    /// sentence. One CR before the LF of that line doesn't count, and as the last line it may lack
+    /// its LF.
+    ///
+    /// J2 Read where the reader fails; J3 TooLong above 2,097,156 bytes; J1 NoSeparator where no
+    /// line is `%%`.
+    pub fn read<R: Read + Drop>(alloc: Global, reader: R) -> Result<Job, JobFault>
+        ensures job { IfOk result (λ job. IfSome (R.remaining reader)
+            (λ bytes. IsJob bytes job.0 job.1)) }
+        ensures refused { IfErr result (λ e. IsJobFault (R.remaining reader) e) }
+    {
+        let bytes = read_front(alloc, reader, MOST_JOB_BYTES as u64 + 1)?;
+        if MOST_JOB_BYTES < bytes.len() {
+            return Err(JobFault::TooLong);
+        }
+        match cut_of(bytes.as_slice()) {
+            Some(cut) => Ok(Job { bytes, cut }),
+            None => Err(JobFault::NoSeparator),
+        }
+    }
+
+    /// Lends the text of the grammar.
+    pub fn grammar(&self) -> &[u8]
+        ensures { result.now ≡ self.now.0 }
+    {
+        &self.bytes[..self.cut.text]
+    }
+
+    /// Lends the sentence.
+    pub fn sentence(&self) -> &[u8]
+        ensures { result.now ≡ self.now.1 }
+    {
+        &self.bytes[self.cut.sentence..]
+    }
+}

@@ -1,0 +1,22 @@
+-- What is told of the grammar or the sentence of a job is told of the job.
+use Rattle.std.proofs.Common.{refl, Result, Ok, Err, inl, inr, List, ℕ, Bool, Option}
+use Rattle.std.specs.Result.{IfErr}
+use Rattle.ag_grammar.specs.grammars.AttributeGrammar.{Grammar}
+use Rattle.aggen.specs.Building.{IsBuildFault}
+use Rattle.aggen.specs.Checking.{IsGrammarOf}
+use Rattle.aggen.specs.Jobs.{HasJob, IsJobRefusal}
+use Rattle.aggen.specs.Status.{build_fault_of}
+use Rattle.aggen.specs.Translating.{IsTranslationFault}
+use Rattle.aggen.specs.declared.build_fault.BuildFault.{BuildFault}
+use Rattle.aggen.specs.declared.fault.Fault.{Fault}
+use Rattle.aggen.specs.declared.report.Report.{Report}
+
+module _ (known : Option (List ℕ)) (text sentence : List ℕ) (ha hb : Bool) (old new : Option (List ℕ)) (job : HasJob known text sentence) where
+  -- the text makes no translator
+  pub no_translator : (b : BuildFault) → IsBuildFault text b → IsJobRefusal known ha hb old new (build_fault_of b)
+  no_translator b told = inr (record { text = text; sentence = sentence; job = job; told = inl (record { reason = b; named = refl; told = told }) })
+
+  -- the translation of the sentence by the grammar is refused
+  pub no_translation : (g : Grammar) → IsGrammarOf text g → (r : Result Report Fault) → IfErr r (λ e. IsTranslationFault g sentence ha hb old new e) → IfErr r (λ e. IsJobRefusal known ha hb old new e)
+  no_translation g is (Ok report) told = tt
+  no_translation g is (Err e) told = inr (record { text = text; sentence = sentence; job = job; told = inr (g, is, told) })

@@ -1,0 +1,25 @@
+-- What is told of the grammar or the sentence of a job is told of the job.
+use Rattle.std.proofs.Common.{List, ℕ, subst}
+use Rattle.std.proofs.lemmas.Result.{err_from_is_err_and}
+use Rattle.std.specs.Result.{IfErr}
+use Rattle.aggen.specs.Building.{IsBuildFault}
+use Rattle.aggen.specs.Checking.{IsGrammarOf}
+use Rattle.aggen.specs.Translating.{IsTranslationFault}
+use Rattle.aggen.proofs.Jobs.{no_translation, no_translator}
+use Rattle.aggen.proofs.job.run_job.Goals as goal
+
+pub returns-in_err-translator-clause-refused : goal.returns-in_err-translator-clause-refused
+returns-in_err-translator-clause-refused g c =
+    let p = err_from_is_err_and c.from_residual-in_err-translator.result c.from_residual-in_err-translator.ensures.1 in
+    rw (p.1, p.2) (no_translator (g.R.Read.remaining c.args.reader) c.in_ok-job.job.0 c.in_ok-job.job.1 (g.D.Device.is_honest c.args.a.now) (g.D.Device.is_honest c.args.b.now) (g.W.Write.contents c.args.out.now) (g.W.Write.contents c.args.out.now) c.in_ok-job.ensures.job c.in_err-translator.field-0.0
+    (subst (λ (text : List ℕ). IsBuildFault text c.in_err-translator.field-0.0) c.grammar.ensures c.in_err-translator.ensures.refused))
+
+pub returns-clause-refused : goal.returns-clause-refused
+returns-clause-refused g c =
+    let ha = g.D.Device.is_honest c.args.a.now in
+    let hb = g.D.Device.is_honest c.args.b.now in
+    let old = g.W.Write.contents c.args.out.now in
+    let new = g.W.Write.contents c.translate.new.out in
+    no_translation (g.R.Read.remaining c.args.reader) c.in_ok-job.job.0 c.in_ok-job.job.1 ha hb old new c.in_ok-job.ensures.job c.in_ok-translator.translator
+    (subst (λ (text : List ℕ). IsGrammarOf text c.in_ok-translator.translator) c.grammar.ensures c.in_ok-translator.ensures.grammar) c.translate.result
+    (subst (λ (sentence : List ℕ). IfErr c.translate.result (λ e. IsTranslationFault c.in_ok-translator.translator sentence ha hb old new e)) c.sentence.ensures c.translate.ensures.refused)

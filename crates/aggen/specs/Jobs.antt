@@ -1,0 +1,66 @@
+-- What the translation of a job is, and what its refusals say: of what the reader gives, of the text of its grammar, and of its
+-- sentence. All of this is this project's.
+use Rattle.std.specs.Prelude.{◌≡◌, ◌⊎◌, List, ℕ, Bool, Option}
+use Rattle.std.specs.Option.{IfSome}
+use Rattle.ag_grammar.specs.grammars.AttributeGrammar.{Grammar}
+use Rattle.ag_job.specs.Jobs.{IsJob, IsJobFault}
+use Rattle.ag_job.specs.declared.fault.JobFault.{JobFault}
+use Rattle.aggen.specs.Building.{IsBuildFault}
+use Rattle.aggen.specs.Checking.{IsGrammarOf}
+use Rattle.aggen.specs.Status.{build_fault_of, job_fault_of}
+use Rattle.aggen.specs.Translating.{IsTranslationFault, TranslatesSentence}
+use Rattle.aggen.specs.declared.build_fault.BuildFault.{BuildFault}
+use Rattle.aggen.specs.declared.fault.Fault.{Fault}
+use Rattle.aggen.specs.declared.fault.Fault.TheVariants as fault
+use Rattle.aggen.specs.declared.report.Report.{Report}
+
+-- What a reader gives, where that is known, is a job with this text of a grammar and this sentence.
+abbrev pub HasJob : Option (List ℕ) → (text sentence : List ℕ) → Type 0
+HasJob known text sentence = IfSome known (λ bytes. IsJob bytes text sentence)
+
+-- The sentence of a job was translated by its grammar, with all that the translation theorem says.
+pub record TranslatesJob (known : Option (List ℕ)) (honest_a honest_b : Bool) (a b : List ℕ) (old new : Option (List ℕ)) (report : Report) : Type 0 where
+  pub text : List ℕ
+  pub sentence : List ℕ
+  pub job : HasJob known text sentence
+  pub grammar : Grammar
+  pub is : IsGrammarOf text grammar
+  pub translates : TranslatesSentence grammar sentence honest_a honest_b a b old new report
+
+-- J1 to J3: what is told of a reader's bytes that are no job
+pub record IsNoJob (known : Option (List ℕ)) (e : Fault) : Type 0 where
+  pub reason : JobFault
+  pub named : e ≡ job_fault_of reason
+  pub told : IsJobFault known reason
+
+-- G, N, L and A: the text of a job's grammar makes no translator
+pub record IsNoTranslator (text : List ℕ) (e : Fault) : Type 0 where
+  pub reason : BuildFault
+  pub named : e ≡ build_fault_of reason
+  pub told : IsBuildFault text reason
+
+-- A job is refused: its grammar makes no translator, or the translation of its sentence by that grammar is refused.
+pub record IsRefusedJob (known : Option (List ℕ)) (honest_a honest_b : Bool) (old new : Option (List ℕ)) (e : Fault) : Type 0 where
+  pub text : List ℕ
+  pub sentence : List ℕ
+  pub job : HasJob known text sentence
+  pub told : IsNoTranslator text e ⊎ ((grammar : Grammar) × IsGrammarOf text grammar × IsTranslationFault grammar sentence honest_a honest_b old new e)
+
+-- what the refusal of a job says: of what the reader gives, or of the grammar and the sentence that it has
+abbrev pub IsJobRefusal : Option (List ℕ) → (honest_a honest_b : Bool) → (old new : Option (List ℕ)) → Fault → Type 0
+IsJobRefusal known ha hb old new e = IsNoJob known e ⊎ IsRefusedJob known ha hb old new e
+
+-- J, G, N, L and A come before a device is touched, and S too.
+abbrev pub IsBeforeTrees : Fault → Type 0
+IsBeforeTrees (fault.Job f) = Unit {0}
+IsBeforeTrees (fault.Text f) = Unit {0}
+IsBeforeTrees (fault.Normal f) = Unit {0}
+IsBeforeTrees (fault.Table f) = Unit {0}
+IsBeforeTrees (fault.Assign f) = Unit {0}
+IsBeforeTrees (fault.Scan f) = Unit {0}
+IsBeforeTrees _ = ⊥
+
+-- So does P, before the second device is touched.
+abbrev pub IsBeforePasses : Fault → Type 0
+IsBeforePasses (fault.Parse f) = Unit {0}
+IsBeforePasses e = IsBeforeTrees e

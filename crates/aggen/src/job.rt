@@ -1,0 +1,54 @@
+//! A job is translated: its grammar makes a translator, which translates its sentence.
+
+ghost use Rattle.std.specs.Prelude.{◌≡◌, ◌≢◌, ◌⊎◌, IfErr, IfOk, IsErrOf};
+ghost use Rattle.aggen.specs.Jobs.{IsBeforePasses, IsBeforeTrees, IsJobRefusal, TranslatesJob};
+ghost use Rattle.treefile.specs.Device.{HasRisen, Persists};
+
+use crate::fault::Fault;
+use crate::report::Report;
+use crate::translator::Translator;
+use ag_job::Job;
+use std::alloc::Global;
+use std::io::{Read, Write};
+use treefile::Device;
+
+/// Translates a job: what a reader gives is the text of a grammar, the first line that is exactly
+/// `%%`, and a sentence. The grammar makes a translator, and that translates the sentence, by way of
+/// the devices `a` and `b`, as `Translator::translate` does.
+///
+/// J2 where the reader fails; J3 above 2,097,156 bytes; J1 where no line is `%%`; then what
+/// `Translator::build` refuses the grammar for, before a device is touched, and what
+/// `Translator::translate` refuses the sentence for. On every refusal but O2 the writer is as
+/// before.
+pub fn run_job<R: Read + Drop, D: Device, W: Write>(
+    alloc: Global,
+    reader: R,
+    out: &mut W,
+    a: &mut D,
+    b: &mut D,
+) -> Result<Report, Fault>
+    // the translation theorem, for the grammar and the sentence of the job
+    ensures translates { IfOk result (λ report. TranslatesJob (R.remaining reader)
+        (D.is_honest a.old) (D.is_honest b.old) (D.content a.new) (D.content b.new)
+        (W.contents out.old) (W.contents out.new) report) }
+
+    // a refusal: what it says of the bytes, the grammar or the sentence is true
+    ensures refused { IfErr result (λ e. IsJobRefusal (R.remaining reader)
+        (D.is_honest a.old) (D.is_honest b.old)
+        (W.contents out.old) (W.contents out.new) e) }
+    ensures kept { IfErr result (λ e. e ≢ Fault.Write → out.new ≡ out.old) }
+    ensures untouched { IfErr result (λ e. IsBeforeTrees e → a.new ≡ a.old) }
+    ensures b_untouched { IfErr result (λ e. IsBeforePasses e → b.new ≡ b.old) }
+    ensures a_persists { Persists (D.is_honest a.old) (D.is_honest a.new)
+        (D.failures a.old) (D.failures a.new) ⊥ }
+    ensures b_persists { Persists (D.is_honest b.old) (D.is_honest b.new)
+        (D.failures b.old) (D.failures b.new) ⊥ }
+    // D1 only where the number of failures rose on one of the two
+    ensures cause { IsErrOf result Fault.Device →
+        HasRisen (D.failures a.old) (D.failures a.new)
+        ⊎ HasRisen (D.failures b.old) (D.failures b.new) }
+{
+    let job = Job::read(alloc, reader)?;
+    let translator = Translator::build(alloc, job.grammar())?;
+    translator.translate(job.sentence(), a, b, out)
+}
