@@ -16,7 +16,8 @@ use Rattle.passcode.specs.declared.instr.Instr.{Instr}
 use Rattle.passcode.specs.declared.instr.Instr.TheVariants as instr
 use Rattle.passcode.specs.declared.table.Given.{Given}
 use Rattle.passcode.specs.Agreement.{StandsOnceIf, Precedes, StandsBefore, HasPlace, IsChild, giving, instruction_of, IsGiving, IsRuleAt, VisitsPlaces, GivesTargets, IsAtHand, HasArguments, Ends}
-use Rattle.passcode.specs.Listing.{rank, key_of, first_key, giving_key, AreRising, IsMadeOf, IsPart, IsGenerated}
+use Rattle.ag_grammar.specs.grammars.Accepted.{most_stored}
+use Rattle.passcode.specs.Listing.{rank, key_of, first_key, giving_key, go_key, AreRising, IsMadeOf, IsPart, IsGenerated}
 use Rattle.passcode.specs.Order.{IsInOrder}
 use Rattle.passcode.specs.Tables.{IsPlanned, IsTable}
 use Rattle.ag_grammar.specs.grammars.AttributeGrammar.{places_of}
@@ -45,7 +46,7 @@ module _ (d : Direction) (xs : List Instr) (rising : AreRising d 340 xs) where
   ]
 
 -- what a rule may use of the right side has lower keys than the rule's own instruction
-pub reach : (k j i p : ℕ) → i ≤ 16 → 1 ≤ i → MayUse k j i p → (p ≤ k) × (first_key (direction_of k) i < giving_key (direction_of k) j) × (p ≡ k → first_key (direction_of k) i + 17 < giving_key (direction_of k) j)
+pub reach : (k j i p : ℕ) → i ≤ most_stored → 1 ≤ i → MayUse k j i p → (p ≤ k) × (first_key (direction_of k) i < giving_key (direction_of k) j) × (p ≡ k → go_key (direction_of k) i < giving_key (direction_of k) j)
 reach k zero i p few one le = let r = rank_few (direction_of k) i few in (le, omega arith, λ e. omega arith)
 reach k (suc j) i p few one (inl u) = absurd (let z = u.0 in omega arith)
 reach k (suc j) i p few one (inr (inl u)) = let r = rank_before (direction_of k) i (suc j) few u.0 in (u.1, omega arith, λ e. omega arith)
@@ -146,7 +147,7 @@ module _ (m : Passes) (q : Production) (planned : IsPlanned m q) (k : ℕ) (pass
           let got : first_key d o.place < giving_key d u.target.place = near.1 in
           elim (cases_eq allowed.0 k) [
             | inl same ↦ (
-                let gone : first_key d o.place + 17 < giving_key d u.target.place = near.2 same in
+                let gone : go_key d o.place < giving_key d u.target.place = near.2 same in
                 let here : HasPass m q o k = subst (HasPass m q o) same allowed.1 in
                 let child = has_symbol m q o k pass here in
                 inr (inr (here, stands_before n (instr.Go o.place) (instruction_of u r) at (child.0, (one, child.1)) (omega arith))))
@@ -171,7 +172,7 @@ module _ (m : Passes) (q : Production) (planned : IsPlanned m q) (k : ℕ) (pass
   order = record {
     sets = λ j a b r s less. precedes (instr.Set j a r) (instr.Set j b s) (λ g h. omega arith);
     defs = λ a b r s less. precedes (instr.Def a r) (instr.Def b s) (λ g h. omega arith);
-    defs_last = λ j a r. precedes (instr.Put j) (instr.Def a r) (λ g h. let most : rank (direction_of k) j ≤ 16 = rank_few d j (few m q planned j g) in omega arith);
+    defs_last = λ j a r. precedes (instr.Put j) (instr.Def a r) (λ g h. let most : rank (direction_of k) j ≤ most_stored = rank_few d j (few m q planned j g) in omega arith);
   }
 
   pub keeps_rules : IsGenerated m q k xs

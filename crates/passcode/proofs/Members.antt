@@ -15,6 +15,7 @@ use Rattle.passcode.specs.declared.instr.Instr.{Instr}
 use Rattle.passcode.specs.declared.instr.Instr.TheVariants as instr
 use Rattle.passcode.specs.declared.table.Given.{Given}
 use Rattle.passcode.specs.Agreement.{giving, HasPlace, IsChild, IsRuleAt}
+use Rattle.ag_grammar.specs.grammars.Accepted.{most_attributes, most_stored}
 use Rattle.passcode.specs.Listing.{place_at, GivesAt, IsGoOf, IsVisit, IsPart}
 use Rattle.passcode.specs.Tables.{given_at, IsPlanned, IsTable}
 use Rattle.passcode.proofs.Passes.{place_is}
@@ -43,26 +44,22 @@ belongs_rule m q k zero a r h = h
 belongs_rule m q k (suc j) a r h = (omega arith, h)
 
 -- places are few,
-pub few : (m : Passes) (q : Production) → IsPlanned m q → (j : ℕ) → HasPlace q j → j ≤ 16
+pub few : (m : Passes) (q : Production) → IsPlanned m q → (j : ℕ) → HasPlace q j → j ≤ most_stored
 few m q planned zero h = omega arith
 few m q planned (suc j) h = let w = slice_get_within (stored_items q.items) j h.0 h.1.1 in let s = planned.stored in omega arith
 
 -- and so are attributes
-pub small : (m : Passes) (q : Production) (k : ℕ) → IsPlanned m q → (j a r : ℕ) → IsOfRule m q k j a r → a < 16
-small m q k planned j a r h = subst (λ n. n < 16) (ap (λ (o : Target). o.attr) h.target) (planned.rules r h.rule h.numbered).within
+pub small : (m : Passes) (q : Production) (k : ℕ) → IsPlanned m q → (j a r : ℕ) → IsOfRule m q k j a r → a < most_attributes
+small m q k planned j a r h = subst (λ n. n < most_attributes) (ap (λ (o : Target). o.attr) h.target) (planned.rules r h.rule h.numbered).within
 
 pub set_is : (j a r : ℕ) → 1 ≤ j → giving j a r ≡ instr.Set j a r
 set_is zero a r one = absurd (omega arith)
 set_is (suc j) a r one = refl
 
-first_place : (d : Direction) (count t : ℕ) → 1 ≤ t → t < count → 1 ≤ place_at d count t
-first_place LeftToRight count t one less = one
-first_place RightToLeft count t one less = omega arith
-
 -- each place has its turn
-turn_of : (d : Direction) (count j : ℕ) → 1 ≤ j → j < count → (t : ℕ) × (1 ≤ t) × (t < count) × (place_at d count t ≡ j)
-turn_of LeftToRight count j one less = (j, one, less, refl)
-turn_of RightToLeft count j one less = (count - j, omega arith, omega arith, omega arith)
+turn_of : (d : Direction) (count j : ℕ) → 1 ≤ j → j < count → (t : ℕ) × (t < count - 1) × (place_at d count t ≡ j)
+turn_of LeftToRight count j one less = (j - 1, omega arith, omega arith)
+turn_of RightToLeft count j one less = (count - 1 - j, omega arith, omega arith)
 
 module _ (m : Passes) (q : Production) (planned : IsPlanned m q) (d : Direction) (k : ℕ) (table : List (Option Given)) (t : IsTable m q table) where
   abbrev places : List Item
@@ -86,7 +83,7 @@ module _ (m : Passes) (q : Production) (planned : IsPlanned m q) (d : Direction)
   visit_belongs j x i one is (inr (inr (inr e))) = subst (Belongs m q k) (sym e) (x, (one, is))
 
   pub part_belongs : (i : Instr) → IsPart d table k (places_of q) i → Belongs m q k i
-  part_belongs i (inl h) = visit_belongs (place_at d (length places) h.0) h.1 i (first_place d (length places) h.0 h.2 h.3) (sym (place_is q (place_at d (length places) h.0)) ∙ h.4) h.5
+  part_belongs i (inl h) = visit_belongs (place_at d (length places) h.0) h.1 i (omega arith) (sym (place_is q (place_at d (length places) h.0)) ∙ h.3) h.4
   part_belongs i (inr (inl h)) = given_belongs 0 i h
   part_belongs i (inr (inr e)) = subst (Belongs m q k) (sym e) tt
 
@@ -94,7 +91,7 @@ module _ (m : Passes) (q : Production) (planned : IsPlanned m q) (d : Direction)
   visit_part j x i one is h =
       let at : slice_get places j ≡ Some x = place_is q j ∙ is in
       let turn = turn_of d (length places) j one (slice_get_within places j x at) in
-      inl (turn.0, x, turn.1, turn.2, subst (λ p. slice_get places p ≡ Some x) (sym turn.3) at, subst (λ p. IsVisit table k p x i) (sym turn.3) h)
+      inl (turn.0, x, turn.1, subst (λ p. slice_get places p ≡ Some x) (sym turn.2) at, subst (λ p. IsVisit table k p x i) (sym turn.2) h)
 
   rule_given : (j a r : ℕ) → IsOfRule m q k j a r → GivesAt table k j (giving j a r)
   rule_given j a r h =
@@ -105,7 +102,7 @@ module _ (m : Passes) (q : Production) (planned : IsPlanned m q) (d : Direction)
       let place : u.target.place ≡ j = ap (λ (o : Target). o.place) h.target in
       let attr : u.target.attr ≡ a = ap (λ (o : Target). o.attr) h.target in
       let within = (planned.rules r u h.numbered).within in
-      (a, subst (λ n. n < 16) attr within, (e, subst (λ b. given_at table j b ≡ Some e) attr (subst (λ p. given_at table p u.target.attr ≡ Some e) place found.2), pass, refl))
+      (a, subst (λ n. n < most_attributes) attr within, (e, subst (λ b. given_at table j b ≡ Some e) attr (subst (λ p. given_at table p u.target.attr ≡ Some e) place found.2), pass, refl))
 
   -- a declared symbol stands at the place of a rule
   rule_stands : (j a r : ℕ) → IsOfRule m q k j a r → (s : ℕ) × (item_at q j ≡ Some (item.Symbol s))

@@ -15,7 +15,8 @@ use Rattle.passcode.specs.declared.instr.Instr.{Instr}
 use Rattle.passcode.specs.declared.instr.Instr.TheVariants as instr
 use Rattle.passcode.specs.Agreement.{HasPlace, IsChild, giving, instruction_of, IsListFor}
 use Rattle.passcode.specs.Laws.{OneList}
-use Rattle.passcode.specs.Listing.{rank, key_of, first_key, AreRising}
+use Rattle.ag_grammar.specs.grammars.Accepted.{most_stored}
+use Rattle.passcode.specs.Listing.{rank, key_of, first_key, put_key, last_key, AreRising}
 use Rattle.passcode.specs.Order.{IsInOrder}
 use Rattle.passcode.specs.Tables.{IsPlanned}
 use Rattle.passcode.proofs.Directions.{rank_before, rank_few}
@@ -128,7 +129,7 @@ module _ (m : Passes) (q : Production) (planned : IsPlanned m q) (k : ℕ) (xs :
     pub got : (g : ℕ) × (g ≤ n) × (slice_get xs g ≡ Some (instr.Get j))
     pub put : (p : ℕ) × (n ≤ p) × (slice_get xs p ≡ Some (instr.Put j))
     pub low : first_key (direction_of k) j ≤ key_of (direction_of k) x
-    pub high : key_of (direction_of k) x ≤ first_key (direction_of k) j + 18
+    pub high : key_of (direction_of k) x ≤ put_key (direction_of k) j
 
   get_in : (j n : ℕ) → slice_get xs n ≡ Some (instr.Get j) → InPlace j n (instr.Get j)
   get_in j n e =
@@ -187,8 +188,8 @@ module _ (m : Passes) (q : Production) (planned : IsPlanned m q) (k : ℕ) (xs :
   ]
 
   -- what stands behind all places
-  behind : (i x : ℕ) (u : Instr) → InPlace i x u → key_of (direction_of k) u < 323
-  behind i x u g = let most : rank (direction_of k) i ≤ 16 = rank_few (direction_of k) i (few m q planned i g.place) in let a = g.high in omega arith
+  behind : (i x : ℕ) (u : Instr) → InPlace i x u → key_of (direction_of k) u < last_key
+  behind i x u g = let most : rank (direction_of k) i ≤ most_stored = rank_few (direction_of k) i (few m q planned i g.place) in let a = g.high in omega arith
 
   def_last : (j x y a r : ℕ) (w : Instr) → x < y → slice_get xs x ≡ Some (instr.Def a r) → InPlace j y w → ⊥
   def_last j x y a r w less e h = let before = order.defs_last j a r h.put.0 x h.put.2 e in let c = h.put.1 in omega arith
@@ -247,7 +248,7 @@ module _ (m : Passes) (q : Production) (planned : IsPlanned m q) (k : ℕ) (xs :
   rise x y (instr.Def a r) (instr.Put j) e f less = absurd (def_last j x y a r (instr.Put j) less e (put_in j y f))
   rise x y (instr.Def a r) (instr.Def b s) e f less = two (cases_lt a b)
     where
-      two : (a < b) ⊎ (b ≤ a) → 323 + a < 323 + b
+      two : (a < b) ⊎ (b ≤ a) → last_key + a < last_key + b
       two (inl lt) = omega arith
       two (inr le) = absurd (elim (cases_eq b a) [
         | inl same ↦ (

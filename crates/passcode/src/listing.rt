@@ -1,12 +1,13 @@
 //! The list of instructions of one production in one pass.
 
-ghost use Rattle.std.specs.Prelude.{◌≡◌, ◌+◌, ◌<◌, ◌≤◌, IfOk, OnOk, length};
+ghost use Rattle.std.specs.Prelude.{◌≡◌, ◌+◌, ◌-◌, ◌≤◌, IfOk, OnOk, length};
 ghost use Rattle.ag_grammar.specs.declared.direction.Direction.{Direction as TheDirection};
+ghost use Rattle.ag_grammar.specs.grammars.Accepted.{most_attributes, most_stored};
 ghost use Rattle.ag_grammar.specs.grammars.Passes.{direction_of};
 ghost use Rattle.passcode.specs.Agreement.{giving};
 ghost use Rattle.passcode.specs.Listing.{Extends, IsGivenBy, GivesAt, IsGoOf, IsVisit};
-ghost use Rattle.passcode.specs.Listing.{IsVisitBefore, IsPart, IsMadeOf, place_at, first_key};
-ghost use Rattle.passcode.specs.Listing.{giving_key, last_key};
+ghost use Rattle.passcode.specs.Listing.{IsVisitBefore, IsPart, IsMadeOf, place_keys};
+ghost use Rattle.passcode.specs.Listing.{first_key, giving_key, go_key, put_key, last_key};
 
 use crate::instr::Instr;
 use crate::table::{Given, look_up};
@@ -59,7 +60,7 @@ fn put_all_given(
 ) -> Result<(), NoMemory>
     ensures { OnOk result (Extends (direction_of pass) (GivesAt table.now pass place)
         (giving_key (direction_of pass) place)
-        (giving_key (direction_of pass) place + 16) list.old.items list.new.items) }
+        (giving_key (direction_of pass) place + most_attributes) list.old.items list.new.items) }
 {
     for attr in 0..MOST_ATTRIBUTES as u16 {
         put_given(list, table, pass, place, attr)?;
@@ -70,7 +71,7 @@ fn put_all_given(
 /// Puts the `Go` of a place at the end of a list, where a declared symbol stands there.
 fn put_go(list: &mut Vec<Instr>, place: u16, item: Item) -> Result<(), NoMemory>
     ensures { OnOk result ((d : TheDirection) → Extends d (IsGoOf item place)
-        (first_key d place + 17) (first_key d place + 18) list.old.items list.new.items) }
+        (go_key d place) (put_key d place) list.old.items list.new.items) }
 {
     match item {
         Item::Symbol(_) => list.push(Instr::Go(place))?,
@@ -89,7 +90,7 @@ fn put_visit(
 ) -> Result<(), NoMemory>
     requires { 1 ≤ place }
     ensures { OnOk result (Extends (direction_of pass) (IsVisit table.now pass place item)
-        (first_key (direction_of pass) place) (first_key (direction_of pass) place + 19)
+        (first_key (direction_of pass) place) (first_key (direction_of pass) place + place_keys)
         list.old.items list.new.items) }
 {
     list.push(Instr::Get(place))?;
@@ -97,21 +98,6 @@ fn put_visit(
     put_go(list, place, item)?;
     list.push(Instr::Put(place))?;
     Ok(())
-}
-
-/// The place that comes at a turn of a direction, the first at turn 1, where there are places below a
-/// number.
-fn place_of(direction: Direction, count: usize, turn: usize) -> usize
-    requires first { 1 ≤ turn }
-    requires last { turn < count }
-    ensures place { result ≡ place_at direction count turn }
-    ensures least { 1 ≤ result }
-    ensures most { result < count }
-{
-    match direction {
-        Direction::LeftToRight => turn,
-        Direction::RightToLeft => count - turn,
-    }
 }
 
 /// The instructions of all places of the right side.
@@ -122,15 +108,16 @@ fn visits(
     places: &[Item],
 ) -> Result<Vec<Instr>, NoMemory>
     requires some { 1 ≤ length places.now }
-    requires few { length places.now ≤ 17 }
+    requires few { length places.now ≤ most_stored + 1 }
     ensures { IfOk result (λ list. IsMadeOf (direction_of pass)
-        (IsVisitBefore (direction_of pass) table.now pass places.now (length places.now))
+        (IsVisitBefore (direction_of pass) table.now pass places.now (length places.now - 1))
         last_key list.items) }
 {
     let direction = Direction::of_pass(pass);
     let mut list = Vec::new(alloc);
-    for turn in 1..places.len() {
-        let place = place_of(direction, places.len(), turn);
+    let count = places.len() - 1;
+    for turn in 0..count {
+        let place = 1 + direction.nth(count, turn);
         put_visit(&mut list, table, pass, place as u16, places[place])?;
     }
     Ok(list)
@@ -144,9 +131,9 @@ pub(crate) fn list_of(
     places: &[Item],
 ) -> Result<Vec<Instr>, NoMemory>
     requires some { 1 ≤ length places.now }
-    requires few { length places.now ≤ 17 }
+    requires few { length places.now ≤ most_stored + 1 }
     ensures { IfOk result (λ list. IsMadeOf (direction_of pass)
-        (IsPart (direction_of pass) table.now pass places.now) (last_key + 17) list.items) }
+        (IsPart (direction_of pass) table.now pass places.now) (last_key + (most_attributes + 1)) list.items) }
 {
     let mut list = visits(alloc, table, pass, places)?;
     put_all_given(&mut list, table, pass, 0)?;
