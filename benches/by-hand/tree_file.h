@@ -1,0 +1,75 @@
+/* Tree files, by docs/FORMATS.md: they are written from front to end, and read from end to front by blocks of 64 KiB. */
+#ifndef TREE_FILE_H
+#define TREE_FILE_H
+
+#include <stddef.h>
+#include <stdint.h>
+
+enum {
+    MOST_LEVELS = 256,
+    MOST_NODES = 65536,
+    BLOCK = 65536,
+    /* the digits of a number, and its sign */
+    MOST_TEXT = 20
+};
+
+/* A text of these grammars: empty, or the digits of a number. */
+struct text {
+    size_t length;
+    /* a 0 may stand behind them */
+    char bytes[MOST_TEXT + 1];
+};
+
+/* A file: on disk, where what is appended is gathered up to a block, or in memory, where `bytes` are all of it. */
+struct file {
+    int descriptor;
+    uint8_t *bytes;
+    size_t count;
+    size_t room;
+};
+
+/* A tree file that is read from its end: `bytes[from..to]` are those of the file before the offset `at`. */
+struct reader {
+    struct file *file;
+    uint64_t at;
+    /* where the frame ended that was taken last */
+    uint64_t end;
+    size_t from;
+    size_t to;
+    uint8_t bytes[BLOCK];
+};
+
+/* The statuses of refusals of a sentence, and of a tree file. */
+enum { OF_SENTENCE = 4, OF_FILE = 5 };
+
+/* Tells what is wrong on standard error, and ends the program with this status. */
+_Noreturn void refuse(int status, const char *message, ...);
+
+/* A file in memory; a file on disk that is made, or cut to nothing; and one that is only read. */
+struct file file_in_memory(void);
+struct file file_made(const char *path);
+struct file file_opened(const char *path);
+
+/* Writes out what is gathered, and lets the file go. */
+void close_file(struct file *file);
+
+/* Makes the file a header alone, of the file of this pass. */
+void begin_file(struct file *file, unsigned pass);
+
+/* Appends the record of a node: without values, with numbers, or with a text. */
+void put_bare(struct file *file, unsigned production);
+void put_numbers(struct file *file, unsigned production, const int64_t *numbers, size_t count);
+void put_text(struct file *file, unsigned production, const struct text *text);
+
+/* Begins to read a file, which has to be that of this pass. */
+void start_reading(struct reader *reader, struct file *file, unsigned pass);
+
+/* Takes the record before those that were taken, of a node with so many numbers, or with a text; the production's number. */
+unsigned take_numbers(struct reader *reader, int64_t *numbers, size_t count);
+unsigned take_text(struct reader *reader, struct text *text);
+
+/* Refuses the record that was taken last, and a file with records in front of it. */
+_Noreturn void damaged(const struct reader *reader);
+void end_reading(struct reader *reader);
+
+#endif
