@@ -1,3 +1,2 @@
 pub mod language
 pub mod Options
-pub mod values

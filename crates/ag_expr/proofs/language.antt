@@ -1,7 +1,6 @@
 -- Lemmas on the expression language.
 pub mod Agree
 pub mod Below
-pub mod Bindings
 pub mod Exact
 pub mod Examples
 pub mod Fronts
@@ -21,4 +20,3 @@ pub mod Texts
 pub mod TokenLaws
 pub mod Turns
 pub mod Until
-pub mod Values

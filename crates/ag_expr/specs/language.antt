@@ -9,7 +9,6 @@ pub mod Names
 pub mod Numbers
 pub mod Occurrences
 pub mod Offsets
-pub mod Operands
 pub mod Placed
 pub mod Places
 pub mod Reading

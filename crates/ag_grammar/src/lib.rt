@@ -1,9 +1,10 @@
 //! Attribute grammars as data of the program (Knuth 1968): expressions as trees, symbols, productions
-//! and rules, grammars as they stand in a text, and directions of passes. What they mean is defined
-//! over these types: the value of an expression, the trees of a grammar, their solutions, which
-//! assignments of passes are legal, what passes leave, and how many rules a tree has.
+//! and rules, grammars as they stand in a text, accepted grammars, and directions of passes. What they
+//! mean is defined over these types: the value of an expression, the trees of a grammar, their
+//! solutions, which assignments of passes are legal, what passes leave, and how many rules a tree has.
 #![tactic(auto)]
 
+mod accepted;
 mod direction;
 mod expression;
 mod grammar;
@@ -17,6 +18,7 @@ mod raw;
 pub mod samples;
 pub mod value_laws;
 
+pub use accepted::Grammar;
 pub use direction::Direction;
 pub use expression::{Expr, occurrences};
 pub use grammar::{Item, Production, Rule, Symbol, Target, Terminal};

@@ -18,10 +18,9 @@ use crate::fault::ScanFault;
 use crate::front::{Front, class_in_front, skip_separators};
 use crate::literals::Literals;
 use crate::token::Token;
-use ag_grammar::Terminal;
 use ag_grammar::limits::{MOST_TEXT_BYTES, MOST_TOKEN_BYTES};
+use ag_grammar::{Grammar, Terminal};
 use ag_value::Text;
-use normalform::Grammar;
 use std::alloc::Global;
 
 /// What stands in a text behind a word in front.

@@ -21,12 +21,12 @@ use Rattle.passrun.specs.declared.ends.Passed.{Passed}
 use Rattle.aggen.specs.declared.report.Report.{Report}
 use Rattle.passrun.specs.declared.run_fault.RunFault.{RunFault}
 use Rattle.passrun.specs.declared.run_fault.RunFault.TheVariants as run
-use Rattle.agoutput.specs.declared.fault.OutFault.{OutFault}
-use Rattle.agoutput.specs.declared.fault.OutFault.TheVariants as out
+use Rattle.roottext.specs.declared.fault.OutFault.{OutFault}
+use Rattle.roottext.specs.declared.fault.OutFault.TheVariants as out
 use Rattle.aggen.specs.Status.{out_fault_of, run_fault_of}
 use Rattle.aggen.specs.Translation.{BeginsTranslation, IsOneTree}
 use Rattle.passrun.specs.Rounds.{last_content}
-use Rattle.agoutput.specs.Roots.{IsRootText, TellsRoot}
+use Rattle.roottext.specs.Roots.{IsRootText, TellsRoot}
 use Rattle.passrun.specs.Rounds.{HasCounted, HasRunAll}
 use Rattle.ag_grammar.specs.grammars.Running.{IsLastPass}
 use Rattle.passrun.specs.Ahead.{IsRunFault}

@@ -1,3 +1,4 @@
+pub mod Begun
 pub mod Building
 pub mod Closed
 pub mod Composed

@@ -1,11 +1,15 @@
 -- What a call that evaluates the tree of a file tells: the files that it leaves, and what its refusals say. All of this is this
 -- project's.
-use Rattle.std.specs.Prelude.{ℕ, List, Bool, Option}
+use Rattle.std.specs.Prelude.{ℕ, List, [], Bool, Option}
 use Rattle.ag_grammar.specs.grammars.AttributeGrammar.{Grammar}
 use Rattle.ag_grammar.specs.grammars.Passes.{Passes}
 use Rattle.ag_grammar.specs.grammars.Solution.{Valuation}
 use Rattle.ag_grammar.specs.grammars.Tree.{Tree, IsWithinLimits, most_depth, most_nodes}
+use Rattle.llparse.specs.Sentences.{AreFromOne}
 use Rattle.passassign.specs.Rows.{IsGreatest, passes_of}
+use Rattle.passcode.specs.Rows.{Lists}
+use Rattle.planchecker.specs.Settings.{setting_of}
+use Rattle.passrun.specs.Damage.{ShowsAt}
 use Rattle.passrun.specs.declared.run_fault.RunFault.{RunFault}
 use Rattle.passrun.specs.declared.run_fault.RunFault.TheVariants as run
 use Rattle.passrun.specs.Rounds.{last_content}
@@ -33,9 +37,15 @@ pub record LeavesFilesOfTree (g : Grammar) (rows : List (List ℕ)) (honest_tree
   pub greatest : IsGreatest report.passes rows
   pub left : WhenHonest honest_tree (WhenHonest honest_a (WhenHonest honest_b (AreLeftOfTree g (passes_of rows) content a b report)))
 
--- R1: the content is the file of no tree of the grammar. P2 and P3: of none within the limits. The others say nothing of it.
+-- Where pass 1 of a plan finds that a content is the file of pass 0 of no tree of the grammar. Records of pass 0 have no values of
+-- attributes, so that it makes no difference which plan it is.
+abbrev pub ShowsInFile : Grammar → List ℕ → ℕ → Type 0
+ShowsInFile g content at = (plan : List (List ℕ) × Lists) × AreFromOne (passes_of plan.0) × ShowsAt (setting_of g plan 1) content at
+
+-- R1: the content is the file of no tree of the grammar, and it shows at the offset. P2 and P3: of none within the limits. The others
+-- say nothing of it.
 abbrev pub IsFileFault : Grammar → List ℕ → RunFault → Type 0
-IsFileFault g content (run.Damaged at) = (t : Tree) → IsTreeInFile g content t → ⊥
+IsFileFault g content (run.Damaged at) = ((t : Tree) → IsTreeInFile g content t → ⊥) × ShowsInFile g content at
 IsFileFault g content run.TooDeep = (t : Tree) → IsTreeInFile g content t → IsWithinLimits most_depth most_nodes t → ⊥
 IsFileFault g content run.TooManyNodes = (t : Tree) → IsTreeInFile g content t → IsWithinLimits most_depth most_nodes t → ⊥
 IsFileFault g content run.Device = Unit {0}
@@ -49,8 +59,8 @@ IsPassesFault g ht ha hb content fault.Device = Unit {0}
 IsPassesFault g ht ha hb content fault.NoMemory = Unit {0}
 IsPassesFault g ht ha hb content _ = ⊥
 
--- What a refusal of the evaluation of a tree says: R1, P2 and P3 are true of the content that the tree comes in, and O1 of its one
--- tree; honest devices never bring B1 or B2; after O2 a beginning of the translation was written. A failed device and want of
+-- What a refusal of the evaluation of a tree says: R1, with its offset, P2 and P3 are true of the content that the tree comes in, and
+-- O1 of its one tree; honest devices never bring B1 or B2; after O2 a beginning of the translation was written. A failed device and want of
 -- memory say nothing, and no other fault comes.
 abbrev pub IsEvaluationFault : Grammar → (honest_tree honest_a honest_b : Bool) → List ℕ → (old new : Option (List ℕ)) → Fault → Type 0
 IsEvaluationFault g ht ha hb content old new (fault.Run f) = WhenHonest ht (WhenHonest ha (WhenHonest hb (IsFileFault g content f)))

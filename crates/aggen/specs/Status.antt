@@ -8,12 +8,12 @@ use Rattle.ag_scan.specs.declared.fault.ScanFault.{ScanFault}
 use Rattle.ag_scan.specs.declared.fault.ScanFault.TheVariants as scan
 use Rattle.agoutput.specs.declared.fault.ListingFault.{ListingFault}
 use Rattle.agoutput.specs.declared.fault.ListingFault.TheVariants as listing
-use Rattle.agoutput.specs.declared.fault.OutFault.{OutFault}
-use Rattle.agoutput.specs.declared.fault.OutFault.TheVariants as out
 use Rattle.llparse.specs.declared.parse_fault.ParseFault.{ParseFault}
 use Rattle.llparse.specs.declared.parse_fault.ParseFault.TheVariants as parse
 use Rattle.passrun.specs.declared.run_fault.RunFault.{RunFault}
 use Rattle.passrun.specs.declared.run_fault.RunFault.TheVariants as run
+use Rattle.roottext.specs.declared.fault.OutFault.{OutFault}
+use Rattle.roottext.specs.declared.fault.OutFault.TheVariants as out
 use Rattle.treefile.specs.declared.device.DeviceFault.{DeviceFault}
 use Rattle.treefile.specs.declared.device.DeviceFault.TheVariants as device
 use Rattle.treefile.specs.declared.reading.FrameFault.{FrameFault}

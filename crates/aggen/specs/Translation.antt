@@ -10,9 +10,10 @@ use Rattle.ag_grammar.specs.grammars.Running.{IsTheSolution}
 use Rattle.ag_grammar.specs.grammars.Solution.{AnyRule, IsTranslation, Solves, Valuation}
 use Rattle.ag_grammar.specs.grammars.Tree.{Tree, IsTreeOf, IsWithinLimits, most_depth, most_nodes, node_count}
 use Rattle.llparse.specs.Sentences.{IsFirstFile}
-use Rattle.agoutput.specs.Roots.{IsNoText}
+use Rattle.agoutput.specs.Writing.{AppendsBeginning}
 use Rattle.passrun.specs.declared.last.Last.{Last}
 use Rattle.passrun.specs.Rounds.{last_content, other_content}
+use Rattle.roottext.specs.Roots.{IsNoText}
 use Rattle.treefile.specs.Device.{WhenHonest}
 use Rattle.treefile.specs.Records.{IsFileOfTree}
 use Rattle.treefile.specs.TreeFile.{version_one}
@@ -80,6 +81,11 @@ pub record BeginsTranslation (IsTree : Tree → Type 0) (g : Grammar) (old new :
   pub rest : List ℕ
   pub root : IsTranslation g values (Text (front ++ rest))
   pub written : Appends old new front
+
+-- O2, whatever the devices gave back: a beginning of some text was written.
+pub record BeginsText (old new : Option (List ℕ)) : Type 0 where
+  pub text : List ℕ
+  pub beginning : AppendsBeginning old new text
 
 -- A content is the file of pass 0 of a tree of the grammar.
 pub record IsTreeInFile (g : Grammar) (content : List ℕ) (t : Tree) : Type 0 where

@@ -7,9 +7,10 @@ ghost use Rattle.aggen.specs.Checking.{counts_of as line_of};
 
 use crate::build_fault::BuildFault;
 use crate::fault::Fault;
+use ag_grammar::Grammar;
 use ag_text::read_grammar;
 use agoutput::write_text;
-use normalform::{Grammar, check};
+use normalform::check;
 use std::alloc::{AllocError, Global};
 use std::io::Write;
 

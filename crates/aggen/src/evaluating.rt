@@ -9,7 +9,7 @@ ghost use Rattle.treefile.specs.Device.{HasRisen, LeavesContent, Persists};
 use crate::fault::Fault;
 use crate::report::Report;
 use crate::translator::Translator;
-use ag_expr::Meter;
+use ag_eval::Meter;
 use passrun::{Last, run_all, run_pass};
 use planchecker::Plan;
 use std::alloc::Global;

@@ -2,6 +2,7 @@
 
 ghost use Rattle.std.specs.Prelude.{◌≡◌, ◌≢◌, ◌⊎◌, IfErr, IfOk, IsErrOf};
 ghost use Rattle.aggen.specs.Jobs.{IsBeforePasses, IsBeforeTrees, IsJobRefusal, TranslatesJob};
+ghost use Rattle.aggen.specs.Translation.{BeginsText};
 ghost use Rattle.treefile.specs.Device.{HasRisen, Persists};
 
 use crate::fault::Fault;
@@ -20,6 +21,7 @@ use treefile::Device;
 /// `Translator::build` refuses the grammar for, before a device is touched, and what
 /// `Translator::translate` refuses the sentence for. On every refusal but O2 the writer is as
 /// before.
+#[tactic(auto, using(crate::proofs::Begun::begun))]
 pub fn run_job<R: Read + Drop, D: Device, W: Write>(
     alloc: Global,
     reader: R,
@@ -37,6 +39,9 @@ pub fn run_job<R: Read + Drop, D: Device, W: Write>(
         (D.is_honest a.old) (D.is_honest b.old)
         (W.contents out.old) (W.contents out.new) e) }
     ensures kept { IfErr result (λ e. e ≢ Fault.Write → out.new ≡ out.old) }
+    // O2, whatever the devices gave back
+    ensures begins { IsErrOf result Fault.Write →
+        BeginsText (W.contents out.old) (W.contents out.new) }
     ensures untouched { IfErr result (λ e. IsBeforeTrees e → a.new ≡ a.old) }
     ensures b_untouched { IfErr result (λ e. IsBeforePasses e → b.new ≡ b.old) }
     ensures a_persists { Persists (D.is_honest a.old) (D.is_honest a.new)

@@ -1,6 +1,6 @@
 //! A grammar that no assignment of passes serves, and what shows that.
 
-use normalform::Grammar;
+use ag_grammar::Grammar;
 use passassign::Stuck;
 use std::fmt;
 

@@ -5,20 +5,20 @@ ghost use Rattle.std.specs.Prelude.{◌≡◌, ◌⊎◌, IfErr, IfOk, IsErrOf};
 ghost use Rattle.aggen.specs.Building.{IsLeastPlan};
 ghost use Rattle.aggen.specs.Sentences.{IsScanFault};
 ghost use Rattle.aggen.specs.Translating.{IsFilesFault, IsRefusedSentence, LeavesFiles};
-ghost use Rattle.agoutput.specs.Roots.{TellsRoot};
 ghost use Rattle.passrun.specs.Rounds.{last_content};
 ghost use Rattle.planchecker.specs.Plans.{IsPlan};
+ghost use Rattle.roottext.specs.Roots.{TellsRoot};
 ghost use Rattle.treefile.specs.Device.{HasRisen, LeavesContent, Persists, WhenHonest};
 
 use crate::fault::Fault;
 use crate::report::Report;
 use crate::translator::Translator;
-use ag_expr::Meter;
+use ag_eval::Meter;
+use ag_grammar::Grammar;
 use ag_value::Text;
-use agoutput::{OutFault, root_text};
-use normalform::Grammar;
 use passrun::{Last, run_all};
 use planchecker::Plan;
+use roottext::{OutFault, root_text};
 use std::alloc::Global;
 use treefile::Device;
 

@@ -18,6 +18,7 @@ ghost use Rattle.aggen.specs.Sentences.{IsScanFault, IsSentenceFault, IsTreeOfSe
 ghost use Rattle.aggen.specs.Sentences.{nodes_line as line_of};
 ghost use Rattle.aggen.specs.Translating.{IsRefusedSentence, IsTranslationFault};
 ghost use Rattle.aggen.specs.Translating.{TranslatesSentence};
+ghost use Rattle.aggen.specs.Translation.{BeginsText};
 
 use crate::build_fault::BuildFault;
 use crate::checking::grammar_of;
@@ -26,11 +27,11 @@ use crate::fault::Fault;
 use crate::report::Report;
 use crate::stuck_grammar::StuckGrammar;
 use crate::translating::{last_text, leave_files};
+use ag_grammar::Grammar;
 use ag_scan::scan;
 use ag_value::NoMemory;
 use agoutput::write_text;
 use llparse::{Tables, parse, tables};
-use normalform::Grammar;
 use passassign::{AssignFault, Assignment, assign};
 use passcode::generate;
 use planchecker::{Plan, check_plan};
@@ -166,6 +167,7 @@ impl Translator {
     /// byte; D1 Device where a call of a device failed. Of a device that does not give back what
     /// was written, R1, P2 or P3 of a tree file, B1 or B2 may come. On every refusal but O2 the
     /// writer is as before; what is left on the devices need not be mended for the next call.
+    #[tactic(auto, using(crate::proofs::Begun::begun))]
     pub fn translate<D: Device, W: Write>(
         &self,
         sentence: &[u8],
@@ -183,6 +185,9 @@ impl Translator {
             (D.is_honest a.old) (D.is_honest b.old)
             (W.contents out.old) (W.contents out.new) e) }
         ensures kept { IfErr result (λ e. e ≢ Fault.Write → out.new ≡ out.old) }
+        // O2, whatever the devices gave back
+        ensures begins { IsErrOf result Fault.Write →
+            BeginsText (W.contents out.old) (W.contents out.new) }
         ensures untouched { IfErr result (λ e. IsScanFault e → a.new ≡ a.old) }
         ensures b_untouched { IfErr result (λ e. IsRefusedSentence e → b.new ≡ b.old) }
         ensures a_persists { Persists (D.is_honest a.old) (D.is_honest a.new)
@@ -212,6 +217,7 @@ impl Translator {
     /// Write where a write failed or took no byte; D1 Device where a call of a device failed. Of a
     /// device that does not give back what was written, B1 or B2 may come. On every refusal but O2
     /// the writer is as before.
+    #[tactic(auto, using(crate::proofs::Begun::begun))]
     pub fn evaluate_tree<T: Device, D: Device, W: Write>(
         &self,
         tree: &mut T,
@@ -230,6 +236,9 @@ impl Translator {
             (T.is_honest tree.old) (D.is_honest a.old) (D.is_honest b.old)
             (T.content tree.old) (W.contents out.old) (W.contents out.new) e) }
         ensures kept { IfErr result (λ e. e ≢ Fault.Write → out.new ≡ out.old) }
+        // O2, whatever the devices gave back
+        ensures begins { IsErrOf result Fault.Write →
+            BeginsText (W.contents out.old) (W.contents out.new) }
         ensures content { LeavesContent (T.is_honest tree.old)
             (T.content tree.old) (T.content tree.new) }
         ensures tree_persists { Persists (T.is_honest tree.old) (T.is_honest tree.new)

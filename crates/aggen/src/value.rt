@@ -11,7 +11,8 @@ ghost use Rattle.aggen.specs.Showing.{ShowsBeginning, WritesLine, first_place};
 
 use crate::fault::Fault;
 use crate::file::{line_of, read_file, write_file};
-use ag_expr::{Env, ExprFault, Meter, eval, read_expr};
+use ag_eval::{Env, Meter, eval};
+use ag_expr::{ExprFault, read_expr};
 use ag_grammar::{Expr, occurrences};
 use ag_value::Value;
 use agoutput::write_text;

@@ -8,6 +8,7 @@ use messages::{
     StuckMessage, TextMessage, TreeMessage, ValueMessage,
 };
 use std::alloc::Global;
+use treefile::Device;
 
 /// Tells a fault of no text and no file.
 pub fn tell<R: Eprint>(rt: &R, fault: Fault) -> Fault {
@@ -76,10 +77,20 @@ pub fn tell_sentence<R: Eprint>(
 }
 
 /// Tells a fault of the tree in the file of this name.
-pub fn tell_tree<R: Eprint>(rt: &R, alloc: Global, fault: Fault, path: &str) -> Fault {
+pub fn tell_tree<R: Eprint, D: Device>(
+    rt: &R,
+    alloc: Global,
+    fault: Fault,
+    translator: &Translator,
+    tree: &mut D,
+    path: &str,
+) -> Fault {
     let _ = match &fault {
         Fault::File | Fault::Device => eprintln!(rt; "{fault}{}", PathMessage::new(path)),
-        Fault::Run(run) => eprintln!(rt; "{fault}{}", TreeMessage::new(*run, path)),
+        Fault::Run(run) => {
+            let message = TreeMessage::new(alloc, *run, translator.grammar(), tree, path);
+            eprintln!(rt; "{fault}{message}")
+        }
         _ => return tell_translation(rt, alloc, fault),
     };
     fault

@@ -52,7 +52,7 @@ pub fn evaluate_file<R: Files + Print + Eprint>(
     let mut out = io::writer(rt);
     match translator.evaluate_tree(&mut tree, &mut a, &mut b, &mut out) {
         Ok(_) => Ok(()),
-        Err(fault) => Err(tell_tree(rt, alloc, fault, paths.tree)),
+        Err(fault) => Err(tell_tree(rt, alloc, fault, &translator, &mut tree, paths.tree)),
     }
 }
 

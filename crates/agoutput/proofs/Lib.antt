@@ -1,4 +1,3 @@
 pub mod Loops
 pub mod Names
-pub mod Roots
 pub mod Written

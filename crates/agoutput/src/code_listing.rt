@@ -13,7 +13,7 @@ ghost use Rattle.agoutput.specs.Writing.{AppendsBeginning};
 use crate::fault::ListingFault;
 use crate::naming::{attribute_name, show_number};
 use crate::writing::write_text;
-use normalform::{Grammar, Production};
+use ag_grammar::{Grammar, Production};
 use passcode::{Code, Instr};
 use planchecker::Plan;
 use std::alloc::{AllocError, Global};

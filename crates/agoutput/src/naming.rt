@@ -5,8 +5,7 @@ ghost use Rattle.std.specs.Prelude.{string_bytes};
 ghost use Rattle.ag_grammar.specs.grammars.AttributeGrammar.{symbol_names};
 ghost use Rattle.agoutput.specs.Listings.{attribute_name as name_at};
 
-use ag_grammar::Terminal;
-use normalform::{Grammar, Item, Production, Symbol};
+use ag_grammar::{Grammar, Item, Production, Symbol, Terminal};
 use std::alloc::{AllocError, Global};
 
 /// Appends a number in decimal.

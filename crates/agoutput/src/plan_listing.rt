@@ -10,8 +10,7 @@ ghost use Rattle.agoutput.specs.Listings.{attribute_text, pass_line, symbol_text
 use crate::fault::ListingFault;
 use crate::naming::show_number;
 use crate::writing::write_text;
-use ag_grammar::Direction;
-use normalform::{Grammar, Symbol};
+use ag_grammar::{Direction, Grammar, Symbol};
 use passassign::Assignment;
 use planchecker::Plan;
 use std::alloc::{AllocError, Global};

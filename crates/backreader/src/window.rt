@@ -12,13 +12,18 @@ ghost use Rattle.treefile.specs.TreeFile.{version_one};
 ghost use Rattle.treefile.specs.declared.reading.FrameFault.TheVariants.{Damaged};
 
 use std::alloc::{AllocError, Global};
-use treefile::{Device, DeviceFault, FrameFault, HEADER_BYTES, LENGTH_BYTES, fits_before};
+use treefile::{
+    Device, DeviceFault, FrameFault, HEADER_BYTES, LEAST_BODY, LENGTH_BYTES, fits_before,
+};
 
 /// How many bytes a buffer has at first.
 const BUFFER: usize = 4096;
 
 /// How many bytes the length behind a body has.
 const LENGTH: usize = LENGTH_BYTES as usize;
+
+/// How many bytes a body has at least.
+const LEAST: usize = LEAST_BODY as usize;
 
 /// The bytes of a device that stand before an offset, as far as they were read: those of a buffer
 /// from one place to another. Before them the buffer is free, and behind them stand the bytes that
@@ -97,6 +102,10 @@ impl Window {
         if self.at == HEADER_BYTES {
             return Ok(None);
         }
+        if let Some(length) = self.at_hand() {
+            self.take(length);
+            return Ok(Some(length));
+        }
         let unread = self.to - self.from;
         let Some(length) = self.length_before(device)? else {
             return Err(FrameFault::Damaged(self.at));
@@ -117,6 +126,30 @@ impl Window {
         ensures { result.now ≡ taken self.now count }
     {
         &self.buffer[self.to..self.to + count]
+    }
+
+    /// The length of the body whose frame ends at the offset, where the bytes that were read have
+    /// all of that frame: then there is room for it behind the header, and in the buffer.
+    #[tactic(auto, using(crate::proofs::Standing::body_at_hand))]
+    fn at_hand(&self) -> Option<usize>
+        ensures found { (content : List ℕ) → StandBefore content self.now.at (unread self.now) →
+            IfSome result (λ count. body_before version_one content self.now.at
+            ≡ Ok (slice_range content
+            (self.now.at - length_bytes - count) (self.now.at - length_bytes))) }
+        ensures read { IfSome result
+            (λ count. count + length_bytes ≤ self.now.to - self.now.from) }
+        ensures least { IfSome result (λ count. least_body ≤ count) }
+        ensures greatest { IfSome result (λ count. count ≤ greatest_body version_one) }
+    {
+        let count = self.to - self.from;
+        if count < LENGTH {
+            return None;
+        }
+        let length = self.number() as usize;
+        if length < LEAST || count - LENGTH < length {
+            return None;
+        }
+        Some(length)
     }
 
     /// The length of the body whose frame ends at the offset; `None` where none does.
@@ -232,6 +265,8 @@ impl Window {
 
     /// Moves the bytes to the end of the buffer, and reads those before them: as many as are free,
     /// or up to the header. After a failure there are as many as before.
+    #[cold]
+    #[inline(never)]
     fn fill<D: Device>(&mut self, device: &mut D) -> Result<(), DeviceFault>
         requires { WhenHonest (D.is_honest device.old)
             (StandBefore (D.content device.old) self.old.at (unread self.old)) }

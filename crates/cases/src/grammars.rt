@@ -1,9 +1,11 @@
 //! What is told of the text of a grammar.
 
-use ag_grammar::{Named, RawGrammar, RawItem, RawProduction, RawRule, RawSymbol, occurrences};
+use ag_grammar::{
+    Grammar, Named, Production, RawGrammar, RawItem, RawProduction, RawRule, RawSymbol, occurrences,
+};
 use ag_text::{expected_at, read_grammar};
 use aggen::{BuildFault, grammar_of, print_code, print_plan};
-use normalform::{Grammar, NormalFault, Production};
+use normalform::NormalFault;
 use rows::{Mistake, printed};
 use std::alloc::{AllocError, Global};
 

@@ -4,9 +4,9 @@ ghost use Rattle.planchecker.specs.Plans.{IsPlan};
 
 use crate::plans::pair;
 use crate::sentences::translator;
-use ag_expr::Meter;
+use ag_eval::Meter;
+use ag_grammar::Grammar;
 use aggen::Translator;
-use normalform::Grammar;
 use passrun::{Last, Passed, run_all, run_pass};
 use planchecker::{Plan, check_plan};
 use rows::{Mistake, bytes_of, first_word, halves, printed, short_number, shown_bytes};

@@ -1,7 +1,7 @@
 //! What is told of assignments and of code by hand.
 
 use crate::grammars::grammar;
-use normalform::Grammar;
+use ag_grammar::Grammar;
 use passassign::Assignment;
 use passcode::{Code, Instr};
 use planchecker::check_plan;

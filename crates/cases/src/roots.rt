@@ -1,10 +1,10 @@
 //! What the last file tells of the translation.
 
 use crate::sentences::translator;
-use ag_expr::Meter;
+use ag_eval::Meter;
 use aggen::Translator;
-use agoutput::root_text;
 use passrun::run_pass;
+use roottext::root_text;
 use rows::{Mistake, bytes_of, printed};
 use std::alloc::Global;
 use treefile::MemDevice;

@@ -1,11 +1,11 @@
 //! What is told of sentences, of their trees, and of the tables that they are parsed by.
 
 use crate::grammars::grammar;
+use ag_grammar::Terminal;
 use ag_scan::{Token, fits, scan};
 use ag_value::Text;
 use aggen::{BuildFault, Fault, Translator};
 use llparse::{Ahead, expected_at, tables};
-use normalform::Terminal;
 use rows::{Mistake, first_word, printed, short_number, shown_bytes};
 use std::alloc::{AllocError, Global};
 use treefile::MemDevice;

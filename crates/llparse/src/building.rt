@@ -8,7 +8,7 @@ use crate::fault::TableFault;
 use crate::filling::fill;
 use crate::lookup::Tables;
 use crate::nodes::Sizes;
-use normalform::Grammar;
+use ag_grammar::Grammar;
 use std::alloc::Global;
 
 /// The tables of a grammar: exactly what its productions predict.

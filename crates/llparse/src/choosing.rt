@@ -4,8 +4,8 @@ ghost use Rattle.std.specs.Prelude.{Some, IfOk};
 ghost use Rattle.ag_grammar.specs.declared.grammar.Production.{Production as AProduction};
 ghost use Rattle.llparse.specs.Predicted.{AreFirstFrom, IsLeastFrom, PutsFirst, PutsLeast};
 
+use ag_grammar::Production;
 use ag_value::NoMemory;
-use normalform::Production;
 use std::alloc::Global;
 
 /// Two productions that conflict.

@@ -9,10 +9,9 @@ use crate::nodes::Sizes;
 use crate::parse_fault::ParseFault;
 use crate::parser::Parser;
 use crate::tokens::expect;
-use ag_grammar::{Item, Terminal};
+use ag_grammar::{Grammar, Item, Terminal};
 use ag_scan::Token;
 use ag_value::{NoMemory, Text};
-use normalform::Grammar;
 use std::alloc::Global;
 
 /// Takes a token of the terminal that comes next, and writes nothing.

@@ -9,8 +9,8 @@ use crate::ahead::Ahead;
 use crate::choosing::{Column, Pair, choose};
 use crate::nodes::Sizes;
 use crate::predict::Sets;
+use ag_grammar::Grammar;
 use ag_value::NoMemory;
-use normalform::Grammar;
 use std::alloc::Global;
 
 /// Two productions that conflict, and the look-ahead that both predict.

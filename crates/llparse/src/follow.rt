@@ -14,9 +14,8 @@ use crate::first::{no_edges, note};
 use crate::nodes::Sizes;
 use crate::nullable::is_empty;
 use crate::reach::reachable;
-use ag_grammar::Item;
+use ag_grammar::{Grammar, Item};
 use ag_value::NoMemory;
-use normalform::Grammar;
 use std::alloc::Global;
 
 /// A number is marked.

@@ -6,8 +6,7 @@ ghost use Rattle.llparse.specs.Tables.{is_known};
 
 use crate::ahead::Ahead;
 use ag_grammar::limits::CLASS_COUNT;
-use ag_grammar::{Item, Terminal};
-use normalform::Grammar;
+use ag_grammar::{Grammar, Item, Terminal};
 
 /// How many symbols and literals a grammar has.
 #[derive(Clone, Copy, Debug, PartialEq, Eq)]

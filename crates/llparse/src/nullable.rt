@@ -11,9 +11,8 @@ ghost use Rattle.llparse.specs.Nullable.{is_empty, IsItemBelow, IsSearch, IsSett
 ghost use Rattle.llparse.specs.Nullable.{AreNullableMarks, Notes};
 ghost use Rattle.llparse.specs.Reach.{is_marked, row, rows, turns_left};
 
-use ag_grammar::Item;
+use ag_grammar::{Grammar, Item};
 use ag_value::NoMemory;
-use normalform::Grammar;
 use std::alloc::Global;
 
 /// An item is a marked symbol.

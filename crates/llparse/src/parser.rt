@@ -17,10 +17,9 @@ use crate::lookup::Tables;
 use crate::parse_fault::ParseFault;
 use crate::tokens::{expect, next_of, unexpected};
 use ag_grammar::limits::{MOST_DEPTH, MOST_NODES};
-use ag_grammar::{Item, Terminal};
+use ag_grammar::{Grammar, Item, Terminal};
 use ag_scan::Token;
 use ag_value::{NoMemory, Text, Value};
-use normalform::Grammar;
 use std::alloc::Global;
 use treefile::{Device, Kind, Writer};
 

@@ -17,9 +17,8 @@ use crate::lookup::Tables;
 use crate::parse_fault::ParseFault;
 use crate::parser::{Parser, put_node};
 use crate::tokens::unexpected;
-use ag_grammar::Item;
+use ag_grammar::{Grammar, Item};
 use ag_scan::Token;
-use normalform::Grammar;
 use std::alloc::Global;
 use treefile::{Device, Writer};
 

@@ -9,9 +9,8 @@ use crate::first::{first, first_edges};
 use crate::follow::{follow, follow_edges, has};
 use crate::nodes::Sizes;
 use crate::nullable::{is_empty, nullable};
-use ag_grammar::Item;
+use ag_grammar::{Grammar, Item};
 use ag_value::NoMemory;
-use normalform::Grammar;
 use std::alloc::Global;
 
 /// A look-ahead comes next along items, or behind them where all are nullable.

@@ -2,10 +2,10 @@
 
 use crate::telling::{front_of, place_of, tell_place, tell_word};
 use crate::terminals::{class_name, tell_ahead};
-use ag_grammar::{RawGrammar, RawItem, RawProduction};
+use ag_grammar::{Grammar, RawGrammar, RawItem, RawProduction};
 use ag_text::read_grammar;
 use llparse::{Ahead, TableFault};
-use normalform::{Grammar, check, is_readable};
+use normalform::{check, is_readable};
 use std::alloc::Global;
 use std::fmt;
 

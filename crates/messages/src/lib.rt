@@ -15,6 +15,7 @@ mod parse_message;
 mod path_message;
 mod scan_message;
 mod sites;
+mod standing;
 mod stuck_message;
 mod telling;
 mod terminals;

@@ -3,9 +3,9 @@
 use crate::telling::{front_of, tell_found, tell_number, tell_place};
 use crate::terminals::{class_name, tell_aheads};
 use ag_grammar::limits::{MOST_DEPTH, MOST_NODES};
+use ag_grammar::{Grammar, Terminal};
 use ag_scan::{Token, scan};
 use llparse::{Ahead, ParseFault, Tables, expected_at};
-use normalform::{Grammar, Terminal};
 use std::alloc::Global;
 use std::fmt;
 

@@ -2,9 +2,9 @@
 
 use crate::telling::{front_of, tell_found, tell_number, tell_place};
 use crate::terminals::tell_terminals;
+use ag_grammar::Grammar;
 use ag_grammar::limits::{MOST_TEXT_BYTES, MOST_TOKEN_BYTES};
 use ag_scan::ScanFault;
-use normalform::Grammar;
 use std::fmt;
 
 /// What is told behind S1 to S4, why a sentence has no tokens, as

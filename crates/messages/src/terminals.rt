@@ -2,8 +2,8 @@
 
 use crate::telling::tell_word;
 use ag_grammar::limits::{NAME, NUMBER};
+use ag_grammar::{Grammar, Terminal};
 use llparse::Ahead;
-use normalform::{Grammar, Terminal};
 use std::fmt;
 
 /// How many terminals a message names at most.

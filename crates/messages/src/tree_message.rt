@@ -1,22 +1,120 @@
 //! Why a tree file is refused, in words.
 
+use crate::standing::{Frame, awaited_at, frame_before};
 use crate::telling::{tell_number, tell_word};
-use ag_grammar::limits::{MOST_DEPTH, MOST_NODES};
+use crate::terminals::class_name;
+use ag_grammar::limits::{MOST_DEPTH, MOST_NODES, TEXT};
+use ag_grammar::{Grammar, Item, Terminal};
 use passrun::RunFault;
+use std::alloc::Global;
 use std::fmt;
+use treefile::{Device, HEADER_BYTES};
 
-/// What is told behind R1, P2 and P3 of a tree file of pass 0: what should stand at the offset, and
-/// which file it is, as `: no record that the grammar has here ends here, .., in the file x.tree`.
-#[derive(Clone, Copy)]
+/// What is told at the front of a file that begins as no tree file.
+const NO_TREE_FILE: &str =
+    "a tree file begins with `AGT1` and the number of a pass, and this one doesn't";
+
+/// What is told at the number of a pass that is not 0.
+const ANOTHER_PASS: &str = "the number of the pass should be 0 here, and it is another";
+
+/// What is told behind R1, P2 and P3 of a tree file of pass 0: what ends at the offset, what should,
+/// and which file it is, as `: found a NAME with 0 bytes of values, where only a NAME with one text
+/// can end, .., in the file x.tree`.
+#[derive(Drop)]
 pub struct TreeMessage<'a> {
     fault: RunFault,
+    grammar: &'a Grammar,
+    found: Option<Frame>,
+    awaited: Option<Vec<Item>>,
     path: &'a str,
 }
 
 impl<'a> TreeMessage<'a> {
-    /// The message of the tree file of this name. Takes no memory.
-    pub fn new(fault: RunFault, path: &'a str) -> TreeMessage<'a> {
-        TreeMessage { fault, path }
+    /// The message of the tree file of this name, which is read once more from its end where a
+    /// record of it is refused. Takes memory for what the tree awaits at the offset; where that is
+    /// refused, or the file can't be read, the message leaves out what it would have told.
+    pub fn new<D: Device>(
+        alloc: Global,
+        fault: RunFault,
+        grammar: &'a Grammar,
+        tree: &mut D,
+        path: &'a str,
+    ) -> TreeMessage<'a> {
+        let (found, awaited) = match fault {
+            RunFault::Damaged(at) if HEADER_BYTES <= at => (
+                frame_before(tree, at),
+                awaited_at(alloc, grammar, tree, at),
+            ),
+            _ => (None, None),
+        };
+        TreeMessage {
+            fault,
+            grammar,
+            found,
+            awaited,
+            path,
+        }
+    }
+
+    /// What ends at an offset, and what should.
+    fn tell_standing<W: fmt::Write>(&self, f: &mut fmt::Formatter<W>, at: u64) -> fmt::Result {
+        write!(f, "found ")?;
+        match self.found {
+            Some(frame) => self.tell_frame(f, frame)?,
+            None if at == HEADER_BYTES => write!(f, "the end of the header")?,
+            None => write!(f, "no frame that ends here")?,
+        }
+        if let Some(awaited) = &self.awaited {
+            write!(f, ", where only ")?;
+            match awaited.last() {
+                Some(item) => self.tell_wanted(f, *item)?,
+                None => write!(f, "the header")?,
+            }
+            write!(f, " can end")?;
+        }
+        Ok(())
+    }
+
+    /// A frame that ends at the offset.
+    fn tell_frame<W: fmt::Write>(&self, f: &mut fmt::Formatter<W>, frame: Frame) -> fmt::Result {
+        let number = frame.number;
+        match frame.kind {
+            0 => match self.grammar.productions().get(usize::from(number)) {
+                Some(production) => {
+                    self.tell_item(f, Item::Symbol(production.left))?;
+                    write!(f, " by production {number}")?;
+                }
+                None => write!(f, "a node by no production (number {number})")?,
+            },
+            1 if number <= TEXT => write!(f, "a {}", class_name(number))?,
+            1 => write!(f, "a token of no class (number {number})")?,
+            kind => write!(f, "a record of no kind (number {kind})")?,
+        }
+        write!(f, " with {} bytes of values", frame.bytes.saturating_sub(3))
+    }
+
+    /// The record that should end at the offset, in a file of pass 0.
+    fn tell_wanted<W: fmt::Write>(&self, f: &mut fmt::Formatter<W>, item: Item) -> fmt::Result {
+        self.tell_item(f, item)?;
+        match item {
+            Item::Symbol(_) => write!(f, " without values"),
+            Item::Terminal(_) => write!(f, " with one text"),
+        }
+    }
+
+    /// What stands at a place: a node of a symbol, or a token of a class. A literal has no record.
+    fn tell_item<W: fmt::Write>(&self, f: &mut fmt::Formatter<W>, item: Item) -> fmt::Result {
+        match item {
+            Item::Symbol(number) => {
+                write!(f, "a node of `")?;
+                if let Some(symbol) = self.grammar.symbols().get(usize::from(number)) {
+                    tell_word(f, symbol.name.as_str())?;
+                }
+                write!(f, "`")
+            }
+            Item::Terminal(Terminal::Class(number)) => write!(f, "a {}", class_name(number)),
+            Item::Terminal(Terminal::Literal(_)) => Ok(()),
+        }
     }
 }
 
@@ -24,7 +122,12 @@ impl fmt::Display for TreeMessage<'_> {
     fn fmt<W: fmt::Write>(&self, f: &mut fmt::Formatter<W>) -> fmt::Result {
         match self.fault {
             RunFault::Damaged(at) => {
-                write!(f, ": {}", wanted_at(at))?;
+                write!(f, ": ")?;
+                match at {
+                    0 => write!(f, "{NO_TREE_FILE}")?,
+                    4 => write!(f, "{ANOTHER_PASS}")?,
+                    _ => self.tell_standing(f, at)?,
+                }
                 write!(f, ", make the file anew with `aggen parse`: ")?;
             }
             RunFault::TooDeep => write!(
@@ -42,16 +145,5 @@ impl fmt::Display for TreeMessage<'_> {
             RunFault::Device | RunFault::NoMemory => write!(f, ": ")?,
         }
         tell_word(f, self.path)
-    }
-}
-
-/// What should stand at the offset of a tree file of pass 0, and does not.
-fn wanted_at(at: u64) -> &'static str {
-    match at {
-        0 => "a tree file begins with `AGT1` and the number of a pass, and this one doesn't",
-        4 => "the number of the pass should be 0 here, and it is another",
-        6 => "the record of one more node should end here, and there is none",
-        _ =>
-            "the record of a node that the grammar has at this place should end here, and none does",
     }
 }

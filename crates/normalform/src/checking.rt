@@ -15,14 +15,13 @@ ghost use Rattle.normalform.specs.Numbers.{numbered};
 use crate::clause::{Clause, clauses_of, reaching};
 use crate::declared::Declared;
 use crate::fault::NormalFault;
-use crate::grammar::Grammar;
 use crate::limits::exceeded;
 use crate::moving::{move_symbols, name_at};
 use crate::naming::{doubled, unknown};
 use crate::numbering::{classes_of, literal_texts, names_of, productions_of, start_of};
 use crate::rules::{doubled_rules, missing, not_found, not_given};
 use crate::search::first_left;
-use ag_grammar::{Named, Production, RawGrammar, RawProduction, RawSymbol};
+use ag_grammar::{Grammar, Named, Production, RawGrammar, RawProduction, RawSymbol};
 use ag_value::{Items, NoMemory, Text};
 use std::alloc::Global;
 

@@ -7,7 +7,6 @@ mod clause;
 mod declared;
 mod display;
 mod fault;
-mod grammar;
 pub mod laws;
 mod limits;
 mod moving;
@@ -20,8 +19,6 @@ mod rules;
 mod search;
 mod targets;
 
-pub use ag_grammar::{Item, Production, Rule, Symbol, Target, Terminal};
 pub use checking::check;
 pub use fault::{LimitKind, NormalFault};
-pub use grammar::Grammar;
 pub use readable::is_readable;

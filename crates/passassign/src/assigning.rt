@@ -19,9 +19,8 @@ use crate::assignment::Assignment;
 use crate::search::{Dependencies, search};
 use crate::stuck::{Strike, Stuck};
 use crate::table::{State, count_open, give, open_all, open_ones, rows};
-use ag_grammar::{Direction, Production, Symbol};
+use ag_grammar::{Direction, Grammar, Production, Symbol};
 use ag_value::{Items, NoMemory};
-use normalform::Grammar;
 use std::alloc::Global;
 
 /// Why there is no assignment.

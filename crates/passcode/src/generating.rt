@@ -15,9 +15,8 @@ use crate::code::Code;
 use crate::instr::Instr;
 use crate::listing::list_of;
 use crate::table::rule_table;
-use ag_grammar::Production;
+use ag_grammar::{Grammar, Production};
 use ag_value::NoMemory;
-use normalform::Grammar;
 use passassign::Assignment;
 use std::alloc::Global;
 

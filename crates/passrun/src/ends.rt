@@ -15,7 +15,7 @@ use crate::machine::Machine;
 use crate::open_node::OpenNode;
 use crate::putting::put_row;
 use crate::run_fault::RunFault;
-use ag_expr::Meter;
+use ag_eval::Meter;
 use ag_grammar::Item;
 use backreader::Back;
 use std::alloc::Global;

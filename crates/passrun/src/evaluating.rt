@@ -5,7 +5,7 @@ ghost use Rattle.std.specs.Prelude.{slice_index};
 ghost use Rattle.ag_grammar.specs.expressions.Evaluation.{value_of};
 ghost use Rattle.ag_value.specs.Well.{IsWell};
 
-use ag_expr::{Env, Meter, eval};
+use ag_eval::{Env, Meter, eval};
 use ag_grammar::Expr;
 use ag_value::{NoMemory, Value};
 use std::alloc::Global;

@@ -13,8 +13,7 @@ ghost use Rattle.treefile.specs.Listed.{count_up_to};
 use crate::laying::Layout;
 use crate::open_node::OpenNode;
 use crate::rows::width;
-use ag_grammar::Item;
-use normalform::Grammar;
+use ag_grammar::{Grammar, Item};
 use passcode::Instr;
 use planchecker::Plan;
 

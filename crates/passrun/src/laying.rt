@@ -15,9 +15,8 @@ ghost use Rattle.planchecker.specs.Plans.{IsPlan};
 ghost use Rattle.planchecker.specs.Settings.{setting_of};
 
 use crate::rows::{rank_of, width};
-use ag_grammar::{Direction, Item, Production, Rule, Target};
+use ag_grammar::{Direction, Grammar, Item, Production, Rule, Target};
 use ag_value::{Items, NoMemory};
-use normalform::Grammar;
 use planchecker::Plan;
 use std::alloc::Global;
 

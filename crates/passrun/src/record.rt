@@ -9,9 +9,8 @@ ghost use Rattle.planchecker.specs.Settings.{setting_of};
 
 use crate::rows::passes_at;
 use ag_grammar::limits::MOST_TOKEN_BYTES;
-use ag_grammar::{Item, Terminal};
+use ag_grammar::{Grammar, Item, Terminal};
 use ag_value::{Value, ValueFault, decode};
-use normalform::Grammar;
 use planchecker::Plan;
 use std::alloc::{AllocError, AllocFailed, Global};
 use treefile::{Kind, split_body};

@@ -10,7 +10,7 @@ use crate::job::Job;
 use crate::machine::Machine;
 use crate::open_node::OpenNode;
 use crate::run_fault::RunFault;
-use ag_expr::Meter;
+use ag_eval::Meter;
 use std::alloc::Global;
 use treefile::Device;
 

@@ -12,8 +12,7 @@ ghost use Rattle.passassign.specs.declared.stuck.Strike.{Strike as TheStrike};
 ghost use Rattle.passassign.specs.declared.stuck.Stuck.{Stuck as TheStuck};
 ghost use Rattle.planchecker.specs.Striking.{IsNext};
 
-use ag_grammar::Direction;
-use normalform::{Grammar, Item, Production, Target};
+use ag_grammar::{Direction, Grammar, Item, Production, Target};
 use passassign::laws::certified_is_refused;
 use passassign::{Strike, Stuck};
 

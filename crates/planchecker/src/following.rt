@@ -18,9 +18,8 @@ ghost use Rattle.planchecker.specs.Following.{IsReady, IsWithin};
 
 use crate::legality::pass_of;
 use crate::listed::stands_before;
-use ag_grammar::Direction;
 use ag_grammar::limits::MOST_STORED;
-use normalform::{Item, Production, Rule, Target};
+use ag_grammar::{Direction, Item, Production, Rule, Target};
 use passassign::Assignment;
 use passcode::{Instr, instruction};
 

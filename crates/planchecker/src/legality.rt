@@ -9,8 +9,7 @@ ghost use Rattle.passassign.specs.Rows.{numbers_of, passes_of};
 ghost use Rattle.planchecker.specs.First.{IsFirstOrNone};
 ghost use Rattle.planchecker.specs.Legality.{AreAllowed, IsAllowed, IsIllegalOrNone};
 
-use ag_grammar::{Direction, Terminal};
-use normalform::{Item, Production, Rule, Target};
+use ag_grammar::{Direction, Item, Production, Rule, Target, Terminal};
 use passassign::Assignment;
 
 /// The pass of a symbol's attribute, if it has one.

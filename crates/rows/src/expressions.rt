@@ -2,7 +2,8 @@
 
 use crate::words::{Mistake, first_word, halves, number, printed};
 use crate::written::Written;
-use ag_expr::{Env, Meter, eval, expected_at, read_expr, read_until};
+use ag_eval::{Env, Meter, eval};
+use ag_expr::{expected_at, read_expr, read_until};
 use ag_grammar::{Expr, occurrences};
 use ag_value::{Value, is_well, show};
 use std::alloc::Global;
@@ -27,7 +28,7 @@ impl<'a> Env for Same<'a> {
 }
 
 /// The value of an expression where each occurrence has this value, which is well.
-#[tactic(auto, using(ag_expr::proofs::language::Values::are_well))]
+#[tactic(auto, using(ag_eval::proofs::Values::are_well))]
 fn evaluated(alloc: Global, expr: &Expr, lent: &Value) -> Result<Value, Mistake> {
     if !is_well(lent) || occurrences(expr).len() > LENT {
         return Err(Mistake::Unfit);
@@ -59,7 +60,7 @@ pub fn value_told(alloc: Global, text: &str, lent: &Value) -> Result<String, Mis
 }
 
 /// What an evaluation counts.
-#[tactic(auto, using(ag_expr::proofs::language::Values::are_well))]
+#[tactic(auto, using(ag_eval::proofs::Values::are_well))]
 fn counted(alloc: Global, expr: &Expr, lent: &Value) -> Result<String, Mistake> {
     if !is_well(lent) || occurrences(expr).len() > LENT {
         return Err(Mistake::Unfit);

@@ -13,11 +13,11 @@ use Rattle.treefile.specs.Ending.{IsBodyBefore, IsBytes, IsUsable, body_before, 
 
 -- ---- reading, where it is known what stands there
 
-fits : (version : Version) (at len : ℕ) → least_body ≤ len → len ≤ greatest_body version → header_bytes + len + length_bytes ≤ at → fits_before version at len ≡ true
+pub fits : (version : Version) (at len : ℕ) → least_body ≤ len → len ≤ greatest_body version → header_bytes + len + length_bytes ≤ at → fits_before version at len ≡ true
 unfolding fits_before
 fits version at len a b c = rw (le-leb least_body len a, le-leb len (greatest_body version) b, le-leb (header_bytes + len + length_bytes) at c) refl
 
-read_at : (version : Version) (content body : List ℕ) (at len : ℕ) → number_before content at ≡ len → slice_range content (at - 4 - len) (at - 4 - len + len) ≡ body → header_bytes + length_bytes ≤ at → fits_before version at len ≡ true → body_before version content at ≡ Ok body
+pub read_at : (version : Version) (content body : List ℕ) (at len : ℕ) → number_before content at ≡ len → slice_range content (at - 4 - len) (at - 4 - len + len) ≡ body → header_bytes + length_bytes ≤ at → fits_before version at len ≡ true → body_before version content at ≡ Ok body
 unfolding body_before
 read_at version content body at len number part room fit = rw (le-ltb at 10 room, number, fit, part) refl
 

@@ -13,7 +13,7 @@ pub const HEADER_BYTES: u64 = 6;
 pub const LENGTH_BYTES: u64 = 4;
 
 /// How many bytes a body has at least: a kind and a number.
-pub(crate) const LEAST_BODY: u64 = 3;
+pub const LEAST_BODY: u64 = 3;
 
 /// How many bytes a body has at most: those, and 16 values of 1,048,576 bytes each.
 pub(crate) const GREATEST_BODY: u64 = 16_777_219;

@@ -1,7 +1,7 @@
 //! Writing a tree file: its header, and then the frame of one record after another.
 
-ghost use Rattle.std.specs.Prelude.{◌≡◌, ◌++◌, ◌+◌, ◌-◌, ◌<◌, ◌≤◌, ◌^◌, ◌⊎◌, [], length, true};
-ghost use Rattle.std.specs.Prelude.{false, All, IfOk, IsErrOf, Ok, OnOk};
+ghost use Rattle.std.specs.Prelude.{◌≡◌, ◌++◌, ◌∷◌, ◌+◌, ◌-◌, ◌<◌, ◌≤◌, ◌^◌, ◌⊎◌, [], length};
+ghost use Rattle.std.specs.Prelude.{true, false, All, IfOk, IsErrOf, Ok, OnOk};
 ghost use Rattle.std.specs.List.{flat_map};
 ghost use Rattle.ag_value.specs.Spelling.{spelling_of};
 ghost use Rattle.ag_value.specs.Well.{IsWell};
@@ -101,7 +101,7 @@ impl Writer {
     }
 
     /// Appends the frame of a record by one call of the device. Takes memory for the frame, where
-    /// there are values.
+    /// there are several values, or one that is no number.
     ///
     /// Asks for at most 16 values, each of them well, and for fewer than u64::MAX frames put
     /// before.
@@ -151,6 +151,10 @@ impl Writer {
         }
         if values.is_empty() {
             let answer = device.append(&bare_frame(kind, number));
+            return self.settle(answer);
+        }
+        if let [Value::Num(only)] = values {
+            let answer = device.append(&number_frame(kind, number, *only));
             return self.settle(answer);
         }
         fill_frame(&mut self.buffer, kind, number, values)?;
@@ -239,6 +243,26 @@ fn bare_frame(kind: Kind, number: u16) -> [u8; 7]
     [kind.byte(), high, low, 0, 0, 0, 3]
 }
 
+/// The frame of a record whose one value is a number.
+#[tactic(auto, using(ag_value::proofs::Layers::spellings))]
+fn number_frame(kind: Kind, number: u16, only: i64) -> [u8; 16]
+    ensures { result ≡ frame (body_of kind number (Value.Num only ∷ [])) }
+{
+    let kind = kind.byte();
+    let [high, low] = number.to_be_bytes();
+    let [tag, a, b, c, d, e, f, g, h] = number_spelling(only);
+    [kind, high, low, tag, a, b, c, d, e, f, g, h, 0, 0, 0, 12]
+}
+
+/// The spelling of a number.
+#[tactic(auto, using(ag_value::proofs::Layers::spellings))]
+fn number_spelling(n: i64) -> [u8; 9]
+    ensures { result ≡ spelling_of (Value.Num n) }
+{
+    let [a, b, c, d, e, f, g, h] = n.to_be_bytes();
+    [0, a, b, c, d, e, f, g, h]
+}
+
 /// Makes the buffer the frame of a record.
 fn fill_frame(
     buffer: &mut Vec<u8>,
@@ -275,9 +299,9 @@ fn fill_body(
     requires { All IsWell values.now }
     ensures { OnOk result (buffer.new.items ≡ body_of kind number values.now) }
 {
+    let [high, low] = number.to_be_bytes();
     buffer.clear();
-    buffer.push(kind.byte())?;
-    buffer.extend_from_slice(&number.to_be_bytes())?;
+    buffer.extend_from_slice(&[kind.byte(), high, low])?;
     append_values(buffer, values)
 }
 
@@ -287,7 +311,19 @@ fn append_values(buffer: &mut Vec<u8>, values: &[Value]) -> Result<(), NoMemory>
     ensures { OnOk result (buffer.new.items ≡ buffer.old.items ++ flat_map spelling_of values.now) }
 {
     for value in values {
-        encode(value, buffer)?;
+        append_value(buffer, value)?;
     }
+    Ok(())
+}
+
+/// Appends the spelling of a value, a number's in one step.
+fn append_value(buffer: &mut Vec<u8>, value: &Value) -> Result<(), NoMemory>
+    requires { IsWell value.now }
+    ensures { OnOk result (buffer.new.items ≡ buffer.old.items ++ spelling_of value.now) }
+{
+    let Value::Num(n) = value else {
+        return encode(value, buffer);
+    };
+    buffer.extend_from_slice(&number_spelling(*n))?;
     Ok(())
 }

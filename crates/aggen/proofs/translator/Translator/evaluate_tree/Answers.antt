@@ -4,7 +4,7 @@ use Rattle.std.specs.Io.KnownBytes.{Appends}
 use Rattle.ag_grammar.specs.grammars.AttributeGrammar.{Grammar}
 use Rattle.agoutput.specs.Writing.{AppendsBeginning}
 use Rattle.passrun.specs.Rounds.{last_content}
-use Rattle.agoutput.specs.Roots.{TellsRoot}
+use Rattle.roottext.specs.Roots.{TellsRoot}
 use Rattle.aggen.proofs.Evaluated.{begins, evaluates, root_refused}
 use Rattle.aggen.proofs.translator.Translator.evaluate_tree.Goals as goal
 

@@ -21,4 +21,4 @@ returns-clause-stand g c honest =
     let same : g.D.Device.content c.length_before.new.device ≡ content = c.in_ok-length.ensures.content honest in
     let is : g.D.Device.is_honest c.length_before.new.device ≡ true = c.in_ok-length.ensures.persists.honest ∙ honest in
     let loaded : StandBefore content c.load.new.self.at (unread c.load.new.self) = subst (λ (bytes : List ℕ). StandBefore bytes c.load.new.self.at (unread c.load.new.self)) same (c.in_ok-load.ensures.stand is) in
-    c.take.ensures.stand content loaded
+    c.take-2.ensures.stand content loaded

@@ -1,0 +1,6 @@
+pub mod Arguments
+pub mod Bindings
+pub mod Keys
+pub mod Putting
+pub mod Spelled
+pub mod Values

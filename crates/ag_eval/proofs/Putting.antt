@@ -1,0 +1,119 @@
+-- A table with a pair put into it.
+use Rattle.std.proofs.Common.{◌≡◌, ℕ, zero, suc, ◌+◌, ◌<◌, ◌≤◌, max, min, Bool, true, false, cond, List, [], ◌∷◌, ◌++◌, length, map, sum, get_or, pos, set, take, drop, filter, slice_get, Some, refl, sym, ap, ◌∙◌, arith}
+use Rattle.std.proofs.lemmas.Bool.{and_parts}
+use mathlib.Core.List.{map-map}
+use Rattle.std.proofs.lemmas.List.{map-append}
+use Rattle.std.proofs.lemmas.List.Sums.{sum_by-cons}
+use Rattle.std.proofs.lemmas.Option.{same_Some, slice_get-get_or}
+use Rattle.std.proofs.lemmas.Slice.Eq.{bytes_eq-Decides}
+use Rattle.std.specs.List.{insert}
+use Rattle.std.specs.Str.{is_utf8}
+use Rattle.ag_value.specs.declared.value.Value.{Value}
+use Rattle.ag_value.specs.declared.value.Value.TheVariants as v
+use Rattle.ag_value.specs.Measure.{depth_of, greatest, weight_of, weight_of_pair}
+use Rattle.ag_value.specs.Well.{IsWell, all_true, are_keys, is_before, is_item, is_item_pair, is_rising, key_of}
+use Rattle.ag_value.proofs.Layers.{depth-Table, item-Table, weight-Table}
+use Rattle.ag_grammar.specs.values.Tables.{IsPlace, has_key, with_pair}
+use Rattle.ag_grammar.proofs.values.Growing.{all_true-append}
+use Rattle.ag_eval.proofs.Keys.{rising_with}
+use Rattle.ag_grammar.proofs.values.Tables.{Pair, item_table, table_parts}
+
+-- what holds of all holds of those that pass a test
+all_filter : {A : Type 0} (f test : A → Bool) (xs : List A) → all_true (map f xs) ≡ true → all_true (map f (filter test xs)) ≡ true
+all_filter f test [] all = refl
+all_filter f test (x ∷ xs) all = go (test x) (all_filter f test xs (and_parts (f x) (all_true (map f xs)) all).1)
+  where
+    go : (b : Bool) → all_true (map f (filter test xs)) ≡ true → all_true (map f (cond b (x ∷ filter test xs) (filter test xs))) ≡ true
+    go true rest = rw ((and_parts (f x) (all_true (map f xs)) all).0, rest) refl
+    go false rest = rest
+
+all_with : (f : Pair → Bool) (key : List ℕ) (x : Value) (pairs : List Pair) → f (key, x) ≡ true → all_true (map f pairs) ≡ true → all_true (map f (with_pair key x pairs)) ≡ true
+all_with f key x pairs here all =
+    let front : List Pair = filter (λ (p : Pair). is_before p.0 key) pairs in
+    let back : List Pair = filter (λ (p : Pair). is_before key p.0) pairs in
+    let rest : all_true (map f back) ≡ true = all_filter f (λ (p : Pair). is_before key p.0) pairs all in
+    ap all_true (map-append f front ((key, x) ∷ back)) ∙ all_true-append (map f front) (f (key, x) ∷ map f back) (all_filter f (λ (p : Pair). is_before p.0 key) pairs all) (rw (here, rest) refl)
+
+-- a pair put into a well table leaves what may stand in a list
+pub item_with : (key : List ℕ) (x : Value) (pairs : List Pair) → IsWell (v.Table pairs) → is_utf8 key ≡ true → is_item x ≡ true → is_item (v.Table (with_pair key x pairs)) ≡ true
+item_with key x pairs well utf8 item =
+    let grown : List Pair = with_pair key x pairs in
+    let parts = table_parts pairs well in
+    let rising : is_rising (map key_of grown) ≡ true = rising_with key x pairs parts.0 in
+    let texts : all_true (map is_utf8 (map key_of grown)) ≡ true = ap all_true (map-map is_utf8 key_of grown) ∙ all_with (λ p. is_utf8 p.0) key x pairs utf8 (ap all_true (sym (map-map is_utf8 key_of pairs)) ∙ parts.1) in
+    let items : all_true (map is_item_pair grown) ≡ true = all_with is_item_pair key x pairs item parts.2 in
+    let keys : are_keys (map key_of grown) ≡ true = rw (rising, texts) refl in
+    item-Table grown ∙ rw (keys, items) refl
+
+-- at its place
+pub inserts : (key : List ℕ) (x : Value) (pairs : List Pair) (i : ℕ) → IsPlace key pairs i → has_key key (slice_get pairs i) ≡ false → with_pair key x pairs ≡ insert pairs i (key, x)
+inserts key x pairs i place none = rw (place.front, (place.belongs none).0) refl
+
+set_split : {A : Type 0} (xs : List A) (i : ℕ) (y : A) → i < length xs → set xs i y ≡ take i xs ++ y ∷ drop (suc i) xs
+set_split [] i y lt = absurd (omega arith)
+set_split (x ∷ xs) zero y lt = refl
+set_split (x ∷ xs) (suc i) y lt = ap (λ (zs : List _). x ∷ zs) (set_split xs i y (omega arith))
+
+pub replaces : (key : List ℕ) (x : Value) (pairs : List Pair) (i : ℕ) (p : Pair) → i < length pairs → IsPlace key pairs i → slice_get pairs i ≡ Some p → has_key key (slice_get pairs i) ≡ true → with_pair key x pairs ≡ set pairs i (p.0, x)
+replaces key x pairs i p lt place at here =
+    let same : p.0 ≡ key = (bytes_eq-Decides p.0 key).0 (sym (ap (has_key key) at) ∙ here) in
+    rw (place.front, (place.stands here).0) (sym (set_split pairs i (p.0, x) lt ∙ ap (λ k. take i pairs ++ (k, x) ∷ drop (suc i) pairs) same))
+
+sum_insert : {A : Type 0} (f : A → ℕ) (xs : List A) (i : ℕ) (y : A) → sum (map f (insert xs i y)) ≡ sum (map f xs) + f y
+sum_insert f xs zero y = let e = sum_by-cons (λ n. n) (f y) (map f xs) in omega arith
+sum_insert f [] (suc i) y = omega arith
+sum_insert f (x ∷ xs) (suc i) y =
+    let rest = sum_insert f xs i y in
+    let e = sum_by-cons (λ n. n) (f x) (map f (insert xs i y)) in
+    let d = sum_by-cons (λ n. n) (f x) (map f xs) in
+    omega arith
+
+greatest_insert : {A : Type 0} (f : A → ℕ) (xs : List A) (i : ℕ) (y : A) → greatest (map f (insert xs i y)) ≡ max (greatest (map f xs)) (f y)
+greatest_insert f xs zero y = omega arith
+greatest_insert f [] (suc i) y = omega arith
+greatest_insert f (x ∷ xs) (suc i) y = let rest = greatest_insert f xs i y in omega arith
+
+-- what `fit` asks of a table with a pair more
+pub fits-inserted : (pairs grown : List Pair) (i : ℕ) (key : List ℕ) (x : Value) (weight depth : ℕ) → grown ≡ insert pairs i (key, x) → IsWell (v.Table pairs) → IsWell x → length key ≤ 1048576
+    → weight ≡ weight_of (v.Table pairs) + 4 + length key + weight_of x → depth ≡ max (depth_of (v.Table pairs)) (depth_of x + 1)
+    → (weight ≡ min (weight_of (v.Table grown)) 18446744073709551615) × (depth ≡ min (depth_of (v.Table grown)) 4294967295)
+fits-inserted pairs grown i key x weight depth is well well' short heavy deep = rw is (
+  (let a = well.light in let b = well'.light in let e = weight-Table (insert pairs i (key, x)) in let d = weight-Table pairs in let s = sum_insert weight_of_pair pairs i (key, x) in omega arith),
+  (let a = well.shallow in let b = well'.shallow in let e = depth-Table (insert pairs i (key, x)) in let d = depth-Table pairs in let s = greatest_insert (λ (p : Pair). depth_of p.1) pairs i (key, x) in omega arith),
+)
+
+-- another value beside a key leaves what may stand in a list
+keys_set : (pairs : List Pair) (i : ℕ) (p : Pair) (x : Value) → slice_get pairs i ≡ Some p → map key_of (set pairs i (p.0, x)) ≡ map key_of pairs
+keys_set [] i p x at = refl
+keys_set (q ∷ qs) zero p x at = ap (λ (y : Pair). y.0 ∷ map key_of qs) (sym (same_Some q p at))
+keys_set (q ∷ qs) (suc i) p x at = ap (λ ks. q.0 ∷ ks) (keys_set qs i p x at)
+
+items_set : (pairs : List Pair) (i : ℕ) (k : List ℕ) (x : Value) → is_item x ≡ true → all_true (map is_item_pair pairs) ≡ true → all_true (map is_item_pair (set pairs i (k, x))) ≡ true
+items_set [] i k x item all = refl
+items_set (q ∷ qs) zero k x item all = rw (item, (and_parts (is_item_pair q) (all_true (map is_item_pair qs)) all).1) refl
+items_set (q ∷ qs) (suc i) k x item all =
+    let parts = and_parts (is_item_pair q) (all_true (map is_item_pair qs)) all in
+    rw (parts.0, items_set qs i k x item parts.1) refl
+
+pub item_set : (pairs changed : List Pair) (i : ℕ) (x : Value) → i < length pairs → ((p : Pair) → slice_get pairs i ≡ Some p → changed ≡ set pairs i (p.0, x)) → IsWell (v.Table pairs) → is_item x ≡ true → is_item (v.Table changed) ≡ true
+item_set pairs changed i x lt is well item =
+    let d : Pair = ([], v.Num (pos 0)) in
+    let p : Pair = get_or pairs i d in
+    let at : slice_get pairs i ≡ Some p = slice_get-get_or pairs i d lt in
+    let whole = item_table pairs well in
+    let parts = and_parts (are_keys (map key_of pairs)) (all_true (map is_item_pair pairs)) (sym (item-Table pairs) ∙ whole) in
+    let items = items_set pairs i p.0 x item parts.1 in
+    ap (λ (ps : List Pair). is_item (v.Table ps)) (is p at) ∙ item-Table (set pairs i (p.0, x)) ∙ rw (keys_set pairs i p x at, parts.0, items) refl
+
+pub replaced_is : (pairs changed : List Pair) (i : ℕ) (x : Value) → i < length pairs → ((p : Pair) → slice_get pairs i ≡ Some p → changed ≡ set pairs i (p.0, x)) → (key : List ℕ) → IsPlace key pairs i → has_key key (slice_get pairs i) ≡ true → changed ≡ with_pair key x pairs
+replaced_is pairs changed i x lt is key place here =
+    let d : Pair = ([], v.Num (pos 0)) in
+    let p : Pair = get_or pairs i d in
+    let at : slice_get pairs i ≡ Some p = slice_get-get_or pairs i d lt in
+    is p at ∙ sym (replaces key x pairs i p lt place at here)
+
+-- a place with a pair that has the key is one of the table's
+pub within : (key : List ℕ) (pairs : List Pair) (i : ℕ) → has_key key (slice_get pairs i) ≡ true → i < length pairs
+within key [] i here = let bad : ⊥ = cc in absurd bad
+within key (q ∷ qs) zero here = omega arith
+within key (q ∷ qs) (suc i) here = let e = within key qs i here in omega arith

@@ -1,0 +1,7 @@
+use Rattle.std.proofs.Common.{ap, ◌∙◌}
+use Rattle.ag_grammar.specs.values.Arguments.{truth}
+use Rattle.ag_grammar.proofs.values.Same.{decided}
+use Rattle.ag_eval.proofs.builtins.comparing.equal.Goals as goal
+
+pub returns-clause-value : goal.returns-clause-value
+returns-clause-value c = c.truth.ensures.value ∙ ap truth (decided _ _ c.same.result c.requires.left c.requires.right c.same.ensures)

@@ -1,0 +1,18 @@
+use Rattle.std.proofs.Common.{◌≡◌, ◌∙◌, true, ap, arith, sym, refl}
+use Rattle.std.specs.List.{join_by, list_all}
+use Rattle.ag_value.specs.declared.value.Value.TheVariants as value
+use Rattle.ag_grammar.specs.values.Fitting.{fit}
+use Rattle.ag_grammar.specs.values.Texts.{bytes_of, is_text}
+use Rattle.ag_grammar.proofs.values.Wells.{big_text}
+use Rattle.ag_eval.proofs.builtins.texts.join_items.Goals as goal
+
+pub returns-then-weight-gt-MAX_WEIGHT : goal.returns-then-weight-gt-MAX_WEIGHT
+returns-then-weight-gt-MAX_WEIGHT c =
+    let all : list_all is_text c.args.items.now ≡ true = sym c.are_texts.ensures ∙ c.if-not-are_texts.false in
+    let big = big_text (join_by bytes_of c.args.separator.now c.args.items.now) c.joined_length.result c.joined_length.ensures (omega arith) in
+    c.new-then-weight-gt-MAX_WEIGHT.ensures ∙ rw all (sym big)
+
+pub returns : goal.returns
+returns c =
+    let all : list_all is_text c.args.items.now ≡ true = sym c.are_texts.ensures ∙ c.if-not-are_texts.false in
+    c.fit.ensures ∙ ap (λ t. fit (value.Text t)) (c.from_string-text.ensures ∙ c.in_ok-joined.ensures) ∙ rw all refl

@@ -1,0 +1,24 @@
+use Rattle.std.proofs.Common.{◌≡◌, ◌++◌, length, drop, map, true}
+use Rattle.ag_value.specs.declared.value.Value.TheVariants as value
+use Rattle.ag_grammar.specs.expressions.Evaluation.{chain_value, item_values, value_in}
+use Rattle.ag_eval.specs.Operands.{IsIn, each_within, operand_value}
+use Rattle.ag_grammar.specs.expressions.Trees.{all_below}
+use Rattle.ag_grammar.specs.values.Arguments.{fault_or, leftmost}
+use Rattle.ag_grammar.specs.values.Fitting.{fit}
+use Rattle.ag_grammar.specs.values.Lists.{listed}
+use Rattle.ag_eval.proofs.evaluation.+evaluating.Given as goal
+
+abbrev pub invariant-chain_of-loop-other : goal.invariant-chain_of-loop-other
+invariant-chain_of-loop-other g l = record {
+  same : chain_value (g.V.Env.lent l.env) l.scope (operand_value l.scope l.value) (map (λ p. (p.0, value_in p.1)) (drop l.other-index l.others)) ≡ chain_value (g.V.Env.lent l.env) l.fn.scope (operand_value l.fn.scope l.fn.so_far) (map (λ p. (p.0, value_in p.1)) l.others);
+  within : IsIn l.scope l.value;
+  below : all_below (length l.expr.1) (length l.scope) (drop l.other-index l.others) ≡ true;
+  stays : l.scope ≡ l.fn.scope;
+}
+
+abbrev pub invariant-list_of-loop-item : goal.invariant-list_of-loop-item
+invariant-list_of-loop-item g l = record {
+  same : fault_or (leftmost (item_values (g.V.Env.lent l.env) l.scope (map value_in (drop l.item-index l.items)))) (fit (value.List (l.list ++ item_values (g.V.Env.lent l.env) l.scope (map value_in (drop l.item-index l.items))))) ≡ listed (item_values (g.V.Env.lent l.env) l.fn.scope (map value_in l.items));
+  below : each_within (length l.expr.1) (length l.scope) (drop l.item-index l.items) ≡ true;
+  stays : l.scope ≡ l.fn.scope;
+}

@@ -1,0 +1,123 @@
+//! Operations on numbers.
+
+ghost use Rattle.std.specs.Prelude.{◌≡◌, ◌+ℤ◌, ◌-ℤ◌, ◌*ℤ◌, IfOk};
+ghost use Rattle.ag_value.specs.Well.{IsWell};
+ghost use Rattle.ag_grammar.specs.values.Numbers.{decimal_of, number_of, number_value, of_numbers};
+ghost use Rattle.ag_grammar.specs.values.Numbers.{quotient, remainder, spelled};
+
+use ag_value::{ErrorCode, NoMemory, Text, Value};
+use std::alloc::Global;
+
+/// `a + b`
+pub fn sum(left: &Value, right: &Value) -> Value
+    ensures value { result ≡ of_numbers (λ m n. number_value (m +ℤ n)) left.now right.now }
+    ensures well { IsWell result }
+{
+    let (Value::Num(m), Value::Num(n)) = (left, right) else {
+        return Value::Fault(ErrorCode::Kind);
+    };
+    match m.checked_add(*n) {
+        Some(number) => Value::Num(number),
+        None => Value::Fault(ErrorCode::Overflow),
+    }
+}
+
+/// `a - b`
+pub fn difference(left: &Value, right: &Value) -> Value
+    ensures value { result ≡ of_numbers (λ m n. number_value (m -ℤ n)) left.now right.now }
+    ensures well { IsWell result }
+{
+    let (Value::Num(m), Value::Num(n)) = (left, right) else {
+        return Value::Fault(ErrorCode::Kind);
+    };
+    match m.checked_sub(*n) {
+        Some(number) => Value::Num(number),
+        None => Value::Fault(ErrorCode::Overflow),
+    }
+}
+
+/// `a * b`
+pub fn product(left: &Value, right: &Value) -> Value
+    ensures value { result ≡ of_numbers (λ m n. number_value (m *ℤ n)) left.now right.now }
+    ensures well { IsWell result }
+{
+    let (Value::Num(m), Value::Num(n)) = (left, right) else {
+        return Value::Fault(ErrorCode::Kind);
+    };
+    match m.checked_mul(*n) {
+        Some(number) => Value::Num(number),
+        None => Value::Fault(ErrorCode::Overflow),
+    }
+}
+
+/// `a div b`
+pub fn quotient(left: &Value, right: &Value) -> Value
+    ensures value { result ≡ of_numbers quotient left.now right.now }
+    ensures well { IsWell result }
+{
+    let (Value::Num(dividend), Value::Num(divisor)) = (left, right) else {
+        return Value::Fault(ErrorCode::Kind);
+    };
+    if *divisor == 0 {
+        return Value::Fault(ErrorCode::Divide);
+    }
+    match dividend.checked_div(*divisor) {
+        Some(number) => Value::Num(number),
+        None => Value::Fault(ErrorCode::Overflow),
+    }
+}
+
+/// `a mod b`
+pub fn remainder(left: &Value, right: &Value) -> Value
+    ensures value { result ≡ of_numbers remainder left.now right.now }
+    ensures well { IsWell result }
+{
+    let (Value::Num(dividend), Value::Num(divisor)) = (left, right) else {
+        return Value::Fault(ErrorCode::Kind);
+    };
+    if *divisor == 0 {
+        return Value::Fault(ErrorCode::Divide);
+    }
+    Value::Num(dividend.wrapping_rem(*divisor))
+}
+
+/// `text(n)`. Takes memory for the text.
+pub fn decimal(alloc: Global, value: &Value) -> Result<Value, NoMemory>
+    ensures value { IfOk result (λ v. v ≡ decimal_of value.now) }
+    ensures well { IfOk result (λ v. IsWell v) }
+{
+    let Value::Num(number) = value else {
+        return Ok(Value::Fault(ErrorCode::Kind));
+    };
+    // a read tells the prover the range of i64, and a look that a text is UTF-8
+    let number = *number;
+    let text = Text::from_string(number.to_string(alloc)?);
+    let _utf8 = text.as_str();
+    Ok(Value::Text(text))
+}
+
+/// `number(t)`
+pub fn number(value: &Value) -> Value
+    ensures value { result ≡ number_of value.now }
+    ensures well { IsWell result }
+{
+    let Value::Text(text) = value else {
+        return Value::Fault(ErrorCode::Kind);
+    };
+    match spelled(text.as_str()) {
+        Some(number) => Value::Num(number),
+        None => Value::Fault(ErrorCode::Number),
+    }
+}
+
+/// The number that a text spells.
+#[tactic(auto, using(crate::proofs::Spelled::parses))]
+fn spelled(text: &str) -> Option<i64>
+    ensures { result ≡ spelled text.now }
+{
+    // what the standard library takes besides
+    if text.starts_with('+') {
+        return None;
+    }
+    text.parse::<i64>().ok()
+}

@@ -1,0 +1,186 @@
+//! What a part of an expression gives, lent where it can be.
+
+ghost use Rattle.std.specs.Prelude.{◌≡◌, IfOk, IfSome, is_some};
+ghost use Rattle.ag_value.specs.Well.{IsWell};
+ghost use Rattle.ag_value.specs.declared.value.Value.TheVariants as value;
+ghost use Rattle.ag_eval.specs.declared.operand.Held.{Held as HeldValue};
+ghost use Rattle.ag_eval.specs.Operands.{IsIn, held_value, is_lent, operand_value};
+
+use crate::measured::Measured;
+use crate::scope::Scope;
+use ag_value::{NoMemory, Value, copy};
+use std::alloc::Global;
+use std::marker::Model;
+
+/// A well value that is lent by the environment or by the expression.
+#[derive(Debug, Drop)]
+pub struct Lent<'e> {
+    value: &'e Value,
+}
+
+impl<'e> Model for Lent<'e> {
+    ghost use Rattle.std.specs.Coded.{codes};
+    ghost use Rattle.ag_value.specs.declared.value.Value.{Value as AttributeValue};
+    ghost use Rattle.ag_value.specs.contracts.value.Value as value_row;
+    ghost use Rattle.ag_value.specs.Well.{IsWell};
+
+    ghost Value = { AttributeValue };
+
+    ghost coded = { Prim.hlevel (codes, value_row.the_row.coded) };
+
+    ghost view = { λ l. l.value.now };
+
+    ghost invariant = { λ l. IsWell l.value.now };
+}
+
+impl<'e> Lent<'e> {
+    /// A well value, lent.
+    pub fn new(value: &'e Value) -> Lent<'e>
+        requires { IsWell value.now }
+        ensures { result ≡ value.entry.now }
+    {
+        Lent { value }
+    }
+
+    /// Lends the value, for as long as it is lent.
+    pub fn get(&self) -> &'e Value
+        ensures value { result.now ≡ self.now }
+        ensures well { IsWell result.now }
+    {
+        self.value
+    }
+}
+
+/// A value that is lent by the environment or the expression, or that is owned.
+#[derive(Debug, Drop)]
+pub enum Held<'e> {
+    Lent(Lent<'e>),
+    Owned(Measured),
+}
+
+impl<'e> Held<'e> {
+    /// Lends the value.
+    pub fn get(&self) -> &Value
+        ensures value { result.now ≡ held_value self.now }
+        ensures well { IsWell result.now }
+    {
+        match self {
+            Held::Lent(lent) => lent.get(),
+            Held::Owned(owned) => owned.get(),
+        }
+    }
+
+    /// The value where it is lent, for as long as it is.
+    pub fn lent(&self) -> Option<&'e Value>
+        ensures lends { is_some result ≡ is_lent self.now }
+        ensures value { IfSome result (λ v. v.now ≡ held_value self.now) }
+        ensures well { IfSome result (λ v. IsWell v.now) }
+    {
+        match self {
+            Held::Lent(lent) => Some(lent.get()),
+            Held::Owned(_) => None,
+        }
+    }
+
+    /// The value once more: lent where it is lent, and else a copy.
+    pub fn again(&self, alloc: Global) -> Result<Held<'e>, NoMemory>
+        ensures { IfOk result (λ h. held_value h ≡ held_value self.now) }
+    {
+        match self {
+            Held::Lent(lent) => Ok(Held::Lent(Lent::new(lent.get()))),
+            Held::Owned(owned) => Ok(Held::Owned(Measured::new(copy(alloc, owned.get())?))),
+        }
+    }
+
+    /// The value itself: a copy of it where it is lent.
+    pub fn into_owned(self, alloc: Global) -> Result<Measured, NoMemory>
+        ensures { IfOk result (λ m. m ≡ held_value self.entry) }
+    {
+        match self {
+            Held::Lent(lent) => Ok(Measured::new(copy(alloc, lent.get())?)),
+            Held::Owned(owned) => Ok(owned),
+        }
+    }
+}
+
+/// What a part of an expression gives: a value, or a binding's by its number from the outermost.
+#[derive(Debug, Drop)]
+pub enum Operand<'e> {
+    Held(Held<'e>),
+    Bound(usize),
+}
+
+impl<'e> Operand<'e> {
+    /// An operand that is a value of its own.
+    pub fn owned(value: Measured) -> Operand<'e>
+        ensures { result ≡ Operand.Held (Held.Owned value) }
+    {
+        Operand::Held(Held::Owned(value))
+    }
+
+    /// An operand that is a number.
+    pub fn number(number: i64) -> Operand<'e>
+        ensures { result ≡ Operand.Held (Held.Owned (value.Num number)) }
+    {
+        Operand::owned(Measured::new(Value::Num(number)))
+    }
+
+    /// Another in its place.
+    pub fn replaced(self, other: Operand<'e>) -> Operand<'e>
+        ensures { result ≡ other.entry }
+    {
+        other
+    }
+
+    /// An operand that is lent.
+    pub fn lent(value: &'e Value) -> Operand<'e>
+        requires { IsWell value.now }
+        ensures { result ≡ Operand.Held (Held.Lent value.entry.now) }
+    {
+        Operand::Held(Held::Lent(Lent::new(value)))
+    }
+
+    /// Lends the value, where `scope` has the values of the bindings.
+    pub fn get<'a>(&'a self, scope: &'a Scope<'e>) -> &'a Value
+        requires { IsIn scope.now self.now }
+        ensures value { result.now ≡ operand_value scope.now self.now }
+        ensures well { IsWell result.now }
+    {
+        match self {
+            Operand::Held(held) => held.get(),
+            Operand::Bound(k) => scope.get(*k).get(),
+        }
+    }
+
+    /// The value where the environment or the expression lends it, for as long as they do.
+    pub fn from_outside(&self, scope: &Scope<'e>) -> Option<&'e Value>
+        requires { IsIn scope.now self.now }
+        ensures lends { (held : HeldValue) → self.now ≡ Operand.Held held → is_some result ≡ is_lent held }
+        ensures value { IfSome result (λ v. v.now ≡ operand_value scope.now self.now) }
+        ensures well { IfSome result (λ v. IsWell v.now) }
+    {
+        match self {
+            Operand::Held(held) => held.lent(),
+            Operand::Bound(k) => scope.get(*k).lent(),
+        }
+    }
+
+    /// What a binding keeps of it: a copy where another binding owns it.
+    pub fn kept(self, alloc: Global, scope: &Scope<'e>) -> Result<Held<'e>, NoMemory>
+        requires { IsIn scope.now self }
+        ensures { IfOk result (λ h. held_value h ≡ operand_value scope.now self.entry) }
+    {
+        match self {
+            Operand::Held(held) => Ok(held),
+            Operand::Bound(k) => scope.get(k).again(alloc),
+        }
+    }
+
+    /// The value itself: a copy of it where it is lent or bound.
+    pub fn into_owned(self, alloc: Global, scope: &Scope<'e>) -> Result<Measured, NoMemory>
+        requires { IsIn scope.now self }
+        ensures { IfOk result (λ m. m ≡ operand_value scope.now self.entry) }
+    {
+        self.kept(alloc, scope)?.into_owned(alloc)
+    }
+}

@@ -1,6 +1,0 @@
-use Rattle.std.proofs.Common.{◌≡◌, map, take}
-use Rattle.ag_value.specs.declared.value.Value.TheVariants as value
-use Rattle.ag_expr.proofs.builtins.tables.key_texts.Given as goal
-
-abbrev pub invariant-loop-pair : goal.invariant-loop-pair
-invariant-loop-pair l = l.keys.items ≡ map (λ p. value.Text p.0) (take l.pair-index l.pairs)

@@ -1,0 +1,121 @@
+//! A grammar that is known to be accepted.
+
+ghost use Rattle.std.specs.Prelude.{◌≡◌};
+ghost use Rattle.ag_grammar.specs.grammars.Accepted.{IsAccepted};
+
+use crate::grammar::{Production, Symbol};
+use ag_value::{Items, Text};
+use std::marker::Model;
+
+/// An accepted grammar. Contracts see it as the plain lists that the definitions of attribute
+/// grammars are over, and know of each that it is accepted.
+#[derive(Drop)]
+pub struct Grammar {
+    symbols: Items<Symbol>,
+    productions: Items<Production>,
+    literals: Items<Text>,
+    classes: Items<u16>,
+    start: u16,
+}
+
+impl Model for Grammar {
+    ghost use Rattle.std.specs.Coded.{codes};
+    ghost use Rattle.ag_grammar.specs.contracts.node.Node as node_row;
+    ghost use Rattle.ag_grammar.specs.grammars.Accepted.{IsAccepted};
+    ghost use Rattle.ag_grammar.specs.grammars.AttributeGrammar.{Grammar as Plain};
+
+    ghost Value = { Plain };
+
+    ghost coded = { Prim.hlevel (codes, node_row.the_row.coded) };
+
+    ghost view = { λ g. record {
+      symbols = g.symbols;
+      productions = g.productions;
+      literals = g.literals;
+      classes = g.classes;
+      start = g.start;
+    } };
+
+    ghost invariant = { λ g. IsAccepted (record {
+      symbols = g.symbols;
+      productions = g.productions;
+      literals = g.literals;
+      classes = g.classes;
+      start = g.start;
+    }) };
+}
+
+impl Grammar {
+    /// The grammar of these lists, which are those of an accepted one. Takes no memory.
+    pub fn new(
+        symbols: Items<Symbol>,
+        productions: Items<Production>,
+        literals: Items<Text>,
+        classes: Items<u16>,
+        start: u16,
+    ) -> Grammar
+        requires { IsAccepted (record {
+          symbols = symbols;
+          productions = productions;
+          literals = literals;
+          classes = classes;
+          start = start;
+        }) }
+        ensures { result ≡ record {
+          symbols = symbols;
+          productions = productions;
+          literals = literals;
+          classes = classes;
+          start = start;
+        } }
+    {
+        Grammar {
+            symbols,
+            productions,
+            literals,
+            classes,
+            start,
+        }
+    }
+
+    /// Lends the declared symbols; a symbol's number is its index. Takes no memory.
+    pub fn symbols(&self) -> &[Symbol]
+        ensures lent { result.now ≡ self.now.symbols }
+        ensures accepted { IsAccepted self.now }
+    {
+        self.symbols.as_slice()
+    }
+
+    /// Lends the productions; a production's number is its index. Takes no memory.
+    pub fn productions(&self) -> &[Production]
+        ensures lent { result.now ≡ self.now.productions }
+        ensures accepted { IsAccepted self.now }
+    {
+        self.productions.as_slice()
+    }
+
+    /// Lends the different literals in the order of their first appearance; a literal's number is
+    /// its index. Takes no memory.
+    pub fn literals(&self) -> &[Text]
+        ensures lent { result.now ≡ self.now.literals }
+        ensures accepted { IsAccepted self.now }
+    {
+        self.literals.as_slice()
+    }
+
+    /// Lends the classes in use, ascending: 0 is NAME, 1 is NUMBER, 2 is TEXT. Takes no memory.
+    pub fn classes(&self) -> &[u16]
+        ensures lent { result.now ≡ self.now.classes }
+        ensures accepted { IsAccepted self.now }
+    {
+        self.classes.as_slice()
+    }
+
+    /// The number of the start symbol.
+    pub fn start(&self) -> u16
+        ensures value { result ≡ self.now.start }
+        ensures accepted { IsAccepted self.now }
+    {
+        self.start
+    }
+}

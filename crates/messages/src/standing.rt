@@ -1,0 +1,74 @@
+//! What stands at an offset of a tree file of pass 0, and what should.
+
+use ag_grammar::limits::MOST_NODES;
+use ag_grammar::{Grammar, Item};
+use std::alloc::Global;
+use treefile::{Device, LENGTH_BYTES, fits_before};
+
+/// A frame of a tree file: where it begins, the kind and the number in its body, and how many bytes
+/// the body has.
+#[derive(Clone, Copy)]
+pub struct Frame {
+    pub begin: u64,
+    pub kind: u8,
+    pub number: u16,
+    pub bytes: u64,
+}
+
+/// The frame that ends at an offset. None where none does, or where it can't be read. Takes no
+/// memory.
+pub fn frame_before<D: Device>(tree: &mut D, end: u64) -> Option<Frame> {
+    let mut length = [0; 4];
+    tree.read_at(end.checked_sub(LENGTH_BYTES)?, &mut length)
+        .ok()?;
+    let bytes = u64::from(u32::from_be_bytes(length));
+    if !fits_before(end, bytes) {
+        return None;
+    }
+    let begin = end - LENGTH_BYTES - bytes;
+    let mut front = [0; 3];
+    tree.read_at(begin, &mut front).ok()?;
+    let [kind, high, low] = front;
+    Some(Frame {
+        begin,
+        kind,
+        number: u16::from_be_bytes([high, low]),
+        bytes,
+    })
+}
+
+/// What a tree still awaits where all records of its file behind an offset have been read, the next
+/// one last. None where they can't be read, or for want of memory.
+pub fn awaited_at<D: Device>(
+    alloc: Global,
+    grammar: &Grammar,
+    tree: &mut D,
+    at: u64,
+) -> Option<Vec<Item>> {
+    let mut awaited = Vec::new(alloc);
+    awaited.push(Item::Symbol(grammar.start())).ok()?;
+    let mut end = tree.len().ok()?;
+    for _ in 0..MOST_NODES {
+        if end <= at {
+            break;
+        }
+        let frame = frame_before(tree, end)?;
+        awaited.pop();
+        if frame.kind == 0 {
+            await_children(grammar, frame.number, &mut awaited)?;
+        }
+        end = frame.begin;
+    }
+    Some(awaited)
+}
+
+/// Appends what a node of a production awaits: its children, the rightmost one last.
+fn await_children(grammar: &Grammar, number: u16, awaited: &mut Vec<Item>) -> Option<()> {
+    let production = grammar.productions().get(usize::from(number))?;
+    for item in production.items.as_slice() {
+        if item.has_place() {
+            awaited.push(*item).ok()?;
+        }
+    }
+    Some(())
+}

@@ -1,0 +1,188 @@
+-- The root's record in the last file, and the value of `out` in it.
+use Rattle.std.proofs.Common.{ℕ, ◌≡◌, ◌+◌, ◌-◌, ◌<◌, ◌≤◌, inl, inr, List, [], Some, slice_get, get_or, length, map, Result, Ok, Err, refl, ap, sym, subst, ◌∙◌, arith, length-append}
+use Rattle.std.proofs.lemmas.Bool.{cases_lt}
+use Rattle.std.proofs.lemmas.List.{get_or_past, length-map}
+use Rattle.std.proofs.lemmas.Option.{slice_get-get_or, slice_get_within}
+use Rattle.ag_value.specs.declared.value.Value.{Value, Text}
+use Rattle.ag_grammar.specs.Lists.{Each}
+use Rattle.ag_grammar.specs.grammars.Accepted.{IsAccepted, IsOut, out_name}
+use Rattle.ag_grammar.specs.grammars.AttributeGrammar.{Grammar, Inherited, Synthesized, symbol_kinds}
+use Rattle.ag_grammar.specs.grammars.Passes.{IsLegal, Passes}
+use Rattle.ag_grammar.specs.grammars.Solution.{IsTranslation, Valuation, WellAt, left_passes}
+use Rattle.ag_grammar.specs.grammars.Tree.{IsTreeOf, Tree, leaf, node}
+use Rattle.passassign.specs.Rows.{AreAtMost, IsGreatest, passes_of}
+use Rattle.passcode.specs.Rows.{Lists}
+use Rattle.passcode.proofs.Shaped.{greatest_most}
+use Rattle.planchecker.specs.Plans.{IsPlan}
+use Rattle.planchecker.specs.Settings.{Setting, setting_of}
+use Rattle.passrun.specs.Reading.{IsNoNode, IsNodeRead}
+use Rattle.passrun.proofs.Recorded.{mended}
+use Rattle.treefile.specs.Awaited.{IsNodeRecord}
+use Rattle.treefile.specs.Ending.{Told, last_body_of, version_one_usable}
+use Rattle.treefile.specs.Records.{IsFileOfTree, node_body, values_up_to}
+use Rattle.treefile.specs.TreeFile.{body_of, version_one}
+use Rattle.treefile.specs.declared.body.Kind.TheVariants.{Node}
+use Rattle.treefile.specs.declared.reading.FrameFault.{FrameFault}
+use Rattle.treefile.specs.declared.reading.FrameFault.TheVariants as frame_fault
+use Rattle.treefile.proofs.Files.{damaged_at_end}
+use Rattle.treefile.proofs.Fitting.{fits_version_one}
+use Rattle.treefile.proofs.Root.{root_is_last, values_are_whole}
+use Rattle.treefile.proofs.Spelled.{same_node}
+use Rattle.roottext.specs.declared.fault.OutFault.{OutFault}
+use Rattle.roottext.specs.declared.fault.OutFault.TheVariants as out_fault
+use Rattle.roottext.specs.Faults.{out_fault_of}
+use Rattle.roottext.specs.Roots.{EndsWithNoRoot, EndsWithRoot, FindsText, FindsValue, IsRootRecord, TellsRoot}
+
+-- no attribute of a symbol is of a later pass than the greatest
+pub at_most : (rows : List (List ℕ)) (last s : ℕ) → AreAtMost last rows → Each (λ p. p ≤ last) (passes_of rows s)
+at_most rows last s most i p is = elim (cases_lt s (length rows)) [
+  | inl lt ↦ most s (passes_of rows s) (slice_get-get_or rows s [] lt) i p is
+  | inr le ↦ absurd (let bad : slice_get {X = ℕ} [] i ≡ Some p = subst (λ row. slice_get row i ≡ Some p) (get_or_past rows s [] le) is in let worse : ⊥ = cc in worse)
+]
+
+one_greatest : (rows : List (List ℕ)) (a b : ℕ) → IsGreatest a rows → IsGreatest b rows → a ≡ b
+one_greatest rows a b h g = let u = greatest_most rows a b h g in let w = greatest_most rows b a g h in omega arith
+
+-- the start symbol's `out` has a pass
+out_pass : (g : Grammar) (m : Passes) (a : ℕ) → IsLegal g m → IsOut g a → (p : ℕ) × (slice_get (m g.start) a ≡ Some p)
+out_pass g m a legal out =
+    let s = out.0 in
+    let within : a < length s.syn = slice_get_within s.syn a out_name out.2 in
+    let whole : length (m g.start) ≡ length (symbol_kinds (Some s)) = legal.whole g.start ∙ ap (λ o. length (symbol_kinds o)) out.1 in
+    let parts = length-append (map (λ (n : List ℕ). Synthesized) s.syn) (map (λ (n : List ℕ). Inherited) s.inh) in
+    let front = length-map s.syn (λ (n : List ℕ). Synthesized) in
+    let less : a < length (m g.start) = omega (arith, whole, parts, front, within) in
+    (get_or (m g.start) a 0, slice_get-get_or (m g.start) a 0 less)
+
+-- the start symbol has an `out`
+some_out : (g : Grammar) → IsAccepted g → (a : ℕ) × IsOut g a
+some_out g accepted = let start = accepted.start in (start.out.0, (start.symbol, start.declared, start.out.1))
+
+-- a fault is the same, whatever would have been answered without it
+pub same_fault : {A B F : Type 0} (e f : F) → ◌≡◌ {A = Result A F} (Err e) (Err f) → ◌≡◌ {A = Result B F} (Err e) (Err f)
+same_fault e f is = let same : e ≡ f = cc in ap Err same
+
+-- what was read of the start symbol into no values
+pub started : (c : Setting) (s p : ℕ) (body : List ℕ) (old new : List Value) → s ≡ c.grammar.start → old ≡ [] → IsNodeRead c s p body old new → IsNodeRead c c.grammar.start p body [] new
+started c s p body old new start empty read = subst (λ xs. IsNodeRead c c.grammar.start p body xs new) empty (subst (λ n. IsNodeRead c n p body old new) start read)
+
+-- in a row that was read of the root's record the value of `out` is at its number
+pub out_in_row : (g : Grammar) (rows : List (List ℕ)) (code : Lists) (last a p : ℕ) (body : List ℕ) (new : List Value) → IsPlan g rows code → IsGreatest last rows → IsOut g a → (read : IsNodeRead (setting_of g (rows, code) (last + 1)) g.start p body [] new) → slice_get new a ≡ Some (read.values a)
+out_in_row g rows code last a p body new plan greatest out read =
+    let pass = out_pass g (passes_of rows) a plan.legal out in
+    ap (λ xs. slice_get xs a) read.row
+    ∙ values_are_whole (last + 1) (passes_of rows g.start) read.values a pass.0 (λ i n is. let le = at_most rows last g.start greatest.most i n is in omega arith) pass.1
+
+pub out_within : (g : Grammar) (rows : List (List ℕ)) (code : Lists) (last a p : ℕ) (body : List ℕ) (new : List Value) → IsPlan g rows code → IsGreatest last rows → IsOut g a → IsNodeRead (setting_of g (rows, code) (last + 1)) g.start p body [] new → a < length new
+out_within g rows code last a p body new plan greatest out read = slice_get_within new a (read.values a) (out_in_row g rows code last a p body new plan greatest out read)
+
+-- what was read is the root's record, with the value at the number of `out`
+pub root_read : (g : Grammar) (rows : List (List ℕ)) (code : Lists) (last a p : ℕ) (body : List ℕ) (new : List Value) (x : Value) → IsPlan g rows code → IsGreatest last rows → IsOut g a → IsNodeRead (setting_of g (rows, code) (last + 1)) g.start p body [] new → x ≡ get_or new a x → IsRootRecord g rows body x
+root_read g rows code last a p body new x plan greatest out read is =
+    let here = out_in_row g rows code last a p body new plan greatest out read in
+    let there = slice_get-get_or new a x (slice_get_within new a (read.values a) here) in
+    let both : Some (read.values a) ≡ Some (get_or new a x) = sym here ∙ there in
+    let same : read.values a ≡ get_or new a x = cc in
+    let back : last + 1 - 1 ≡ last = omega arith in
+    record {
+      last = last;
+      greatest = greatest;
+      number = p;
+      production = read.production;
+      values = read.values;
+      node = record { production = read.there; left = read.left; well = λ i n e le. read.well i; stands = read.same ∙ ap (λ k. node_body g (passes_of rows) k p read.values) back };
+      attribute = a;
+      out = out;
+      value = same ∙ sym is;
+    }
+
+-- where no record of the start symbol was read, the body is not the root's
+pub no_root : (g : Grammar) (rows : List (List ℕ)) (code : Lists) (last : ℕ) (body : List ℕ) → IsGreatest last rows → IsNoNode (setting_of g (rows, code) (last + 1)) g.start body → (x : Value) → IsRootRecord g rows body x → ⊥
+no_root g rows code last body greatest nothing x root =
+    let m = passes_of rows in
+    let n = root.number in
+    let same : root.last ≡ last + 1 - 1 = one_greatest rows root.last last root.greatest greatest ∙ omega arith in
+    let it : IsNodeRecord g m (last + 1 - 1) g.start body n root.production root.values = subst (λ k. IsNodeRecord g m k g.start body n root.production root.values) same root.node in
+    let good = mended (last + 1 - 1) (m g.start) root.values it.well in
+    let passes : left_passes m (slice_get g.productions n) ≡ m g.start = ap (left_passes m) it.production ∙ ap m it.left in
+    nothing n root.production good.0 it.production it.left good.1
+    (it.stands ∙ ap (body_of Node n) (ap (λ ps. values_up_to (last + 1 - 1) ps root.values) passes ∙ good.2 ∙ ap (λ ps. values_up_to (last + 1 - 1) ps good.0) (sym passes)))
+
+-- The last record of a tree's file is the root's.
+root_of_tree : (g : Grammar) (rows : List (List ℕ)) (code : Lists) (last : ℕ) (t : Tree) (v : Valuation) (content : List ℕ) → IsAccepted g → IsPlan g rows code → IsTreeOf g t → IsFileOfTree version_one g (passes_of rows) last t v content
+    → (body : List ℕ) × (p : ℕ) × (q : _) × (last_body_of version_one content ≡ Ok body) × IsNodeRecord g (passes_of rows) last g.start body p q (v [])
+root_of_tree g rows code last (leaf c x) v content accepted plan fits is = absurd fits
+root_of_tree g rows code last (node p ts) v content accepted plan fits is =
+    let m = passes_of rows in
+    let usable = fits_version_one g m accepted plan.legal in
+    let passes : left_passes m (slice_get g.productions p) ≡ m g.start = ap (left_passes m) fits.1 ∙ ap m fits.2 in (
+      node_body g m last p (v []),
+      p,
+      fits.0,
+      root_is_last version_one g m last p ts v content version_one_usable usable.1 is,
+      record { production = fits.1; left = fits.2; well = subst (λ ps. WellAt (λ n. n ≤ last) ps (v []) (v [])) passes is.well.0; stands = refl },
+    )
+
+-- the value that a content ends with is the translation of the tree whose file it is
+found_is_translation : (g : Grammar) (rows : List (List ℕ)) (code : Lists) (last : ℕ) (t : Tree) (v : Valuation) (content : List ℕ) (x : Value) → IsAccepted g → IsPlan g rows code → IsGreatest last rows → IsTreeOf g t → IsFileOfTree version_one g (passes_of rows) last t v content → EndsWithRoot g rows content x → IsTranslation g v x
+found_is_translation g rows code last t v content x accepted plan greatest fits is found =
+    let m = passes_of rows in
+    let tree = root_of_tree g rows code last t v content accepted plan fits is in
+    let root = found.root in
+    let ok : Ok found.body ≡ Ok tree.0 = sym found.last ∙ tree.3 in
+    let bodies : found.body ≡ tree.0 = cc in
+    let lasts = one_greatest rows root.last last root.greatest greatest in
+    let mine : IsNodeRecord g m last g.start tree.0 root.number root.production root.values = subst (λ k. IsNodeRecord g m k g.start tree.0 root.number root.production root.values) lasts (subst (λ b. IsNodeRecord g m root.last g.start b root.number root.production root.values) bodies root.node) in
+    let one = same_node g m last g.start g.start root.number tree.1 tree.0 root.production tree.2 root.values (v []) (fits_version_one g m accepted plan.legal).0 mine tree.4 in
+    let pass = out_pass g m root.attribute plan.legal root.out in
+    let few = at_most rows last g.start greatest.most root.attribute pass.0 pass.1 in
+    (root.attribute, root.out, sym (one.1 root.attribute pass.0 pass.1 few) ∙ root.value)
+
+-- a tree's file ends with the root's record
+tree_is_found : (g : Grammar) (rows : List (List ℕ)) (code : Lists) (last : ℕ) (t : Tree) (v : Valuation) (content : List ℕ) → IsAccepted g → IsPlan g rows code → IsGreatest last rows → IsTreeOf g t → IsFileOfTree version_one g (passes_of rows) last t v content → (x : Value) × EndsWithRoot g rows content x
+tree_is_found g rows code last t v content accepted plan greatest fits is =
+    let tree = root_of_tree g rows code last t v content accepted plan fits is in
+    let out = some_out g accepted in (
+      v [] out.0,
+      record { body = tree.0; last = tree.3; root = record { last = last; greatest = greatest; number = tree.1; production = tree.2; values = v []; node = tree.4; attribute = out.0; out = out.1; value = refl } },
+    )
+
+-- What is found of any content tells the translation where it is the file of a tree.
+pub found_tells_root : (g : Grammar) (rows : List (List ℕ)) (code : Lists) (content : List ℕ) (r : Result (List ℕ) OutFault) → IsAccepted g → IsPlan g rows code → FindsText g rows content r → TellsRoot g rows content r
+found_tells_root g rows code content (Ok text) accepted plan found last greatest t v fits is = found_is_translation g rows code last t v content (Text text) accepted plan greatest fits is found
+found_tells_root g rows code content (Err (out_fault.NoText x)) accepted plan found last greatest t v fits is = (found_is_translation g rows code last t v content x accepted plan greatest fits is found.0, found.1)
+found_tells_root g rows code content (Err out_fault.NotATreeFile) accepted plan found last greatest t v fits is =
+    let tree = root_of_tree g rows code last t v content accepted plan fits is in
+    let both : Ok tree.0 ≡ Err frame_fault.NotATreeFile = sym tree.3 ∙ found in
+    cc
+found_tells_root g rows code content (Err (out_fault.Damaged place)) accepted plan found last greatest t v fits is =
+    let tree = tree_is_found g rows code last t v content accepted plan greatest fits is in
+    found.none tree.0 tree.1
+found_tells_root g rows code content (Err out_fault.Device) accepted plan found last greatest t v fits is = tt
+found_tells_root g rows code content (Err out_fault.NoMemory) accepted plan found last greatest t v fits is = tt
+
+-- Where a content gives no body, this is what is found of it,
+pub body_refused : {A : Type 0} (g : Grammar) (rows : List (List ℕ)) (content : List ℕ) (view : A → List ℕ) (e : FrameFault) → Told view (Err e) (last_body_of version_one content) → FindsValue g rows content (Err e)
+body_refused g rows content view frame_fault.NotATreeFile told = told
+body_refused g rows content view (frame_fault.Damaged place) told = record {
+  end = damaged_at_end version_one content place told;
+  begins = λ other. let both : Err (frame_fault.Damaged place) ≡ Err frame_fault.NotATreeFile = sym told ∙ other in cc;
+  none = λ x found. let both : Ok found.body ≡ Err (frame_fault.Damaged place) = sym found.last ∙ told in cc;
+}
+body_refused g rows content view frame_fault.Device told = tt
+body_refused g rows content view frame_fault.NoMemory told = tt
+
+-- and where its last body is not the root's record.
+pub no_root_at_end : (g : Grammar) (rows : List (List ℕ)) (content body : List ℕ) (place : ℕ) → place ≡ length content → last_body_of version_one content ≡ Ok body → ((x : Value) → IsRootRecord g rows body x → ⊥) → EndsWithNoRoot g rows content place
+no_root_at_end g rows content body place end last nothing = record {
+  end = end;
+  begins = λ other. let both : Ok body ≡ Err frame_fault.NotATreeFile = sym last ∙ other in cc;
+  none = λ x found. let both : Ok found.body ≡ Ok body = sym found.last ∙ last in let same : found.body ≡ body = cc in nothing x (subst (λ b. IsRootRecord g rows b x) same found.root);
+}
+
+-- a fault of reading says the same as the fault of the text
+pub fault_found : (g : Grammar) (rows : List (List ℕ)) (content : List ℕ) (e : FrameFault) → FindsValue g rows content (Err e) → FindsText g rows content (Err (out_fault_of e))
+fault_found g rows content frame_fault.NotATreeFile found = found
+fault_found g rows content (frame_fault.Damaged place) found = found
+fault_found g rows content frame_fault.Device found = tt
+fault_found g rows content frame_fault.NoMemory found = tt

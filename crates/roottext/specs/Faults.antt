@@ -1,0 +1,12 @@
+-- Which fault is answered where a part refuses. This project's.
+use Rattle.treefile.specs.declared.reading.FrameFault.{FrameFault}
+use Rattle.treefile.specs.declared.reading.FrameFault.TheVariants as frame_fault
+use Rattle.roottext.specs.declared.fault.OutFault.{OutFault}
+use Rattle.roottext.specs.declared.fault.OutFault.TheVariants as out_fault
+
+-- the fault of taking the translation out where a tree file gives no body
+abbrev pub out_fault_of : FrameFault → OutFault
+out_fault_of frame_fault.NotATreeFile = out_fault.NotATreeFile
+out_fault_of (frame_fault.Damaged place) = out_fault.Damaged place
+out_fault_of frame_fault.Device = out_fault.Device
+out_fault_of frame_fault.NoMemory = out_fault.NoMemory

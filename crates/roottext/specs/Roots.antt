@@ -1,0 +1,78 @@
+-- What the last file tells of the translation, which is the value of the root's `out`. All of this is this project's.
+use Rattle.std.specs.Prelude.{ℕ, ◌≡◌, ◌≢◌, List, Result, Ok, Err, length}
+use Rattle.ag_value.specs.declared.value.Value.{Value, Text}
+use Rattle.ag_grammar.specs.declared.grammar.Production.{Production}
+use Rattle.ag_grammar.specs.grammars.Accepted.{IsOut}
+use Rattle.ag_grammar.specs.grammars.AttributeGrammar.{Grammar}
+use Rattle.ag_grammar.specs.grammars.Solution.{IsTranslation, Valuation}
+use Rattle.ag_grammar.specs.grammars.Tree.{IsTreeOf, Tree}
+use Rattle.passassign.specs.Rows.{IsGreatest, passes_of}
+use Rattle.treefile.specs.Awaited.{IsNodeRecord}
+use Rattle.treefile.specs.Ending.{last_body_of}
+use Rattle.treefile.specs.Records.{IsFileOfTree}
+use Rattle.treefile.specs.TreeFile.{version_one}
+use Rattle.treefile.specs.declared.reading.FrameFault.{FrameFault}
+use Rattle.treefile.specs.declared.reading.FrameFault.TheVariants as frame_fault
+use Rattle.roottext.specs.declared.fault.OutFault.{OutFault}
+use Rattle.roottext.specs.declared.fault.OutFault.TheVariants as out_fault
+
+-- A body is the root's record in a file of the last pass, and has this value for `out`: it is the record of a node of the start
+-- symbol with well values.
+pub record IsRootRecord (g : Grammar) (rows : List (List ℕ)) (body : List ℕ) (x : Value) : Type 0 where
+  pub last : ℕ
+  pub greatest : IsGreatest last rows
+  pub number : ℕ
+  pub production : Production
+  pub values : ℕ → Value
+  pub node : IsNodeRecord g (passes_of rows) last g.start body number production values
+  pub attribute : ℕ
+  pub out : IsOut g attribute
+  pub value : values attribute ≡ x
+
+-- the last body of a content is the root's record, and has this value for `out`
+pub record EndsWithRoot (g : Grammar) (rows : List (List ℕ)) (content : List ℕ) (x : Value) : Type 0 where
+  pub body : List ℕ
+  pub last : last_body_of version_one content ≡ Ok body
+  pub root : IsRootRecord g rows body x
+
+-- A content that begins as a tree file has no root's record at its end, which is the place that is told.
+pub record EndsWithNoRoot (g : Grammar) (rows : List (List ℕ)) (content : List ℕ) (place : ℕ) : Type 0 where
+  pub end : place ≡ length content
+  pub begins : last_body_of version_one content ≢ Err frame_fault.NotATreeFile
+  pub none : (x : Value) → EndsWithRoot g rows content x → ⊥
+
+-- What is found at the end of a content: the value of the root's `out`, B1 where it begins as no tree file, and B2 where it does but
+-- has no root's record there. A failed device and want of memory say nothing.
+abbrev pub FindsValue : Grammar → List (List ℕ) → List ℕ → Result Value FrameFault → Type 0
+FindsValue g rows content (Ok x) = EndsWithRoot g rows content x
+FindsValue g rows content (Err frame_fault.NotATreeFile) = last_body_of version_one content ≡ Err frame_fault.NotATreeFile
+FindsValue g rows content (Err (frame_fault.Damaged place)) = EndsWithNoRoot g rows content place
+FindsValue g rows content (Err frame_fault.Device) = Unit {0}
+FindsValue g rows content (Err frame_fault.NoMemory) = Unit {0}
+
+-- a value is no text
+abbrev pub IsNoText : Value → Type 0
+IsNoText x = (text : List ℕ) → x ≢ Text text
+
+-- The same of the text that is answered: O1 has the value that is no text.
+abbrev pub FindsText : Grammar → List (List ℕ) → List ℕ → Result (List ℕ) OutFault → Type 0
+FindsText g rows content (Ok text) = FindsValue g rows content (Ok (Text text))
+FindsText g rows content (Err (out_fault.NoText x)) = FindsValue g rows content (Ok x) × IsNoText x
+FindsText g rows content (Err out_fault.NotATreeFile) = FindsValue g rows content (Err frame_fault.NotATreeFile)
+FindsText g rows content (Err (out_fault.Damaged place)) = FindsValue g rows content (Err (frame_fault.Damaged place))
+FindsText g rows content (Err out_fault.Device) = Unit {0}
+FindsText g rows content (Err out_fault.NoMemory) = Unit {0}
+
+-- What is answered of a tree with its values: the translation where that is a text, and O1 with it where it is none; the file is
+-- not damaged. A failed device and want of memory say nothing.
+abbrev pub IsRootText : Grammar → Valuation → Result (List ℕ) OutFault → Type 0
+IsRootText g v (Ok text) = IsTranslation g v (Text text)
+IsRootText g v (Err (out_fault.NoText x)) = IsTranslation g v x × IsNoText x
+IsRootText g v (Err out_fault.NotATreeFile) = ⊥
+IsRootText g v (Err (out_fault.Damaged place)) = ⊥
+IsRootText g v (Err out_fault.Device) = Unit {0}
+IsRootText g v (Err out_fault.NoMemory) = Unit {0}
+
+-- so it is for each tree and values whose file of the last pass the content is
+abbrev pub TellsRoot : Grammar → List (List ℕ) → List ℕ → Result (List ℕ) OutFault → Type 0
+TellsRoot g rows content result = (last : ℕ) → IsGreatest last rows → (t : Tree) (v : Valuation) → IsTreeOf g t → IsFileOfTree version_one g (passes_of rows) last t v content → IsRootText g v result

@@ -1,0 +1,36 @@
+//! Why the last file gave no text.
+
+ghost use Rattle.std.specs.Prelude.{◌≡◌};
+ghost use Rattle.roottext.specs.Faults.{out_fault_of};
+
+use ag_value::Value;
+use treefile::FrameFault;
+
+/// Why the last file gave no text.
+#[derive(Debug, Drop)]
+pub enum OutFault {
+    /// O1: the translation is this value, which is no text.
+    NoText(Value),
+    /// B1: there are fewer than 6 bytes, or the first four are not `AGT1`.
+    NotATreeFile,
+    /// B2: no record of the root, with a value for each attribute, ends at this offset in bytes,
+    /// which is the end of the file.
+    Damaged(u64),
+    /// D1: a call of the device failed.
+    Device,
+    /// A growth was refused.
+    NoMemory,
+}
+
+impl From<FrameFault> for OutFault {
+    ghost from_gives = { λ fault e. e ≡ out_fault_of fault };
+
+    fn from(fault: FrameFault) -> OutFault {
+        match fault {
+            FrameFault::NotATreeFile => OutFault::NotATreeFile,
+            FrameFault::Damaged(at) => OutFault::Damaged(at),
+            FrameFault::Device => OutFault::Device,
+            FrameFault::NoMemory => OutFault::NoMemory,
+        }
+    }
+}

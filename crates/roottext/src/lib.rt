@@ -1,0 +1,8 @@
+//! The translation, taken out of the last file.
+#![tactic(auto)]
+
+mod fault;
+mod root;
+
+pub use fault::OutFault;
+pub use root::root_text;

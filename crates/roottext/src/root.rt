@@ -1,0 +1,136 @@
+//! The translation, taken out of the last file.
+
+ghost use Rattle.std.specs.Prelude.{◌≡◌, IfOk, IfSome, IsErrOf, None, Some, slice_get};
+ghost use Rattle.ag_value.specs.declared.value.Value.{Value as TheValue};
+ghost use Rattle.ag_grammar.specs.Lists.{Has};
+ghost use Rattle.ag_grammar.specs.grammars.Accepted.{IsAccepted, IsOut, out_name};
+ghost use Rattle.planchecker.specs.Plans.{IsPlan};
+ghost use Rattle.treefile.specs.Device.{LeavesContent, Persists, WhenHonest};
+ghost use Rattle.roottext.specs.Roots.{FindsText, FindsValue, IsRootRecord, TellsRoot};
+
+use crate::fault::OutFault;
+use ag_grammar::Grammar;
+use ag_value::{Text, Value};
+use passrun::{RecordFault, read_node};
+use planchecker::Plan;
+use std::alloc::Global;
+use treefile::{Device, FrameFault, last_body};
+
+/// The index of `out` among names.
+fn out_among(names: &[Text]) -> Option<usize>
+    ensures some { IfSome result (λ a. slice_get names.now a ≡ Some out_name) }
+    ensures none { result ≡ None → Has names.now out_name → ⊥ }
+{
+    for (index, name) in names.iter().enumerate() {
+        if name.as_str() == "out" {
+            return Some(index);
+        }
+    }
+    None
+}
+
+/// The number of the start symbol's `out`.
+fn out_number(grammar: &Grammar) -> usize
+    ensures out { IsOut grammar.now result }
+    ensures accepted { IsAccepted grammar.now }
+{
+    let start = &grammar.symbols()[grammar.start() as usize];
+    match out_among(start.syn.as_slice()) {
+        Some(number) => number,
+        None => unreachable!(),
+    }
+}
+
+/// The value of `out`, by its number, in the body of the root's record in a file of the last pass.
+fn out_value(
+    alloc: Global,
+    grammar: &Grammar,
+    plan: &Plan,
+    out: usize,
+    body: &[u8],
+) -> Result<Value, RecordFault>
+    requires plan { IsPlan grammar.now plan.now.0 plan.now.1 }
+    requires out { IsOut grammar.now out }
+    ensures read { IfOk result (IsRootRecord grammar.now plan.now.0 body.now) }
+    ensures none { IsErrOf result RecordFault.Damaged →
+        (x : TheValue) → IsRootRecord grammar.now plan.now.0 body.now x → ⊥ }
+{
+    let behind = plan.assignment().passes() + 1;
+    let mut values = Vec::new(alloc);
+    read_node(
+        alloc,
+        grammar,
+        plan,
+        behind,
+        grammar.start(),
+        body,
+        &mut values,
+    )?;
+    Ok(values.swap_remove(out))
+}
+
+/// The value of the root's `out`, by its number, in the last file.
+fn last_value<D: Device>(
+    alloc: Global,
+    grammar: &Grammar,
+    plan: &Plan,
+    out: usize,
+    device: &mut D,
+) -> Result<Value, FrameFault>
+    requires plan { IsPlan grammar.now plan.now.0 plan.now.1 }
+    requires out { IsOut grammar.now out }
+    ensures found { WhenHonest (D.is_honest device.old)
+        (FindsValue grammar.now plan.now.0 (D.content device.old) result) }
+    ensures content { LeavesContent (D.is_honest device.old)
+        (D.content device.old) (D.content device.new) }
+    ensures persists { Persists (D.is_honest device.old) (D.is_honest device.new)
+        (D.failures device.old) (D.failures device.new) (IsErrOf result FrameFault.Device) }
+{
+    let body = last_body(alloc, device)?;
+    match out_value(alloc, grammar, plan, out, body.as_slice()) {
+        Ok(value) => Ok(value),
+        Err(RecordFault::Damaged) => {
+            let end = device.len()?;
+            Err(FrameFault::Damaged(end))
+        }
+        Err(RecordFault::NoMemory) => Err(FrameFault::NoMemory),
+    }
+}
+
+/// The translation: the value of the root's `out`, where it is a text, in the file of the last pass
+/// that a device has. It is the last record of the file, and no other is read.
+///
+/// O1 NoText with the value where it is no text, as a number, a list, a table or an error. B1
+/// NotATreeFile where there are fewer than 6 bytes or the first four are not `AGT1`. Else B2
+/// Damaged, with the number of bytes as its offset, where no frame ends there, or where its body is
+/// not the record of a production of the start symbol with a well value for each attribute and
+/// nothing behind these. D1 Device where a call of the device failed. NoMemory where a growth was
+/// refused.
+///
+/// The number of the pass in the header is not looked at. Takes memory for the record and for its
+/// values.
+pub fn root_text<D: Device>(
+    alloc: Global,
+    grammar: &Grammar,
+    plan: &Plan,
+    device: &mut D,
+) -> Result<Text, OutFault>
+    requires plan { IsPlan grammar.now plan.now.0 plan.now.1 }
+    // the text, O1, B1 and B2, exactly as the content has them
+    ensures found { WhenHonest (D.is_honest device.old)
+        (FindsText grammar.now plan.now.0 (D.content device.old) result) }
+    // of a tree's file the translation, or O1 with it
+    ensures root { WhenHonest (D.is_honest device.old)
+        (TellsRoot grammar.now plan.now.0 (D.content device.old) result) }
+    ensures content { LeavesContent (D.is_honest device.old)
+        (D.content device.old) (D.content device.new) }
+    // D1 only where the number of failures rose
+    ensures persists { Persists (D.is_honest device.old) (D.is_honest device.new)
+        (D.failures device.old) (D.failures device.new) (IsErrOf result OutFault.Device) }
+{
+    let out = out_number(grammar);
+    match last_value(alloc, grammar, plan, out, device)? {
+        Value::Text(text) => Ok(text),
+        value => Err(OutFault::NoText(value)),
+    }
+}
