@@ -1,5 +1,6 @@
 //! How a call of the library ends.
 
+use ag_job::JobFault;
 use aggen::Fault;
 use std::alloc::{AllocError, Global};
 
@@ -16,6 +17,8 @@ pub enum Ending {
     Damaged(u64),
     /// With D1.
     Device,
+    /// With J2.
+    Read,
     /// With O2.
     Write,
     /// With another fault.
@@ -31,9 +34,15 @@ impl Ending {
             Err(Fault::NotATreeFile) => Ending::NotATreeFile,
             Err(Fault::Damaged(at)) => Ending::Damaged(at),
             Err(Fault::Device) => Ending::Device,
+            Err(Fault::Job(JobFault::Read)) => Ending::Read,
             Err(Fault::Write) => Ending::Write,
             Err(_) => Ending::Other,
         }
+    }
+
+    /// Whether nothing was written, where the call was refused for another cause than O2.
+    pub fn is_clean(self, written: &[u8]) -> bool {
+        matches!(self, Ending::Done | Ending::Write) || written.is_empty()
     }
 
     /// How a call ended, and what it wrote.

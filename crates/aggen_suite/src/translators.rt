@@ -23,6 +23,22 @@ B = \"0\" { $0.bit = 0; }
 B = \"1\" { $0.bit = 1; }
 ";
 
+/// A sentence of it, 13.25. Its translation is 868352.
+pub const SENTENCE: &[u8] = b"1101.01";
+
+/// The file of its tree before the first pass: nodes of the productions 7, 7, 6, 7, 4, 5, 5, 5, 3, 6,
+/// 7, 4, 5, 3, 2 and 0.
+pub const TREE: &[u8] = b"AGT1\0\0\
+    \0\0\x07\0\0\0\x03\0\0\x07\0\0\0\x03\0\0\x06\0\0\0\x03\0\0\x07\0\0\0\x03\
+    \0\0\x04\0\0\0\x03\0\0\x05\0\0\0\x03\0\0\x05\0\0\0\x03\0\0\x05\0\0\0\x03\
+    \0\0\x03\0\0\0\x03\0\0\x06\0\0\0\x03\0\0\x07\0\0\0\x03\0\0\x04\0\0\0\x03\
+    \0\0\x05\0\0\0\x03\0\0\x03\0\0\0\x03\0\0\x02\0\0\0\x03\0\0\0\0\0\0\x03";
+
+/// The translator of binary fractions.
+pub fn fractions(alloc: Global) -> Result<Translator, Fault> {
+    Ok(Translator::build(alloc, FRACTIONS.as_bytes())?)
+}
+
 /// How parsing a sentence ends at a device of which a call fails.
 fn parsed_without(alloc: Global, call: u64) -> Result<Ending, Fail> {
     let translator = match Translator::build(alloc, FRACTIONS.as_bytes()) {

@@ -1,0 +1,70 @@
+//! Jobs of a reader that fails at one of its reads, each in turn, counted up until there are fewer.
+
+use crate::endings::Ending;
+use crate::translators::FRACTIONS;
+use aggen::run_job;
+use std::alloc::Global;
+use std::io::{self, Read};
+use std::test::Fail;
+use treefile::MemDevice;
+
+/// A reader that gives so many bytes a read, and fails at one of its reads.
+#[derive(Drop)]
+struct Faltering<'a> {
+    bytes: &'a [u8],
+    step: usize,
+    reads_left: u64,
+}
+
+impl Read for Faltering<'_> {
+    fn read(&mut self, buf: &mut [u8]) -> io::Result<usize> {
+        self.reads_left = self.reads_left.saturating_sub(1);
+        if self.reads_left == 0 {
+            return Err(io::Error::from(io::ErrorKind::Other));
+        }
+        let count = self.step.min(self.bytes.len()).min(buf.len());
+        let (given, left) = self.bytes.split_at(count);
+        buf[..count].copy_from_slice(given);
+        self.bytes = left;
+        Ok(count)
+    }
+}
+
+/// How a job ends of a reader that gives so many bytes a read and fails at this read, and what goes
+/// out.
+fn told_of(alloc: Global, bytes: &[u8], step: usize, read: u64) -> Result<String, Fail> {
+    let reader = Faltering {
+        bytes,
+        step,
+        reads_left: read,
+    };
+    let mut a = MemDevice::new(alloc);
+    let mut b = MemDevice::new(alloc);
+    let mut out = Vec::new(alloc);
+    let ending = Ending::of(run_job(alloc, reader, &mut out, &mut a, &mut b));
+    Ok(ending.told(alloc, out.as_slice())?)
+}
+
+/// The first read that is not made of a job, counted from 1. At each read before it the reader
+/// fails, and then nothing goes out.
+fn reads_made(alloc: Global, step: usize) -> Result<u64, Fail> {
+    let job = format!(in alloc; "{FRACTIONS}%%\n1101.01")?;
+    for read in 1..1000 {
+        let told = told_of(alloc, job.as_bytes(), step, read)?;
+        match told.as_str() {
+            "Read " => {}
+            "Done 868352" => return Ok(read),
+            _ => return Err(Fail::from("a job that is neither refused nor done")),
+        }
+    }
+    Err(Fail::from("a job of a thousand reads"))
+}
+
+/// All bytes at once, and one byte a read, each of which can be the one that fails.
+#[test]
+fn a_reader_that_fails(rt: HostRuntime) -> Result<(), Fail> {
+    assert!(rt; 1 < reads_made(rt.alloc(), 1000)?);
+    let letters = FRACTIONS.len() as u64;
+    assert!(rt; letters < reads_made(rt.alloc(), 1)?);
+    Ok(())
+}
