@@ -1,4 +1,5 @@
-//! Reads a tree file from its end, and prints how many records it has: what `benches/run` measures.
+//! Reads a tree file from its end, and prints how many records it has: what `benches/run` measures, and
+//! `tests/refused-memory` tries on damaged files.
 #![tactic(auto)]
 
 use backreader::Back;
@@ -9,22 +10,45 @@ use treefile::{Device, FileDevice, FrameFault};
 
 fn main(rt: HostRuntime) -> ExitCode {
     match run(&rt, rt.alloc()) {
-        Some(records) => match println!(rt; "{records} nodes") {
+        Ok(records) => match println!(rt; "{records} nodes") {
             Ok(()) => ExitCode::SUCCESS,
             Err(_) => ExitCode::from(1),
         },
-        None => ExitCode::from(2),
+        Err(fault) => {
+            let _told = eprintln!(rt; "{fault:?}");
+            ExitCode::from(status(fault))
+        }
     }
 }
 
-/// How many records the file has whose path is the first word of the command line.
-fn run<R: Env + Files + AllocGlobal>(rt: &R, alloc: Global) -> Option<u64> {
-    let words = std::env::args(rt).ok()?;
+/// The status that the program ends with after a refusal.
+fn status(fault: FrameFault) -> u8 {
+    match fault {
+        FrameFault::NotATreeFile | FrameFault::Damaged(_) => 5,
+        FrameFault::NoMemory => 7,
+        FrameFault::Device => 8,
+    }
+}
+
+/// How many records the file has whose path is the first word of the command line. D1 Device where
+/// there is no such file.
+fn run<R: Env + Files + AllocGlobal>(rt: &R, alloc: Global) -> Result<u64, FrameFault> {
+    let words = match std::env::args(rt) {
+        Ok(words) => words,
+        Err(_) => return Err(FrameFault::NoMemory),
+    };
     let collected: Result<Vec<String>, AllocError> = words.collect(alloc);
-    let words = collected.ok()?;
-    let path = words.as_slice().get(1)?;
-    let mut device = FileDevice::existing(rt, alloc, path.as_str()).ok()?;
-    records(alloc, &mut device).ok()
+    let words = match collected {
+        Ok(words) => words,
+        Err(_) => return Err(FrameFault::NoMemory),
+    };
+    let Some(path) = words.as_slice().get(1) else {
+        return Err(FrameFault::Device);
+    };
+    match FileDevice::existing(rt, alloc, path.as_str()) {
+        Ok(mut device) => records(alloc, &mut device),
+        Err(_) => Err(FrameFault::Device),
+    }
 }
 
 /// How many records the tree file of a device has.
