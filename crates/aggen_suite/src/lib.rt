@@ -1,7 +1,9 @@
 //! The tests of the library of translators that are no rows of data: readers, writers and devices that
-//! fail, devices that lie, and what is read of files. It has no other code.
+//! fail, devices that lie, devices that count, and what is read of files. It has no other code.
 #![tactic(auto)]
 
+#[cfg(test)]
+mod counting;
 #[cfg(test)]
 mod devices;
 #[cfg(test)]
@@ -16,6 +18,8 @@ mod lying;
 mod narrow;
 #[cfg(test)]
 mod parsing;
+#[cfg(test)]
+mod passes;
 #[cfg(test)]
 mod sources;
 #[cfg(test)]
