@@ -1,5 +1,5 @@
 -- A rule is run: what is lent, and where the value goes.
-use Rattle.std.proofs.Common.{ℕ, zero, suc, ◌≡◌, ◌+◌, ◌-◌, ◌<◌, ◌≤◌, Bool, List, [], ◌∷◌, ◌++◌, Some, All, slice_get, slice_index, get_or, length, drop, set, refl, ap, ◌∙◌, sym, subst, arith}
+use Rattle.std.proofs.Common.{ℕ, ◌≡◌, ◌+◌, ◌-◌, ◌<◌, ◌≤◌, Bool, List, ◌∷◌, ◌++◌, Some, All, slice_get, slice_index, get_or, length, drop, set, refl, ap, ◌∙◌, sym, subst, arith}
 use Rattle.std.proofs.lemmas.List.{drop_at, set-append_right}
 use Rattle.std.proofs.lemmas.List.Elements.{All-set}
 use Rattle.std.proofs.lemmas.Option.{get_or_from_slice_get, slice_get_within}
@@ -28,6 +28,7 @@ use Rattle.passrun.specs.Passed.{IsRunning}
 use Rattle.passrun.specs.Places.{Table, place_passes, rows}
 use Rattle.passrun.specs.Slots.{slot}
 use Rattle.passrun.proofs.Ahead.{give_ahead}
+use Rattle.passrun.proofs.Entries.{some_at}
 use Rattle.passrun.proofs.Running.{same_production}
 use Rattle.passrun.proofs.Slots.{slot_at, slot_set}
 use Rattle.passrun.proofs.Steps.{IsGivingOf, stepped, step_give}
@@ -35,11 +36,6 @@ use Rattle.passrun.proofs.Steps.{IsGivingOf, stepped, step_give}
 -- a rule has as many occurrences as arguments, and its expression names no other
 pub rule_named : (c : Setting) → IsSound c → (p r : ℕ) (q : Production) (u : Rule) → IsProduction c.grammar p q → slice_get q.rules r ≡ Some u → (length u.expr.1 ≡ length u.args)
 rule_named c sound p r q u there num = (sound.accepted.named.rules_named p q there r u num).arguments.equally_long
-
-get_some : {X : Type 0} (xs : List X) (k : ℕ) → k < length xs → (x : X) × (slice_get xs k ≡ Some x)
-get_some [] k h = absurd (omega arith)
-get_some (x ∷ xs) zero h = (x, refl)
-get_some (x ∷ xs) (suc k) h = get_some xs k (omega arith)
 
 module _ (c : Setting) (sound : IsSound c) where
   -- what is lent of a node's values is what the occurrences stand for
@@ -49,7 +45,7 @@ module _ (c : Setting) (sound : IsSound c) where
   lent_is q u e n slots spare k are most at_hand o at =
       let a = at_hand o (k, at) in
       let less : k < length slots.args = let l = slice_get_within u.args k o at in let m = are.args.equally_long in omega arith in
-      let s = get_some slots.args k less in
+      let s = some_at slots.args k less in
       let is : s.0 ≡ slot c q o.place o.attr = are.args.each k o s.0 at s.1 in
       let index : slice_index slots.args k ≡ slot c q o.place o.attr = get_or_from_slice_get slots.args k s.0 0 s.1 ∙ is in
       ap (λ i. get_or (rows c q e n) i spare) index ∙ get_or_from_slice_get (rows c q e n) (slot c q o.place o.attr) (e o.place o.attr) spare (slot_at c q e n o.place o.attr a.0 most a.3 a.1 a.2)

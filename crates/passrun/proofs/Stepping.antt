@@ -91,6 +91,7 @@ all_starts g m k n a b evals same fresh =
       counts = subst (λ n. CountsPasses g m k n a 0 (record { nodes = 0; read = 0; written = 0 })) none (counts_start g m k a);
       held = λ less. absurd (omega arith);
       fresh = λ e. refl;
+      nothing = λ e. (refl, refl, refl);
     } in
     subst (λ e. HasRunAll g m k n a A a b e (record { nodes = 0; read = 0; written = 0 })) (sym fresh) (subst (λ n. HasRunAll g m k n a A a b 0 (record { nodes = 0; read = 0; written = 0 })) (sym same) whole)
 
@@ -133,7 +134,7 @@ module _ (g : Grammar) (plan : List (List ℕ) × Lists) (k last n : ℕ) (start
   pub all_goes_on : (total : ℕ) (which_now : Last) (sum_now : Passed) → total ≡ evals + more → which_now ≡ other_last which → sum_now ≡ one_more sum passed → HasRunAll g (passes_of plan.0) k n start which_now a_new b_new total sum_now
   all_goes_on total which_now sum_now f h i =
       let m = passes_of plan.0 in
-      let whole : HasRunAll g m k (suc last) start (other_last which) a_new b_new (evals + more) (one_more sum passed) = record { runs = runs_on; counts = counts_on; held = held_on; fresh = λ e. absurd (omega arith) } in
+      let whole : HasRunAll g m k (suc last) start (other_last which) a_new b_new (evals + more) (one_more sum passed) = record { runs = runs_on; counts = counts_on; held = held_on; fresh = λ e. absurd (omega arith); nothing = λ e. absurd (omega arith) } in
       let one : HasRunAll g m k n start (other_last which) a_new b_new (evals + more) (one_more sum passed) = subst (λ n. HasRunAll g m k n start (other_last which) a_new b_new (evals + more) (one_more sum passed)) (sym is) whole in
       let two : HasRunAll g m k n start (other_last which) a_new b_new total (one_more sum passed) = subst (λ e. HasRunAll g m k n start (other_last which) a_new b_new e (one_more sum passed)) (sym f) one in
       let three : HasRunAll g m k n start which_now a_new b_new total (one_more sum passed) = subst (λ (w : Last). HasRunAll g m k n start w a_new b_new total (one_more sum passed)) (sym h) two in

@@ -1,6 +1,6 @@
 -- The steps of a machine: from what a part of the code does to a machine that runs on.
 use Rattle.std.specs.Global.{Vec}
-use Rattle.std.specs.Option.{option_map, option_to_list}
+use Rattle.std.specs.Option.{option_to_list}
 use Rattle.std.specs.Prelude.{IfOk, MatchOption}
 use Rattle.std.proofs.Common.{ℕ, suc, ◌≡◌, ◌+◌, ◌-◌, ◌^◌, ◌<◌, ◌≤◌, Bool, List, [], ◌∷◌, ◌++◌, Option, Some, None, Result, Ok, Err, All, slice_get, slice_index, get_or, length, take, drop, reverse, set, refl, ap, ◌∙◌, sym, subst, arith}
 use Rattle.std.proofs.lemmas.Option.{slice_get-get_or, slice_get_within}
@@ -24,7 +24,7 @@ use Rattle.passrun.specs.declared.laying.RuleSlots.{RuleSlots}
 use Rattle.passrun.specs.declared.machine.Machine.{Machine}
 use Rattle.passrun.specs.declared.open_node.OpenNode.{OpenNode}
 use Rattle.passrun.specs.Fetching.{HasFetched}
-use Rattle.passrun.specs.Layouts.{AreSlotsOf, IsLayout, slots_at}
+use Rattle.passrun.specs.Layouts.{AreSlotsOf}
 use Rattle.passrun.specs.Passed.{IsRunning}
 use Rattle.passrun.specs.Passing.{GoesOn, IsPassing}
 use Rattle.passrun.specs.Putting.{HasPut, item_width}
@@ -62,19 +62,6 @@ pub rule_indexed : (xs rules : List Rule) (r : ℕ) (u w : Rule) → xs ≡ rule
 rule_indexed xs rules r u w same is there =
     let less : r < length xs = let l = slice_get_within rules r w there in let m = ap length same in omega arith in
     ap (λ xs. slice_get xs r) (sym same) ∙ slice_get-get_or xs r u less ∙ ap Some (sym is)
-
--- a table has slots for each rule,
-pub no_slots : {B : Type 0} (view : B → RuleSlots) (answer : Option B) (found : Option RuleSlots) (s : RuleSlots) → option_map view answer ≡ found → found ≡ Some s → answer ≡ None → ⊥
-no_slots view None found s e is none = let z : None ≡ Some s = e ∙ is in cc
-no_slots view (Some b) found s e is none = cc
-
--- and those that are found are the rule's
-pub slots_are : (c : Setting) (rows : List (List RuleSlots)) (p r : ℕ) (q : Production) (u : Rule) (slots : RuleSlots) → IsLayout c rows → IsProduction c.grammar p q → slice_get q.rules r ≡ Some u → Some slots ≡ slots_at rows p r → AreSlotsOf c q u slots
-slots_are c rows p r q u slots layout there num found =
-    let l = layout p r q u there num in
-    let e : Some slots ≡ Some l.0 = found ∙ l.1 in
-    let same : l.0 ≡ slots = cc in
-    subst (AreSlotsOf c q u) same l.2
 
 pub popped : (r : Option OpenNode) (xs ys : List OpenNode) → xs ≡ ys ++ option_to_list r → (r ≡ None → length xs ≡ 0) → reverse xs ≡ stack_of r ys
 popped None [] ys e none = refl

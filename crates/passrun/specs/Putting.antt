@@ -21,11 +21,19 @@ kind_of (item.Terminal t) = Token
 abbrev pub item_width : Setting → Item → ℕ
 item_width c x = count_up_to c.write (item_passes c.passes (Some x))
 
--- the body of an item's record whose row is the last of some values
-abbrev pub last_body : Setting → Item → ℕ → List Value → List ℕ
-last_body c x number values = body_of (kind_of x) number (drop (length values - item_width c x) values)
+-- the body of an item's record whose row is the last of some values, and so wide
+abbrev pub wide_body : Item → (width number : ℕ) → List Value → List ℕ
+wide_body x width number values = body_of (kind_of x) number (drop (length values - width) values)
 
--- The record of an item was put, whose row is the last of some values.
-pub record HasPut (c : Setting) (x : Item) (number : ℕ) (values : List Value) (honest : Bool) (old new : List ℕ) (out now : writing.Progress) : Type 0 where
-  pub there : WhenHonest honest (new ≡ old ++ frame (last_body c x number values))
+-- the body of an item's record in a pass
+abbrev pub last_body : Setting → Item → ℕ → List Value → List ℕ
+last_body c x number values = wide_body x (item_width c x) number values
+
+-- The record of an item was put, whose row is the last of some values, and so wide.
+pub record HasPutLast (x : Item) (width number : ℕ) (values : List Value) (honest : Bool) (old new : List ℕ) (out now : writing.Progress) : Type 0 where
+  pub there : WhenHonest honest (new ≡ old ++ frame (wide_body x width number values))
   pub counted : now ≡ record out { written = out.written + 1 }
+
+-- The record of an item was put in a pass.
+abbrev pub HasPut : Setting → Item → ℕ → List Value → Bool → (old new : List ℕ) → (out now : writing.Progress) → Type 0
+HasPut c x number values honest old new out now = HasPutLast x (item_width c x) number values honest old new out now

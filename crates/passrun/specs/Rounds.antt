@@ -61,9 +61,11 @@ pub record HoldsTree (g : Grammar) (m : Passes) (k : ℕ) (content : List ℕ) :
   pub file : IsFileOfTree version_one g m k tree values content
 
 -- All passes behind pass k ran, up to the last one. They left two contents: that of the device that has the last file, and that of
--- the other. They counted so. Where one ran, the start is the file of a tree within the limits; where none did, it is the last file.
+-- the other. They counted so. Where one ran, the start is the file of a tree within the limits; where none did, it is the last file, and
+-- still on the first device, and nothing was counted.
 pub record HasRunAll (g : Grammar) (m : Passes) (k last : ℕ) (start : List ℕ) (which : Last) (a b : List ℕ) (evals : ℕ) (sum : Passed) : Type 0 where
   pub runs : RunsPasses version_one g m k last start (last_content which a b) (other_content which a b)
   pub counts : CountsPasses g m k (last - k) start evals sum
   pub held : k < last → HoldsTree g m k start
   pub fresh : last ≡ k → last_content which a b ≡ start
+  pub nothing : last ≡ k → (which ≡ A) × (evals ≡ 0) × (sum ≡ record { nodes = 0; read = 0; written = 0 })

@@ -113,7 +113,8 @@ pub(crate) fn finish<D: Device, E: Device>(
 {
     let start = Item::Symbol(job.grammar.start());
     let values = machine.values.as_slice();
-    put_row(job, start, machine.root, values, &mut machine.writer, to)?;
+    let row = job.place_of(start);
+    put_row(row, machine.root, values, &mut machine.writer, to)?;
     let end = machine.back.end();
     if machine.back.back(from)?.is_some() {
         return Err(RunFault::Damaged(end));

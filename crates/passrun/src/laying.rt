@@ -1,22 +1,24 @@
-//! The slots of all rules of a grammar in a pass.
+//! What a pass asks of each production: its instructions, what stands at its places, and the slots
+//! of its rules.
 
-ghost use Rattle.std.specs.Prelude.{ℕ, ◌≡◌, ◌+◌, ◌≤◌, ◌<◌, IfOk, get_or, length, map};
-ghost use Rattle.std.specs.Option.{option_map};
+ghost use Rattle.std.specs.Prelude.{ℕ, ◌≡◌, ◌+◌, ◌-◌, ◌≤◌, ◌<◌, [], IfOk, get_or, length, map};
+ghost use Rattle.std.specs.Prelude.{slice_index_or};
 ghost use Rattle.ag_grammar.specs.Lists.{Each};
 ghost use Rattle.ag_grammar.specs.declared.grammar.Target.{Target as TheTarget};
 ghost use Rattle.ag_grammar.specs.grammars.Accepted.{IsAccepted, most_stored};
 ghost use Rattle.ag_grammar.specs.grammars.AttributeGrammar.{Grammar as Plain, places_of};
 ghost use Rattle.passassign.specs.Rows.{passes_of};
-ghost use Rattle.passrun.specs.Laid.{AreWithin, layout_of, production_slots, rule_slots_by};
-ghost use Rattle.passrun.specs.Laid.{slot_by};
-ghost use Rattle.passrun.specs.Layouts.{slots_at};
+ghost use Rattle.passcode.specs.Rows.{row_of};
+ghost use Rattle.passrun.specs.Laid.{AreWithin, layout_of, place_row_by, production_row};
+ghost use Rattle.passrun.specs.Laid.{production_slots, rule_slots_by, slot_by};
 ghost use Rattle.passrun.specs.Starts.{AreSmall, AreSmallNumbers, AreStartsFor};
 ghost use Rattle.planchecker.specs.Plans.{IsPlan};
-ghost use Rattle.planchecker.specs.Settings.{setting_of};
+ghost use Rattle.planchecker.specs.Settings.{list_at, setting_of};
 
 use crate::rows::{rank_of, width};
 use ag_grammar::{Direction, Grammar, Item, Production, Rule, Target};
 use ag_value::{Items, NoMemory};
+use passcode::Instr;
 use planchecker::Plan;
 use std::alloc::Global;
 
@@ -30,10 +32,28 @@ pub(crate) struct RuleSlots {
     pub(crate) args: Items<u16>,
 }
 
-/// The slots of all rules of a grammar in a pass, by the production's number and the rule's.
+/// What stands at a place of a production, and how many values its row has.
+#[derive(Clone, Copy, Debug)]
+pub(crate) struct PlaceRow {
+    pub(crate) item: Item,
+    pub(crate) width: u16,
+}
+
+/// What a pass asks of a production at each node of it.
+#[derive(Debug, Drop)]
+pub(crate) struct ProductionRow {
+    /// The instructions of the pass for it, none where it has none.
+    pub(crate) list: Items<Instr>,
+    /// What stands at its places, from that of the left side on.
+    pub(crate) places: Items<PlaceRow>,
+    /// Where the values of its rules stand, by the rule's number.
+    pub(crate) rules: Items<RuleSlots>,
+}
+
+/// What a pass asks of each production, by its number.
 #[derive(Debug, Drop)]
 pub(crate) struct Layout {
-    pub(crate) productions: Items<Items<RuleSlots>>,
+    pub(crate) productions: Items<ProductionRow>,
 }
 
 /// So many numbers, all 0.
@@ -129,32 +149,82 @@ fn slots_of_rules(
     Ok(Items::from_vec(slots))
 }
 
-/// The slots of each rule of a production.
-fn slots_of_production(
+/// What stands at each of some places, with the widths of their rows.
+fn place_rows(
     alloc: Global,
     plan: &Plan,
     k: u16,
+    places: &[Item],
+) -> Result<Items<PlaceRow>, NoMemory>
+    requires { AreSmall (passes_of plan.now.0) }
+    ensures { IfOk result (λ rows. rows
+        ≡ map (place_row_by (passes_of plan.now.0) k) places.now) }
+{
+    let mut rows = Vec::new(alloc);
+    for item in places {
+        let width = width(plan, k, *item) as u16;
+        rows.push(PlaceRow { item: *item, width })?;
+    }
+    Ok(Items::from_vec(rows))
+}
+
+/// The list of a pass among those of a production, none where there is none.
+fn list_of_row(row: &[Vec<Instr>], k: u16) -> &[Instr]
+    requires { 1 ≤ k }
+    ensures { result.now ≡ slice_index_or (row_of row.now) (k - 1) [] }
+{
+    let index = k as usize - 1;
+    if index < row.len() {
+        return row[index].as_slice();
+    }
+    &[]
+}
+
+/// The instructions of a pass for a production, none where it has none.
+fn list_of(plan: &Plan, k: u16, production: usize) -> &[Instr]
+    requires { 1 ≤ k }
+    ensures { (g : Plain) → result.now ≡ list_at (setting_of g plan.now k) production }
+{
+    let rows = plan.code().rows();
+    if production < rows.len() {
+        return list_of_row(rows[production].as_slice(), k);
+    }
+    &[]
+}
+
+/// What a pass asks of a production of this number.
+fn row_of_production(
+    alloc: Global,
+    plan: &Plan,
+    k: u16,
+    number: usize,
     production: &Production,
-) -> Result<Items<RuleSlots>, NoMemory>
+) -> Result<ProductionRow, NoMemory>
+    requires first { 1 ≤ k }
     requires small { AreSmall (passes_of plan.now.0) }
     requires few { length (places_of production.now) ≤ most_stored + 1 }
     requires within { AreWithin (length (places_of production.now)) production.now.rules }
-    ensures { IfOk result (λ slots. (g : Plain) → slots
-        ≡ production_slots (setting_of g plan.now k) production.now) }
+    ensures { IfOk result (λ row. (g : Plain) → row
+        ≡ production_row (setting_of g plan.now k) number production.now) }
 {
     let places = production.places(alloc)?;
     let starts = row_starts(alloc, plan, k, places.as_slice())?;
-    slots_of_rules(
+    let rules = slots_of_rules(
         alloc,
         plan,
         k,
         places.as_slice(),
         starts.as_slice(),
         production.rules.as_slice(),
-    )
+    )?;
+    Ok(ProductionRow {
+        list: Items::from_vec(list_of(plan, k, number).to_vec(alloc)?),
+        places: place_rows(alloc, plan, k, places.as_slice())?,
+        rules,
+    })
 }
 
-/// The slots of each rule of a grammar in pass k of a plan.
+/// What pass k of a plan asks of each production of a grammar.
 ///
 /// NoMemory where a growth was refused. Each place of a production is looked at once, and for each
 /// target and argument of its rules the passes of one symbol's attributes, which are at most 16.
@@ -164,26 +234,17 @@ pub(crate) fn lay_out(
     plan: &Plan,
     k: u16,
 ) -> Result<Layout, NoMemory>
-    requires { IsPlan grammar.now plan.now.0 plan.now.1 }
+    requires plan { IsPlan grammar.now plan.now.0 plan.now.1 }
+    requires first { 1 ≤ k }
     ensures laid { IfOk result
         (λ l. l.productions ≡ layout_of (setting_of grammar.now plan.now k)) }
     ensures accepted { IsAccepted grammar.now }
 {
-    let mut slots = Vec::new(alloc);
-    for production in grammar.productions() {
-        slots.push(slots_of_production(alloc, plan, k, production)?)?;
+    let mut rows = Vec::new(alloc);
+    for (number, production) in grammar.productions().iter().enumerate() {
+        rows.push(row_of_production(alloc, plan, k, number, production)?)?;
     }
     Ok(Layout {
-        productions: Items::from_vec(slots),
+        productions: Items::from_vec(rows),
     })
-}
-
-impl Layout {
-    /// The slots of a rule of a production, by their numbers. Takes no memory.
-    pub(crate) fn slots(&self, production: u16, rule: u16) -> Option<&RuleSlots>
-        ensures { option_map (λ s. s.now) result ≡ slots_at self.now.productions production rule }
-    {
-        let row = self.productions.as_slice().get(production as usize)?;
-        row.as_slice().get(rule as usize)
-    }
 }

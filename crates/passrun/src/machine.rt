@@ -1,9 +1,7 @@
 //! The steps of a pass, one for each kind of instruction.
 
-ghost use Rattle.std.specs.Prelude.{◌≡◌, ◌+◌, ◌^◌, ◌<◌, ◌∷◌, ◌++◌, ◌⊎◌, [], Some, IfErr, IfOk};
+ghost use Rattle.std.specs.Prelude.{◌≡◌, ◌+◌, ◌^◌, ◌<◌, ◌≤◌, ◌∷◌, ◌++◌, ◌⊎◌, [], Some, IfErr, IfOk};
 ghost use Rattle.std.specs.Prelude.{IsErrOf, OnOk, length, reverse, slice_get};
-ghost use Rattle.ag_grammar.specs.declared.grammar.Production.{Production};
-ghost use Rattle.passassign.specs.Rows.{passes_of};
 ghost use Rattle.passcode.specs.declared.instr.Instr.TheVariants as instr;
 ghost use Rattle.passrun.specs.Passing.{IsPassing, GoesOn};
 ghost use Rattle.passrun.specs.Ahead.{IsRunFault, IsWant};
@@ -11,9 +9,7 @@ ghost use Rattle.passrun.specs.Jobs.{CanRun, setting};
 ghost use Rattle.passrun.specs.Running.{GivesNext, Runs, RunsAt, RunsFrom, RunsSomehow, Turns};
 ghost use Rattle.passrun.specs.Running.{TurnsAt, TurnsFrom, TurnsTo};
 ghost use Rattle.passrun.specs.Working.{work};
-ghost use Rattle.planchecker.specs.Settings.{list_at, setting_of};
-ghost use Rattle.planchecker.specs.Sound.{IsSound};
-ghost use Rattle.treefile.specs.Listed.{count_up_to};
+ghost use Rattle.planchecker.specs.Settings.{list_at};
 ghost use Rattle.treefile.specs.Device.{HasRisen, LeavesContent, Persists, WhenHonest};
 
 use crate::evaluating::evaluate;
@@ -21,14 +17,11 @@ use crate::fetching::fetch;
 use crate::job::Job;
 use crate::open_node::OpenNode;
 use crate::putting::put_row;
-use crate::rows::{passes_at, row_length};
 use crate::run_fault::RunFault;
 use ag_eval::Meter;
-use ag_grammar::Grammar;
 use ag_value::{NoMemory, Value};
 use backreader::Back;
 use passcode::Instr;
-use planchecker::Plan;
 use std::alloc::Global;
 use treefile::{Device, Writer};
 
@@ -45,34 +38,22 @@ pub(crate) struct Machine {
     pub(crate) begun: u64,
 }
 
-/// How many values the row has of the child whose record was read last.
-fn child_width(grammar: &Grammar, plan: &Plan, k: u16, child: u16) -> usize
-    requires { child < length grammar.now.productions }
-    ensures { (q : Production) → slice_get grammar.now.productions child ≡ Some q →
-        result ≡ count_up_to k (passes_of plan.now.0 q.left) }
-{
-    let production = &grammar.productions()[child as usize];
-    row_length(passes_at(plan, production.left), k)
-}
-
 /// Goes into the child whose record was read last: its node is the innermost one now, and the other
 /// waits.
 pub(crate) fn go(
-    grammar: &Grammar,
-    plan: &Plan,
-    k: u16,
+    job: &Job<'_>,
     node: OpenNode,
     place: u16,
     values: &[Value],
     waiting: &mut Vec<OpenNode>,
 ) -> Result<OpenNode, NoMemory>
-    requires sound { IsSound (setting_of grammar.now plan.now k) }
+    requires job { CanRun job.now }
     requires room { node.at + 1 < 2 ^ 64 }
-    requires next { slice_get (list_at (setting_of grammar.now plan.now k) node.production) node.at
+    requires next { slice_get (list_at (setting job.now) node.production) node.at
         ≡ Some (instr.Go place) }
-    requires passing { IsPassing (setting_of grammar.now plan.now k)
+    requires passing { IsPassing (setting job.now)
         (node ∷ reverse waiting.old.items) values.now }
-    ensures goes { IfOk result (λ child. GoesOn (setting_of grammar.now plan.now k)
+    ensures goes { IfOk result (λ child. GoesOn (setting job.now)
         (node ∷ reverse waiting.old.items) values.now
         (child ∷ reverse waiting.new.items) values.now) }
     ensures child { IfOk result (λ child. (child.production ≡ node.child) × (child.at ≡ 0)) }
@@ -83,7 +64,7 @@ pub(crate) fn go(
       base = node.base;
     } ∷ []) }
 {
-    let width = child_width(grammar, plan, k, node.child);
+    let width = job.own_width(node.child);
     waiting.push(OpenNode {
         production: node.production,
         child: node.child,
@@ -128,14 +109,14 @@ impl Machine {
         ensures persists { Persists (D.is_honest from.old) (D.is_honest from.new)
             (D.failures from.old) (D.failures from.new) (IsErrOf result RunFault.Device) }
     {
-        let Some(item) = job.item(node.production, place) else {
+        let Some(row) = job.place(node.production, place) else {
             unreachable!();
         };
         let open_count = self.waiting.len() + 1;
         let number = fetch(
             alloc,
             job,
-            item,
+            row.item,
             open_count,
             &mut self.back,
             &mut self.values,
@@ -168,11 +149,11 @@ impl Machine {
         ensures persists { Persists (E.is_honest to.old) (E.is_honest to.new)
             (E.failures to.old) (E.failures to.new) (IsErrOf result RunFault.Device) }
     {
-        let Some(item) = job.item(node.production, place) else {
+        let Some(row) = job.place(node.production, place) else {
             unreachable!();
         };
         let values = self.values.as_slice();
-        put_row(job, item, node.child, values, &mut self.writer, to)?;
+        put_row(row, node.child, values, &mut self.writer, to)?;
         Ok(node.stepped(node.child))
     }
 
@@ -191,6 +172,7 @@ impl Machine {
         requires room { node.at + 1 < 2 ^ 64 }
         ensures runs { IfOk result (λ next. TurnsAt (setting job.now) meter.old meter.new
             self.old self.new (Some node) (Some next)) }
+        ensures rises { meter.old ≤ meter.new }
         ensures less { IfOk result (λ next.
             work (setting job.now) self.new (Some next)
             < work (setting job.now) self.old (Some node)) }
@@ -198,9 +180,8 @@ impl Machine {
     {
         let production = &job.grammar.productions()[node.production as usize];
         let semantic = &production.rules.as_slice()[rule as usize];
-        let Some(slots) = job.layout.slots(node.production, rule) else {
-            unreachable!();
-        };
+        let row = job.row(node.production);
+        let slots = &row.rules.as_slice()[rule as usize];
         let spare = Value::Num(0);
         let value = evaluate(
             alloc,
@@ -236,15 +217,7 @@ impl Machine {
     {
         let values = self.values.as_slice();
         let waiting = &mut self.waiting;
-        let child = go(
-            job.grammar,
-            job.plan,
-            job.pass,
-            node,
-            place,
-            values,
-            waiting,
-        )?;
+        let child = go(job, node, place, values, waiting)?;
         Ok(child)
     }
 
@@ -259,8 +232,7 @@ impl Machine {
             < work (setting job.now) self.old (Some node) }
         ensures begun { self.new.begun ≡ self.old.begun }
     {
-        let production = &job.grammar.productions()[node.production as usize];
-        let width = row_length(passes_at(job.plan, production.left), job.pass);
+        let width = job.own_width(node.production);
         self.values.truncate(node.base + width);
         self.waiting.pop()
     }
@@ -287,6 +259,7 @@ impl Machine {
         ensures less { IfOk result (λ next.
             work (setting job.now) self.new next < work (setting job.now) self.old (Some node)) }
         ensures begun { self.new.begun ≡ self.old.begun }
+        ensures rises { meter.old ≤ meter.new }
         ensures content { LeavesContent (D.is_honest from.old)
             (D.content from.old) (D.content from.new) }
         ensures from_persists { Persists (D.is_honest from.old) (D.is_honest from.new)

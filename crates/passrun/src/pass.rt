@@ -3,13 +3,16 @@
 ghost use Rattle.std.specs.Prelude.{◌≡◌, ◌⊎◌, ◌+◌, ◌-◌, ◌^◌, ◌≤◌, ℕ, IfErr, IfOk, IsErrOf};
 ghost use Rattle.std.specs.Prelude.{OnOk};
 ghost use Rattle.ag_grammar.specs.grammars.Tree.{most_nodes};
-ghost use Rattle.passassign.specs.Rows.{IsGreatest};
+ghost use Rattle.passassign.specs.Rows.{IsGreatest, passes_of};
 ghost use Rattle.passrun.specs.Ahead.{IsRunFault};
 ghost use Rattle.passrun.specs.Jobs.{CanRun, setting};
+ghost use Rattle.passrun.specs.Laws.{CountsPass};
 ghost use Rattle.passrun.specs.Passed.{IsPassed};
 ghost use Rattle.planchecker.specs.Settings.{setting_of};
 ghost use Rattle.planchecker.specs.Plans.{IsPlan};
 ghost use Rattle.treefile.specs.Device.{HasRisen, LeavesContent, Persists, WhenHonest};
+ghost use Rattle.treefile.specs.Runs.{RunsPass};
+ghost use Rattle.treefile.specs.TreeFile.{version_one};
 
 use crate::ends::{Passed, begin, finish};
 use crate::job::Job;
@@ -43,7 +46,8 @@ pub(crate) fn run_job<D: Device, E: Device>(
     // whatever the devices give back
     ensures few { IfOk result (λ p. p.nodes ≤ most_nodes) }
     // whatever the devices give back
-    ensures meter { OnOk result ((meter.old ≤ meter.new) × (meter.new ≤ meter.old + 2 ^ 32)) }
+    ensures rises { meter.old ≤ meter.new }
+    ensures meter { OnOk result (meter.new ≤ meter.old + 2 ^ 32) }
     ensures content { LeavesContent (D.is_honest from.old)
         (D.content from.old) (D.content from.new) }
     ensures from_persists { Persists (D.is_honest from.old) (D.is_honest from.new)
@@ -93,6 +97,12 @@ pub fn run_pass<D: Device, E: Device>(
     ensures passed { WhenHonest (D.is_honest from.old) (WhenHonest (E.is_honest to.old)
         (IfOk result (λ p. IsPassed (setting_of grammar.now plan.now pass) (D.content from.old)
         (E.content to.new) p.nodes (meter.new - meter.old)))) }
+    // of whichever tree and values the file is: there is only one tree
+    ensures told { WhenHonest (D.is_honest from.old) (WhenHonest (E.is_honest to.old)
+        (IfOk result (λ p. RunsPass version_one grammar.now (passes_of plan.now.0) (pass - 1)
+        (D.content from.old) (E.content to.new)
+        × CountsPass grammar.now (passes_of plan.now.0) (pass - 1) (D.content from.old)
+        p.nodes (meter.new - meter.old)))) }
     // R1, P2 and P3 only where they are true of the file
     ensures refused { IfErr result (λ f. WhenHonest (D.is_honest from.old)
         (IsRunFault (setting_of grammar.now plan.now pass) (D.content from.old) f)) }
@@ -100,7 +110,8 @@ pub fn run_pass<D: Device, E: Device>(
     // whatever the devices give back
     ensures few { IfOk result (λ p. p.nodes ≤ most_nodes) }
     // whatever the devices give back
-    ensures meter { OnOk result ((meter.old ≤ meter.new) × (meter.new ≤ meter.old + 2 ^ 32)) }
+    ensures rises { meter.old ≤ meter.new }
+    ensures meter { OnOk result (meter.new ≤ meter.old + 2 ^ 32) }
     ensures content { LeavesContent (D.is_honest from.old)
         (D.content from.old) (D.content from.new) }
     ensures from_persists { Persists (D.is_honest from.old) (D.is_honest from.new)

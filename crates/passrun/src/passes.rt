@@ -62,7 +62,8 @@ fn next_pass<D: Device>(
         (last_content last (D.content a.old) (D.content b.old)) f))) }
     ensures counts { IfOk result (λ p. (p.read ≡ p.nodes) × (p.written ≡ p.nodes)) }
     ensures few { IfOk result (λ p. p.nodes ≤ most_nodes) }
-    ensures meter { OnOk result ((meter.old ≤ meter.new) × (meter.new ≤ meter.old + 2 ^ 32)) }
+    ensures rises { meter.old ≤ meter.new }
+    ensures meter { OnOk result (meter.new ≤ meter.old + 2 ^ 32) }
     ensures a_persists { Persists (D.is_honest a.old) (D.is_honest a.new)
         (D.failures a.old) (D.failures a.new) ⊥ }
     ensures b_persists { Persists (D.is_honest b.old) (D.is_honest b.new)
@@ -138,7 +139,8 @@ pub fn run_all<D: Device>(
     ensures few { IfOk result (λ r. (r.1.nodes ≤ most_nodes)
         × (r.1.read ≤ 2 ^ 32) × (r.1.written ≤ 2 ^ 32)) }
     // whatever the devices give back
-    ensures meter { OnOk result ((meter.old ≤ meter.new) × (meter.new ≤ meter.old + 2 ^ 48)) }
+    ensures rises { meter.old ≤ meter.new }
+    ensures meter { OnOk result (meter.new ≤ meter.old + 2 ^ 48) }
     ensures a_persists { Persists (D.is_honest a.old) (D.is_honest a.new)
         (D.failures a.old) (D.failures a.new) ⊥ }
     ensures b_persists { Persists (D.is_honest b.old) (D.is_honest b.new)

@@ -4,12 +4,11 @@ ghost use Rattle.std.specs.Prelude.{◌≡◌, ◌<◌, ◌≤◌, ◌-◌, ◌^
 ghost use Rattle.std.specs.Prelude.{OnOk};
 ghost use Rattle.ag_value.specs.Well.{IsWell};
 ghost use Rattle.passrun.specs.Ahead.{IsWant};
-ghost use Rattle.passrun.specs.Jobs.{setting};
-ghost use Rattle.passrun.specs.Putting.{HasPut, item_width, kind_of};
+ghost use Rattle.passrun.specs.Putting.{HasPutLast, kind_of};
 ghost use Rattle.treefile.specs.Device.{Persists};
 ghost use Rattle.treefile.specs.TreeFile.{version_one};
 
-use crate::job::Job;
+use crate::laying::PlaceRow;
 use crate::run_fault::RunFault;
 use ag_grammar::Item;
 use ag_value::Value;
@@ -27,25 +26,24 @@ fn kind_of(item: Item) -> Kind
 
 /// Puts the record of an item, whose row is the last of some values.
 pub(crate) fn put_row<E: Device>(
-    job: &Job<'_>,
-    item: Item,
+    row: PlaceRow,
     number: u16,
     values: &[Value],
     writer: &mut Writer,
     to: &mut E,
 ) -> Result<(), RunFault>
-    requires wide { item_width (setting job.now) item ≤ length values.now }
-    requires few { item_width (setting job.now) item ≤ version_one.most_values }
+    requires wide { row.width ≤ length values.now }
+    requires few { row.width ≤ version_one.most_values }
     requires well { All IsWell values.now }
     requires room { writer.old.written < 2 ^ 64 - 1 }
     requires whole { writer.old.is_broken ≡ false }
-    ensures put { OnOk result (HasPut (setting job.now) item number values.now
+    ensures put { OnOk result (HasPutLast row.item row.width number values.now
         (E.is_honest to.old) (E.content to.old) (E.content to.new) writer.old writer.new) }
     ensures want { IfErr result IsWant }
     ensures persists { Persists (E.is_honest to.old) (E.is_honest to.new)
         (E.failures to.old) (E.failures to.new) (IsErrOf result RunFault.Device) }
 {
-    let row = &values[values.len() - job.width(item)..];
-    writer.put(to, kind_of(item), number, row)?;
+    let last = &values[values.len() - row.width as usize..];
+    writer.put(to, kind_of(row.item), number, last)?;
     Ok(())
 }

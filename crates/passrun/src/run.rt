@@ -1,6 +1,6 @@
 //! One pass over a tree file, with a stack of its own.
 
-ghost use Rattle.std.specs.Prelude.{◌≡◌, ◌⊎◌, None, Some, IfErr, IsErrOf, OnOk};
+ghost use Rattle.std.specs.Prelude.{◌≡◌, ◌≤◌, ◌⊎◌, None, Some, IfErr, IsErrOf, OnOk};
 ghost use Rattle.passrun.specs.Ahead.{IsRunFault};
 ghost use Rattle.passrun.specs.Jobs.{CanRun, setting};
 ghost use Rattle.passrun.specs.Running.{Runs};
@@ -32,6 +32,7 @@ pub(crate) fn run<D: Device, E: Device>(
     ensures refused { IfErr result (λ f. WhenHonest (D.is_honest from.old)
         (IsRunFault (setting job.now) (D.content from.old) f)) }
     ensures begun { OnOk result (machine.new.begun ≡ machine.old.begun) }
+    ensures rises { meter.old ≤ meter.new }
     ensures content { LeavesContent (D.is_honest from.old)
         (D.content from.old) (D.content from.new) }
     ensures from_persists { Persists (D.is_honest from.old) (D.is_honest from.new)

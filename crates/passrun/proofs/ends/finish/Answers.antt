@@ -1,11 +1,13 @@
 use Rattle.std.specs.Option.{option_map}
 use Rattle.std.proofs.Common.{◌≡◌, List, Option, Ok, None, Bor, ℕ, ap, sym, subst, ◌∙◌, arith}
 use Rattle.std.proofs.lemmas.Result.{err_from_is_err_and}
+use Rattle.ag_grammar.specs.declared.grammar.Item.{Item}
 use Rattle.ag_grammar.specs.declared.grammar.Item.TheVariants as item
 use Rattle.treefile.specs.Backward.{next_before}
 use Rattle.treefile.specs.TreeFile.{version_one}
 use Rattle.passrun.specs.Damage.{IsDamaged}
 use Rattle.passrun.specs.Jobs.{setting}
+use Rattle.passrun.specs.Putting.{HasPutLast, item_width}
 use Rattle.passrun.proofs.Refusing.{end_come, end_refused, end_unbroken, left_over, some_lent}
 use Rattle.passrun.proofs.Facts.{few_values}
 use Rattle.passrun.proofs.Ending.{as_many, none_lent, passed, reader_kept, ready_of, start_put, start_row}
@@ -19,10 +21,15 @@ pub put_row-requires-clause-wide : goal.put_row-requires-clause-wide
 put_row-requires-clause-wide g c =
     let job = setting c.args.job.now in
     let r = ready_of job c.requires.job.sound (g.D.Device.is_honest c.args.from.now) (g.D.Device.content c.args.from.now) (g.E.Device.is_honest c.args.to.now) (g.E.Device.content c.args.to.now) c.args.machine.now c.requires.runs in
-    start_row job c.requires.job.sound c.args.machine.now c.start.result c.as_slice-values.result.now c.start.ensures.value c.as_slice-values.ensures.value r.0
+    let wide = start_row job c.requires.job.sound c.args.machine.now c.start.result c.as_slice-values.result.now c.start.ensures.value c.as_slice-values.ensures.value r.0 in
+    let width = c.place_of-row.ensures.width in
+    omega arith
 
 pub put_row-requires-clause-few : goal.put_row-requires-clause-few
-put_row-requires-clause-few g c = few_values (setting c.args.job.now) c.requires.job.sound (item.Symbol c.start.result)
+put_row-requires-clause-few g c =
+    let few = few_values (setting c.args.job.now) c.requires.job.sound (item.Symbol c.start.result) in
+    let width = c.place_of-row.ensures.width in
+    omega arith
 
 pub put_row-requires-clause-room : goal.put_row-requires-clause-room
 put_row-requires-clause-room g c =
@@ -32,7 +39,15 @@ put_row-requires-clause-room g c =
 pub returns-clause-passed : goal.returns-clause-passed
 returns-clause-passed g c = λ meter r is to_is.
     let job = setting c.args.job.now in
-    let put = start_put job c.requires.job.sound c.args.machine.now c.start.result c.as_slice-values.result.now (g.E.Device.is_honest c.args.to.now) (g.E.Device.content c.args.to.now) (g.E.Device.content c.put_row.new.to) c.put_row.new.writer c.start.ensures.value c.as_slice-values.ensures.value c.in_ok-put_row.ensures.put in
+    let start = item.Symbol c.start.result in
+    let row = c.place_of-row.result in
+    let honest = g.E.Device.is_honest c.args.to.now in
+    let to = g.E.Device.content c.args.to.now in
+    let to' = g.E.Device.content c.put_row.new.to in
+    let values = c.as_slice-values.result.now in
+    let wide = subst (λ (width : ℕ). HasPutLast row.item width c.args.machine.now.root values honest to to' c.args.machine.now.writer c.put_row.new.writer) c.place_of-row.ensures.width c.in_ok-put_row.ensures.put in
+    let there = subst (λ (x : Item). HasPutLast x (item_width job start) c.args.machine.now.root values honest to to' c.args.machine.now.writer c.put_row.new.writer) c.place_of-row.ensures.item wide in
+    let put = start_put job c.requires.job.sound c.args.machine.now c.start.result values honest to to' c.put_row.new.writer c.start.ensures.value c.as_slice-values.ensures.value there in
     let end : next_before version_one (g.D.Device.content c.args.from.now) c.args.machine.now.back.progress.at ≡ Ok None = c.in_ok-back.ensures.told r.running.unbroken is ∙ ap Ok (none_lent c.in_ok-back.field-0 (sym c.is_some.ensures ∙ c.if-is_some.false)) in
     passed job c.requires.job.sound (g.D.Device.is_honest c.args.from.now) (g.D.Device.content c.args.from.now) (g.E.Device.is_honest c.args.to.now) (g.E.Device.content c.args.to.now) (g.E.Device.content c.put_row.new.to) c.args.machine.now c.put_row.new.writer meter c.records.result r is to_is put end (c.records.ensures ∙ ap (λ p. p.records) (reader_kept _ _ c.args.machine.now.back c.back.follows.lender-at-none c.back.result c.in_ok-back.field-0 c.back.follows.holds-at-none c.in_ok-back.was (sym c.is_some.ensures ∙ c.if-is_some.false)))
 

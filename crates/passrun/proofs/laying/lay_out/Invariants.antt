@@ -1,7 +1,7 @@
-use Rattle.std.proofs.Common.{◌≡◌, ◌++◌, drop, map}
+use Rattle.std.proofs.Common.{◌≡◌, ◌++◌, drop}
 use Rattle.planchecker.specs.Settings.{setting_of}
-use Rattle.passrun.specs.Laid.{layout_of, production_slots}
+use Rattle.passrun.specs.Laid.{layout_of, rows_from}
 use Rattle.passrun.proofs.laying.lay_out.Given as goal
 
-abbrev pub invariant-loop-production : goal.invariant-loop-production
-invariant-loop-production l = l.slots.items ++ map (production_slots (setting_of l.grammar l.plan l.k)) (drop l.production-index l.grammar.productions) ≡ layout_of (setting_of l.grammar l.plan l.k)
+abbrev pub invariant-loop-number : goal.invariant-loop-number
+invariant-loop-number l = l.rows.items ++ rows_from (setting_of l.grammar l.plan l.k) l.number (drop l.number l.grammar.productions) ≡ layout_of (setting_of l.grammar l.plan l.k)

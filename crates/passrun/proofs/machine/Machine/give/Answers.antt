@@ -5,7 +5,8 @@ use Rattle.std.proofs.lemmas.List.Elements.{All-drop, All-take, All-same}
 use Rattle.ag_value.specs.declared.value.Value.{Num}
 use Rattle.ag_value.specs.Well.{IsWell}
 use Rattle.passrun.specs.Jobs.{setting}
-use Rattle.passrun.proofs.Turning.{given_turns, giver, lent_value, meter_of, no_slots, rule_less, slots_are, well_of}
+use Rattle.passrun.proofs.Entries.{slots_found, slots_less}
+use Rattle.passrun.proofs.Turning.{given_turns, giver, lent_value, meter_of, rule_less, well_of}
 use Rattle.passrun.proofs.Working.{given_less}
 use Rattle.passrun.proofs.machine.Machine.give.Goals as goal
 
@@ -13,19 +14,18 @@ pub bounds-as_slice-rule : goal.bounds-as_slice-rule
 bounds-as_slice-rule c =
     rule_less (setting c.args.job.now) c.requires.job.sound c.args.self.now c.args.node c.args.meter.now c.args.rule c.productions.result.now c.index-productions-node.result c.as_slice.result.now c.productions.ensures.lent c.index-productions-node.is c.as_slice.ensures c.requires.runs c.requires.next
 
-pub unreachable-requires : goal.unreachable-requires
-unreachable-requires c =
+pub bounds-as_slice-rule-2 : goal.bounds-as_slice-rule-2
+bounds-as_slice-rule-2 c =
     let job = setting c.args.job.now in
     let h = giver job c.requires.job.sound c.args.self.now c.args.node c.args.meter.now c.args.rule c.productions.result.now c.index-productions-node.result c.as_slice.result.now c.index-as_slice-rule.result c.productions.ensures.lent c.index-productions-node.is c.as_slice.ensures c.index-as_slice-rule.is c.requires.runs c.requires.next in
-    let l = c.requires.job.layout c.args.node.production c.args.rule c.index-productions-node.result c.index-as_slice-rule.result h.there h.numbered in
-    no_slots (λ s. s.now) c.slots.result _ l.0 c.slots.ensures l.1 c.in_default.is
+    slots_less job c.args.node.production c.args.rule c.index-productions-node.result c.index-as_slice-rule.result c.row-row.result.now c.as_slice-2.result.now (c.row-row.ensures c.index-productions-node.result h.there) h.numbered c.as_slice-2.ensures
 
 pub evaluate-requires-clause-slots : goal.evaluate-requires-clause-slots
 evaluate-requires-clause-slots c =
     let job = setting c.args.job.now in
     let h = giver job c.requires.job.sound c.args.self.now c.args.node c.args.meter.now c.args.rule c.productions.result.now c.index-productions-node.result c.as_slice.result.now c.index-as_slice-rule.result c.productions.ensures.lent c.index-productions-node.is c.as_slice.ensures c.index-as_slice-rule.is c.requires.runs c.requires.next in
-    let are = slots_are job c.args.job.now.layout.now.productions c.args.node.production c.args.rule c.index-productions-node.result c.index-as_slice-rule.result c.in-Some.slots.now c.requires.job.layout h.there h.numbered c.in-Some.ensures in
-    ap length c.as_slice-2.ensures ∙ sym are.args.equally_long ∙ sym h.occurrences
+    let are = slots_found job c.args.node.production c.args.rule c.index-productions-node.result c.index-as_slice-rule.result c.row-row.result.now c.as_slice-2.result.now c.index-as_slice-rule-2.result (c.row-row.ensures c.index-productions-node.result h.there) h.numbered c.as_slice-2.ensures c.index-as_slice-rule-2.is in
+    ap length c.as_slice-3.ensures ∙ sym are.args.equally_long ∙ sym h.occurrences
 
 pub evaluate-requires-clause-well : goal.evaluate-requires-clause-well
 evaluate-requires-clause-well c =
@@ -39,7 +39,7 @@ pub index_mut-requires : goal.index_mut-requires
 index_mut-requires c =
     let job = setting c.args.job.now in
     let h = giver job c.requires.job.sound c.args.self.now c.args.node c.args.meter.now c.args.rule c.productions.result.now c.index-productions-node.result c.as_slice.result.now c.index-as_slice-rule.result c.productions.ensures.lent c.index-productions-node.is c.as_slice.ensures c.index-as_slice-rule.is c.requires.runs c.requires.next in
-    let are = slots_are job c.args.job.now.layout.now.productions c.args.node.production c.args.rule c.index-productions-node.result c.index-as_slice-rule.result c.in-Some.slots.now c.requires.job.layout h.there h.numbered c.in-Some.ensures in
+    let are = slots_found job c.args.node.production c.args.rule c.index-productions-node.result c.index-as_slice-rule.result c.row-row.result.now c.as_slice-2.result.now c.index-as_slice-rule-2.result (c.row-row.ensures c.index-productions-node.result h.there) h.numbered c.as_slice-2.ensures c.index-as_slice-rule-2.is in
     let target = are.target in
     let within = h.within in
     omega (arith, c.args.self.now.values.ok.0)
@@ -49,12 +49,12 @@ returns-clause-runs c =
     let job = setting c.args.job.now in
     let m = c.args.self.now in
     let base = c.args.node.base in
-    let h = giver job c.requires.job.sound m c.args.node c.args.meter.now c.args.rule c.productions.result.now c.index-productions-node.result c.as_slice.result.now c.index-as_slice-rule.result c.productions.ensures.lent c.index-productions-node.is c.as_slice.ensures c.index-as_slice-rule.is c.requires.runs c.requires.next in
-    let slots = c.in-Some.slots.now in
-    let are = slots_are job c.args.job.now.layout.now.productions c.args.node.production c.args.rule c.index-productions-node.result c.index-as_slice-rule.result slots c.requires.job.layout h.there h.numbered c.in-Some.ensures in
+    let h = giver job c.requires.job.sound c.args.self.now c.args.node c.args.meter.now c.args.rule c.productions.result.now c.index-productions-node.result c.as_slice.result.now c.index-as_slice-rule.result c.productions.ensures.lent c.index-productions-node.is c.as_slice.ensures c.index-as_slice-rule.is c.requires.runs c.requires.next in
+    let slots = c.index-as_slice-rule-2.result in
+    let are = slots_found job c.args.node.production c.args.rule c.index-productions-node.result c.index-as_slice-rule.result c.row-row.result.now c.as_slice-2.result.now c.index-as_slice-rule-2.result (c.row-row.ensures c.index-productions-node.result h.there) h.numbered c.as_slice-2.ensures c.index-as_slice-rule-2.is in
     let v = c.in_ok-value.value in
-    let is = lent_value job c.requires.job.sound c.index-productions-node.result c.index-as_slice-rule.result slots m base c.deref.result.now (take (length c.deref.result.now - base) (drop base c.deref.result.now)) c.as_slice-2.result.now (Num (pos 0)) v c.deref.ensures.value (take_rest c.deref.result.now base) c.as_slice-2.ensures c.in_ok-value.ensures.value in
+    let is = lent_value job c.requires.job.sound c.index-productions-node.result c.index-as_slice-rule.result slots m base c.deref.result.now (take (length c.deref.result.now - base) (drop base c.deref.result.now)) c.as_slice-3.result.now (Num (pos 0)) v c.deref.ensures.value (take_rest c.deref.result.now base) c.as_slice-3.ensures c.in_ok-value.ensures.value in
     given_turns job c.requires.job.sound m (_) c.args.node c.stepped.result c.args.meter.now c.evaluate.new.meter c.args.rule c.index-productions-node.result c.index-as_slice-rule.result slots (Num (pos 0)) v c.requires.next h.there h.numbered are is c.in_ok-value.ensures.well refl c.in_ok-value.ensures.counted c.stepped.ensures
 
 pub returns-clause-less : goal.returns-clause-less
-returns-clause-less c = given_less (setting c.args.job.now) c.requires.job.sound c.args.self.now (with_item c.args.self.now.values (c.args.node.base + c.in-Some.slots.now.target) c.in_ok-value.value) c.args.node c.stepped.result c.args.rule c.requires.next c.stepped.ensures
+returns-clause-less c = given_less (setting c.args.job.now) c.requires.job.sound c.args.self.now (with_item c.args.self.now.values (c.args.node.base + c.index-as_slice-rule-2.result.target) c.in_ok-value.value) c.args.node c.stepped.result c.args.rule c.requires.next c.stepped.ensures
