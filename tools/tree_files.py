@@ -402,18 +402,18 @@ class Record:
 
 @dataclass
 class Answer:
-    """What a content is: the file of a tree where there is no fault. A fault has the offset that an R1 tells. `deep` and
-    `large` say that on the way from the end a record had to stand at level 257, or to be the one of number 65,537."""
+    """What a content is: the file of a tree where there is no fault. A fault has the offset that an R1 tells. `beyond` says
+    what came first on the way from the end: P2, that a record had to stand at level 257, or P3, that one had to be of number
+    65,537; nothing where neither did."""
 
     records: int = 0
     fault: object = None
     why: str = ""
-    deep: bool = False
-    large: bool = False
+    beyond: str = ""
 
-    def is_within(self):
-        """Whether it is the file of a tree within the limits."""
-        return self.fault is None and not self.deep and not self.large
+    def refusal(self):
+        """What is first in the way, as a line of the program begins; nothing of the file of a tree within the limits."""
+        return self.beyond or ("" if self.fault is None else f"R1 at {self.fault}")
 
 
 def pass_of(content):
@@ -493,8 +493,7 @@ def read_tree(content, grammar, passes, number, visit=None):
     awaited = [(Item("symbol", grammar.start), None, 0, 1)]
     while awaited:
         item, parent, place, level = awaited.pop()
-        answer.deep |= level > MOST_LEVELS
-        answer.large |= answer.records == MOST_RECORDS
+        answer.beyond = answer.beyond or beyond(level, answer.records)
         begin = body_before(content, end)
         try:
             if begin is None:
@@ -511,6 +510,13 @@ def read_tree(content, grammar, passes, number, visit=None):
     if end != HEADER:
         answer.fault, answer.why = end, "the tree is whole, and something is left over"
     return answer
+
+
+def beyond(level, before):
+    """What refuses a record that has to stand at a level, behind so many; nothing within the limits."""
+    if level > MOST_LEVELS:
+        return "P2"
+    return "P3" if before == MOST_RECORDS else ""
 
 
 def why_none(grammar, begin, end, item):
