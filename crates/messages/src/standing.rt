@@ -1,5 +1,7 @@
 //! What stands at an offset of a tree file of pass 0, and what should.
 
+ghost use Rattle.treefile.specs.Device.{LeavesContent, Persists};
+
 use ag_grammar::limits::MOST_NODES;
 use ag_grammar::{Grammar, Item};
 use std::alloc::Global;
@@ -17,7 +19,12 @@ pub struct Frame {
 
 /// The frame that ends at an offset. None where none does, or where it can't be read. Takes no
 /// memory.
-pub fn frame_before<D: Device>(tree: &mut D, end: u64) -> Option<Frame> {
+pub fn frame_before<D: Device>(tree: &mut D, end: u64) -> Option<Frame>
+    ensures content { LeavesContent (D.is_honest tree.old)
+        (D.content tree.old) (D.content tree.new) }
+    ensures persists { Persists (D.is_honest tree.old) (D.is_honest tree.new)
+        (D.failures tree.old) (D.failures tree.new) ⊥ }
+{
     let mut length = [0; 4];
     tree.read_at(end.checked_sub(LENGTH_BYTES)?, &mut length)
         .ok()?;
@@ -44,7 +51,12 @@ pub fn awaited_at<D: Device>(
     grammar: &Grammar,
     tree: &mut D,
     at: u64,
-) -> Option<Vec<Item>> {
+) -> Option<Vec<Item>>
+    ensures content { LeavesContent (D.is_honest tree.old)
+        (D.content tree.old) (D.content tree.new) }
+    ensures persists { Persists (D.is_honest tree.old) (D.is_honest tree.new)
+        (D.failures tree.old) (D.failures tree.new) ⊥ }
+{
     let mut awaited = Vec::new(alloc);
     awaited.push(Item::Symbol(grammar.start())).ok()?;
     let mut end = tree.len().ok()?;

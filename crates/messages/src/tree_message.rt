@@ -1,5 +1,7 @@
 //! Why a tree file is refused, in words.
 
+ghost use Rattle.treefile.specs.Device.{LeavesContent, Persists};
+
 use crate::standing::{Frame, awaited_at, frame_before};
 use crate::telling::{tell_number, tell_word};
 use crate::terminals::class_name;
@@ -39,7 +41,13 @@ impl<'a> TreeMessage<'a> {
         grammar: &'a Grammar,
         tree: &mut D,
         path: &'a str,
-    ) -> TreeMessage<'a> {
+    ) -> TreeMessage<'a>
+        ensures content { LeavesContent (D.is_honest tree.old)
+            (D.content tree.old) (D.content tree.new) }
+        // nothing tells of a device that failed
+        ensures persists { Persists (D.is_honest tree.old) (D.is_honest tree.new)
+            (D.failures tree.old) (D.failures tree.new) ⊥ }
+    {
         let (found, awaited) = match fault {
             RunFault::Damaged(at) if HEADER_BYTES <= at => (
                 frame_before(tree, at),
