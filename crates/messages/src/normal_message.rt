@@ -5,16 +5,13 @@ use crate::sites::{
     Site, Stored, attribute_name, attribute_named, has_production, last_place, named_at, site_at,
     stored_at, symbol_named, symbol_with,
 };
-use crate::telling::{front_of, place_of, tell_place};
+use crate::telling::{NAMED, front_of, place_of, tell_place};
 use ag_grammar::{Named, Occ, RawGrammar, RawProduction, RawSymbol};
 use ag_text::read_grammar;
 use ag_value::Items;
 use normalform::NormalFault;
 use std::alloc::Global;
 use std::fmt;
-
-/// How many attributes a message names at most.
-const NAMED: usize = 12;
 
 /// What is told behind N1 to N10, why a grammar is not accepted, as
 /// ` (line 4, column 52): `$1.i` may not stand here, since ..`; a limit of the whole grammar has no

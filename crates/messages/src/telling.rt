@@ -5,6 +5,9 @@ use ag_text::Expected;
 use std::alloc::Global;
 use std::fmt;
 
+/// How many terminals or attributes a message names at most.
+pub const NAMED: usize = 12;
+
 /// How many characters of a token a message shows.
 const SHOWN: usize = 24;
 

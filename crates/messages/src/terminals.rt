@@ -1,13 +1,10 @@
 //! The terminals of a grammar, in words.
 
-use crate::telling::tell_word;
+use crate::telling::{NAMED, tell_word};
 use ag_grammar::limits::{NAME, NUMBER};
 use ag_grammar::{Grammar, Terminal};
 use llparse::Ahead;
 use std::fmt;
-
-/// How many terminals a message names at most.
-const NAMED: usize = 12;
 
 /// A terminal, or the end of the sentence: a literal by its text, a class by its name.
 pub fn tell_ahead<W: fmt::Write>(
