@@ -144,9 +144,10 @@ pub(crate) fn rows(
 
 /// Puts an attribute at the end of a list if it has no pass.
 fn put_open(found: &mut Vec<(u16, u16)>, state: State, slot: usize) -> Result<(), NoMemory>
-    requires { slot < 2 ^ 16 * 16 }
+    requires { slot < 2 ^ 16 * most_attributes }
     ensures puts { OnOk result (is_open state ≡ true
-        → found.new.items ≡ found.old.items ++ (slot / 16, slot % 16) ∷ []) }
+        → found.new.items
+        ≡ found.old.items ++ (slot / most_attributes, slot % most_attributes) ∷ []) }
     ensures other { OnOk result (is_open state ≡ false → found.new.items ≡ found.old.items) }
 {
     if has_none(state) {
