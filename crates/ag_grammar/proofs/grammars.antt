@@ -3,7 +3,6 @@ pub mod Children
 pub mod Counting
 pub mod Directions
 pub mod EachNode
-pub mod Inherited
 pub mod Kept
 pub mod Members
 pub mod NumberSample

@@ -1,10 +1,10 @@
 //! What stands at the places of a production, and the attributes of a symbol.
 
-ghost use Rattle.std.specs.Prelude.{◌≡◌, ◌≤◌, ◌↔◌, ◌∷◌, List, IfOk, IfSome, IsTrue, None, Some, cond};
+ghost use Rattle.std.specs.Prelude.{◌≡◌, ◌≤◌, ◌∷◌, List, IfOk, IfSome, None, Some, cond};
 ghost use Rattle.std.specs.Prelude.{length, slice_get};
 ghost use Rattle.ag_grammar.specs.declared.grammar.Item.{Item as TheItem};
 ghost use Rattle.ag_grammar.specs.grammars.AttributeGrammar.{attribute_names, item_at, places_of};
-ghost use Rattle.ag_grammar.specs.grammars.AttributeGrammar.{Inherited, stored_items, symbol_kinds};
+ghost use Rattle.ag_grammar.specs.grammars.AttributeGrammar.{stored_items};
 ghost use Rattle.ag_grammar.specs.grammars.Accepted.{most_attributes};
 
 use crate::grammar::{Item, Production, Symbol, Terminal};
@@ -96,17 +96,5 @@ impl Symbol {
             Some(name) => Some(name.as_str()),
             None => None,
         }
-    }
-
-    /// Whether the attribute of a number is an inherited one.
-    pub fn is_inherited(&self, attr: u16) -> bool
-        ensures { IsTrue result ↔ (slice_get (symbol_kinds (Some self.now)) attr ≡ Some Inherited) }
-    {
-        let number = attr as usize;
-        let synthesized = self.syn.as_slice().len();
-        if number < synthesized {
-            return false;
-        }
-        number - synthesized < self.inh.as_slice().len()
     }
 }
