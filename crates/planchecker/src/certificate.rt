@@ -4,7 +4,6 @@ ghost use Rattle.std.specs.Prelude.{ℕ, ◌≡◌, ◌↔◌, IsTrue, Some, sli
 ghost use Rattle.ag_grammar.specs.Lists.{Differ};
 ghost use Rattle.ag_grammar.specs.declared.grammar.Item.TheVariants as item;
 ghost use Rattle.ag_grammar.specs.grammars.AttributeGrammar.{item_at};
-ghost use Rattle.ag_grammar.specs.grammars.Passes.{direction_of};
 ghost use Rattle.passassign.specs.Certificate.{IsCertificate, IsGood, IsOneOf, IsReason, Members};
 ghost use Rattle.passassign.specs.Certificate.{Strikes, StrikesAll};
 ghost use Rattle.passassign.specs.Least.{IsAlternating};
@@ -76,14 +75,14 @@ fn is_item_among(set: &[(u16, u16)], item: Option<Item>, attr: u16) -> bool
 
 /// An argument keeps a rule's target at a place out of a pass.
 fn is_reason(
-    pass: u16,
+    direction: Direction,
     set: &[(u16, u16)],
     struck: &[Strike],
     production: &Production,
     place: u16,
     argument: Target,
 ) -> bool
-    ensures { IsTrue result ↔ IsReason (direction_of pass) (Members set.now) struck.now
+    ensures { IsTrue result ↔ IsReason direction (Members set.now) struck.now
         production.now place argument }
 {
     let item = production.item_at(argument.place);
@@ -96,7 +95,7 @@ fn is_reason(
     if argument.place == place {
         return is_item_among(set, item, argument.attr);
     }
-    Direction::of_pass(pass).is_before(place, argument.place)
+    direction.is_before(place, argument.place)
 }
 
 /// A declared symbol stands at a place of a production.
@@ -113,12 +112,12 @@ fn is_symbol(production: &Production, place: u16, symbol: u16) -> bool
 /// A strike is good behind others: what it names is there, and is a reason.
 fn is_good(
     grammar: &Grammar,
-    pass: u16,
+    direction: Direction,
     set: &[(u16, u16)],
     struck: &[Strike],
     strike: Strike,
 ) -> bool
-    ensures { IsTrue result ↔ IsGood grammar.now (direction_of pass) (Members set.now) struck.now
+    ensures { IsTrue result ↔ IsGood grammar.now direction (Members set.now) struck.now
         strike }
 {
     let Some(production) = grammar.productions().get(strike.production as usize) else {
@@ -134,32 +133,32 @@ fn is_good(
     if !is_symbol(production, target.place, strike.symbol) || target.attr != strike.attr {
         return false;
     }
-    is_reason(pass, set, struck, production, target.place, *argument)
+    is_reason(direction, set, struck, production, target.place, *argument)
 }
 
 /// A strike may come next behind others.
 fn is_next(
     grammar: &Grammar,
-    pass: u16,
+    direction: Direction,
     set: &[(u16, u16)],
     struck: &[Strike],
     strike: Strike,
 ) -> bool
-    ensures { IsTrue result ↔ IsNext grammar.now (direction_of pass) (Members set.now) struck.now
+    ensures { IsTrue result ↔ IsNext grammar.now direction (Members set.now) struck.now
         strike }
 {
     has_attribute(set, strike.symbol, strike.attr)
         && !is_struck(struck, strike.symbol, strike.attr)
-        && is_good(grammar, pass, set, struck, strike)
+        && is_good(grammar, direction, set, struck, strike)
 }
 
 /// Each strike of a list may come behind those before it.
-fn are_good(grammar: &Grammar, pass: u16, set: &[(u16, u16)], strikes: &[Strike]) -> bool
+fn are_good(grammar: &Grammar, direction: Direction, set: &[(u16, u16)], strikes: &[Strike]) -> bool
     ensures { IsTrue result ↔ ((i : ℕ) (x : TheStrike) → slice_get strikes.now i ≡ Some x
-        → IsNext grammar.now (direction_of pass) (Members set.now) (take i strikes.now) x) }
+        → IsNext grammar.now direction (Members set.now) (take i strikes.now) x) }
 {
     for (index, strike) in strikes.iter().enumerate() {
-        if !is_next(grammar, pass, set, &strikes[..index], *strike) {
+        if !is_next(grammar, direction, set, &strikes[..index], *strike) {
             return false;
         }
     }
@@ -179,12 +178,17 @@ fn are_struck(set: &[(u16, u16)], strikes: &[Strike]) -> bool
 }
 
 /// A list has good strikes of each member of a list of attributes, and of nothing else, for a pass
-/// of the direction of this one.
-fn strikes_all(grammar: &Grammar, pass: u16, set: &[(u16, u16)], strikes: &[Strike]) -> bool
+/// in a direction.
+fn strikes_all(
+    grammar: &Grammar,
+    direction: Direction,
+    set: &[(u16, u16)],
+    strikes: &[Strike],
+) -> bool
     ensures { IsTrue result
-        ↔ StrikesAll grammar.now (direction_of pass) (Members set.now) strikes.now }
+        ↔ StrikesAll grammar.now direction (Members set.now) strikes.now }
 {
-    if !are_good(grammar, pass, set, strikes) {
+    if !are_good(grammar, direction, set, strikes) {
         return false;
     }
     are_struck(set, strikes)
@@ -220,10 +224,10 @@ pub fn check_stuck(grammar: &Grammar, stuck: &Stuck) -> bool
     if set.is_empty() {
         return false;
     }
-    if !strikes_all(grammar, 1, set, stuck.odd.as_slice()) {
+    if !strikes_all(grammar, Direction::RightToLeft, set, stuck.odd.as_slice()) {
         return false;
     }
-    if !strikes_all(grammar, 2, set, stuck.even.as_slice()) {
+    if !strikes_all(grammar, Direction::LeftToRight, set, stuck.even.as_slice()) {
         return false;
     }
     differ(set)
