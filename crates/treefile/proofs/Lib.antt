@@ -1,4 +1,5 @@
 pub mod Backward
+pub mod Beginning
 pub mod Coming
 pub mod Files
 pub mod Fitting

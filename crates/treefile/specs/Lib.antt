@@ -1,5 +1,6 @@
 pub mod Awaited
 pub mod Backward
+pub mod Beginning
 pub mod Device
 pub mod Ending
 pub mod Faults
