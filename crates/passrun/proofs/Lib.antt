@@ -31,3 +31,4 @@ pub mod Telling
 pub mod Metered
 pub mod Stepping
 pub mod Totals
+pub mod LastRow

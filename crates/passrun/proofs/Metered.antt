@@ -1,6 +1,6 @@
 -- A pass that is done has run no more rules than its records allow, whatever the devices gave back.
 use Rattle.std.proofs.Common.{ℕ, ◌+◌, ◌^◌, ◌≤◌, Bool, List, None, Result, Ok, Err, length, ap, arith}
-use Rattle.std.specs.Prelude.{OnOk}
+use Rattle.std.specs.Prelude.{IfErr, OnErr, OnOk}
 use Rattle.planchecker.specs.Settings.{Setting, way}
 use Rattle.planchecker.specs.Sound.{IsSound}
 use Rattle.passrun.specs.declared.ends.Passed.{Passed}
@@ -24,3 +24,7 @@ meter_few c sound honest content to_honest to meter m r =
 pub on_ok : (P : Type 0) (r : Result Passed RunFault) → P → OnOk r P
 on_ok P (Ok p) h = h
 on_ok P (Err f) h = tt
+
+pub on_err : (P : Type 0) (Q : RunFault → Type 0) (r : Result Passed RunFault) → ((f : RunFault) → Q f → P) → IfErr r Q → OnErr r P
+on_err P Q (Ok p) go h = h
+on_err P Q (Err f) go h = go f h

@@ -1,6 +1,6 @@
 -- One pass more, to and fro between two devices.
 use Rattle.std.proofs.Common.{◌≡◌, ℕ, suc, ◌+◌, ◌-◌, ◌<◌, ◌≤◌, Bool, inl, inr, List, Result, Ok, Err, refl, sym, subst, ◌∙◌, arith}
-use Rattle.std.specs.Prelude.{IfErr, IfOk}
+use Rattle.std.specs.Prelude.{IfErr, IfOk, OnErr}
 use Rattle.std.proofs.lemmas.Bool.{cases_lt}
 use Rattle.std.proofs.Math.Nat.{suc-mul}
 use Rattle.ag_grammar.specs.grammars.Accepted.{IsAccepted}
@@ -171,3 +171,8 @@ persists_on h0 h1 h2 f0 f1 f2 old new =
 pub risen_since : (before now later : ℕ) → before ≤ now → HasRisen now later → HasRisen before later
 risen_since before now later le (inl less) = inl (omega arith)
 risen_since before now later le (inr full) = inr full
+
+-- what a refusal leaves leads to something else that it leaves
+pub err_more : (P Q : Type 0) (r : Result Passed RunFault) → (P → Q) → OnErr r P → OnErr r Q
+err_more P Q (Ok p) go h = h
+err_more P Q (Err f) go h = go h

@@ -1,11 +1,12 @@
 -- Passes one after the other, to and fro between two devices (after Jazayeri and Walter 1975). How it is told here, and the counts,
 -- are this project's.
-use Rattle.std.specs.Prelude.{ℕ, ◌≡◌, ◌+◌, ◌*◌, ◌-◌, ◌<◌, List}
+use Rattle.std.specs.Prelude.{ℕ, ◌≡◌, ◌+◌, ◌*◌, ◌-◌, ◌<◌, ◌≤◌, List}
 use Rattle.ag_grammar.specs.grammars.AttributeGrammar.{Grammar}
 use Rattle.ag_grammar.specs.grammars.Counts.{rules_of_pass, sum_of_passes}
 use Rattle.ag_grammar.specs.grammars.Passes.{Passes}
 use Rattle.ag_grammar.specs.grammars.Solution.{Valuation}
 use Rattle.ag_grammar.specs.grammars.Tree.{Tree, IsTreeOf, IsWithinLimits, most_depth, most_nodes, node_count}
+use Rattle.treefile.specs.Beginning.{LeavesBeginning}
 use Rattle.treefile.specs.Records.{IsFileOfTree}
 use Rattle.treefile.specs.Runs.{RunsPasses}
 use Rattle.treefile.specs.TreeFile.{version_one}
@@ -69,3 +70,13 @@ pub record HasRunAll (g : Grammar) (m : Passes) (k last : ℕ) (start : List ℕ
   pub held : k < last → HoldsTree g m k start
   pub fresh : last ≡ k → last_content which a b ≡ start
   pub nothing : last ≡ k → (which ≡ A) × (evals ≡ 0) × (sum ≡ record { nodes = 0; read = 0; written = 0 })
+
+-- What a refusal leaves of passes behind pass k, from a start: some of them ran, up to one whose file is still on the device that
+-- the next one read; and the other device has what it had then, or a beginning of the file of the next one.
+pub record LeavesRound (g : Grammar) (m : Passes) (k : ℕ) (start a b : List ℕ) : Type 0 where
+  pub done : ℕ
+  pub which : Last
+  pub before : List ℕ
+  pub far : k ≤ done
+  pub runs : RunsPasses version_one g m k done start (last_content which a b) before
+  pub left : LeavesBeginning (done + 1) before (other_content which a b)

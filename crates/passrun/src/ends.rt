@@ -1,13 +1,17 @@
 //! The beginning and the end of a pass.
 
 ghost use Rattle.std.specs.Prelude.{◌≡◌, ◌⊎◌, ◌-◌, ◌^◌, ◌≤◌, ℕ, None, Some, IfErr, IfOk, IsErrOf};
+ghost use Rattle.std.specs.Prelude.{OnErr, OnOk};
 ghost use Rattle.ag_grammar.specs.grammars.Tree.{most_nodes};
 ghost use Rattle.passrun.specs.Ahead.{IsRunFault};
 ghost use Rattle.passrun.specs.Ends.{RunsBetween, first_node};
 ghost use Rattle.passrun.specs.Jobs.{CanRun, setting};
 ghost use Rattle.passrun.specs.Passed.{IsPassed};
+ghost use Rattle.passrun.specs.Putting.{LeavesFrames};
 ghost use Rattle.passrun.specs.Running.{Runs};
+ghost use Rattle.treefile.specs.Beginning.{LeavesBeginning};
 ghost use Rattle.treefile.specs.Device.{HasRisen, LeavesContent, Persists, WhenHonest};
+ghost use Rattle.treefile.specs.TreeFile.{header, version_one};
 
 use crate::fetching::fetch;
 use crate::job::Job;
@@ -48,6 +52,11 @@ pub(crate) fn begin<D: Device, E: Device>(
     ensures runs { IfOk result (λ m. Runs (setting job.now)
         (D.is_honest from.new) (D.content from.new)
         (E.is_honest to.new) (E.content to.new) meter.now m (Some (first_node m.root))) }
+    ensures header { OnOk result (WhenHonest (E.is_honest to.old)
+        (E.content to.new ≡ header version_one (setting job.now).write)) }
+    // what the second device had, or a beginning of the file
+    ensures left { OnErr result (WhenHonest (E.is_honest to.old)
+        (LeavesBeginning (setting job.now).write (E.content to.old) (E.content to.new))) }
     ensures refused { IfErr result (λ f. WhenHonest (D.is_honest from.old)
         (IsRunFault (setting job.now) (D.content from.old) f)) }
     ensures begun { IfOk result (λ m. m.begun ≡ meter.now) }
@@ -95,6 +104,8 @@ pub(crate) fn finish<D: Device, E: Device>(
         WhenHonest (D.is_honest from.old) (WhenHonest (E.is_honest to.old)
         (IfOk result (λ p. IsPassed (setting job.now) (D.content from.old) (E.content to.new)
         p.nodes (meter - machine.old.begun)))) }
+    ensures left { IfErr result (LeavesFrames (E.is_honest to.old)
+        (E.content to.old) (E.content to.new)) }
     ensures refused { IfErr result (λ f. WhenHonest (D.is_honest from.old)
         (IsRunFault (setting job.now) (D.content from.old) f)) }
     ensures counts { IfOk result (λ p. (p.read ≡ p.nodes) × (p.written ≡ p.nodes)) }

@@ -6,6 +6,7 @@ ghost use Rattle.passcode.specs.declared.instr.Instr.TheVariants as instr;
 ghost use Rattle.passrun.specs.Passing.{IsPassing, GoesOn};
 ghost use Rattle.passrun.specs.Ahead.{IsRunFault, IsWant};
 ghost use Rattle.passrun.specs.Jobs.{CanRun, setting};
+ghost use Rattle.passrun.specs.Putting.{AddsFrames, LeavesFrames};
 ghost use Rattle.passrun.specs.Running.{GivesNext, Runs, RunsAt, RunsFrom, RunsSomehow, Turns};
 ghost use Rattle.passrun.specs.Running.{TurnsAt, TurnsFrom, TurnsTo};
 ghost use Rattle.passrun.specs.Working.{work};
@@ -141,6 +142,10 @@ impl Machine {
         ensures runs { IfOk result (λ next. TurnsTo (setting job.now)
             (E.is_honest to.old) (E.is_honest to.new)
             (E.content to.old) (E.content to.new) self.old self.new (Some node) (Some next)) }
+        ensures added { OnOk result (AddsFrames (E.is_honest to.old)
+            (E.content to.old) (E.content to.new)) }
+        ensures left { IfErr result (LeavesFrames (E.is_honest to.old)
+            (E.content to.old) (E.content to.new)) }
         ensures want { IfErr result IsWant }
         ensures less { IfOk result (λ next.
             work (setting job.now) self.new (Some next)
@@ -254,6 +259,10 @@ impl Machine {
         ensures runs { IfOk result (λ next. Runs (setting job.now)
             (D.is_honest from.new) (D.content from.new)
             (E.is_honest to.new) (E.content to.new) meter.new self.new next) }
+        ensures added { OnOk result (AddsFrames (E.is_honest to.old)
+            (E.content to.old) (E.content to.new)) }
+        ensures left { IfErr result (LeavesFrames (E.is_honest to.old)
+            (E.content to.old) (E.content to.new)) }
         ensures refused { IfErr result (λ f. WhenHonest (D.is_honest from.old)
             (IsRunFault (setting job.now) (D.content from.old) f)) }
         ensures less { IfOk result (λ next.

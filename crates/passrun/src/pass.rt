@@ -1,7 +1,7 @@
 //! One pass over a tree file.
 
 ghost use Rattle.std.specs.Prelude.{◌≡◌, ◌⊎◌, ◌+◌, ◌-◌, ◌^◌, ◌≤◌, ℕ, IfErr, IfOk, IsErrOf};
-ghost use Rattle.std.specs.Prelude.{OnOk};
+ghost use Rattle.std.specs.Prelude.{OnErr, OnOk};
 ghost use Rattle.ag_grammar.specs.grammars.Tree.{most_nodes};
 ghost use Rattle.passassign.specs.Rows.{IsGreatest, passes_of};
 ghost use Rattle.passrun.specs.Ahead.{IsRunFault};
@@ -10,6 +10,7 @@ ghost use Rattle.passrun.specs.Laws.{CountsPass};
 ghost use Rattle.passrun.specs.Passed.{IsPassed};
 ghost use Rattle.planchecker.specs.Settings.{setting_of};
 ghost use Rattle.planchecker.specs.Plans.{IsPlan};
+ghost use Rattle.treefile.specs.Beginning.{LeavesBeginning};
 ghost use Rattle.treefile.specs.Device.{HasRisen, LeavesContent, Persists, WhenHonest};
 ghost use Rattle.treefile.specs.Runs.{RunsPass};
 ghost use Rattle.treefile.specs.TreeFile.{version_one};
@@ -42,6 +43,9 @@ pub(crate) fn run_job<D: Device, E: Device>(
     // R1, P2 and P3 only where they are true of the file
     ensures refused { IfErr result (λ f. WhenHonest (D.is_honest from.old)
         (IsRunFault (setting job.now) (D.content from.old) f)) }
+    // what the second device had, or a beginning of the file
+    ensures left { OnErr result (WhenHonest (E.is_honest to.old)
+        (LeavesBeginning (setting job.now).write (E.content to.old) (E.content to.new))) }
     ensures counts { IfOk result (λ p. (p.read ≡ p.nodes) × (p.written ≡ p.nodes)) }
     // whatever the devices give back
     ensures few { IfOk result (λ p. p.nodes ≤ most_nodes) }
@@ -106,6 +110,9 @@ pub fn run_pass<D: Device, E: Device>(
     // R1, P2 and P3 only where they are true of the file
     ensures refused { IfErr result (λ f. WhenHonest (D.is_honest from.old)
         (IsRunFault (setting_of grammar.now plan.now pass) (D.content from.old) f)) }
+    // what the second device had, or a beginning of the file
+    ensures left { OnErr result (WhenHonest (E.is_honest to.old)
+        (LeavesBeginning pass (E.content to.old) (E.content to.new))) }
     ensures counts { IfOk result (λ p. (p.read ≡ p.nodes) × (p.written ≡ p.nodes)) }
     // whatever the devices give back
     ensures few { IfOk result (λ p. p.nodes ≤ most_nodes) }

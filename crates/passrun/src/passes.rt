@@ -1,14 +1,16 @@
 //! All passes over a tree file, one after the other, to and fro between two devices.
 
 ghost use Rattle.std.specs.Prelude.{◌≡◌, ◌⊎◌, ◌+◌, ◌-◌, ◌^◌, ◌<◌, ◌≤◌, ℕ, IfErr, IfOk, IsErrOf};
-ghost use Rattle.std.specs.Prelude.{OnOk};
+ghost use Rattle.std.specs.Prelude.{OnErr, OnOk};
 ghost use Rattle.ag_grammar.specs.grammars.Tree.{most_nodes};
 ghost use Rattle.passassign.specs.Rows.{IsGreatest, passes_of};
 ghost use Rattle.passrun.specs.Ahead.{IsRunFault};
-ghost use Rattle.passrun.specs.Rounds.{HasRunAll, IsPassedOn, last_content, other_last};
+ghost use Rattle.passrun.specs.Rounds.{HasRunAll, IsPassedOn, LeavesRound, last_content};
+ghost use Rattle.passrun.specs.Rounds.{other_content, other_last};
 ghost use Rattle.passrun.specs.Rounds.{one_more as added};
 ghost use Rattle.planchecker.specs.Plans.{IsPlan};
 ghost use Rattle.planchecker.specs.Settings.{setting_of};
+ghost use Rattle.treefile.specs.Beginning.{LeavesBeginning};
 ghost use Rattle.treefile.specs.Device.{HasRisen, Persists, WhenHonest};
 
 use crate::ends::Passed;
@@ -60,6 +62,12 @@ fn next_pass<D: Device>(
     ensures refused { IfErr result (λ f. WhenHonest (D.is_honest a.old)
         (WhenHonest (D.is_honest b.old) (IsRunFault (setting_of grammar.now plan.now (done + 1))
         (last_content last (D.content a.old) (D.content b.old)) f))) }
+    ensures kept { WhenHonest (D.is_honest a.old) (WhenHonest (D.is_honest b.old)
+        (last_content last (D.content a.new) (D.content b.new)
+        ≡ last_content last (D.content a.old) (D.content b.old))) }
+    ensures left { OnErr result (WhenHonest (D.is_honest a.old) (WhenHonest (D.is_honest b.old)
+        (LeavesBeginning (done + 1) (other_content last (D.content a.old) (D.content b.old))
+        (other_content last (D.content a.new) (D.content b.new))))) }
     ensures counts { IfOk result (λ p. (p.read ≡ p.nodes) × (p.written ≡ p.nodes)) }
     ensures few { IfOk result (λ p. p.nodes ≤ most_nodes) }
     ensures rises { meter.old ≤ meter.new }
@@ -135,6 +143,10 @@ pub fn run_all<D: Device>(
     ensures refused { IfErr result (λ f. WhenHonest (D.is_honest a.old)
         (WhenHonest (D.is_honest b.old)
         (IsRunFault (setting_of grammar.now plan.now first) (D.content a.old) f))) }
+    // the device that the refused pass read has its file, and the other what it had, or a beginning
+    ensures left { OnErr result (WhenHonest (D.is_honest a.old) (WhenHonest (D.is_honest b.old)
+        (LeavesRound grammar.now (passes_of plan.now.0) (first - 1) (D.content a.old)
+        (D.content a.new) (D.content b.new)))) }
     // whatever the devices give back
     ensures few { IfOk result (λ r. (r.1.nodes ≤ most_nodes)
         × (r.1.read ≤ 2 ^ 32) × (r.1.written ≤ 2 ^ 32)) }

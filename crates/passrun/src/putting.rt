@@ -4,7 +4,7 @@ ghost use Rattle.std.specs.Prelude.{◌≡◌, ◌<◌, ◌≤◌, ◌-◌, ◌^
 ghost use Rattle.std.specs.Prelude.{OnOk};
 ghost use Rattle.ag_value.specs.Well.{IsWell};
 ghost use Rattle.passrun.specs.Ahead.{IsWant};
-ghost use Rattle.passrun.specs.Putting.{HasPutLast, kind_of};
+ghost use Rattle.passrun.specs.Putting.{AddsFrames, HasPutLast, LeavesFrames, kind_of};
 ghost use Rattle.treefile.specs.Device.{Persists};
 ghost use Rattle.treefile.specs.TreeFile.{version_one};
 
@@ -39,6 +39,10 @@ pub(crate) fn put_row<E: Device>(
     requires whole { writer.old.is_broken ≡ false }
     ensures put { OnOk result (HasPutLast row.item row.width number values.now
         (E.is_honest to.old) (E.content to.old) (E.content to.new) writer.old writer.new) }
+    ensures added { OnOk result (AddsFrames (E.is_honest to.old)
+        (E.content to.old) (E.content to.new)) }
+    ensures left { IfErr result (LeavesFrames (E.is_honest to.old)
+        (E.content to.old) (E.content to.new)) }
     ensures want { IfErr result IsWant }
     ensures persists { Persists (E.is_honest to.old) (E.is_honest to.new)
         (E.failures to.old) (E.failures to.new) (IsErrOf result RunFault.Device) }

@@ -3,6 +3,7 @@
 ghost use Rattle.std.specs.Prelude.{◌≡◌, ◌≤◌, ◌⊎◌, None, Some, IfErr, IsErrOf, OnOk};
 ghost use Rattle.passrun.specs.Ahead.{IsRunFault};
 ghost use Rattle.passrun.specs.Jobs.{CanRun, setting};
+ghost use Rattle.passrun.specs.Putting.{AddsFrames, LeavesFrames};
 ghost use Rattle.passrun.specs.Running.{Runs};
 ghost use Rattle.treefile.specs.Device.{HasRisen, LeavesContent, Persists, WhenHonest};
 
@@ -29,6 +30,10 @@ pub(crate) fn run<D: Device, E: Device>(
         (E.is_honest to.old) (E.content to.old) meter.old machine.old (Some root) }
     ensures runs { OnOk result (Runs (setting job.now) (D.is_honest from.new) (D.content from.new)
         (E.is_honest to.new) (E.content to.new) meter.new machine.new None) }
+    ensures added { OnOk result (AddsFrames (E.is_honest to.old)
+        (E.content to.old) (E.content to.new)) }
+    ensures left { IfErr result (LeavesFrames (E.is_honest to.old)
+        (E.content to.old) (E.content to.new)) }
     ensures refused { IfErr result (λ f. WhenHonest (D.is_honest from.old)
         (IsRunFault (setting job.now) (D.content from.old) f)) }
     ensures begun { OnOk result (machine.new.begun ≡ machine.old.begun) }

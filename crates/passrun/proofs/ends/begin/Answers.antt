@@ -7,6 +7,9 @@ use Rattle.passrun.specs.Damage.{IsReadable}
 use Rattle.passrun.proofs.Damage.{other_pass, readable}
 use Rattle.passrun.proofs.Refusing.{not_started, root_unfetched}
 use Rattle.passrun.proofs.Ending.{begun_runs}
+use Rattle.std.proofs.Common.{Err, Ok, inr}
+use Rattle.treefile.proofs.Beginning.{frames_begin, none_added, not_begun}
+use Rattle.passrun.specs.declared.run_fault.RunFault.{RunFault}
 use Rattle.passrun.proofs.ends.begin.Goals as goal
 
 pub returns-clause-runs : goal.returns-clause-runs
@@ -41,3 +44,14 @@ pub returns-then-pass-file_pass-clause-refused : goal.returns-then-pass-file_pas
 returns-then-pass-file_pass-clause-refused g c = λ honest.
     let small : c.args.job.now.pass - 1 < 65536 = omega (arith, c.file_pass.ensures, c.file_pass.type_inv) in
     other_pass (setting c.args.job.now) c.requires.job.sound (g.D.Device.content c.args.from.now) c.in_ok-back.back.progress.pass small (c.in_ok-back.ensures.told honest) (λ same. c.if-pass-file_pass.true (c.pass.ensures ∙ same ∙ sym c.file_pass.ensures))
+
+pub returns-in_err-writer-clause-left : goal.returns-in_err-writer-clause-left
+returns-in_err-writer-clause-left g c =
+    let p = err_from_is_err_and c.from_residual-in_err-writer.result c.from_residual-in_err-writer.ensures.1 in
+    rw p.1 (λ h. not_begun c.args.job.now.pass (g.E.Device.content c.args.to.now) (g.E.Device.content c.begin.new.device) c.in_err-writer.field-0.0 (λ failed. c.in_err-writer.ensures.device (ap Err failed) h) (λ want. c.in_err-writer.ensures.memory (ap Err want) h))
+
+pub returns-in_err-root-clause-left : goal.returns-in_err-root-clause-left
+returns-in_err-root-clause-left g c =
+    let p = err_from_is_err_and c.from_residual-in_err-root.result c.from_residual-in_err-root.ensures.1 in
+    let to = g.E.Device.content c.begin.new.device in
+    rw p.1 (λ h. inr (frames_begin RunFault c.args.job.now.pass to to (Ok tt) (c.in_ok-writer.ensures.header h) (none_added RunFault to (Ok tt))))

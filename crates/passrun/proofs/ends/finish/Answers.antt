@@ -11,6 +11,10 @@ use Rattle.passrun.specs.Putting.{HasPutLast, item_width}
 use Rattle.passrun.proofs.Refusing.{end_come, end_refused, end_unbroken, left_over, some_lent}
 use Rattle.passrun.proofs.Facts.{few_values}
 use Rattle.passrun.proofs.Ending.{as_many, none_lent, passed, reader_kept, ready_of, start_put, start_row}
+use Rattle.std.proofs.Common.{Err}
+use Rattle.treefile.proofs.Beginning.{added, none_added}
+use Rattle.passrun.specs.declared.run_fault.RunFault.{RunFault}
+use Rattle.passrun.specs.declared.run_fault.RunFault.TheVariants as run_fault
 use Rattle.passrun.proofs.ends.finish.Goals as goal
 
 -- the body that is lent, if there is one
@@ -92,3 +96,15 @@ returns-then-is_some-clause-refused g c = λ is.
     let some = some_lent c.in_ok-back.field-0 (sym c.is_some.ensures ∙ c.if-is_some.true) in
     let come = end_come job c.requires.job.sound honest content to_honest to m c.requires.runs is in
     subst (IsDamaged job content) (sym c.end-end.ensures) (left_over job c.requires.job.sound content m.back.progress.at some.0 come.0 come.1 (c.in_ok-back.ensures.told (end_unbroken job c.requires.job.sound honest content to_honest to m c.requires.runs) is ∙ ap Ok some.1))
+
+pub returns-in_err-back-clause-left : goal.returns-in_err-back-clause-left
+returns-in_err-back-clause-left g c =
+    let p = err_from_is_err_and c.from_residual-in_err-back.result c.from_residual-in_err-back.ensures.1 in
+    let to = g.E.Device.content c.put_row.new.to in
+    rw p.1 (λ h. added RunFault (g.E.Device.content c.args.to.now) to to (Err p.0) (c.in_ok-put_row.ensures.added h) (none_added RunFault to (Err p.0)))
+
+pub returns-then-is_some-clause-left : goal.returns-then-is_some-clause-left
+returns-then-is_some-clause-left g c = λ h.
+    let to = g.E.Device.content c.put_row.new.to in
+    let fault = run_fault.Damaged c.end-end.result in
+    added RunFault (g.E.Device.content c.args.to.now) to to (Err fault) (c.in_ok-put_row.ensures.added h) (none_added RunFault to (Err fault))

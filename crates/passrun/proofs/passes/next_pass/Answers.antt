@@ -1,6 +1,9 @@
-use Rattle.std.proofs.Common.{◌+◌}
+use Rattle.std.proofs.Common.{◌≡◌, ◌+◌, subst, sym}
 use Rattle.planchecker.specs.Settings.{setting_of}
-use Rattle.passrun.proofs.Stepping.{passed_from_a, passed_from_b, refused_from_a, refused_from_b}
+use Rattle.treefile.specs.Beginning.{LeavesBeginning}
+use Rattle.passrun.specs.declared.last.Last.{Last}
+use Rattle.passrun.specs.Rounds.{last_content, other_content}
+use Rattle.passrun.proofs.Stepping.{err_more, passed_from_a, passed_from_b, refused_from_a, refused_from_b}
 use Rattle.passrun.proofs.passes.next_pass.Goals as goal
 
 pub returns-in-A-clause-passed : goal.returns-in-A-clause-passed
@@ -18,3 +21,23 @@ returns-in-B-clause-passed g c = λ ha hb.
 pub returns-in-B-clause-refused : goal.returns-in-B-clause-refused
 returns-in-B-clause-refused g c =
     refused_from_b (setting_of c.args.grammar.now c.args.plan.now (c.args.done + 1)) (g.D.Device.content c.args.a.now) (g.D.Device.content c.args.b.now) (g.D.Device.is_honest c.args.b.now) (g.D.Device.is_honest c.args.a.now) c.args.last c.in-B.is c.run_pass-in-B.result c.run_pass-in-B.ensures.refused
+
+pub returns-in-A-clause-kept : goal.returns-in-A-clause-kept
+returns-in-A-clause-kept g c = λ ha hb.
+    subst (λ (l : Last). last_content l (g.D.Device.content c.run_pass.new.from) (g.D.Device.content c.run_pass.new.to) ≡ last_content l (g.D.Device.content c.args.a.now) (g.D.Device.content c.args.b.now)) (sym c.in-A.is) (c.run_pass.ensures.content ha)
+
+pub returns-in-A-clause-left : goal.returns-in-A-clause-left
+returns-in-A-clause-left g c =
+    err_more _ _ c.run_pass.result
+    (λ left ha hb. subst (λ (l : Last). LeavesBeginning (c.args.done + 1) (other_content l (g.D.Device.content c.args.a.now) (g.D.Device.content c.args.b.now)) (other_content l (g.D.Device.content c.run_pass.new.from) (g.D.Device.content c.run_pass.new.to))) (sym c.in-A.is) (left hb))
+    c.run_pass.ensures.left
+
+pub returns-in-B-clause-kept : goal.returns-in-B-clause-kept
+returns-in-B-clause-kept g c = λ ha hb.
+    subst (λ (l : Last). last_content l (g.D.Device.content c.run_pass-in-B.new.to) (g.D.Device.content c.run_pass-in-B.new.from) ≡ last_content l (g.D.Device.content c.args.a.now) (g.D.Device.content c.args.b.now)) (sym c.in-B.is) (c.run_pass-in-B.ensures.content hb)
+
+pub returns-in-B-clause-left : goal.returns-in-B-clause-left
+returns-in-B-clause-left g c =
+    err_more _ _ c.run_pass-in-B.result
+    (λ left ha hb. subst (λ (l : Last). LeavesBeginning (c.args.done + 1) (other_content l (g.D.Device.content c.args.a.now) (g.D.Device.content c.args.b.now)) (other_content l (g.D.Device.content c.run_pass-in-B.new.to) (g.D.Device.content c.run_pass-in-B.new.from))) (sym c.in-B.is) (left ha))
+    c.run_pass-in-B.ensures.left

@@ -1,7 +1,9 @@
-use Rattle.std.proofs.Common.{suc, ◌≡◌, ◌+◌, ◌-◌, refl, subst, ◌∙◌, arith}
+use Rattle.std.proofs.Common.{ℕ, List, sym, suc, ◌≡◌, ◌+◌, ◌-◌, refl, subst, ◌∙◌, arith}
 use Rattle.std.proofs.lemmas.Result.{err_from_is_err_and}
 use Rattle.passassign.specs.Rows.{passes_of}
-use Rattle.passrun.specs.Rounds.{HasRunAll}
+use Rattle.treefile.specs.Runs.{RunsPasses}
+use Rattle.treefile.specs.TreeFile.{version_one}
+use Rattle.passrun.specs.Rounds.{HasRunAll, other_content}
 use Rattle.passrun.proofs.Stepping.{all_goes_on, all_refused, all_starts, greatest_most, persists_on, persists_still}
 use Rattle.passrun.proofs.passes.run_all.Goals as goal
 
@@ -73,3 +75,24 @@ returns-in_err-passed-clause-refused g c =
     rw (p.1, p.2) (λ ha hb.
     all_refused c.args.grammar.now c.args.plan.now c.args.first c.loop-done.done (c.loop-done.done + 1) (g.D.Device.content c.args.a.now) (g.D.Device.content c.loop-done.a) (g.D.Device.content c.loop-done.b) c.loop-done.last (c.loop-done.meter - c.args.meter.now) c.loop-done.sum next c.requires.first old.low (old.runs ha hb)
     c.in_err-passed.field-0.0 (said (old.a_persists.honest ∙ ha) (old.b_persists.honest ∙ hb)))
+
+pub returns-in_err-passed-clause-left : goal.returns-in_err-passed-clause-left
+returns-in_err-passed-clause-left g c =
+    let p = err_from_is_err_and c.from_residual.result c.from_residual.ensures.1 in
+    let old = c.loop-done.invariant in
+    let last = c.loop-done.last in
+    let a = g.D.Device.content c.loop-done.a in
+    let b = g.D.Device.content c.loop-done.b in
+    let kept = c.in_err-passed.ensures.kept in
+    let left = c.in_err-passed.ensures.left in
+    rw p.1 (λ ha hb.
+    let is = old.a_persists.honest ∙ ha in
+    let too = old.b_persists.honest ∙ hb in
+    record {
+      done = c.loop-done.done;
+      which = last;
+      before = other_content last a b;
+      far = old.low;
+      runs = subst (λ (now : List ℕ). RunsPasses version_one c.args.grammar.now (passes_of c.args.plan.now.0) (c.args.first - 1) c.loop-done.done (g.D.Device.content c.args.a.now) now (other_content last a b)) (sym (kept is too)) (old.runs ha hb).runs;
+      left = left is too;
+    })
