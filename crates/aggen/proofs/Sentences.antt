@@ -1,9 +1,9 @@
 -- What a refusal of tokens, and of a tree of tokens, says of the sentence.
-use Rattle.std.proofs.Common.{◌≡◌, ◌<◌, ℕ, List, Result, Ok, Err, refl, subst, sym}
+use Rattle.std.proofs.Common.{◌≡◌, ℕ, List, Result, Ok, Err, refl, subst, sym}
 use Rattle.std.specs.Prelude.{IsErrOf}
 use Rattle.ag_grammar.specs.grammars.Accepted.{IsAccepted}
 use Rattle.ag_grammar.specs.grammars.AttributeGrammar.{Grammar}
-use Rattle.ag_grammar.specs.grammars.Tree.{Tree, depth_of, node_count, most_depth, most_nodes}
+use Rattle.ag_grammar.specs.grammars.Tree.{Tree, most_depth, most_nodes}
 use Rattle.ag_scan.specs.Laws.{IsAnswer}
 use Rattle.ag_scan.specs.Tokens.{AreTokensOf, IsRefused}
 use Rattle.ag_scan.specs.Words.{vocabulary_of}
@@ -11,7 +11,7 @@ use Rattle.ag_scan.specs.declared.fault.ScanFault.{ScanFault}
 use Rattle.ag_scan.specs.declared.fault.ScanFault.TheVariants as scan
 use Rattle.ag_scan.specs.declared.token.Token.{Token}
 use Rattle.ag_scan.proofs.OneAnswer.{at_most_one}
-use Rattle.llparse.specs.Sentences.{IsTreeWith, IsUnexpectedAt, LeavesOnly, words_of}
+use Rattle.llparse.specs.Sentences.{IsTreeWith, IsUnexpectedAt, LeavesOnlyDeeper, LeavesOnlyLarger, words_of}
 use Rattle.llparse.specs.Tables.{Choices, FitsGrammar}
 use Rattle.llparse.specs.declared.parse_fault.ParseFault.{ParseFault}
 use Rattle.llparse.specs.declared.parse_fault.ParseFault.TheVariants as parse
@@ -45,8 +45,8 @@ one_of g ok tables fits sentence t u a b = one_parse g tables fits (words_of a.t
 pub parse_told : (g : Grammar) → IsAccepted g → (sentence : List ℕ) (ts : List Token) → AreTokensOf (vocabulary_of g) sentence ts → (r : Result ℕ ParseFault) (f : ParseFault) → r ≡ Err f
     → ((at : ℕ) → r ≡ Err (parse.Unexpected at) → IsUnexpectedAt g ts at)
     → ((at : ℕ) (t : Tree) → r ≡ Err (parse.Unexpected at) → IsTreeWith g (words_of ts) t → ⊥)
-    → (IsErrOf r parse.TooDeep → LeavesOnly g (words_of ts) (λ t. most_depth < depth_of t))
-    → (IsErrOf r parse.TooManyNodes → LeavesOnly g (words_of ts) (λ t. most_nodes < node_count t))
+    → (IsErrOf r parse.TooDeep → LeavesOnlyDeeper most_depth g (words_of ts))
+    → (IsErrOf r parse.TooManyNodes → LeavesOnlyLarger most_nodes g (words_of ts))
     → IsSentenceFault g sentence (parse_fault_of f)
 parse_told g ok sentence ts cut r (parse.Unexpected at) e unexpected none deep large =
     record { tokens = ts; cut = cut; place = unexpected at e; none = λ t is. none at t e (with_tokens g ok sentence ts cut t is) }

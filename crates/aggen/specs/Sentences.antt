@@ -1,13 +1,14 @@
 -- What it means to parse a sentence: the tree that it has, and what a refusal tells of it. All of this is this project's.
-use Rattle.std.specs.Prelude.{◌≢◌, ◌<◌, ◌++◌, ℕ, List, codes, decimal}
+use Rattle.std.specs.Prelude.{◌≢◌, ◌++◌, ℕ, List, codes, decimal}
 use Rattle.ag_grammar.specs.grammars.AttributeGrammar.{Grammar}
-use Rattle.ag_grammar.specs.grammars.Tree.{Tree, depth_of, node_count, most_depth, most_nodes}
+use Rattle.ag_grammar.specs.grammars.Tree.{Tree, most_depth, most_nodes}
+use Rattle.ag_grammar.specs.grammars.Yield.{Lexeme}
 use Rattle.ag_scan.specs.Tokens.{AreTokensOf, IsRefused}
 use Rattle.ag_scan.specs.Words.{vocabulary_of}
 use Rattle.ag_scan.specs.declared.fault.ScanFault.{ScanFault}
 use Rattle.ag_scan.specs.declared.fault.ScanFault.TheVariants as scan
 use Rattle.ag_scan.specs.declared.token.Token.{Token}
-use Rattle.llparse.specs.Sentences.{IsTreeWith, IsUnexpectedAt, LeavesOnly, words_of}
+use Rattle.llparse.specs.Sentences.{IsTreeWith, IsUnexpectedAt, LeavesOnlyDeeper, LeavesOnlyLarger, words_of}
 use Rattle.llparse.specs.declared.parse_fault.ParseFault.{ParseFault}
 use Rattle.llparse.specs.declared.parse_fault.ParseFault.TheVariants as parse
 use Rattle.aggen.specs.declared.fault.Fault.{Fault}
@@ -35,17 +36,17 @@ pub record HasNoTreeFrom (g : Grammar) (sentence : List ℕ) (at : ℕ) : Type 0
   pub place : IsUnexpectedAt g tokens at
   pub none : HasNoTree g sentence
 
--- P2 and P3: the sentence has tokens, and these leave only trees that are so
-pub record LeavesOnlyTrees (g : Grammar) (sentence : List ℕ) (P : Tree → Type 0) : Type 0 where
+-- P2 and P3: the sentence has tokens, and their words leave only trees beyond a limit
+pub record LeavesOnlyTrees (g : Grammar) (sentence : List ℕ) (Leaves : List Lexeme → Type 0) : Type 0 where
   pub tokens : List Token
   pub cut : AreTokensOf (vocabulary_of g) sentence tokens
-  pub beyond : LeavesOnly g (words_of tokens) P
+  pub beyond : Leaves (words_of tokens)
 
 -- P1 to P3: no tree, or each beyond a limit; a failed device and want of memory are no P
 abbrev pub IsParseFaultOf : Grammar → List ℕ → ParseFault → Type 0
 IsParseFaultOf g sentence (parse.Unexpected at) = HasNoTreeFrom g sentence at
-IsParseFaultOf g sentence parse.TooDeep = LeavesOnlyTrees g sentence (λ t. most_depth < depth_of t)
-IsParseFaultOf g sentence parse.TooManyNodes = LeavesOnlyTrees g sentence (λ t. most_nodes < node_count t)
+IsParseFaultOf g sentence parse.TooDeep = LeavesOnlyTrees g sentence (LeavesOnlyDeeper most_depth g)
+IsParseFaultOf g sentence parse.TooManyNodes = LeavesOnlyTrees g sentence (LeavesOnlyLarger most_nodes g)
 IsParseFaultOf g sentence parse.Device = ⊥
 IsParseFaultOf g sentence parse.NoMemory = ⊥
 

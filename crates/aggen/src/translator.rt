@@ -1,13 +1,14 @@
 //! Translators: made once of a grammar's text, and then used for any number of sentences.
 
 ghost use Rattle.std.specs.Prelude.{◌≡◌, ◌≢◌, ◌≤◌, ◌⊎◌, IfErr, IfOk, IsErrOf, OnOk};
-ghost use Rattle.std.specs.Prelude.{length, string_bytes};
+ghost use Rattle.std.specs.Prelude.{OnErr, length, string_bytes};
 ghost use Rattle.ag_grammar.specs.grammars.Accepted.{IsAccepted as IsAcceptedGrammar};
 ghost use Rattle.ag_grammar.specs.grammars.Tree.{node_count, IsWithinLimits, Tree};
 ghost use Rattle.ag_grammar.specs.grammars.Tree.{most_depth, most_nodes};
 ghost use Rattle.llparse.specs.Ahead.{HasNoConflict};
 ghost use Rattle.llparse.specs.Sentences.{IsFirstFile};
 ghost use Rattle.llparse.specs.Tables.{FitsGrammar};
+ghost use Rattle.treefile.specs.Beginning.{LeavesBeginning};
 ghost use Rattle.treefile.specs.Device.{HasRisen, LeavesContent, Persists, WhenHonest};
 ghost use Rattle.passassign.specs.Least.{IsAlternating, IsLeast};
 ghost use Rattle.passassign.specs.Rows.{passes_of, AreFew};
@@ -125,7 +126,7 @@ impl Translator {
     ///
     /// S1 to S4 where the sentence has no tokens, before the device is touched; P1 where it has
     /// tokens and no tree; P2 and P3 where its tree is beyond the limits; D1 where the device
-    /// failed. On P and D1 a beginning of a file may be there.
+    /// failed. After a refusal the device has what it had, or a beginning of a file.
     pub fn parse_tree<D: Device>(&self, sentence: &[u8], device: &mut D) -> Result<u32, Fault>
         // an answer: there is one tree, it is within the limits, and its file is left
         ensures tree { IfOk result (λ _. (t : Tree) × IsTreeOfSentence self.now sentence.now t) }
@@ -142,6 +143,9 @@ impl Translator {
         // a refusal: what it says of the sentence is true
         ensures refused { IfErr result (λ e. IsSentenceFault self.now sentence.now e) }
         ensures untouched { IfErr result (λ e. IsScanFault e → device.new ≡ device.old) }
+        // what the device had, or a beginning of a file of pass 0
+        ensures left { OnErr result (WhenHonest (D.is_honest device.old)
+            (LeavesBeginning 0 (D.content device.old) (D.content device.new))) }
         ensures persists { Persists (D.is_honest device.old) (D.is_honest device.new)
             (D.failures device.old) (D.failures device.new) (IsErrOf result Fault.Device) }
     {

@@ -1,5 +1,5 @@
 -- What is open can be completed, where each symbol has a tree.
-use Rattle.std.proofs.Common.{◌≡◌, ℕ, zero, suc, ◌<◌, List, [], ◌∷◌, ◌++◌, length, Some, slice_get, refl, sym, ◌∙◌, subst, append_assoc, arith}
+use Rattle.std.proofs.Common.{◌≡◌, ℕ, zero, suc, ◌<◌, List, [], ◌∷◌, ◌++◌, length, Some, slice_get, refl, ap, sym, ◌∙◌, subst, append_assoc, arith}
 use Rattle.std.proofs.lemmas.Str.{is_utf8-from_IsUtf8}
 use Rattle.ag_grammar.specs.declared.grammar.Item.TheVariants as item
 use Rattle.ag_grammar.specs.declared.grammar.Item.{Item}
@@ -7,10 +7,10 @@ use Rattle.ag_grammar.specs.declared.grammar.Production.{Production}
 use Rattle.ag_grammar.specs.declared.grammar.Terminal.TheVariants.{Literal, Class}
 use Rattle.ag_grammar.specs.grammars.Accepted.{IsAccepted}
 use Rattle.ag_grammar.specs.grammars.AttributeGrammar.{Grammar, stored_items, IsProduction}
-use Rattle.ag_grammar.specs.grammars.Tree.{Tree, leaf, node, Forest, none, more, Fits, FitsAll}
+use Rattle.ag_grammar.specs.grammars.Tree.{IsTokenText, Tree, leaf, node, Forest, none, more, Fits, FitsAll}
 use Rattle.ag_grammar.specs.grammars.Yield.{Lexeme, yield_along, yield_of}
 use Rattle.ag_grammar.proofs.grammars.Productive.{by_trees}
-use Rattle.llparse.specs.Opened.{joined, Open, Continues, IsStack}
+use Rattle.llparse.specs.Opened.{joined, Open, open_at, Continues, IsCutAt, IsNext, IsStack}
 use Rattle.llparse.specs.Parsing.{Task, After, Reading, Asked}
 use Rattle.llparse.specs.declared.parser.OpenNode.{OpenNode}
 use Rattle.llparse.proofs.Steps as step
@@ -23,6 +23,14 @@ bound : {A : Type 0} (xs : List A) (i : ℕ) (x : A) → slice_get xs i ≡ Some
 bound [] i x e = absurd (cc)
 bound (y ∷ ys) zero x e = omega arith
 bound (y ∷ ys) (suc i) x e = omega (arith, bound ys i x e)
+
+-- a token's text may be empty
+no_text : IsTokenText []
+no_text = record { utf8 = is_utf8-from_IsUtf8 [] ([], (refl, refl)); short = omega arith }
+
+is_next : (g : Grammar) (os : List Open) (s : ℕ) → IsStack g os s → IsNext g os (item.Symbol s)
+is_next g [] s is = ap item.Symbol is
+is_next g (o ∷ os) s is = is
 
 module _ (g : Grammar) (accepted : IsAccepted g) where
   tree_of : (s : ℕ) → s < length g.symbols → (t : Tree) × Fits g (item.Symbol s) t
@@ -43,7 +51,7 @@ module _ (g : Grammar) (accepted : IsAccepted g) where
       (more one.0 others.0, (one.1, others.1))
   fill p q get before (item.Terminal (Class c) ∷ ys) e =
       let others = fill p q get (before ++ item.Terminal (Class c) ∷ []) ys (e ∙ sym (append_assoc before (item.Terminal (Class c) ∷ []) ys)) in
-      (more (leaf c []) others.0, ((refl, record { utf8 = is_utf8-from_IsUtf8 [] ([], (refl, refl)); short = omega arith }), others.1))
+      (more (leaf c []) others.0, ((refl, no_text), others.1))
   fill p q get before (item.Terminal (Literal l) ∷ ys) e =
       let others = fill p q get (before ++ item.Terminal (Literal l) ∷ []) ys (e ∙ sym (append_assoc before (item.Terminal (Literal l) ∷ []) ys)) in
       (others.0, step.before g others.0 l ys others.1)
@@ -69,8 +77,28 @@ module _ (k : Task) (accepted : IsAccepted k.grammar) where
       let outer = finish k.grammar accepted r.under s.0.left s.4 (node p (joined r.done own.0)) in
       (yield_along k.grammar ys own.0 ++ outer.0, outer.1, r.sound (yield_along k.grammar ys own.0 ++ outer.0) outer.1 (own.0, outer.0, own.1, refl, outer.2))
 
-  pub begins_asked : (s : ℕ) (fs : List OpenNode) (i n : ℕ) (rs : List ℕ) → Asked k s fs i n rs → (rest : List Lexeme) × (t : Tree) × After k i rest t
+  pub begins_asked : (s : ℕ) (fs : List OpenNode) (i n : ℕ) (rs : List ℕ) (a : Asked k s fs i n rs) → (rest : List Lexeme) × (t : Tree) × After k i rest t × IsCutAt k.grammar a.under rest t
   begins_asked s fs i n rs a =
       let c = some_tree k.grammar accepted a.under s a.stands in
       let outer = finish k.grammar accepted a.under s a.stands c.0 in
-      (yield_of k.grammar c.0 ++ outer.0, outer.1, a.sound (yield_of k.grammar c.0 ++ outer.0) outer.1 (c.0, outer.0, c.1, refl, outer.2))
+      let rest = yield_of k.grammar c.0 ++ outer.0 in (
+        rest,
+        outer.1,
+        a.sound rest outer.1 (c.0, outer.0, c.1, refl, outer.2),
+        record { next = item.Symbol s; child = c.0; behind = outer.0; stands = is_next k.grammar a.under s a.stands; fits = c.1; splits = refl; continues = outer.2 },
+      )
+
+  -- where a leaf comes next
+  pub begins_leaf : (p c : ℕ) (ys : List Item) (fs : List OpenNode) (i n : ℕ) (rs : List ℕ) (r : Reading k p (item.Terminal (Class c) ∷ ys) fs i n rs)
+      → (rest : List Lexeme) × (t : Tree) × After k i rest t × IsCutAt k.grammar (open_at p r.done ys ∷ r.under) rest t
+  begins_leaf p c ys fs i n rs r =
+      let s = r.stands in
+      let own = fill k.grammar accepted p s.0 s.2 (s.1 ++ item.Terminal (Class c) ∷ []) ys (s.3 ∙ sym (append_assoc s.1 (item.Terminal (Class c) ∷ []) ys)) in
+      let outer = finish k.grammar accepted r.under s.0.left s.4 (node p (joined r.done (more (leaf c []) own.0))) in
+      let behind = yield_along k.grammar ys own.0 ++ outer.0 in
+      let rest = yield_of k.grammar (leaf c []) ++ behind in (
+        rest,
+        outer.1,
+        r.sound rest outer.1 (more (leaf c []) own.0, outer.0, ((refl, no_text), own.1), refl, outer.2),
+        record { next = item.Terminal (Class c); child = leaf c []; behind = behind; stands = s; fits = (refl, no_text); splits = refl; continues = (own.0, outer.0, own.1, refl, outer.2) },
+      )

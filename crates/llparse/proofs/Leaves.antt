@@ -14,7 +14,7 @@ use Rattle.llparse.specs.Parsing.{Task, written, Reading, IsTooDeep, IsTooLarge,
 use Rattle.llparse.specs.Sentences.{IsTreeWith, IsStuckAt}
 use Rattle.llparse.specs.declared.ahead.Ahead.TheVariants as ahead
 use Rattle.llparse.specs.declared.parser.OpenNode.{OpenNode}
-use Rattle.llparse.proofs.Begins.{begins_reading}
+use Rattle.llparse.proofs.Begins.{begins_leaf, begins_reading}
 use Rattle.llparse.proofs.Fronts.{behind, one_more}
 use Rattle.llparse.proofs.Shown.{length-shows}
 use Rattle.llparse.proofs.Sizes as size
@@ -62,26 +62,42 @@ module _ (k : Task) where
         other (sym e ∙ ap ahead_of w.2);
   }
 
-  pub deep_leaf : (p c : ℕ) (ys : List Item) (fs : List OpenNode) (i n : ℕ) (rs : List ℕ) → k.depth ≤ suc (length fs) → Reading k p (item.Terminal (Class c) ∷ ys) fs i n rs → IsTooDeep k
-  deep_leaf p c ys fs i n rs full r = (
-    i,
-    r.held.within,
-    λ rest t e h.
-        let w = step.class_next k.grammar p r.done c ys r.under rest t (r.complete rest t e h) in
-        let same = length-shows g r.under fs r.shows in
-        let d = size.depth_open k.grammar (open_at p (joined r.done (more (leaf c w.0) none)) ys) r.under w.1 t w.3 in
-        let levels = size.deepest-joined r.done (more (leaf c w.0) none) in
-        omega arith,
-  )
+  pub deep_leaf : IsAccepted k.grammar → (p c : ℕ) (ys : List Item) (fs : List OpenNode) (i n : ℕ) (rs : List ℕ) → k.depth ≤ suc (length fs) → Reading k p (item.Terminal (Class c) ∷ ys) fs i n rs → IsTooDeep k
+  deep_leaf accepted p c ys fs i n rs full r =
+      let b = begins_leaf k accepted p c ys fs i n rs r in
+      let same = length-shows g r.under fs r.shows in
+      record {
+        index = i;
+        within = r.held.within;
+        rest = b.0;
+        tree = b.1;
+        begins = b.2;
+        above = open_at p r.done ys ∷ r.under;
+        cut = b.3;
+        full = omega arith;
+        only = λ others t e h.
+            let w = step.class_next k.grammar p r.done c ys r.under others t (r.complete others t e h) in
+            let d = size.depth_open k.grammar (open_at p (joined r.done (more (leaf c w.0) none)) ys) r.under w.1 t w.3 in
+            let levels = size.deepest-joined r.done (more (leaf c w.0) none) in
+            omega arith;
+      }
 
-  pub large_leaf : (p c : ℕ) (ys : List Item) (fs : List OpenNode) (i n : ℕ) (rs : List ℕ) → k.nodes ≤ n → Reading k p (item.Terminal (Class c) ∷ ys) fs i n rs → IsTooLarge k
-  large_leaf p c ys fs i n rs full r = (
-    i,
-    r.held.within,
-    λ rest t e h.
-        let w = step.class_next k.grammar p r.done c ys r.under rest t (r.complete rest t e h) in
-        let counted = r.held.counted in
-        let d = size.count_open k.grammar (open_at p (joined r.done (more (leaf c w.0) none)) ys) r.under w.1 t w.3 in
-        let counts = size.node_counts-joined r.done (more (leaf c w.0) none) in
-        omega arith,
-  )
+  pub large_leaf : IsAccepted k.grammar → (p c : ℕ) (ys : List Item) (fs : List OpenNode) (i n : ℕ) (rs : List ℕ) → k.nodes ≤ n → Reading k p (item.Terminal (Class c) ∷ ys) fs i n rs → IsTooLarge k
+  large_leaf accepted p c ys fs i n rs full r =
+      let b = begins_leaf k accepted p c ys fs i n rs r in
+      let counted = r.held.counted in
+      record {
+        index = i;
+        within = r.held.within;
+        rest = b.0;
+        tree = b.1;
+        begins = b.2;
+        above = open_at p r.done ys ∷ r.under;
+        cut = b.3;
+        full = omega arith;
+        only = λ others t e h.
+            let w = step.class_next k.grammar p r.done c ys r.under others t (r.complete others t e h) in
+            let d = size.count_open k.grammar (open_at p (joined r.done (more (leaf c w.0) none)) ys) r.under w.1 t w.3 in
+            let counts = size.node_counts-joined r.done (more (leaf c w.0) none) in
+            omega arith;
+      }

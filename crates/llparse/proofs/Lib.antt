@@ -15,6 +15,7 @@ pub mod Literals
 pub mod Nexts
 pub mod Nullables
 pub mod Predictions
+pub mod Putting
 pub mod Reaching
 pub mod Refused
 pub mod Shown

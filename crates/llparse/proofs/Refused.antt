@@ -3,6 +3,7 @@ use Rattle.std.proofs.Common.{◌≡◌, ℕ, ◌≤◌, Bool, List, length, rev
 use Rattle.std.proofs.lemmas.List.{length-reverse}
 use Rattle.ag_grammar.specs.declared.grammar.Item.TheVariants as item
 use Rattle.ag_grammar.specs.declared.grammar.Terminal.TheVariants.{Class}
+use Rattle.ag_grammar.specs.grammars.Accepted.{IsAccepted}
 use Rattle.ag_grammar.specs.grammars.AttributeGrammar.{Grammar, literal_text}
 use Rattle.ag_grammar.specs.grammars.Tree.{most_depth}
 use Rattle.ag_scan.specs.declared.token.Token.{Token}
@@ -17,24 +18,24 @@ use Rattle.llparse.proofs.Starts as starts
 
 module _ (g : Grammar) (tokens : List Token) (honest : Bool) (front : List ℕ) where
   -- no node more is within the limits
-  pub full_node : (p : Parser) (s : ℕ) (bytes : List ℕ) (e : ParseFault) → IsFull p e → Asks (task_of g tokens honest front) s p bytes → IsRefused (task_of g tokens honest front) (offset_at tokens) e
-  full_node p s bytes (fault.Unexpected at) full a = absurd full
-  full_node p s bytes fault.TooDeep full a =
+  pub full_node : IsAccepted g → (p : Parser) (s : ℕ) (bytes : List ℕ) (e : ParseFault) → IsFull p e → Asks (task_of g tokens honest front) s p bytes → IsRefused (task_of g tokens honest front) (offset_at tokens) e
+  full_node accepted p s bytes (fault.Unexpected at) full a = absurd full
+  full_node accepted p s bytes fault.TooDeep full a =
       let deep : most_depth ≤ length (reverse p.stack.items) = omega (arith, length-reverse p.stack.items) in
-      starts.deep_node (task_of g tokens honest front) s (reverse p.stack.items) p.taken p.count bytes deep a
-  full_node p s bytes fault.TooManyNodes full a = starts.large_node (task_of g tokens honest front) s (reverse p.stack.items) p.taken p.count bytes full a
-  full_node p s bytes fault.Device full a = absurd full
-  full_node p s bytes fault.NoMemory full a = absurd full
+      starts.deep_node (task_of g tokens honest front) accepted s (reverse p.stack.items) p.taken p.count bytes deep a
+  full_node accepted p s bytes fault.TooManyNodes full a = starts.large_node (task_of g tokens honest front) accepted s (reverse p.stack.items) p.taken p.count bytes full a
+  full_node accepted p s bytes fault.Device full a = absurd full
+  full_node accepted p s bytes fault.NoMemory full a = absurd full
 
   -- nor a leaf
-  pub full_leaf : (p : Parser) (c : ℕ) (bytes : List ℕ) (e : ParseFault) → IsFull p e → Faces (task_of g tokens honest front) (item.Terminal (Class c)) p bytes → IsRefused (task_of g tokens honest front) (offset_at tokens) e
-  full_leaf p c bytes (fault.Unexpected at) full b = absurd full
-  full_leaf p c bytes fault.TooDeep full b =
+  pub full_leaf : IsAccepted g → (p : Parser) (c : ℕ) (bytes : List ℕ) (e : ParseFault) → IsFull p e → Faces (task_of g tokens honest front) (item.Terminal (Class c)) p bytes → IsRefused (task_of g tokens honest front) (offset_at tokens) e
+  full_leaf accepted p c bytes (fault.Unexpected at) full b = absurd full
+  full_leaf accepted p c bytes fault.TooDeep full b =
       let deep : most_depth ≤ length (reverse p.stack.items) = omega (arith, length-reverse p.stack.items) in
-      stacks.deep_leaf (task_of g tokens honest front) c (reverse p.stack.items) p.taken p.count bytes deep b
-  full_leaf p c bytes fault.TooManyNodes full b = stacks.large_leaf (task_of g tokens honest front) c (reverse p.stack.items) p.taken p.count bytes full b
-  full_leaf p c bytes fault.Device full b = absurd full
-  full_leaf p c bytes fault.NoMemory full b = absurd full
+      stacks.deep_leaf (task_of g tokens honest front) accepted c (reverse p.stack.items) p.taken p.count bytes deep b
+  full_leaf accepted p c bytes fault.TooManyNodes full b = stacks.large_leaf (task_of g tokens honest front) accepted c (reverse p.stack.items) p.taken p.count bytes full b
+  full_leaf accepted p c bytes fault.Device full b = absurd full
+  full_leaf accepted p c bytes fault.NoMemory full b = absurd full
 
   -- what comes next can't be taken
   pub stuck : (i : ℕ) (e : ParseFault) → e ≡ fault.Unexpected (offset_at tokens i) → IsStuckAt g (words_of tokens) i → IsRefused (task_of g tokens honest front) (offset_at tokens) e

@@ -3,8 +3,8 @@ use Rattle.std.proofs.Common.{◌≡◌, suc, ◌+◌, ◌≤◌, max, List, [],
 use Rattle.ag_grammar.specs.grammars.AttributeGrammar.{Grammar}
 use Rattle.ag_grammar.specs.grammars.Tree.{Tree, leaf, node, Forest, none, more, depth_of, deepest, node_count, node_counts}
 use Rattle.ag_grammar.specs.grammars.Yield.{Lexeme}
-use Rattle.llparse.specs.Opened.{joined, Open, Continues, Completes}
-use Rattle.llparse.specs.Parsing.{post, posts, opened}
+use Rattle.llparse.specs.Opened.{joined, Open, opened, Continues, Completes}
+use Rattle.llparse.specs.Parsing.{post, posts}
 
 pub node_counts-joined : (a b : Forest) → node_counts (joined a b) ≡ node_counts a + node_counts b
 node_counts-joined none b = omega arith

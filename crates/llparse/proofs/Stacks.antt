@@ -64,13 +64,13 @@ module _ (k : Task) where
   no_class accepted c [] i n rs other b = absurd b
   no_class accepted c (f ∷ fs) i n rs other b = leaves.no_class k accepted f.production c (drop f.place (right_side k.grammar f.production)) fs i n rs other b
 
-  pub deep_leaf : (c : ℕ) (fs : List OpenNode) (i n : ℕ) (rs : List ℕ) → k.depth ≤ length fs → Before k (item.Terminal (Class c)) fs i n rs → IsTooDeep k
-  deep_leaf c [] i n rs deep b = absurd b
-  deep_leaf c (f ∷ fs) i n rs deep b = leaves.deep_leaf k f.production c (drop f.place (right_side k.grammar f.production)) fs i n rs deep b
+  pub deep_leaf : IsAccepted k.grammar → (c : ℕ) (fs : List OpenNode) (i n : ℕ) (rs : List ℕ) → k.depth ≤ length fs → Before k (item.Terminal (Class c)) fs i n rs → IsTooDeep k
+  deep_leaf accepted c [] i n rs deep b = absurd b
+  deep_leaf accepted c (f ∷ fs) i n rs deep b = leaves.deep_leaf k accepted f.production c (drop f.place (right_side k.grammar f.production)) fs i n rs deep b
 
-  pub large_leaf : (c : ℕ) (fs : List OpenNode) (i n : ℕ) (rs : List ℕ) → k.nodes ≤ n → Before k (item.Terminal (Class c)) fs i n rs → IsTooLarge k
-  large_leaf c [] i n rs large b = absurd b
-  large_leaf c (f ∷ fs) i n rs large b = leaves.large_leaf k f.production c (drop f.place (right_side k.grammar f.production)) fs i n rs large b
+  pub large_leaf : IsAccepted k.grammar → (c : ℕ) (fs : List OpenNode) (i n : ℕ) (rs : List ℕ) → k.nodes ≤ n → Before k (item.Terminal (Class c)) fs i n rs → IsTooLarge k
+  large_leaf accepted c [] i n rs large b = absurd b
+  large_leaf accepted c (f ∷ fs) i n rs large b = leaves.large_leaf k accepted f.production c (drop f.place (right_side k.grammar f.production)) fs i n rs large b
 
 -- ---- fewer steps are left
 

@@ -68,30 +68,46 @@ module _ (k : Task) where
     no_rule accepted s fs i n rs unnamed a = record {
       within = a.held.within;
       ends = λ rest t e p. step.no_rule k.grammar tables fits a.under s rest t a.stands (ap (choice_of tables s) e ∙ unnamed) (a.complete rest t e p);
-      begins = begins_asked k accepted s fs i n rs a;
+      begins = let b = begins_asked k accepted s fs i n rs a in (b.0, b.1, b.2);
     }
 
   -- a node that is opened counts, and stands below the others
-  pub deep_node : (s : ℕ) (fs : List OpenNode) (i n : ℕ) (rs : List ℕ) → k.depth ≤ length fs → Asked k s fs i n rs → IsTooDeep k
-  deep_node s fs i n rs full a = (
-    i,
-    a.held.within,
-    λ rest t e p.
-        let w = a.complete rest t e p in
-        let same = length-shows g a.under fs a.shows in
-        let d = size.depth_under k.grammar a.under w.0 w.1 t w.4 in
-        let one : 1 ≤ depth_of w.0 = size.depth_some w.0 in
-        omega arith,
-  )
+  pub deep_node : IsAccepted k.grammar → (s : ℕ) (fs : List OpenNode) (i n : ℕ) (rs : List ℕ) → k.depth ≤ length fs → Asked k s fs i n rs → IsTooDeep k
+  deep_node accepted s fs i n rs full a =
+      let b = begins_asked k accepted s fs i n rs a in
+      let same = length-shows g a.under fs a.shows in
+      record {
+        index = i;
+        within = a.held.within;
+        rest = b.0;
+        tree = b.1;
+        begins = b.2;
+        above = a.under;
+        cut = b.3;
+        full = omega arith;
+        only = λ others t e p.
+            let w = a.complete others t e p in
+            let d = size.depth_under k.grammar a.under w.0 w.1 t w.4 in
+            let one : 1 ≤ depth_of w.0 = size.depth_some w.0 in
+            omega arith;
+      }
 
-  pub large_node : (s : ℕ) (fs : List OpenNode) (i n : ℕ) (rs : List ℕ) → k.nodes ≤ n → Asked k s fs i n rs → IsTooLarge k
-  large_node s fs i n rs full a = (
-    i,
-    a.held.within,
-    λ rest t e p.
-        let w = a.complete rest t e p in
-        let counted = a.held.counted in
-        let d = size.count_under k.grammar a.under w.0 w.1 t w.4 in
-        let one : 1 ≤ node_count w.0 = size.count_some w.0 in
-        omega arith,
-  )
+  pub large_node : IsAccepted k.grammar → (s : ℕ) (fs : List OpenNode) (i n : ℕ) (rs : List ℕ) → k.nodes ≤ n → Asked k s fs i n rs → IsTooLarge k
+  large_node accepted s fs i n rs full a =
+      let b = begins_asked k accepted s fs i n rs a in
+      let counted = a.held.counted in
+      record {
+        index = i;
+        within = a.held.within;
+        rest = b.0;
+        tree = b.1;
+        begins = b.2;
+        above = a.under;
+        cut = b.3;
+        full = omega arith;
+        only = λ others t e p.
+            let w = a.complete others t e p in
+            let d = size.count_under k.grammar a.under w.0 w.1 t w.4 in
+            let one : 1 ≤ node_count w.0 = size.count_some w.0 in
+            omega arith;
+      }

@@ -5,6 +5,7 @@ use Rattle.ag_grammar.specs.grammars.Solution.{Valuation, NoRule, Solves}
 use Rattle.ag_grammar.specs.grammars.Tree.{Tree, IsTreeOf}
 use Rattle.ag_grammar.specs.grammars.Yield.{Lexeme, yield_of}
 use Rattle.llparse.specs.Ahead.{HasNoConflict}
+use Rattle.llparse.specs.Opened.{Open}
 use Rattle.llparse.specs.Sentences.{IsTreeWith, LeavesOnly}
 
 -- A grammar without a conflict has at most one tree of a yield (the textbook).
@@ -13,7 +14,7 @@ OneTree = (g : Grammar) → HasNoConflict g → (t u : Tree) → IsTreeOf g t �
 
 -- Where words leave only trees beyond a limit, each tree of these words is beyond it.
 abbrev pub WhatIsLeftIsSo : Type 0
-WhatIsLeftIsSo = (g : Grammar) (words : List Lexeme) (size : Tree → ℕ) (limit : ℕ) (t : Tree) → LeavesOnly g words (λ u. limit < size u) → IsTreeWith g words t → limit < size t
+WhatIsLeftIsSo = (g : Grammar) (words : List Lexeme) (size : Tree → ℕ) (begun : List Open → ℕ) (limit : ℕ) (t : Tree) → LeavesOnly g words size begun limit → IsTreeWith g words t → limit < size t
 
 -- Each tree has values that give each of its leaves its text, so that its file of pass 0 is told.
 abbrev pub TextsAreGiven : Type 0

@@ -1,10 +1,10 @@
 -- What a parser has open, and which trees complete it (this project's).
-use Rattle.std.specs.Prelude.{◌≡◌, ℕ, List, [], ◌∷◌, ◌++◌}
+use Rattle.std.specs.Prelude.{◌≡◌, ℕ, suc, ◌+◌, List, [], ◌∷◌, ◌++◌}
 use Rattle.ag_grammar.specs.declared.grammar.Item.TheVariants as item
 use Rattle.ag_grammar.specs.declared.grammar.Item.{Item}
 use Rattle.ag_grammar.specs.declared.grammar.Production.{Production}
 use Rattle.ag_grammar.specs.grammars.AttributeGrammar.{Grammar, stored_items, IsProduction}
-use Rattle.ag_grammar.specs.grammars.Tree.{Tree, node, Forest, none, more, Fits, FitsAll}
+use Rattle.ag_grammar.specs.grammars.Tree.{Tree, node, Forest, none, more, Fits, FitsAll, node_counts}
 use Rattle.ag_grammar.specs.grammars.Yield.{Lexeme, yield_along, yield_of}
 
 -- trees, and then others
@@ -21,6 +21,11 @@ pub record Open : Type 0 where
 -- a node open at `rest`
 abbrev pub open_at : ℕ → Forest → List Item → Open
 open_at p done rest = record { production = p; done = done; rest = rest }
+
+-- how many nodes are open or done
+abbrev pub opened : List Open → ℕ
+opened [] = 0
+opened (o ∷ os) = suc (node_counts o.done) + opened os
 
 module _ (g : Grammar) where
   -- t is a whole tree in which c is the next child of the innermost open node, and the words are what follows c
@@ -50,3 +55,19 @@ module _ (g : Grammar) where
   -- the innermost open node stands where the one around it asks for it, and has read a beginning of its right side
   abbrev pub Stands : Open → List Open → Type 0
   Stands o os = (q : Production) × (before : List Item) × IsProduction g o.production q × (q.items ≡ before ++ o.rest) × IsStack os q.left
+
+  -- each open node stands where the one around it asks for it, and what the innermost one asks for next is this item
+  abbrev pub IsNext : List Open → Item → Type 0
+  IsNext [] x = x ≡ item.Symbol g.start
+  IsNext (o ∷ os) x = Stands (open_at o.production o.done (x ∷ o.rest)) os
+
+-- A whole tree is cut before one of its nodes: the nodes above this one are open, each with its children that are done, and
+-- the words are those from it on.
+pub record IsCutAt (g : Grammar) (above : List Open) (words : List Lexeme) (t : Tree) : Type 0 where
+  pub next : Item
+  pub child : Tree
+  pub behind : List Lexeme
+  pub stands : IsNext g above next
+  pub fits : Fits g next child
+  pub splits : words ≡ yield_of g child ++ behind
+  pub continues : Continues g above child behind t

@@ -12,8 +12,8 @@ use Rattle.treefile.specs.Records.{token_body}
 use Rattle.treefile.specs.TreeFile.{body_of, frame}
 use Rattle.treefile.specs.declared.body.Kind.TheVariants.{Node}
 use Rattle.llparse.specs.Ahead.{ahead_of}
-use Rattle.llparse.specs.Opened.{Open, open_at, Completes, Wants, IsStack, Stands}
-use Rattle.llparse.specs.Sentences.{IsTreeWith, IsStuckAt, LeavesOnly, words_of}
+use Rattle.llparse.specs.Opened.{Open, open_at, opened, Completes, Wants, IsStack, Stands}
+use Rattle.llparse.specs.Sentences.{IsTreeWith, IsStuckAt, LeavesOnlyDeeper, LeavesOnlyLarger, words_of}
 use Rattle.llparse.specs.declared.parse_fault.ParseFault.{ParseFault}
 use Rattle.llparse.specs.declared.parse_fault.ParseFault.TheVariants as fault
 use Rattle.llparse.specs.declared.parser.OpenNode.{OpenNode}
@@ -68,11 +68,6 @@ Shows g (o ∷ os) (f ∷ fs) = (o.production ≡ f.production) × (o.rest ≡ d
 abbrev pub written : List Open → List ℕ
 written [] = []
 written (o ∷ os) = written os ++ posts o.done
-
--- how many nodes are open or done
-abbrev pub opened : List Open → ℕ
-opened [] = 0
-opened (o ∷ os) = suc (node_counts o.done) + opened os
 
 -- each tree that is done is shallow enough where it stands
 abbrev pub IsShallow : ℕ → List Open → Type 0
@@ -140,10 +135,10 @@ pub record IsParsed (k : Task) (count : ℕ) (bytes : List ℕ) : Type 0 where
 
 -- a task's words leave only trees that are too deep, or that have too many nodes
 abbrev pub IsTooDeep : Task → Type 0
-IsTooDeep k = LeavesOnly k.grammar k.words (λ t. k.depth < depth_of t)
+IsTooDeep k = LeavesOnlyDeeper k.depth k.grammar k.words
 
 abbrev pub IsTooLarge : Task → Type 0
-IsTooLarge k = LeavesOnly k.grammar k.words (λ t. k.nodes < node_count t)
+IsTooLarge k = LeavesOnlyLarger k.nodes k.grammar k.words
 
 -- what a refusal says, where each token has this offset
 abbrev pub IsRefused : Task → (ℕ → ℕ) → ParseFault → Type 0

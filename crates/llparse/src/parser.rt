@@ -7,6 +7,7 @@ ghost use Rattle.ag_grammar.specs.declared.grammar.Terminal.TheVariants as termi
 ghost use Rattle.ag_grammar.specs.grammars.Accepted.{most_items};
 ghost use Rattle.ag_grammar.specs.grammars.AttributeGrammar.{Grammar as AGrammar};
 ghost use Rattle.ag_grammar.specs.grammars.Tree.{IsTokenText, most_depth, most_nodes};
+ghost use Rattle.treefile.specs.Beginning.{AddsFrames};
 ghost use Rattle.treefile.specs.Device.{Persists, WhenHonest};
 ghost use Rattle.llparse.specs.Parsing.{leaf_frame, node_frame, right_side};
 ghost use Rattle.llparse.specs.Refusals.{IsWant};
@@ -58,6 +59,8 @@ fn put_leaf<D: Device>(
         (D.content device.new ≡ D.content device.old ++ leaf_frame class lex.now)) }
     ensures counted { OnOk result
         (writer.new ≡ record writer.old { written = writer.old.written + 1 }) }
+    ensures adds { WhenHonest (D.is_honest device.old)
+        (AddsFrames (D.content device.old) (D.content device.new) result) }
     ensures refuses { IfErr result IsWant }
     ensures breaks { IsErrOf result ParseFault.Device → writer.new.is_broken ≡ true }
     ensures broken { writer.new.is_broken ≡ true → IsErrOf result ParseFault.Device }
@@ -81,6 +84,8 @@ pub(crate) fn put_node<D: Device>(
         (D.content device.new ≡ D.content device.old ++ node_frame production)) }
     ensures counted { OnOk result
         (writer.new ≡ record writer.old { written = writer.old.written + 1 }) }
+    ensures adds { WhenHonest (D.is_honest device.old)
+        (AddsFrames (D.content device.old) (D.content device.new) result) }
     ensures refuses { IfErr result IsWant }
     ensures breaks { IsErrOf result ParseFault.Device → writer.new.is_broken ≡ true }
     ensures broken { writer.new.is_broken ≡ true → IsErrOf result ParseFault.Device }
@@ -202,6 +207,8 @@ impl Parser {
         ensures count { OnOk result (self.new.count ≡ self.old.count + 1) }
         ensures written { OnOk result (writer.new
             ≡ record writer.old { written = writer.old.written + 1 }) }
+        ensures adds { WhenHonest (D.is_honest device.old)
+            (AddsFrames (D.content device.old) (D.content device.new) result) }
         ensures breaks { IsErrOf result ParseFault.Device → writer.new.is_broken ≡ true }
         ensures broken { writer.new.is_broken ≡ true → IsErrOf result ParseFault.Device }
         ensures persists { Persists (D.is_honest device.old) (D.is_honest device.new)
@@ -237,6 +244,8 @@ impl Parser {
         ensures written { OnOk result
             (writer.new.written + length self.new.stack.items ≡ self.new.count) }
         ensures fine { OnOk result (writer.new.is_broken ≡ false) }
+        ensures adds { WhenHonest (D.is_honest device.old)
+            (AddsFrames (D.content device.old) (D.content device.new) result) }
         ensures breaks { IsErrOf result ParseFault.Device → writer.new.is_broken ≡ true }
         ensures broken { writer.new.is_broken ≡ true → IsErrOf result ParseFault.Device }
         ensures persists { Persists (D.is_honest device.old) (D.is_honest device.new)

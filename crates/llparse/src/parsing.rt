@@ -1,16 +1,17 @@
 //! Parsing a sentence: the records of the one tree of its tokens are written as it goes, by one
 //! token of look-ahead and with a stack of its own.
-ghost use Rattle.std.specs.Prelude.{◌≡◌, ◌<◌, ◌+◌, ℕ, true, false, Err, IfErr, IfOk, IsErrOf, OnOk};
-ghost use Rattle.ag_grammar.specs.grammars.Tree.{depth_of, node_count, IsWithinLimits, Tree};
+ghost use Rattle.std.specs.Prelude.{◌≡◌, ◌+◌, ℕ, true, false, Err, IfErr, IfOk, IsErrOf, OnOk};
+ghost use Rattle.ag_grammar.specs.grammars.Tree.{node_count, IsWithinLimits, Tree};
 ghost use Rattle.ag_grammar.specs.grammars.Tree.{most_depth, most_nodes};
 ghost use Rattle.ag_scan.specs.Tokens.{FitAll};
 ghost use Rattle.ag_scan.specs.Words.{vocabulary_of};
+ghost use Rattle.treefile.specs.Beginning.{AddsFrames, BeginsFile};
 ghost use Rattle.treefile.specs.Device.{Persists, WhenHonest};
 ghost use Rattle.treefile.specs.TreeFile.{header, version_one};
 ghost use Rattle.treefile.specs.Writing.{Progress};
 ghost use Rattle.llparse.specs.Parsing.{task_of, IsParsed, IsRefused};
-ghost use Rattle.llparse.specs.Sentences.{offset_at, words_of, IsFirstFile, IsTreeWith, LeavesOnly};
-ghost use Rattle.llparse.specs.Sentences.{IsUnexpectedAt};
+ghost use Rattle.llparse.specs.Sentences.{offset_at, words_of, IsFirstFile, IsTreeWith};
+ghost use Rattle.llparse.specs.Sentences.{IsUnexpectedAt, LeavesOnlyDeeper, LeavesOnlyLarger};
 ghost use Rattle.llparse.specs.Tables.{FitsGrammar};
 
 use crate::lookup::Tables;
@@ -41,6 +42,8 @@ fn run<D: Device>(
         ≡ record { written = count; is_broken = false }) }
     ensures refused { IfErr result (IsRefused (task_of grammar.now tokens.now
         (D.is_honest device.old) (D.content device.old)) (offset_at tokens.now)) }
+    ensures left { IfErr result (λ fault. WhenHonest (D.is_honest device.old)
+        (AddsFrames (D.content device.old) (D.content device.new) (Err fault))) }
     ensures breaks { IsErrOf result ParseFault.Device → writer.new.is_broken ≡ true }
     ensures broken { writer.new.is_broken ≡ true → IsErrOf result ParseFault.Device }
     ensures persists { Persists (D.is_honest device.old) (D.is_honest device.new)
@@ -79,8 +82,9 @@ fn run<D: Device>(
 ///
 /// P1 Unexpected where no tree has these tokens; P2 TooDeep and P3 TooManyNodes where each that has
 /// them is beyond the limit, and each that begins with some of them and goes on with the look-ahead
-/// behind these; D1 Device where the device failed. A beginning of the file may have
-/// been written then. D1 leaves the writer broken, and no other refusal does.
+/// behind these, and where some tree that begins with these has reached the limit there; D1 Device
+/// where the device failed. After a refusal the device has a beginning of the file. D1 leaves the
+/// writer broken, and no other refusal does.
 pub fn parse<D: Device>(
     alloc: Global,
     grammar: &Grammar,
@@ -110,15 +114,19 @@ pub fn parse<D: Device>(
     ensures written { IfOk result (λ count. writer.new
         ≡ record { written = count; is_broken = false }) }
 
-    // a refusal: no tree has the tokens, or each is beyond the limit
+    // a refusal: no tree has the tokens, or each is beyond the limit, which was reached
     ensures unexpected { (at : ℕ) → result ≡ Err (ParseFault.Unexpected at)
         → IsUnexpectedAt grammar.now tokens.now at }
     ensures none { (at : ℕ) (t : Tree) → result ≡ Err (ParseFault.Unexpected at)
         → IsTreeWith grammar.now (words_of tokens.now) t → ⊥ }
     ensures deep { IsErrOf result ParseFault.TooDeep
-        → LeavesOnly grammar.now (words_of tokens.now) (λ t. most_depth < depth_of t) }
+        → LeavesOnlyDeeper most_depth grammar.now (words_of tokens.now) }
     ensures large { IsErrOf result ParseFault.TooManyNodes
-        → LeavesOnly grammar.now (words_of tokens.now) (λ t. most_nodes < node_count t) }
+        → LeavesOnlyLarger most_nodes grammar.now (words_of tokens.now) }
+
+    // a refusal leaves a beginning of a file of pass 0, maybe its header alone
+    ensures left { IfErr result (λ _. WhenHonest (D.is_honest device.old)
+        (BeginsFile 0 (D.content device.new))) }
 
     // the writer is broken where the device failed, and for no other cause
     ensures breaks { IsErrOf result ParseFault.Device → writer.new.is_broken ≡ true }

@@ -1,7 +1,19 @@
+use Rattle.std.proofs.Common.{◌≡◌, ℕ, List, Bool, Result, Ok, Err}
+use Rattle.std.specs.Prelude.{IfErr}
+use Rattle.treefile.specs.Beginning.{AddsFrames, BeginsFile}
+use Rattle.treefile.specs.Device.{WhenHonest}
+use Rattle.treefile.specs.TreeFile.{header, version_one}
+use Rattle.treefile.proofs.Beginning.{frames_begin}
 use Rattle.llparse.specs.Sentences.{words_of}
+use Rattle.llparse.specs.declared.parse_fault.ParseFault.{ParseFault}
 use Rattle.llparse.proofs.Answered.{file_of, none_of}
 use Rattle.llparse.proofs.Steps.{one_parse}
 use Rattle.llparse.proofs.parsing.parse.Goals as goal
+
+-- what a refusal leaves behind the header
+left_of : (honest : Bool) (old new : List ℕ) (r : Result ℕ ParseFault) → WhenHonest honest (old ≡ header version_one 0) → IfErr r (λ fault. WhenHonest honest (AddsFrames old new (Err fault))) → IfErr r (λ fault. WhenHonest honest (BeginsFile 0 new))
+left_of honest old new (Ok count) begun adds = tt
+left_of honest old new (Err fault) begun adds = λ h. frames_begin ParseFault 0 old new (Err fault) (begun h) (adds h)
 
 pub returns-clause-one : goal.returns-clause-one
 returns-clause-one g c = one_parse c.args.grammar.now c.args.tables.now c.requires.tables (words_of c.args.tokens.now)
@@ -11,3 +23,6 @@ returns-clause-file g c = file_of c.args.grammar.now c.args.tokens.now (g.D.Devi
 
 pub returns-clause-none : goal.returns-clause-none
 returns-clause-none g c = none_of c.args.grammar.now c.args.tokens.now (g.D.Device.is_honest c.args.device.now) (g.D.Device.content c.args.device.now) (g.D.Device.content c.run.new.device) c.run.result c.run.ensures.refused
+
+pub returns-clause-left : goal.returns-clause-left
+returns-clause-left g c = left_of (g.D.Device.is_honest c.args.device.now) (g.D.Device.content c.args.device.now) (g.D.Device.content c.run.new.device) c.run.result c.requires.header c.run.ensures.left

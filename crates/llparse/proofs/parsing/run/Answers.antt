@@ -1,10 +1,14 @@
-use Rattle.std.proofs.Common.{◌≡◌, length, Some, refl, ap, ◌∙◌, subst, arith}
+use Rattle.std.proofs.Common.{◌≡◌, length, Some, Ok, Err, refl, ap, ◌∙◌, subst, arith}
 use Rattle.std.proofs.lemmas.Result.{err_from_is_err_and}
 use Rattle.ag_grammar.specs.declared.grammar.Item.TheVariants as item
 use Rattle.treefile.specs.Device.{WhenHonest}
 use Rattle.treefile.specs.Writing.{Progress}
+use Rattle.treefile.proofs.Beginning.{added, none_added}
 use Rattle.llparse.specs.Parsing.{task_of}
 use Rattle.llparse.specs.Turns.{Faces, HasTokens, IsBetween, Writes}
+use Rattle.llparse.specs.declared.parse_fault.ParseFault.{ParseFault}
+use Rattle.llparse.specs.declared.parse_fault.ParseFault.TheVariants as fault
+use Rattle.llparse.proofs.Putting.{stopped}
 use Rattle.llparse.proofs.Stacks.{asks}
 use Rattle.llparse.proofs.Turning as turn
 use Rattle.llparse.proofs.parsing.run.Goals as goal
@@ -27,6 +31,7 @@ loop-node-init g c =
           (turn.begun k (record { stack = c.new.result; taken = 0; count = 0 }) c.start.result (g.D.Device.content c.args.device.now) c.new.ensures.items refl refl c.start.ensures.value refl);
       written = omega arith;
       fine = ap (λ (w : Progress). w.is_broken) c.requires.begun;
+      frames = λ h. none_added ParseFault k.front (Ok tt);
       persists = record { honest = refl; kept = omega arith; bounded = λ h. h; cause = λ h. absurd h };
     }
 
@@ -39,6 +44,7 @@ loop-node-preserved-in-Continue-branch-4 g c =
       stands = turn.ended c.loop-node.parser c.pop.new.self c.in-Some.node c.in-Some.ensures.items k c.in_ok-advance.field-0 c.advance.new.self c.in_ok-advance.ensures.advances (g.D.Device.content c.loop-node.device) inv.stands c.in-None.is (g.D.Device.content c.put_node.new.device) put;
       written = turn.written_end c.loop-node.parser c.pop.new.self c.in-Some.node c.in-Some.ensures.items c.args.grammar.now c.in_ok-advance.field-0 c.advance.new.self c.in_ok-advance.ensures.advances c.in-None.is c.loop-node.writer.written c.put_node.new.writer.written inv.written (ap (λ (w : Progress). w.written) c.in_ok-put_node-in-None.ensures.counted);
       fine = ap (λ (w : Progress). w.is_broken) c.in_ok-put_node-in-None.ensures.counted ∙ inv.fine;
+      frames = λ h. added ParseFault k.front (g.D.Device.content c.loop-node.device) (g.D.Device.content c.put_node.new.device) (Ok tt) (inv.frames h) (c.in_ok-put_node-in-None.ensures.adds (inv.persists.honest ∙ h));
       persists = turn.persists_on _ _ _ _ _ _ inv.persists c.in_ok-put_node-in-None.ensures.persists;
     }
 
@@ -53,6 +59,7 @@ loop-node-preserved-in-Continue-branch-5 g c =
       stands = c.in_ok-open-in-Symbol.ensures.opens c.args.grammar.now k.honest k.front (g.D.Device.content c.loop-node.device) (c.start.ensures.accepted, c.requires.tables) (asks k c.in-Symbol.symbol _ _ _ _ faced);
       written = omega arith;
       fine = inv.fine;
+      frames = inv.frames;
       persists = inv.persists;
     }
 
@@ -79,6 +86,7 @@ loop-node-preserved g c =
       stands = takes c.args.grammar.now k.front (c.start.ensures.accepted, c.requires.tokens) faced;
       written = done.written;
       fine = done.fine;
+      frames = λ h. added ParseFault k.front (g.D.Device.content c.loop-node.device) (g.D.Device.content c.take.new.device) (Ok tt) (inv.frames h) (done.adds (inv.persists.honest ∙ h));
       persists = turn.persists_on _ _ _ _ _ _ inv.persists done.persists;
     }
 
@@ -93,3 +101,34 @@ pub returns-clause-parsed : goal.returns-clause-parsed
 returns-clause-parsed g c =
     let none_open : length c.loop-node.parser.stack.items ≡ 0 = omega (arith, c.in_default.ensures.cases) in
     turn.all_taken c.args.grammar.now c.args.tokens.now (g.D.Device.is_honest c.args.device.now) (g.D.Device.content c.args.device.now) c.loop-node.parser (g.D.Device.content c.loop-node.device) none_open c.loop-node.invariant.stands (omega arith)
+
+-- what a refusal leaves: nothing yet, what was put so far, or that and a beginning of a frame
+pub returns-in_err-open-clause-left : goal.returns-in_err-open-clause-left
+returns-in_err-open-clause-left g c =
+    let p = err_from_is_err_and c.from_residual.result c.from_residual.ensures.1 in
+    rw p.1 (λ h. none_added ParseFault (g.D.Device.content c.args.device.now) (Err c.in_err-open.field-0.0))
+
+pub returns-in_err-advance-clause-left : goal.returns-in_err-advance-clause-left
+returns-in_err-advance-clause-left g c =
+    let p = err_from_is_err_and c.from_residual-in_err-advance.result c.from_residual-in_err-advance.ensures.1 in
+    rw p.1 (λ h. stopped (g.D.Device.content c.args.device.now) (g.D.Device.content c.loop-node.device) fault.NoMemory (c.loop-node.invariant.frames h))
+
+pub returns-in_err-put_node-in-None-clause-left : goal.returns-in_err-put_node-in-None-clause-left
+returns-in_err-put_node-in-None-clause-left g c =
+    let p = err_from_is_err_and c.from_residual-in_err-put_node-in-None.result c.from_residual-in_err-put_node-in-None.ensures.1 in
+    let inv = c.loop-node.invariant in
+    rw p.1 (λ h. added ParseFault (g.D.Device.content c.args.device.now) (g.D.Device.content c.loop-node.device) (g.D.Device.content c.put_node.new.device) (Err c.in_err-put_node-in-None.field-0.0) (inv.frames h) (c.in_err-put_node-in-None.ensures.adds (inv.persists.honest ∙ h)))
+
+pub returns-in_err-open-in-Symbol-clause-left : goal.returns-in_err-open-in-Symbol-clause-left
+returns-in_err-open-in-Symbol-clause-left g c =
+    let p = err_from_is_err_and c.from_residual-in_err-open-in-Symbol.result c.from_residual-in_err-open-in-Symbol.ensures.1 in
+    rw p.1 (λ h. stopped (g.D.Device.content c.args.device.now) (g.D.Device.content c.loop-node.device) c.in_err-open-in-Symbol.field-0.0 (c.loop-node.invariant.frames h))
+
+pub returns-in_err-take-in-Terminal-clause-left : goal.returns-in_err-take-in-Terminal-clause-left
+returns-in_err-take-in-Terminal-clause-left g c =
+    let p = err_from_is_err_and c.from_residual-in_err-take-in-Terminal.result c.from_residual-in_err-take-in-Terminal.ensures.1 in
+    let inv = c.loop-node.invariant in
+    rw p.1 (λ h. added ParseFault (g.D.Device.content c.args.device.now) (g.D.Device.content c.loop-node.device) (g.D.Device.content c.take.new.device) (Err c.in_err-take-in-Terminal.field-0.0) (inv.frames h) (c.in_err-take-in-Terminal.ensures.adds (inv.persists.honest ∙ h)))
+
+pub returns-then-parser-tokens-clause-left : goal.returns-then-parser-tokens-clause-left
+returns-then-parser-tokens-clause-left g c = λ h. stopped (g.D.Device.content c.args.device.now) (g.D.Device.content c.loop-node.device) c.unexpected.result (c.loop-node.invariant.frames h)

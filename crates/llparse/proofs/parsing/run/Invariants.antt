@@ -1,7 +1,9 @@
-use Rattle.std.proofs.Common.{◌≡◌, ◌+◌, false, length}
-use Rattle.treefile.specs.Device.{Persists}
+use Rattle.std.proofs.Common.{◌≡◌, ◌+◌, false, length, Ok}
+use Rattle.treefile.specs.Beginning.{AddsFrames}
+use Rattle.treefile.specs.Device.{Persists, WhenHonest}
 use Rattle.llparse.specs.Parsing.{task_of}
 use Rattle.llparse.specs.Turns.{left_of, IsBetween}
+use Rattle.llparse.specs.declared.parse_fault.ParseFault.{ParseFault}
 use Rattle.llparse.proofs.parsing.run.Given as goal
 
 abbrev pub invariant-loop-node : goal.invariant-loop-node
@@ -9,6 +11,7 @@ invariant-loop-node g l = record {
   stands : IsBetween (task_of l.grammar l.tokens (g.D.Device.is_honest l.initial.device) (g.D.Device.content l.initial.device)) l.parser (g.D.Device.content l.device);
   written : l.writer.written + length l.parser.stack.items ≡ l.parser.count;
   fine : l.writer.is_broken ≡ false;
+  frames : WhenHonest (g.D.Device.is_honest l.initial.device) (AddsFrames {E = ParseFault} (g.D.Device.content l.initial.device) (g.D.Device.content l.device) (Ok tt));
   persists : Persists (g.D.Device.is_honest l.initial.device) (g.D.Device.is_honest l.device) (g.D.Device.failures l.initial.device) (g.D.Device.failures l.device) ⊥;
 }
 

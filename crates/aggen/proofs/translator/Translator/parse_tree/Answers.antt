@@ -1,7 +1,8 @@
-use Rattle.std.proofs.Common.{Err, refl, sym, ◌∙◌}
+use Rattle.std.proofs.Common.{Err, ap, inr, refl, sym, ◌∙◌}
 use Rattle.std.proofs.lemmas.Result.{err_from_is_err_and}
 use Rattle.ag_scan.specs.Tokens.{AreTokensOf}
 use Rattle.ag_scan.specs.Words.{vocabulary_of}
+use Rattle.treefile.proofs.Beginning.{not_begun}
 use Rattle.aggen.specs.Sentences.{IsTreeOfSentence}
 use Rattle.aggen.proofs.Sentences.{one_of, parse_told, scan_told, with_tokens}
 use Rattle.aggen.proofs.translator.Translator.parse_tree.Goals as goal
@@ -52,3 +53,14 @@ returns-in_err-count-clause-refused g c =
     let cut : AreTokensOf (vocabulary_of c.self.inside.grammar) c.args.sentence.now c.as_slice.result.now = rw c.as_slice.ensures.value c.in_ok-tokens.ensures.tokens in
     let e = c.in_err-count.ensures in
     rw (p.1, p.2, sym c.self.view_is) (parse_told _ c.self.invariant.0 c.args.sentence.now _ cut (Err c.in_err-count.field-0.0) c.in_err-count.field-0.0 refl e.unexpected e.none e.deep e.large)
+
+-- what a refusal leaves on the device
+pub returns-in_err-writer-clause-left : goal.returns-in_err-writer-clause-left
+returns-in_err-writer-clause-left g c =
+    let p = err_from_is_err_and c.from_residual-in_err-writer.result c.from_residual-in_err-writer.ensures.1 in
+    rw p.1 (λ h. not_begun 0 (g.D.Device.content c.args.device.now) (g.D.Device.content c.begin.new.device) c.in_err-writer.field-0.0 (λ failed. c.in_err-writer.ensures.device (ap Err failed) h) (λ want. c.in_err-writer.ensures.memory (ap Err want) h))
+
+pub returns-in_err-count-clause-left : goal.returns-in_err-count-clause-left
+returns-in_err-count-clause-left g c =
+    let p = err_from_is_err_and c.from_residual-in_err-count.result c.from_residual-in_err-count.ensures.1 in
+    rw p.1 (λ h. inr (c.in_err-count.ensures.left (c.begin.ensures.persists.honest ∙ h)))

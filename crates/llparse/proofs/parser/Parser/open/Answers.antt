@@ -22,7 +22,7 @@ returns-in_default-clause-refuses c = λ g honest front bytes has a.
 pub returns-in_err-has_room-clause-refuses : goal.returns-in_err-has_room-clause-refuses
 returns-in_err-has_room-clause-refuses c =
     let p = err_from_is_err_and c.from_residual.result c.from_residual.ensures.1 in
-    rw (p.1, p.2) (λ g honest front bytes has a. full_node g c.args.tokens.now honest front c.args.self.now c.args.symbol bytes c.in_err-has_room.field-0.0 c.in_err-has_room.ensures.full a)
+    rw (p.1, p.2) (λ g honest front bytes has a. full_node g c.args.tokens.now honest front has.0 c.args.self.now c.args.symbol bytes c.in_err-has_room.field-0.0 c.in_err-has_room.ensures.full a)
 
 pub returns-clause-opens : goal.returns-clause-opens
 returns-clause-opens c = λ g honest front bytes has a.

@@ -5,6 +5,8 @@ use Rattle.ag_grammar.specs.grammars.Tree.{most_depth}
 use Rattle.ag_scan.specs.Words.{vocabulary_of}
 use Rattle.llparse.specs.Parsing.{task_of}
 use Rattle.llparse.specs.Sentences.{words_of}
+use Rattle.treefile.proofs.Beginning.{none_added}
+use Rattle.llparse.specs.declared.parse_fault.ParseFault.{ParseFault}
 use Rattle.llparse.proofs.Refused.{full_leaf, stuck}
 use Rattle.llparse.proofs.Stacks.{class, no_class}
 use Rattle.llparse.proofs.parser.Parser.take_class.Goals as goal
@@ -18,7 +20,7 @@ returns-in_err-lex-clause-refuses g c =
 pub returns-in_err-has_room-clause-refuses : goal.returns-in_err-has_room-clause-refuses
 returns-in_err-has_room-clause-refuses g c =
     let p = err_from_is_err_and c.from_residual-in_err-has_room.result c.from_residual-in_err-has_room.ensures.1 in
-    rw (p.1, p.2) (λ gr honest front bytes has b. full_leaf gr c.args.tokens.now honest front c.args.self.now c.args.class bytes c.in_err-has_room.field-0.0 c.in_err-has_room.ensures.full b)
+    rw (p.1, p.2) (λ gr honest front bytes has b. full_leaf gr c.args.tokens.now honest front has.0 c.args.self.now c.args.class bytes c.in_err-has_room.field-0.0 c.in_err-has_room.ensures.full b)
 
 pub returns-clause-takes : goal.returns-clause-takes
 returns-clause-takes g c = λ gr front has b.
@@ -26,3 +28,9 @@ returns-clause-takes g c = λ gr front has b.
     let levels : length (reverse c.args.self.now.stack.items) < most_depth = omega (arith, length-reverse c.args.self.now.stack.items, room.0) in
     class (task_of gr c.args.tokens.now (g.D.Device.is_honest c.args.device.now) front) c.args.class c.in_ok-lex.lex.now (reverse c.args.self.now.stack.items) c.args.self.now.taken c.args.self.now.count (g.D.Device.content c.args.device.now) (g.D.Device.content c.put_leaf.new.device)
     (drop (c.args.self.now.taken + 1) (words_of c.args.tokens.now)) c.in_ok-lex.ensures.taken (c.in_ok-lex.ensures.fits (vocabulary_of gr) has.1).1 c.in_ok-put_leaf.ensures.frame room.1 levels b
+
+pub returns-in_err-lex-clause-adds : goal.returns-in_err-lex-clause-adds
+returns-in_err-lex-clause-adds g c h = none_added ParseFault (g.D.Device.content c.args.device.now) c.from_residual.result
+
+pub returns-in_err-has_room-clause-adds : goal.returns-in_err-has_room-clause-adds
+returns-in_err-has_room-clause-adds g c h = none_added ParseFault (g.D.Device.content c.args.device.now) c.from_residual-in_err-has_room.result
