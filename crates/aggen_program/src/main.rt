@@ -20,13 +20,22 @@ use agoutput::write_text;
 use command::{Paths, Request, request_of};
 use faults::{tell, tell_expression, tell_file, tell_grammar, tell_sentence};
 use std::alloc::{AllocError, Global};
-use std::io;
 use std::process::ExitCode;
 use std::rt::{Env, Files};
+use std::{fs, io};
 use translations::{evaluate_file, run_files, run_input, sentence_in, translator_in};
 use treefile::{FileDevice, MemDevice};
 
+/// A file that can be opened, and neither read nor written.
+const FOLDER: &str = "/";
+
+/// Where a standard stream is closed, the system gives its number to the file that is opened next. So
+/// folders are opened first, and kept for as long as the program runs: what is read from a closed
+/// stream, or printed there, is refused, and never goes to a tree file.
 fn main(rt: HostRuntime) -> ExitCode {
+    let _input = fs::open(&rt, FOLDER);
+    let _output = fs::open(&rt, FOLDER);
+    let _errors = fs::open(&rt, FOLDER);
     match run(&rt) {
         Ok(()) => ExitCode::SUCCESS,
         Err(fault) => ExitCode::from(status(&fault)),
