@@ -3,6 +3,7 @@
 ghost use Rattle.std.specs.Prelude.{◌≡◌, [], Some, IfOk, OnOk};
 ghost use Rattle.ag_expr.specs.language.Syntax as syntax;
 ghost use Rattle.ag_expr.specs.language.Syntax.{closer};
+ghost use Rattle.ag_expr.specs.language.Expression.{max_levels};
 ghost use Rattle.ag_expr.specs.language.Left.{Reads, ReadsAs, input};
 ghost use Rattle.ag_expr.specs.language.Lexing.{token_of};
 ghost use Rattle.ag_expr.specs.language.Reading as reading;
@@ -640,7 +641,7 @@ fn put<'t>(
 
 /// Passes an expression, and answers its tree.
 pub fn parse(alloc: Global, cursor: &mut Cursor<'_>) -> Result<Node, ExprFault>
-    ensures { Reads (λ all. expr_in all 64 []) cursor.old result cursor.new }
+    ensures { Reads (λ all. expr_in all max_levels []) cursor.old result cursor.new }
 {
     let mut scope = Scope::new(alloc);
     expression(alloc, cursor, &mut scope, MOST_LEVELS)

@@ -4,6 +4,7 @@ pub mod AttributeGrammar
 pub mod Counts
 pub mod Laws
 pub mod Passes
+pub mod Raw
 pub mod Running
 pub mod Sample
 pub mod Solution

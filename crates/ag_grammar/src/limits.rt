@@ -16,6 +16,10 @@ pub const MOST_ITEMS: usize = 64;
 /// How many items with a place a right side has at most.
 pub const MOST_STORED: usize = 16;
 
+/// How many rules of a production and arguments of a rule can be told apart by 16 bits. An accepted
+/// grammar has no more, since each is for another attribute at one of its few places.
+pub const MOST_RULES: usize = 65_536;
+
 /// How many different literals a grammar has at most.
 pub const MOST_LITERALS: usize = 1_024;
 

@@ -1,6 +1,11 @@
 //! A grammar as it stands in a text: names are not looked up, and offsets are kept for refusals.
 //! All lists have the order of the text.
 
+ghost use Rattle.std.specs.Prelude.{◌≡◌, ◌∷◌, ◌<◌, ◌-◌, List, IfSome, None, Some, cond, length};
+ghost use Rattle.std.specs.Prelude.{slice_get};
+ghost use Rattle.ag_grammar.specs.declared.raw.RawItem.{RawItem as TheRawItem};
+ghost use Rattle.ag_grammar.specs.grammars.Raw.{raw_attribute_names, raw_stored};
+
 use crate::expression::Expr;
 use crate::occurrence::Occ;
 use ag_value::{Items, Text};
@@ -25,6 +30,27 @@ pub struct RawSymbol {
     pub inh: Items<Named>,
 }
 
+impl RawSymbol {
+    /// The name of the attribute of a number, if there is one: the synthesized attributes come first,
+    /// in the order of the text, and then the inherited ones.
+    pub fn attribute_name(&self, number: usize) -> Option<&str>
+        ensures some { IfSome result
+            (λ name. slice_get (raw_attribute_names self.now) number ≡ Some name.now) }
+        ensures none { result ≡ None → slice_get (raw_attribute_names self.now) number ≡ None }
+    {
+        let synthesized = self.syn.as_slice();
+        let named = if number < synthesized.len() {
+            synthesized.get(number)
+        } else {
+            self.inh.as_slice().get(number - synthesized.len())
+        };
+        match named {
+            Some(named) => Some(named.name.as_str()),
+            None => None,
+        }
+    }
+}
+
 /// What stands on the right side of a production.
 #[derive(Debug, Drop)]
 pub enum RawItem {
@@ -34,6 +60,19 @@ pub enum RawItem {
     Literal(Text),
     /// A token of a class: 0 is NAME, 1 is NUMBER, 2 is TEXT.
     Class(u16),
+}
+
+impl RawItem {
+    /// Whether it has a place: names of symbols and classes have one, literals none (this project's).
+    pub fn has_place(&self) -> bool
+        ensures { (xs : List TheRawItem) → raw_stored (self.now ∷ xs)
+            ≡ cond result (self.now ∷ raw_stored xs) (raw_stored xs) }
+    {
+        match self {
+            RawItem::Name(_) | RawItem::Class(_) => true,
+            RawItem::Literal(_) => false,
+        }
+    }
 }
 
 /// A semantic rule: what it gives a value, and the expression that has the value.
@@ -54,6 +93,44 @@ pub struct RawProduction {
     pub items: Items<RawItem>,
     /// The semantic rules.
     pub rules: Items<RawRule>,
+}
+
+impl RawProduction {
+    /// The item at a place of the right side, from 1 on, if there is such a place. At place 0 stands the
+    /// left side, which is no item. Takes no memory; reads the right side up to the place.
+    pub fn item_at(&self, place: usize) -> Option<&RawItem>
+        ensures some { IfSome result (λ item. (0 < place)
+            × (slice_get (raw_stored self.now.items) (place - 1) ≡ Some item.now)) }
+        ensures none { result ≡ None → 0 < place
+            → slice_get (raw_stored self.now.items) (place - 1) ≡ None }
+    {
+        if place == 0 {
+            return None;
+        }
+        let mut left = place - 1;
+        for item in self.items.as_slice() {
+            if item.has_place() {
+                if left == 0 {
+                    return Some(item);
+                }
+                left -= 1;
+            }
+        }
+        None
+    }
+
+    /// The last place: as many items of the right side have one. Takes no memory.
+    pub fn last_place(&self) -> usize
+        ensures { result ≡ length (raw_stored self.now.items) }
+    {
+        let mut last = 0;
+        for item in self.items.as_slice() {
+            if item.has_place() {
+                last += 1;
+            }
+        }
+        last
+    }
 }
 
 /// A grammar as it stands in a text.

@@ -1,5 +1,6 @@
 -- How heavy and how deep a value is, and the limits of both. All of this is this project's.
 use Rattle.std.specs.Prelude.{ℕ, ◌+◌, max, List, [], ◌∷◌, length, sum, map}
+use Rattle.ag_value.specs.declared.limits.TheConstants.{MAX_DEPTH, MAX_WEIGHT}
 use Rattle.ag_value.specs.declared.value.Value.{Value, fold-Value}
 use Rattle.ag_value.specs.declared.value.Value.TheOpen.{Value-F}
 
@@ -41,8 +42,8 @@ depth_of = fold-Value ℕ depth_step
 
 -- the greatest weight of a well value: its spelling has at most so many bytes
 abbrev pub max_weight : ℕ
-max_weight = 1048576
+max_weight = MAX_WEIGHT
 
 -- the greatest depth of a well value
 abbrev pub max_depth : ℕ
-max_depth = 64
+max_depth = MAX_DEPTH

@@ -11,9 +11,10 @@ ghost use Rattle.ag_value.specs.declared.value.Value.{Value};
 
 use crate::fault::ValueFault;
 use crate::items::Items;
+use crate::limits::MAX_DEPTH;
 use crate::text::Text;
 use crate::value::{ErrorCode, Value};
-use crate::wellness::{MAX_DEPTH, is_well};
+use crate::wellness::is_well;
 use std::alloc::Global;
 use std::str::from_utf8;
 

@@ -2,15 +2,10 @@
 ghost use Rattle.std.specs.Prelude.{◌≡◌, ◌↔◌, ◌&&◌, ◌∷◌, IsTrue, map};
 ghost use Rattle.ag_value.specs.Well.{IsWell, all_true, are_keys, is_item, is_item_pair, key_of};
 
+use crate::limits::{MAX_DEPTH, MAX_WEIGHT};
 use crate::measuring::{depth, weight};
 use crate::text::Text;
 use crate::value::Value;
-
-/// The greatest depth of a well value.
-pub const MAX_DEPTH: u32 = 64;
-
-/// The greatest weight of a well value: the greatest length of a spelling, in bytes.
-pub const MAX_WEIGHT: u64 = 1_048_576;
 
 /// Whether a value is well: at most [`MAX_DEPTH`] deep and [`MAX_WEIGHT`] heavy, with keys that
 /// rise strictly by their bytes in every table, and with no error inside a list or table. Takes no
@@ -18,6 +13,11 @@ pub const MAX_WEIGHT: u64 = 1_048_576;
 pub fn is_well(value: &Value) -> bool
     ensures { IsTrue result ↔ IsWell value.now }
 {
+    // a number is, and most values are numbers; a read of it tells the prover that it is in range
+    if let Value::Num(n) = value {
+        let _in_range = *n;
+        return true;
+    }
     let is_formed = matches!(value, Value::Fault(_)) || is_item(value);
     is_formed && depth(value) <= MAX_DEPTH && weight(value) <= MAX_WEIGHT
 }

@@ -2,6 +2,7 @@
 ghost use Rattle.std.specs.Prelude.{◌≡◌, ◌≤◌, ◌<◌, ℕ, true, length, slice_get};
 ghost use Rattle.std.specs.Prelude.{Some, IfOk};
 ghost use Rattle.ag_grammar.specs.declared.grammar.Production.{Production as AProduction};
+ghost use Rattle.ag_grammar.specs.grammars.Accepted.{most_productions};
 ghost use Rattle.llparse.specs.Predicted.{AreFirstFrom, IsLeastFrom, PutsFirst, PutsLeast};
 
 use ag_grammar::Production;
@@ -74,7 +75,7 @@ pub(crate) fn choose(
     marks: &[bool],
     symbols: usize,
 ) -> Result<Column, NoMemory>
-    requires few { length productions.now ≤ 512 }
+    requires few { length productions.now ≤ most_productions }
     requires len { length marks.now ≡ length productions.now }
     requires below { (p : ℕ) (q : AProduction) → slice_get productions.now p ≡ Some q
         → q.left < symbols }

@@ -1,6 +1,5 @@
 //! Which limit of grammars is exceeded, in words.
 
-use crate::sites::last_place;
 use crate::telling::tell_number;
 use ag_grammar::limits::{
     MOST_ATTRIBUTES, MOST_ITEMS, MOST_LITERAL_BYTES, MOST_LITERALS, MOST_PRODUCTIONS, MOST_STORED,
@@ -86,7 +85,7 @@ fn large_production(raw: &RawGrammar, kind: LimitKind) -> Option<&RawProduction>
     for production in raw.productions.as_slice() {
         let exceeds = match kind {
             LimitKind::Items => production.items.as_slice().len() > MOST_ITEMS,
-            LimitKind::Stored => last_place(production) > MOST_STORED,
+            LimitKind::Stored => production.last_place() > MOST_STORED,
             LimitKind::LiteralLength => has_long_literal(production),
             _ => false,
         };

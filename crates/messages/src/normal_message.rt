@@ -2,8 +2,8 @@
 
 use crate::limit_message::{place_of_limit, tell_limit};
 use crate::sites::{
-    Site, Stored, attribute_name, attribute_named, has_production, last_place, named_at, site_at,
-    stored_at, symbol_named, symbol_with,
+    Site, Stored, attribute_named, has_production, named_at, site_at, stored_at, symbol_named,
+    symbol_with,
 };
 use crate::telling::{NAMED, front_of, place_of, tell_place};
 use ag_grammar::{Named, Occ, RawGrammar, RawProduction, RawSymbol};
@@ -138,7 +138,7 @@ fn tell_unknown_attribute<W: fmt::Write>(
             f,
             " is not there, the last place of this production of `{}` is {}",
             site.production.left.name.as_str(),
-            last_place(site.production)
+            site.production.last_place()
         ),
     }
 }
@@ -252,7 +252,7 @@ fn tell_missing<W: fmt::Write>(
     attr: usize,
 ) -> fmt::Result {
     let name = match stored_at(raw, production, place) {
-        Some(Stored::Symbol(symbol)) => attribute_name(symbol, attr).unwrap_or(".."),
+        Some(Stored::Symbol(symbol)) => symbol.attribute_name(attr).unwrap_or(".."),
         _ => "..",
     };
     let (line, _) = place_of(text, production.left.at);
@@ -303,7 +303,7 @@ fn tell_targets<W: fmt::Write>(
     given: bool,
 ) -> fmt::Result {
     let mut shown = 0usize;
-    for place in 0..=last_place(production) {
+    for place in 0..=production.last_place() {
         shown = match stored_at(raw, production, place) {
             Some(Stored::Symbol(symbol)) => {
                 let kind = if (place == 0) == given {

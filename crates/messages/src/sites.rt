@@ -65,16 +65,6 @@ fn name_among(names: &[Named], at: usize) -> Option<&Named> {
     None
 }
 
-/// The name of the attribute of a number: the synthesized ones come first. None where there is none.
-pub fn attribute_name(symbol: &RawSymbol, attr: usize) -> Option<&str> {
-    let syn = symbol.syn.as_slice();
-    let named = match syn.get(attr) {
-        Some(name) => name,
-        None => symbol.inh.as_slice().get(attr.saturating_sub(syn.len()))?,
-    };
-    Some(named.name.as_str())
-}
-
 /// The symbol's name that stands at this offset in a production.
 pub fn named_at(raw: &RawGrammar, at: usize) -> Option<&Named> {
     for production in raw.productions.as_slice() {
@@ -135,22 +125,6 @@ fn occurrence_in(rule: &RawRule, at: usize) -> Option<&Occ> {
     None
 }
 
-/// Whether an item has a place: a literal has none.
-fn has_place(item: &RawItem) -> bool {
-    !matches!(item, RawItem::Literal(_))
-}
-
-/// The last place of a production.
-pub fn last_place(production: &RawProduction) -> usize {
-    let mut last = 0usize;
-    for item in production.items.as_slice() {
-        if has_place(item) {
-            last = last.saturating_add(1);
-        }
-    }
-    last
-}
-
 /// What stands at a place of a production, where that is there and declared.
 pub fn stored_at<'a>(
     raw: &'a RawGrammar,
@@ -160,23 +134,9 @@ pub fn stored_at<'a>(
     if place == 0 {
         return Some(Stored::Symbol(symbol_named(raw, production.left.name.as_str())?));
     }
-    match item_in(production, place)? {
+    match production.item_at(place)? {
         RawItem::Name(name) => Some(Stored::Symbol(symbol_named(raw, name.name.as_str())?)),
         RawItem::Literal(_) => None,
         RawItem::Class(_) => Some(Stored::Class),
     }
-}
-
-/// The item at a place of a right side.
-fn item_in(production: &RawProduction, place: usize) -> Option<&RawItem> {
-    let mut before = 0usize;
-    for item in production.items.as_slice() {
-        if has_place(item) {
-            before = before.saturating_add(1);
-            if before == place {
-                return Some(item);
-            }
-        }
-    }
-    None
 }

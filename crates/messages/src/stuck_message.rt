@@ -1,6 +1,5 @@
 //! Why no order of passes serves a grammar, in words.
 
-use crate::sites::attribute_name;
 use crate::telling::{front_of, tell_place};
 use ag_grammar::{Direction, Occ, RawGrammar, occurrences};
 use ag_text::read_grammar;
@@ -166,7 +165,7 @@ fn tell_attribute<W: fmt::Write>(
     let Some(symbol) = raw.symbols.as_slice().get(usize::from(strike.symbol)) else {
         return Ok(());
     };
-    match attribute_name(symbol, usize::from(strike.attr)) {
+    match symbol.attribute_name(usize::from(strike.attr)) {
         Some(name) => write!(f, "{}.{name}", symbol.name.name.as_str()),
         None => Ok(()),
     }

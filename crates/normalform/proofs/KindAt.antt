@@ -8,7 +8,8 @@ use Rattle.ag_grammar.specs.grammars.AttributeGrammar.{Kind, Synthesized, Inheri
 use Rattle.ag_grammar.specs.declared.raw.RawSymbol.{RawSymbol}
 use Rattle.ag_grammar.specs.declared.raw.Named.{Named}
 use Rattle.normalform.specs.Faults.{is_kind}
-use Rattle.normalform.specs.Numbers.{symbol_of, texts_of}
+use Rattle.ag_grammar.specs.grammars.Raw.{texts_of}
+use Rattle.normalform.specs.Numbers.{symbol_of}
 
 abbrev kinds : List (List ℕ) → List (List ℕ) → List Kind
 kinds syn inh = map (λ n. Synthesized) syn ++ map (λ n. Inherited) inh

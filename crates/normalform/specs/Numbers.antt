@@ -11,6 +11,7 @@ use Rattle.ag_grammar.specs.declared.grammar.Target.{Target}
 use Rattle.ag_grammar.specs.declared.grammar.Terminal.TheVariants.{Literal, Class}
 use Rattle.ag_grammar.specs.declared.occurrence.Occ.{Occ}
 use Rattle.ag_grammar.specs.grammars.AttributeGrammar.{Grammar, item_names}
+use Rattle.ag_grammar.specs.grammars.Raw.{raw_stored, texts_of}
 use Rattle.ag_grammar.specs.declared.raw.Named.{Named}
 use Rattle.ag_grammar.specs.declared.raw.RawGrammar.{RawGrammar}
 use Rattle.ag_grammar.specs.declared.raw.RawItem.{RawItem}
@@ -22,10 +23,6 @@ use Rattle.ag_grammar.specs.declared.raw.RawSymbol.{RawSymbol}
 -- the number of a text: the index of the first that is the same, and the number behind all where there is none
 abbrev pub number_in : List (List ℕ) → List ℕ → ℕ
 number_in texts text = position_or_len (bytes_eq text) texts
-
--- names without their offsets
-abbrev pub texts_of : List Named → List (List ℕ)
-texts_of names = map (λ n. n.name) names
 
 abbrev pub symbol_of : RawSymbol → Symbol
 symbol_of s = record { name = s.name.name; syn = texts_of s.syn; inh = texts_of s.inh }
@@ -73,10 +70,7 @@ item_of names literals (raw_item.Class c) = item.Terminal (Class c)
 
 -- the items of a right side that have a place
 abbrev pub stored_of : List (List ℕ) → List RawItem → List Item
-stored_of names [] = []
-stored_of names (raw_item.Name name ∷ xs) = item.Symbol (number_in names name.name) ∷ stored_of names xs
-stored_of names (raw_item.Literal text ∷ xs) = stored_of names xs
-stored_of names (raw_item.Class c ∷ xs) = item.Terminal (Class c) ∷ stored_of names xs
+stored_of names xs = map (item_of names []) (raw_stored xs)
 
 -- what stands at the places of a production, from the left side on
 abbrev pub placed : List Symbol → RawProduction → List Item

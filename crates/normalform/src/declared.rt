@@ -10,10 +10,11 @@ ghost use Rattle.ag_grammar.specs.grammars.AttributeGrammar.{symbol_names as att
 ghost use Rattle.ag_grammar.specs.grammars.AttributeGrammar.{Synthesized, Inherited};
 ghost use Rattle.ag_grammar.specs.grammars.AttributeGrammar.{symbol_kinds, item_kinds};
 ghost use Rattle.ag_grammar.specs.grammars.AttributeGrammar.{given_kind, found_kind};
+ghost use Rattle.ag_grammar.specs.grammars.Raw.{texts_of};
 ghost use Rattle.normalform.specs.Faults as spec;
 ghost use Rattle.normalform.specs.Faults.{has_kind, is_kind, given_at};
 ghost use Rattle.normalform.specs.Numbers.{declared};
-ghost use Rattle.normalform.specs.Numbers.{number_in, symbol_of, symbol_names, names_at, texts_of};
+ghost use Rattle.normalform.specs.Numbers.{number_in, symbol_of, symbol_names, names_at};
 ghost use Rattle.normalform.specs.Numbers.{target_of};
 ghost use Rattle.normalform.specs.Placed.{item_placed};
 

@@ -1,7 +1,8 @@
 //! The parts of a raw grammar that are moved into the numbered one.
 ghost use Rattle.std.specs.Prelude.{◌≡◌, ◌<◌, length, map, IfOk};
+ghost use Rattle.ag_grammar.specs.grammars.Raw.{texts_of};
 ghost use Rattle.normalform.specs.Faults.{IsNameAt};
-ghost use Rattle.normalform.specs.Numbers.{symbol_of, texts_of};
+ghost use Rattle.normalform.specs.Numbers.{symbol_of};
 
 use ag_grammar::{Named, RawSymbol, Symbol};
 use ag_value::{Items, NoMemory, Text};

@@ -1,6 +1,7 @@
 //! The numbered grammar of a raw one within the limits.
 ghost use Rattle.std.specs.Prelude.{◌≡◌, ◌<◌, ◌≤◌, length, map, filter, All, IfOk};
 ghost use Rattle.std.specs.List.{list_any};
+ghost use Rattle.ag_grammar.specs.grammars.Accepted.{most_symbols};
 ghost use Rattle.normalform.specs.Faults.{IsSmall, IsListed, AreListedIn};
 ghost use Rattle.normalform.specs.Numbers as spec;
 ghost use Rattle.normalform.specs.Numbers.{symbol_names};
@@ -171,7 +172,7 @@ pub fn productions_of(
 
 /// The number of a symbol within the limits.
 pub fn start_of(declared: &Declared<'_>, name: &str) -> u16
-    requires { length declared.now ≤ 256 }
+    requires { length declared.now ≤ most_symbols }
     ensures { result ≡ spec.number_in (symbol_names declared.now) name.now }
 {
     narrow(declared.number(name))

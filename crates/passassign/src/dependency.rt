@@ -3,6 +3,7 @@
 ghost use Rattle.std.specs.Prelude.{◌≡◌, ◌<◌, ◌≤◌, ◌↔◌, ◌++◌, ◌∷◌, [], ℕ, length, IfOk, OnOk, slice_get};
 ghost use Rattle.ag_grammar.specs.Lists.{Has};
 ghost use Rattle.ag_grammar.specs.expressions.Occurrences.{AreDifferent};
+ghost use Rattle.ag_grammar.specs.grammars.Accepted.{most_rules};
 ghost use Rattle.ag_grammar.specs.grammars.AttributeGrammar.{places_of};
 ghost use Rattle.passassign.specs.Dependencies.{symbol_of, table_slot, dependency_of};
 ghost use Rattle.passassign.specs.Dependencies.{OfEach, Adds, IsByArgument, IsByRule};
@@ -83,7 +84,7 @@ fn put_arguments(
     place: u16,
     args: &[Target],
 ) -> Result<(), NoMemory>
-    requires few { length args.now ≤ 65536 }
+    requires few { length args.now ≤ most_rules }
     ensures { OnOk result (Adds (OfEach (IsByArgument places.now head place) args.now)
         found.old.items found.new.items) }
 {

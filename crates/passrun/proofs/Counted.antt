@@ -4,6 +4,7 @@ use Rattle.ag_value.specs.declared.value.Value.{Value}
 use Rattle.ag_grammar.specs.declared.grammar.Production.{Production}
 use Rattle.ag_grammar.specs.declared.direction.Direction.{Direction}
 use Rattle.ag_grammar.specs.declared.direction.Direction.TheVariants.{LeftToRight, RightToLeft}
+use Rattle.ag_grammar.specs.grammars.Accepted.{most_rules}
 use Rattle.ag_grammar.specs.grammars.AttributeGrammar.{Grammar}
 use Rattle.ag_grammar.specs.grammars.Passes.{Passes}
 use Rattle.ag_grammar.specs.grammars.Solution.{Valuation, children, rest}
@@ -13,7 +14,7 @@ use Rattle.treefile.specs.Orders.{BodyTree, branch, prefix, prefix_all, postfix,
 use Rattle.treefile.specs.Records.{bodies_of, bodies_of_all, node_body}
 use Rattle.passcode.specs.declared.instr.Instr.{Instr}
 use Rattle.passcode.specs.declared.instr.Instr.TheVariants as instr
-use Rattle.planchecker.specs.Course.{Phase, Between, Got, Gone, after_get, Follows, most_rules}
+use Rattle.planchecker.specs.Course.{Phase, Between, Got, Gone, after_get, Follows}
 use Rattle.planchecker.specs.Settings.{Setting, arity, list_at, place, way}
 use Rattle.planchecker.specs.Sound.{IsSound}
 use Rattle.passrun.specs.declared.open_node.OpenNode.{OpenNode}

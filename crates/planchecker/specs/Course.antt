@@ -7,6 +7,7 @@ use Rattle.ag_grammar.specs.declared.grammar.Item.TheVariants as item
 use Rattle.ag_grammar.specs.declared.grammar.Production.{Production}
 use Rattle.ag_grammar.specs.declared.grammar.Rule.{Rule}
 use Rattle.ag_grammar.specs.declared.grammar.Target.{Target}
+use Rattle.ag_grammar.specs.grammars.Accepted.{most_rules}
 use Rattle.ag_grammar.specs.grammars.AttributeGrammar.{item_at, IsArgument}
 use Rattle.ag_grammar.specs.grammars.Counts.{pass_rule_count}
 use Rattle.ag_grammar.specs.grammars.Passes.{HasPass}
@@ -45,10 +46,6 @@ IsFinal c q Gone i j p = IsKnown c q (suc i) j
 -- An attribute at a place is at hand: it is of no later pass, and its value is final.
 abbrev pub IsAtHand : Setting → Production → Phase → ℕ → Target → Type 0
 IsAtHand c q ph i o = (p : ℕ) × HasPass c.passes q o p × (p ≤ c.write) × IsFinal c q ph i o.place p
-
--- how many rules are run at a node at most
-abbrev pub most_rules : ℕ
-most_rules = 65536
 
 -- Rule r gives an attribute at a place its value in the pass: its arguments are at hand, and it was not run before.
 pub record Gives (c : Setting) (q : Production) (ph : Phase) (i : ℕ) (done : List ℕ) (j a r : ℕ) : Type 0 where

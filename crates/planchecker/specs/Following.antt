@@ -4,13 +4,12 @@ use Rattle.std.specs.Prelude.{ℕ, ◌≡◌, ◌≤◌, List, length}
 use Rattle.ag_grammar.specs.declared.grammar.Production.{Production}
 use Rattle.ag_grammar.specs.declared.grammar.Rule.{Rule}
 use Rattle.ag_grammar.specs.declared.grammar.Target.{Target}
-use Rattle.ag_grammar.specs.grammars.Accepted.{most_stored}
+use Rattle.ag_grammar.specs.grammars.Accepted.{most_rules, most_stored}
 use Rattle.ag_grammar.specs.grammars.AttributeGrammar.{IsArgument, stored_items}
 use Rattle.ag_grammar.specs.grammars.Passes.{Passes, HasPass, IsBefore, direction_of}
 use Rattle.passcode.specs.declared.instr.Instr.{Instr}
 use Rattle.passcode.specs.declared.instr.Instr.TheVariants as instr
 use Rattle.passcode.specs.Agreement.{StandsBefore, HasPlace, IsChild, IsRuleAt, IsAtHand, instruction_of}
-use Rattle.planchecker.specs.Course.{most_rules}
 use Rattle.planchecker.specs.declared.following.At.{At}
 
 -- An index is within its list or at its end. The production has no more rules than a `u16` can number, and no more places than

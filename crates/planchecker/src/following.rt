@@ -3,7 +3,7 @@
 ghost use Rattle.std.specs.Prelude.{ℕ, ◌≡◌, ◌<◌, ◌≤◌, ◌↔◌, IsTrue, Some, length, slice_get};
 ghost use Rattle.ag_grammar.specs.Lists.{Has};
 ghost use Rattle.ag_grammar.specs.declared.grammar.Target.{Target as TheTarget};
-ghost use Rattle.ag_grammar.specs.grammars.Accepted.{most_passes};
+ghost use Rattle.ag_grammar.specs.grammars.Accepted.{most_passes, most_rules};
 ghost use Rattle.ag_grammar.specs.grammars.Passes.{HasPass};
 ghost use Rattle.passassign.specs.Rows.{passes_of};
 ghost use Rattle.passcode.specs.Agreement.{HasPlace, IsAtHand, IsChild, StandsBefore};
@@ -12,7 +12,6 @@ ghost use Rattle.passcode.specs.Rows.{row_of};
 ghost use Rattle.passcode.specs.Tables.{IsPlanned};
 ghost use Rattle.passcode.specs.declared.instr.Instr.TheVariants as instr;
 ghost use Rattle.planchecker.specs.Agreeing.{IsListWrongOrNone, IsWrongOrNone};
-ghost use Rattle.planchecker.specs.Course.{most_rules};
 ghost use Rattle.planchecker.specs.Following.{AreGiven, ArePut, ArePutBefore, IsDue, IsOwnRule};
 ghost use Rattle.planchecker.specs.Following.{IsReady, IsWithin};
 

@@ -3,6 +3,7 @@ use Rattle.std.specs.Prelude.{◌≡◌, ℕ, List, [], ◌∷◌, ◌++◌, len
 use Rattle.std.proofs.Common.{ap, sym, ◌∙◌}
 use Rattle.std.specs.List.{flat_map}
 use Rattle.std.specs.Int.{w16, w32, to_be_bytes}
+use Rattle.ag_grammar.specs.declared.limits.TheConstants.{MOST_ATTRIBUTES}
 use Rattle.ag_value.specs.declared.value.Value.{Value}
 use Rattle.ag_value.specs.declared.value.Value.TheVariants as value
 use Rattle.ag_value.specs.declared.value.Value.TheVariants.{rolls-Num}
@@ -17,9 +18,9 @@ pub record Version : Type 0 where
   pub magic : List ℕ
   pub most_values : ℕ
 
--- version 1: AGT1, and at most sixteen values
+-- version 1: AGT1, and at most as many values as a symbol has attributes
 abbrev pub version_one : Version
-version_one = record { magic = 65 ∷ 71 ∷ 84 ∷ 49 ∷ []; most_values = 16 }
+version_one = record { magic = 65 ∷ 71 ∷ 84 ∷ 49 ∷ []; most_values = MOST_ATTRIBUTES }
 
 -- the first bytes of a file: those of its version, and the number of the pass that wrote it in two
 abbrev pub header : Version → ℕ → List ℕ

@@ -3,6 +3,9 @@
 ghost use Rattle.std.specs.Prelude.{◌≡◌};
 ghost use Rattle.treefile.specs.TreeFile.{header, version_one};
 
+use ag_grammar::limits::MOST_ATTRIBUTES;
+use ag_value::MAX_WEIGHT;
+
 /// The first four bytes of a tree file of this version.
 pub(crate) const MAGIC: [u8; 4] = [b'A', b'G', b'T', b'1'];
 
@@ -15,8 +18,9 @@ pub const LENGTH_BYTES: u64 = 4;
 /// How many bytes a body has at least: a kind and a number.
 pub const LEAST_BODY: u64 = 3;
 
-/// How many bytes a body has at most: those, and 16 values of 1,048,576 bytes each.
-pub(crate) const GREATEST_BODY: u64 = 16_777_219;
+/// How many bytes a body has at most: those, and the greatest values of as many attributes as a symbol
+/// has.
+pub(crate) const GREATEST_BODY: u64 = LEAST_BODY + MOST_ATTRIBUTES as u64 * MAX_WEIGHT;
 
 /// The header of the file of a pass.
 pub(crate) fn header_of(pass: u16) -> [u8; 6]

@@ -10,7 +10,7 @@ use Rattle.ag_grammar.specs.declared.grammar.Symbol.{Symbol}
 use Rattle.ag_grammar.specs.declared.grammar.Target.{Target}
 use Rattle.ag_grammar.specs.declared.grammar.Terminal.TheVariants.{Literal, Class}
 use Rattle.ag_grammar.specs.declared.grammar.Terminal.{Terminal}
-use Rattle.ag_grammar.specs.declared.limits.TheConstants.{CLASS_COUNT, MOST_ATTRIBUTES, MOST_ITEMS, MOST_LITERALS, MOST_LITERAL_BYTES, MOST_PASSES, MOST_PRODUCTIONS, MOST_STORED, MOST_SYMBOLS, MOST_TEXT_BYTES, NAME, NUMBER, TEXT}
+use Rattle.ag_grammar.specs.declared.limits.TheConstants.{CLASS_COUNT, MOST_ATTRIBUTES, MOST_ITEMS, MOST_LITERALS, MOST_LITERAL_BYTES, MOST_PASSES, MOST_PRODUCTIONS, MOST_RULES, MOST_STORED, MOST_SYMBOLS, MOST_TEXT_BYTES, NAME, NUMBER, TEXT}
 use Rattle.ag_grammar.specs.grammars.AttributeGrammar.{attribute_names, Grammar, stored_items, IsProduction, IsRule, Kind, HasKind, StandsFor, given_kind, found_kind}
 
 -- The limits of a grammar (this project's): how many symbols there are at most,
@@ -32,6 +32,10 @@ most_items = MOST_ITEMS
 -- stored items on a right side,
 abbrev pub most_stored : ℕ
 most_stored = MOST_STORED
+
+-- rules of a production and arguments of a rule (an accepted grammar has far fewer),
+abbrev pub most_rules : ℕ
+most_rules = MOST_RULES
 
 -- different literals,
 abbrev pub most_literals : ℕ

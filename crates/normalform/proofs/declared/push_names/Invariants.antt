@@ -1,6 +1,6 @@
 -- What the loop of `push_names` keeps.
 use Rattle.std.proofs.Common.{◌≡◌, ◌++◌, take}
-use Rattle.normalform.specs.Numbers.{texts_of}
+use Rattle.ag_grammar.specs.grammars.Raw.{texts_of}
 use Rattle.normalform.proofs.declared.push_names.Given as goal
 
 abbrev pub invariant-loop-name : goal.invariant-loop-name

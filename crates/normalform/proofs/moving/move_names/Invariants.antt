@@ -1,6 +1,6 @@
 -- What the loop of `move_names` keeps.
 use Rattle.std.proofs.Common.{◌≡◌}
-use Rattle.normalform.specs.Numbers.{texts_of}
+use Rattle.ag_grammar.specs.grammars.Raw.{texts_of}
 use Rattle.normalform.proofs.moving.move_names.Given as goal
 
 abbrev pub invariant-loop-named : goal.invariant-loop-named
