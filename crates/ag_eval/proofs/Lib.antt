@@ -1,5 +1,6 @@
 pub mod Arguments
 pub mod Bindings
+pub mod Chained
 pub mod Keys
 pub mod Putting
 pub mod Spelled

@@ -85,11 +85,12 @@ fn calculate(operator: Operator, left: &Value, right: &Value) -> Value
     }
 }
 
-/// The number that `+`, `-` or `*` gives for two numbers: None where it gives an error, for another
-/// operator, and for other values.
+/// The number that `+`, `-` or `*` gives for two numbers, as a value: None where it gives an error,
+/// for another operator, and for other values.
 #[tactic(auto, unfolding(ag_grammar::specs::values::Arguments::leftmost))]
-pub fn reckoned(operator: Operator, left: &Value, right: &Value) -> Option<i64>
-    ensures { IfSome result (λ n. value.Num n ≡ applied operator left.now right.now) }
+pub fn reckoned(operator: Operator, left: &Value, right: &Value) -> Option<Value>
+    ensures value { IfSome result (λ v. v ≡ applied operator left.now right.now) }
+    ensures well { IfSome result (λ v. IsWell v) }
 {
     let (Value::Num(_), Value::Num(_)) = (left, right) else {
         return None;
@@ -101,7 +102,7 @@ pub fn reckoned(operator: Operator, left: &Value, right: &Value) -> Option<i64>
         _ => return None,
     };
     match value {
-        Value::Num(number) => Some(number),
+        Value::Num(_) => Some(value),
         _ => None,
     }
 }

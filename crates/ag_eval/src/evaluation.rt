@@ -228,7 +228,44 @@ fn number_behind<'e, V: Env>(
 {
     let right = at_hand(expr, &other.1, env, scope)?;
     let number = reckoned(other.0, so_far.get(scope), right)?;
-    Some(Operand::number(number))
+    Some(Operand::owned(Measured::new(number)))
+}
+
+/// Another value in the place of one.
+fn replaced(_old: Value, next: Value) -> Value
+    ensures { result ≡ next }
+{
+    next
+}
+
+/// The value of a chain of numbers that are at hand, where each step gives a number: no operand is
+/// made of any.
+fn chained_number<'a, V: Env>(
+    expr: &Expr,
+    first: &'a Node,
+    others: &'a [(Operator, Node)],
+    env: &'a V,
+    scope: &'a Scope<'_>,
+) -> Option<Value>
+    requires first { is_within (length expr.now.1) first.now (length scope.now) ≡ true }
+    requires below { all_below (length expr.now.1) (length scope.now) others.now ≡ true }
+    requires lends { length expr.now.1 ≤ V.count env.now }
+    requires well { AreWell (length expr.now.1) (V.lent env.now) }
+    ensures value { IfSome result (λ v. v
+        ≡ chain_value (V.lent env.now) scope.now (value_in first.now (V.lent env.now) scope.now)
+        (map (λ p. (p.0, value_in p.1)) others.now)) }
+    ensures well { IfSome result (λ v. IsWell v) }
+{
+    let Value::Num(number) = at_hand(expr, first, env, scope)? else {
+        return None;
+    };
+    let mut so_far = Value::Num(*number);
+    for other in others {
+        let right = at_hand(expr, &other.1, env, scope)?;
+        let next = reckoned(other.0, &so_far, right)?;
+        so_far = replaced(so_far, next);
+    }
+    Some(so_far)
 }
 
 /// The value of an operand that is a literal, an occurrence or a bound name: lent as it is.
@@ -364,6 +401,20 @@ fn lent_value<'e, V: Env>(expr: &'e Expr, env: &'e V) -> Option<&'e Value>
     }
 }
 
+/// The value of an expression that is a chain of numbers at hand.
+fn reckoned_value<V: Env>(expr: &Expr, env: &V, scope: &Scope<'_>) -> Option<Value>
+    requires none { scope.now ≡ [] }
+    requires lends { length expr.now.1 ≤ V.count env.now }
+    requires well { AreWell (length expr.now.1) (V.lent env.now) }
+    ensures value { IfSome result (λ v. v ≡ value_of expr.now.0 (V.lent env.now)) }
+    ensures well { IfSome result (λ v. IsWell v) }
+{
+    let Node::Chain(first, others) = expr.tree() else {
+        return None;
+    };
+    chained_number(expr, first.get(), others.as_slice(), env, scope)
+}
+
 /// The value of an expression where `env` lends the values of its occurrences. Takes memory for
 /// what is made, and for copies: of a value that is lent or bound, where it leaves the expression,
 /// goes into a list or table, or grows; of the part that `nth` or `get` takes of what the expression
@@ -387,6 +438,9 @@ pub fn eval<V: Env>(
         return copy(alloc, value);
     }
     let mut scope = Scope::new(alloc);
+    if let Some(value) = reckoned_value(expr, env, &scope) {
+        return Ok(value);
+    }
     let operand = operand_of(alloc, expr, expr.tree(), env, &mut scope)?;
     Ok(operand.into_owned(alloc, &scope)?.into_value())
 }

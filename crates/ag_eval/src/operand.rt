@@ -118,13 +118,6 @@ impl<'e> Operand<'e> {
         Operand::Held(Held::Owned(value))
     }
 
-    /// An operand that is a number.
-    pub fn number(number: i64) -> Operand<'e>
-        ensures { result ≡ Operand.Held (Held.Owned (value.Num number)) }
-    {
-        Operand::owned(Measured::new(Value::Num(number)))
-    }
-
     /// Another in its place.
     pub fn replaced(self, other: Operand<'e>) -> Operand<'e>
         ensures { result ≡ other.entry }

@@ -1,0 +1,29 @@
+-- One operand more of a chain of values.
+use Rattle.std.proofs.Common.{ℕ, ◌≡◌, ◌+◌, ◌<◌, Bool, true, List, ◌∷◌, drop, get_or, length, map, ap, sym, ◌∙◌}
+use Rattle.std.proofs.lemmas.Bool.{and_parts}
+use Rattle.std.proofs.lemmas.List.{drop_more}
+use Rattle.ag_value.specs.declared.value.Value.{Value}
+use Rattle.ag_grammar.specs.declared.node.Node.{Node}
+use Rattle.ag_grammar.specs.declared.node.Operator.{Operator}
+use Rattle.ag_grammar.specs.expressions.Evaluation.{Meaning, chain_value, value_in}
+use Rattle.ag_grammar.specs.expressions.Trees.{all_below, is_within}
+use Rattle.ag_grammar.specs.values.Operators.{applied}
+
+module _ (others : List (Operator × Node)) (i : ℕ) (x : Operator × Node) (lt : i < length others) where
+  -- what is left begins with the operand
+  left : drop i others ≡ get_or others i x ∷ drop (i + 1) others
+  left = drop_more others i x lt
+
+  -- What the rest gives for the value so far, it gives for the next value behind the operand.
+  pub chained_more : (env : ℕ → Value) (bound : List Value) (old new right whole : Value) → x ≡ get_or others i x → right ≡ value_in x.1 env bound → new ≡ applied x.0 old right
+      → chain_value env bound old (map (λ (p : Operator × Node). (p.0, value_in p.1)) (drop i others)) ≡ whole
+      → chain_value env bound new (map (λ (p : Operator × Node). (p.0, value_in p.1)) (drop (i + 1) others)) ≡ whole
+  chained_more env bound old new right whole same right_is new_is so_far =
+      let f : Operator × Node → Operator × Meaning = λ p. (p.0, value_in p.1) in
+      ap (λ (v : Value). chain_value env bound v (map f (drop (i + 1) others))) (new_is ∙ ap (applied x.0 old) right_is)
+      ∙ ap (λ (y : Operator × Node). chain_value env bound old (map f (y ∷ drop (i + 1) others))) same
+      ∙ sym (ap (λ (ys : List (Operator × Node)). chain_value env bound old (map f ys)) left)
+      ∙ so_far
+
+  pub below_more : (n bound : ℕ) → all_below n bound (drop i others) ≡ true → all_below n bound (drop (i + 1) others) ≡ true
+  below_more n bound below = (and_parts (is_within n (get_or others i x).1 bound) (all_below n bound (drop (i + 1) others)) (sym (ap (all_below n bound) left) ∙ below)).1
