@@ -35,6 +35,7 @@ impl<'a> Env for Lender<'a> {
 
 /// The value of a rule's expression, where its arguments stand in these slots of a node's values.
 #[tactic(auto, using(crate::proofs::Lending::are_well))]
+#[inline(always)]
 pub(crate) fn evaluate(
     alloc: Global,
     expr: &Expr,

@@ -18,6 +18,7 @@ use treefile::Device;
 
 /// Fetches the record of an item that stands below so many open nodes: its row comes behind the
 /// values. The number in the record.
+#[inline(always)]
 pub(crate) fn fetch<D: Device>(
     alloc: Global,
     job: &Job<'_>,

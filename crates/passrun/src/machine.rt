@@ -82,6 +82,7 @@ pub(crate) fn go(
 
 impl Machine {
     /// Fetches the record of the child at a place.
+    #[inline(always)]
     pub(crate) fn get<D: Device>(
         &mut self,
         alloc: Global,
@@ -127,6 +128,7 @@ impl Machine {
     }
 
     /// Puts the record of the child at a place.
+    #[inline(always)]
     pub(crate) fn put<E: Device>(
         &mut self,
         job: &Job<'_>,
@@ -163,6 +165,7 @@ impl Machine {
     }
 
     /// Runs a rule, and leaves its value where its target stands.
+    #[inline(always)]
     pub(crate) fn give(
         &mut self,
         alloc: Global,
@@ -202,6 +205,7 @@ impl Machine {
     }
 
     /// Goes into the child whose record was read last.
+    #[inline(always)]
     pub(crate) fn enter(
         &mut self,
         job: &Job<'_>,
@@ -227,6 +231,7 @@ impl Machine {
     }
 
     /// Ends a node: the one that waited for it goes on, if there is one.
+    #[inline(always)]
     pub(crate) fn end(&mut self, job: &Job<'_>, node: OpenNode) -> Option<OpenNode>
         requires job { CanRun job.now }
         requires runs { RunsSomehow (setting job.now) self.old (Some node) }
@@ -244,6 +249,7 @@ impl Machine {
 
     /// Follows the next instruction of the innermost open node. The node that goes on next, none
     /// where the root is done.
+    #[inline(always)]
     pub(crate) fn step<D: Device, E: Device>(
         &mut self,
         alloc: Global,

@@ -25,6 +25,7 @@ fn kind_of(item: Item) -> Kind
 }
 
 /// Puts the record of an item, whose row is the last of some values.
+#[inline(always)]
 pub(crate) fn put_row<E: Device>(
     row: PlaceRow,
     number: u16,
