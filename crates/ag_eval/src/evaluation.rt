@@ -8,6 +8,7 @@ ghost use Rattle.ag_value.specs.declared.value.Value.{Value as AttributeValue};
 ghost use Rattle.ag_value.specs.declared.value.Value.TheVariants as value;
 ghost use Rattle.ag_grammar.specs.expressions.Evaluation.{AreWell, chain_value, item_values, value_in};
 ghost use Rattle.ag_grammar.specs.expressions.Evaluation.{value_of};
+ghost use Rattle.ag_eval.specs.Conditions.{decision};
 ghost use Rattle.ag_eval.specs.Operands.{IsIn, each_within, held_value};
 ghost use Rattle.ag_eval.specs.Operands.{operand_value};
 ghost use Rattle.ag_grammar.specs.expressions.Trees.{all_below, is_within};
@@ -365,6 +366,7 @@ fn empty_table<'e>(alloc: Global) -> Operand<'e>
 }
 
 /// What the value of a condition decides, or its error.
+#[tactic(auto, using(crate::proofs::Decided::chooses))]
 fn decide(condition: Operand<'_>, scope: &Scope<'_>) -> Result<bool, ErrorCode>
     requires { IsIn scope.now condition }
     ensures { (e f : AttributeValue) → MatchResult result
@@ -376,9 +378,7 @@ fn decide(condition: Operand<'_>, scope: &Scope<'_>) -> Result<bool, ErrorCode>
 
 /// What a value decides as a condition, or its error.
 fn decided(condition: &Value) -> Result<bool, ErrorCode>
-    ensures { (e f : AttributeValue) → MatchResult result
-        (λ holds. chosen condition.now e f ≡ cond holds e f)
-        (λ code. chosen condition.now e f ≡ value.Fault code) }
+    ensures { result ≡ decision condition.now }
 {
     match condition {
         Value::Num(number) => Ok(*number != 0),

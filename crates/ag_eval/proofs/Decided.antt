@@ -1,0 +1,22 @@
+-- What a condition decides is what is chosen by it.
+use Rattle.std.proofs.Common.{◌≡◌, zero, suc, pos, negsuc, Bool, cond, Result, refl, subst, sym}
+use Rattle.std.specs.Result.{MatchResult}
+use Rattle.ag_value.specs.declared.value.ErrorCode.{ErrorCode}
+use Rattle.ag_value.specs.declared.value.Value.{Value, out-Value}
+use Rattle.ag_value.specs.declared.value.Value.TheOpen.{Value-F}
+use Rattle.ag_value.specs.declared.value.Value.TheVariants as value
+use Rattle.ag_grammar.specs.values.Calls.{chosen, chosen_at}
+use Rattle.ag_eval.specs.Conditions.{decision, decision_at}
+
+module _ (e f : Value) where
+  chooses_at : (x : Value-F Value) → MatchResult (decision_at x) (λ holds. chosen_at x e f ≡ cond holds e f) (λ code. chosen_at x e f ≡ value.Fault code)
+  chooses_at (Value-F.Num (pos zero)) = refl
+  chooses_at (Value-F.Num (pos (suc n))) = refl
+  chooses_at (Value-F.Num (negsuc n)) = refl
+  chooses_at (Value-F.Text text) = refl
+  chooses_at (Value-F.List items) = refl
+  chooses_at (Value-F.Table pairs) = refl
+  chooses_at (Value-F.Fault code) = refl
+
+  pub chooses : (c : Value) (r : Result Bool ErrorCode) → r ≡ decision c → MatchResult r (λ holds. chosen c e f ≡ cond holds e f) (λ code. chosen c e f ≡ value.Fault code)
+  chooses c r is = subst (λ (r : Result Bool ErrorCode). MatchResult r (λ holds. chosen c e f ≡ cond holds e f) (λ code. chosen c e f ≡ value.Fault code)) (sym is) (chooses_at (out-Value c))
