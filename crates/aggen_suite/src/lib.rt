@@ -1,9 +1,7 @@
 //! The tests of the library of translators that are no rows of data: readers, writers and devices that
-//! fail, devices that lie, devices that count, and what is read of files. It has no other code.
+//! fail, devices that lie, and what is read of files. It has no other code.
 #![tactic(auto)]
 
-#[cfg(test)]
-mod counting;
 #[cfg(test)]
 mod devices;
 #[cfg(test)]
@@ -16,10 +14,6 @@ mod jobs;
 mod lying;
 #[cfg(test)]
 mod narrow;
-#[cfg(test)]
-mod parsing;
-#[cfg(test)]
-mod passes;
 #[cfg(test)]
 mod sources;
 #[cfg(test)]

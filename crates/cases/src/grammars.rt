@@ -1,11 +1,13 @@
 //! What is told of the text of a grammar.
 
+ghost use Rattle.std.specs.Prelude.{IfOk};
+ghost use Rattle.normalform.specs.Faults.{IsReadable};
+
 use ag_grammar::{
     Grammar, Named, Production, RawGrammar, RawItem, RawProduction, RawRule, RawSymbol, occurrences,
 };
 use ag_text::{expected_at, read_grammar};
-use aggen::{BuildFault, grammar_of, print_code, print_plan};
-use normalform::NormalFault;
+use normalform::{NormalFault, check, is_readable};
 use rows::{Mistake, printed};
 use std::alloc::{AllocError, Global};
 
@@ -89,12 +91,20 @@ pub fn could_told(alloc: Global, text: &str) -> Result<String, Mistake> {
     }
 }
 
+/// The raw grammar that a text reads as.
+pub fn raw_grammar(alloc: Global, text: &str) -> Result<RawGrammar, Mistake>
+    ensures { IfOk result (λ raw. IsReadable raw) }
+{
+    match read_grammar(alloc, text.as_bytes()) {
+        Ok(raw) if is_readable(&raw) => Ok(raw),
+        _ => Err(Mistake::Unfit),
+    }
+}
+
 /// The grammar of a text, which is accepted.
 pub fn grammar(alloc: Global, text: &str) -> Result<Grammar, Mistake> {
-    match grammar_of(alloc, text.as_bytes()) {
-        Ok(grammar) => Ok(grammar),
-        Err(_) => Err(Mistake::Unfit),
-    }
+    let raw = raw_grammar(alloc, text)?;
+    check(alloc, raw).map_err(|_| Mistake::Unfit)
 }
 
 /// What a fault of a symbol is called, with the symbol's name.
@@ -103,7 +113,7 @@ fn with_name(alloc: Global, fault: &str, symbol: &Named) -> Result<String, Mista
 }
 
 /// A fault, with the name of the symbol that it tells.
-pub fn shown_fault(alloc: Global, fault: &NormalFault) -> Result<String, Mistake> {
+fn shown_fault(alloc: Global, fault: &NormalFault) -> Result<String, Mistake> {
     match fault {
         NormalFault::Unproductive(symbol) => with_name(alloc, "Unproductive", symbol),
         NormalFault::Unreachable(symbol) => with_name(alloc, "Unreachable", symbol),
@@ -111,22 +121,23 @@ pub fn shown_fault(alloc: Global, fault: &NormalFault) -> Result<String, Mistake
     }
 }
 
-/// Whether a text's grammar is accepted, or its first fault.
-pub fn check_told(alloc: Global, text: &str) -> Result<String, Mistake> {
-    match grammar_of(alloc, text.as_bytes()) {
+/// Whether a raw grammar is accepted, or its first fault.
+pub fn verdict(alloc: Global, raw: RawGrammar) -> Result<String, Mistake>
+    requires { IsReadable raw }
+{
+    match check(alloc, raw) {
         Ok(_) => Ok(String::from_str(alloc, "accepted")?),
-        Err(BuildFault::Normal(fault)) => shown_fault(alloc, &fault),
-        Err(fault) => printed(alloc, &fault),
+        Err(fault) => shown_fault(alloc, &fault),
     }
 }
 
-/// The parts of a text's grammar, by their numbers: a line for each production.
-pub fn parts_told(alloc: Global, text: &str) -> Result<String, Mistake> {
-    let grammar = grammar(alloc, text)?;
-    Ok(parts_shown(alloc, &grammar)?)
+/// Whether the grammar that a text reads as is accepted, or its first fault.
+pub fn check_told(alloc: Global, text: &str) -> Result<String, Mistake> {
+    verdict(alloc, raw_grammar(alloc, text)?)
 }
 
-fn parts_shown(alloc: Global, grammar: &Grammar) -> Result<String, AllocError> {
+/// The parts of a grammar, by their numbers: a line for each production.
+pub fn parts_told(alloc: Global, grammar: &Grammar) -> Result<String, AllocError> {
     let mut told = format!(in alloc;
         "start {} of {}, classes {:?}, literals",
         grammar.start(),
@@ -156,22 +167,4 @@ fn show_numbers(told: &mut String, production: &Production) -> Result<(), AllocE
         }
     }
     Ok(())
-}
-
-/// The listings of the passes and of the code of a text's grammar, line by line.
-pub fn listing_told(alloc: Global, text: &str) -> Result<String, Mistake> {
-    let mut listing = Vec::new(alloc);
-    if print_plan(alloc, text.as_bytes(), &mut listing).is_err() {
-        return Err(Mistake::Unfit);
-    }
-    if print_code(alloc, text.as_bytes(), &mut listing).is_err() {
-        return Err(Mistake::Unfit);
-    }
-    Ok(String::from_str(alloc, whole_lines(listing.as_slice())?)?)
-}
-
-/// Lines, each of which is ended, without the end of the last.
-fn whole_lines(bytes: &[u8]) -> Result<&str, Mistake> {
-    let lines = str::from_utf8(bytes).map_err(|_| Mistake::Unfit)?;
-    lines.strip_suffix('\n').ok_or(Mistake::Unfit)
 }

@@ -2,16 +2,28 @@
 
 ghost use Rattle.planchecker.specs.Plans.{IsPlan};
 
-use crate::plans::pair;
-use crate::sentences::translator;
+use crate::plans::{pair, plan_of};
+use crate::sentences::tree_of;
 use ag_eval::Meter;
 use ag_grammar::Grammar;
-use aggen::Translator;
 use passrun::{Last, Passed, run_all, run_pass};
 use planchecker::{Plan, check_plan};
-use rows::{Mistake, bytes_of, first_word, halves, printed, short_number, shown_bytes};
+use rows::{Mistake, Written, bytes_of, first_word, halves, printed, short_number, shown_bytes};
 use std::alloc::Global;
 use treefile::MemDevice;
+
+/// The number in front of a content, and the device that has the content, which may be the text that
+/// was written.
+fn numbered_content(
+    alloc: Global,
+    written: &Written,
+    rest: &str,
+) -> Result<(u16, MemDevice), Mistake> {
+    let (number, content) = first_word(rest);
+    let number = short_number(number)?;
+    let bytes = bytes_of(alloc, written.text_or(content))?;
+    Ok((number, MemDevice::from_bytes(bytes)))
+}
 
 /// What a pass counts, and the file that it leaves.
 fn passed_told(
@@ -27,49 +39,58 @@ fn passed_told(
 /// What a pass of a plan makes of a file, onto a device that has nothing, or its fault.
 fn pass_over(
     alloc: Global,
-    translator: &Translator,
+    grammar: &Grammar,
+    plan: &Plan,
     pass: u16,
     from: &mut MemDevice,
     to: &mut MemDevice,
-) -> Result<String, Mistake> {
-    let plan = translator.plan();
+) -> Result<String, Mistake>
+    requires { IsPlan grammar.now plan.now.0 plan.now.1 }
+{
     if pass == 0 || plan.assignment().passes() < pass {
         return Err(Mistake::Unfit);
     }
     let mut meter = Meter::new();
-    let grammar = translator.grammar();
     match run_pass(alloc, grammar, plan, pass, from, to, &mut meter) {
         Ok(passed) => passed_told(alloc, &passed, meter.count(), to),
         Err(fault) => printed(alloc, &fault),
     }
 }
 
-/// What a pass of the plan of a text's grammar makes of a content.
-pub fn pass_told(alloc: Global, text: &str, pass: &str, content: &str) -> Result<String, Mistake> {
-    let pass = short_number(pass)?;
-    let mut from = MemDevice::from_bytes(bytes_of(alloc, content)?);
+/// What a pass of a grammar's plan makes of a content.
+pub fn pass_told(
+    alloc: Global,
+    grammar: &Grammar,
+    written: &Written,
+    rest: &str,
+) -> Result<String, Mistake> {
+    let (pass, mut from) = numbered_content(alloc, written, rest)?;
+    let plan = plan_of(alloc, grammar)?;
     let mut to = MemDevice::new(alloc);
-    let translator = translator(alloc, text)?;
-    pass_over(alloc, &translator, pass, &mut from, &mut to)
+    pass_over(alloc, grammar, &plan, pass, &mut from, &mut to)
 }
 
-/// The file of the tree of a sentence, which has one.
-fn tree_of(alloc: Global, translator: &Translator, sentence: &str) -> Result<MemDevice, Mistake> {
-    let mut device = MemDevice::new(alloc);
-    match translator.parse_tree(sentence.as_bytes(), &mut device) {
-        Ok(_) => Ok(device),
-        Err(_) => Err(Mistake::Unfit),
-    }
+/// What all passes of a grammar's plan make of the tree of a sentence, each on a line of its own.
+pub fn through_told(alloc: Global, grammar: &Grammar, sentence: &str) -> Result<String, Mistake> {
+    let tree = tree_of(alloc, grammar, sentence)?;
+    let plan = plan_of(alloc, grammar)?;
+    passes_told(alloc, grammar, &plan, tree)
 }
 
-/// What all passes make of the tree of a sentence, each on a line of its own.
-pub fn through_told(alloc: Global, text: &str, sentence: &str) -> Result<String, Mistake> {
-    let translator = translator(alloc, text)?;
-    let mut from = tree_of(alloc, &translator, sentence)?;
+/// What all passes of a plan make of a file, each on a line of its own.
+fn passes_told(
+    alloc: Global,
+    grammar: &Grammar,
+    plan: &Plan,
+    tree: MemDevice,
+) -> Result<String, Mistake>
+    requires { IsPlan grammar.now plan.now.0 plan.now.1 }
+{
+    let mut from = tree;
     let mut told = String::new(alloc);
-    for pass in 1..=translator.plan().assignment().passes() {
+    for pass in 1..=plan.assignment().passes() {
         let mut to = MemDevice::new(alloc);
-        let line = pass_over(alloc, &translator, pass, &mut from, &mut to)?;
+        let line = pass_over(alloc, grammar, plan, pass, &mut from, &mut to)?;
         write!(told, "pass {pass}: {line}\n")?;
         from = to;
     }
@@ -113,38 +134,33 @@ fn run_from(
     }
 }
 
-/// What all passes of the plan of a text's grammar make of the tree of a sentence.
-pub fn run_told(alloc: Global, text: &str, sentence: &str) -> Result<String, Mistake> {
-    let translator = translator(alloc, text)?;
-    let mut device = tree_of(alloc, &translator, sentence)?;
-    let (grammar, plan) = (translator.grammar(), translator.plan());
-    run_from(alloc, grammar, plan, 1, &mut device)
-}
-
-/// What all passes of another plan for a text's grammar make of the tree of a sentence. The sentence
-/// and the plan's assignment and code stand on both sides of `by`.
-pub fn run_by_told(alloc: Global, text: &str, spelled: &str) -> Result<String, Mistake> {
-    let (sentence, spelled) = halves(spelled, " by ")?;
-    let (assignment, code) = pair(alloc, spelled)?;
-    let translator = translator(alloc, text)?;
-    let grammar = translator.grammar();
-    let Ok(plan) = check_plan(grammar, assignment, code) else {
-        return Err(Mistake::Unfit);
-    };
-    let mut device = tree_of(alloc, &translator, sentence)?;
+/// What all passes of a grammar's plan make of the tree of a sentence.
+pub fn run_told(alloc: Global, grammar: &Grammar, sentence: &str) -> Result<String, Mistake> {
+    let mut device = tree_of(alloc, grammar, sentence)?;
+    let plan = plan_of(alloc, grammar)?;
     run_from(alloc, grammar, &plan, 1, &mut device)
 }
 
-/// What the passes of the plan of a text's grammar, from one on, make of a content.
+/// What all passes of another plan for a grammar make of the tree of a sentence. The sentence and the
+/// plan's assignment and code stand on both sides of `by`.
+pub fn run_by_told(alloc: Global, grammar: &Grammar, spelled: &str) -> Result<String, Mistake> {
+    let (sentence, spelled) = halves(spelled, " by ")?;
+    let mut device = tree_of(alloc, grammar, sentence)?;
+    let (assignment, code) = pair(alloc, spelled)?;
+    let Ok(plan) = check_plan(grammar, assignment, code) else {
+        return Err(Mistake::Unfit);
+    };
+    run_from(alloc, grammar, &plan, 1, &mut device)
+}
+
+/// What the passes of a grammar's plan, from one on, make of a content.
 pub fn run_bytes_told(
     alloc: Global,
-    text: &str,
-    first: &str,
-    content: &str,
+    grammar: &Grammar,
+    written: &Written,
+    rest: &str,
 ) -> Result<String, Mistake> {
-    let first = short_number(first)?;
-    let mut device = MemDevice::from_bytes(bytes_of(alloc, content)?);
-    let translator = translator(alloc, text)?;
-    let (grammar, plan) = (translator.grammar(), translator.plan());
-    run_from(alloc, grammar, plan, first, &mut device)
+    let (first, mut device) = numbered_content(alloc, written, rest)?;
+    let plan = plan_of(alloc, grammar)?;
+    run_from(alloc, grammar, &plan, first, &mut device)
 }

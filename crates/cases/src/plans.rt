@@ -1,10 +1,13 @@
-//! What is told of assignments and of code by hand.
+//! What is told of plans, and of assignments and of code by hand.
 
-use crate::grammars::grammar;
+ghost use Rattle.std.specs.Prelude.{IfOk};
+ghost use Rattle.planchecker.specs.Plans.{IsPlan};
+
 use ag_grammar::Grammar;
-use passassign::Assignment;
-use passcode::{Code, Instr};
-use planchecker::check_plan;
+use agoutput::{write_code, write_plan};
+use passassign::{Assignment, assign};
+use passcode::{Code, Instr, generate};
+use planchecker::{Plan, check_plan};
 use rows::{Mistake, first_word, halves, parts, short_number, short_numbers};
 use std::alloc::{AllocError, Global};
 
@@ -104,10 +107,43 @@ fn verdict(
 }
 
 /// What is told of the assignment and the code that a text spells, for a grammar.
-pub fn plan_told(alloc: Global, text: &str, spelled: &str) -> Result<String, Mistake> {
+pub fn plan_told(alloc: Global, grammar: &Grammar, spelled: &str) -> Result<String, Mistake> {
     let (assignment, code) = pair(alloc, spelled)?;
-    let grammar = grammar(alloc, text)?;
-    Ok(verdict(alloc, &grammar, assignment, code)?)
+    Ok(verdict(alloc, grammar, assignment, code)?)
+}
+
+/// The plan that a grammar has: its least assignment, and the code of that.
+pub fn plan_of(alloc: Global, grammar: &Grammar) -> Result<Plan, Mistake>
+    ensures { IfOk result (λ plan. IsPlan grammar.now plan.0 plan.1) }
+{
+    let Ok(assignment) = assign(alloc, grammar) else {
+        return Err(Mistake::Unfit);
+    };
+    let code = generate(alloc, grammar, &assignment)?;
+    match check_plan(grammar, assignment, code) {
+        Ok(plan) => Ok(plan),
+        Err(_) => Err(Mistake::Unfit),
+    }
+}
+
+/// The listings of the passes and of the code of a grammar's plan, line by line.
+pub fn listing_told(alloc: Global, grammar: &Grammar) -> Result<String, Mistake> {
+    let plan = plan_of(alloc, grammar)?;
+    let mut listing = Vec::new(alloc);
+    if write_plan(alloc, &mut listing, grammar, &plan).is_err() {
+        return Err(Mistake::Unfit);
+    }
+    if write_code(alloc, &mut listing, grammar, &plan).is_err() {
+        return Err(Mistake::Unfit);
+    }
+    whole_lines(alloc, listing.as_slice())
+}
+
+/// Lines, each of which is ended, without the end of the last.
+fn whole_lines(alloc: Global, bytes: &[u8]) -> Result<String, Mistake> {
+    let lines = str::from_utf8(bytes).map_err(|_| Mistake::Unfit)?;
+    let lines = lines.strip_suffix('\n').ok_or(Mistake::Unfit)?;
+    Ok(String::from_str(alloc, lines)?)
 }
 
 /// The greatest pass of the assignment that a text spells.

@@ -1,100 +1,102 @@
-//! Which verb asks for what of grammars, sentences and translators.
+//! Which verb asks for what of grammars, plans and sentences.
 
-use crate::faults::{file_told, message_told, source_told, status_told};
-use crate::grammars::{check_told, could_told, listing_told, parts_told, read_told};
+use crate::grammars::{check_told, could_told, grammar, parts_told, read_told};
 use crate::passes::{pass_told, run_by_told, run_bytes_told, run_told, through_told};
-use crate::plans::{list_told, passes_told, plan_told};
+use crate::plans::{list_told, listing_told, passes_told, plan_told};
 use crate::raw_grammars::chain_told;
 use crate::roots::{root_bytes_told, root_told};
 use crate::sentences::{choice_told, fits_told, parse_told, scan_told, stand_told, table_told};
 use crate::stuck::{assign_told, stuck_told};
-use crate::translations::{evaluate_told, job_told, translate_told};
-use rows::{Mistake, Written, bytes_of, first_word, number};
+use rows::{Answers, Mistake, Written, bytes_of, number};
 use std::alloc::Global;
 
-/// What is told of the texts of grammars, and of the grammar that was written; of plans, sentences
-/// and faults, and of all that needs no grammar.
-pub fn answer(alloc: Global, written: &Written, verb: &str, rest: &str) -> Result<String, Mistake> {
-    let grammar = written.grammar.as_str();
-    match verb {
-        "read" => read_told(alloc, written.text_or(rest).as_bytes()),
-        "read-bytes" => read_told(alloc, bytes_of(alloc, written.text_or(rest))?.as_slice()),
-        "could" => could_told(alloc, written.text_or(rest)),
-        "check" => check_told(alloc, grammar),
-        "parts" => parts_told(alloc, grammar),
-        "listing" => listing_told(alloc, grammar),
-        "chain" => chain_told(alloc, number(rest)?),
-        _ => answer_of_plans(alloc, written, verb, rest),
+/// What asks for the calls of the libraries below the translator.
+pub struct Cases {}
+
+impl Answers for Cases {
+    /// What is told of the texts of grammars, and of the grammar that was written; of plans,
+    /// sentences and passes, and of all that needs no grammar.
+    fn answer(
+        &self,
+        alloc: Global,
+        written: &Written,
+        verb: &str,
+        rest: &str,
+    ) -> Result<String, Mistake> {
+        let text = written.text_or(rest);
+        match verb {
+            "read" => read_told(alloc, text.as_bytes()),
+            "read-bytes" => read_told(alloc, bytes_of(alloc, text)?.as_slice()),
+            "could" => could_told(alloc, text),
+            "check" => check_told(alloc, written.grammar.as_str()),
+            "chain" => chain_told(alloc, number(rest)?),
+            "passes" => passes_told(alloc, rest),
+            "list" => list_told(alloc, rest),
+            _ => answer_of_plans(alloc, written, verb, rest),
+        }
     }
 }
 
-/// What is told of assignments, code and certificates, and of passes.
+/// What is told of a grammar's parts, and of assignments, code and certificates.
 fn answer_of_plans(
     alloc: Global,
     written: &Written,
     verb: &str,
     rest: &str,
 ) -> Result<String, Mistake> {
-    let grammar = written.grammar.as_str();
+    let text = written.grammar.as_str();
     match verb {
-        "assign" => assign_told(alloc, grammar),
-        "plan" => plan_told(alloc, grammar, rest),
-        "passes" => passes_told(alloc, rest),
-        "list" => list_told(alloc, rest),
-        "stuck" => stuck_told(alloc, grammar, rest),
-        "pass" => {
-            let (pass, content) = first_word(rest);
-            pass_told(alloc, grammar, pass, written.text_or(content))
-        }
-        "through" => through_told(alloc, grammar, written.text_or(rest)),
-        "run" => run_told(alloc, grammar, written.text_or(rest)),
-        "run-by" => run_by_told(alloc, grammar, rest),
-        "run-bytes" => {
-            let (first, content) = first_word(rest);
-            run_bytes_told(alloc, grammar, first, written.text_or(content))
-        }
+        "parts" => Ok(parts_told(alloc, &grammar(alloc, text)?)?),
+        "listing" => listing_told(alloc, &grammar(alloc, text)?),
+        "assign" => assign_told(alloc, &grammar(alloc, text)?),
+        "plan" => plan_told(alloc, &grammar(alloc, text)?, rest),
+        "stuck" => stuck_told(alloc, &grammar(alloc, text)?, rest),
+        _ => answer_of_passes(alloc, written, verb, rest),
+    }
+}
+
+/// What is told of passes, and of the last file.
+fn answer_of_passes(
+    alloc: Global,
+    written: &Written,
+    verb: &str,
+    rest: &str,
+) -> Result<String, Mistake> {
+    let text = written.grammar.as_str();
+    let sentence = written.text_or(rest);
+    match verb {
+        "pass" => pass_told(alloc, &grammar(alloc, text)?, written, rest),
+        "through" => through_told(alloc, &grammar(alloc, text)?, sentence),
+        "run" => run_told(alloc, &grammar(alloc, text)?, sentence),
+        "run-by" => run_by_told(alloc, &grammar(alloc, text)?, rest),
+        "run-bytes" => run_bytes_told(alloc, &grammar(alloc, text)?, written, rest),
+        "root" => root_told(alloc, &grammar(alloc, text)?, sentence),
+        "root-bytes" => root_bytes_told(alloc, &grammar(alloc, text)?, sentence),
         _ => answer_of_sentences(alloc, written, verb, rest),
     }
 }
 
-/// What is told of sentences, and of the tables that they are parsed by.
+/// What is told of sentences, of the tables that they are parsed by, and of all that needs no
+/// grammar.
 fn answer_of_sentences(
     alloc: Global,
     written: &Written,
     verb: &str,
     rest: &str,
 ) -> Result<String, Mistake> {
-    let grammar = written.grammar.as_str();
+    let text = written.grammar.as_str();
     let sentence = written.text_or(rest);
     match verb {
-        "table" => table_told(alloc, grammar),
-        "choice" => choice_told(alloc, grammar, rest),
-        "scan" => scan_told(alloc, grammar, sentence.as_bytes()),
-        "scan-bytes" => scan_told(alloc, grammar, bytes_of(alloc, sentence)?.as_slice()),
-        "fits" => fits_told(alloc, grammar, rest),
-        "parse" => parse_told(alloc, grammar, sentence),
-        "stand" => stand_told(alloc, grammar, sentence),
-        "root" => root_told(alloc, grammar, sentence),
-        "root-bytes" => root_bytes_told(alloc, grammar, sentence),
-        "translate" => translate_told(alloc, grammar, sentence),
-        "job" => job_told(alloc, sentence),
-        "evaluate" => evaluate_told(alloc, grammar, sentence),
-        _ => answer_of_faults(alloc, written, verb, rest),
-    }
-}
-
-/// What is told of faults and files, and of all that needs no grammar.
-fn answer_of_faults(
-    alloc: Global,
-    written: &Written,
-    verb: &str,
-    rest: &str,
-) -> Result<String, Mistake> {
-    match verb {
-        "file" => file_told(alloc, written.text_or(rest)),
-        "source" => source_told(alloc, written.text_or(rest)),
-        "status" => status_told(alloc, rest),
-        "message" => message_told(alloc, rest),
+        "table" => table_told(alloc, &grammar(alloc, text)?),
+        "choice" => choice_told(alloc, &grammar(alloc, text)?, rest),
+        "scan" => scan_told(alloc, &grammar(alloc, text)?, sentence.as_bytes()),
+        "scan-bytes" => {
+            let bytes = bytes_of(alloc, sentence)?;
+            scan_told(alloc, &grammar(alloc, text)?, bytes.as_slice())
+        }
+        "fits" => fits_told(alloc, &grammar(alloc, text)?, rest),
+        "parse" => parse_told(alloc, &grammar(alloc, text)?, sentence),
+        "stand" => stand_told(alloc, &grammar(alloc, text)?, sentence),
         _ => rows::answer(alloc, written, verb, rest),
     }
 }

@@ -1,12 +1,9 @@
 //! Raw grammars by hand, of more symbols than a text has room for.
 
-ghost use Rattle.normalform.specs.Faults.{IsReadable};
-
-use crate::grammars::shown_fault;
+use crate::grammars::{raw_grammar, verdict};
 use ag_grammar::{Named, RawGrammar, RawItem, RawProduction, RawSymbol};
-use ag_text::read_grammar;
 use ag_value::{Items, Text};
-use normalform::{check, is_readable};
+use normalform::is_readable;
 use rows::Mistake;
 use std::alloc::{AllocError, Global};
 
@@ -82,22 +79,9 @@ fn chain(alloc: Global, raw: RawGrammar, last: u32) -> Result<RawGrammar, Mistak
     })
 }
 
-/// The fault that a raw grammar is refused for, or that it is accepted.
-fn verdict(alloc: Global, raw: RawGrammar) -> Result<String, Mistake>
-    requires { IsReadable raw }
-{
-    match check(alloc, raw) {
-        Ok(_) => Ok(String::from_str(alloc, "accepted")?),
-        Err(fault) => shown_fault(alloc, &fault),
-    }
-}
-
 /// What is told of S and so many symbols behind it.
 pub fn chain_told(alloc: Global, last: u32) -> Result<String, Mistake> {
-    let text = "start S; symbol S syn out; S = s1 { $0.out = 0; }";
-    let Ok(bare) = read_grammar(alloc, text.as_bytes()) else {
-        return Err(Mistake::Unfit);
-    };
+    let bare = raw_grammar(alloc, "start S; symbol S syn out; S = s1 { $0.out = 0; }")?;
     let raw = chain(alloc, bare, last)?;
     if !is_readable(&raw) {
         return Err(Mistake::Unfit);

@@ -1,29 +1,33 @@
 //! What is told of sentences, of their trees, and of the tables that they are parsed by.
 
-use crate::grammars::grammar;
-use ag_grammar::Terminal;
+ghost use Rattle.std.specs.Prelude.{IfOk};
+ghost use Rattle.ag_scan.specs.Tokens.{FitAll};
+ghost use Rattle.ag_scan.specs.Words.{vocabulary_of};
+ghost use Rattle.llparse.specs.Tables.{FitsGrammar};
+
+use ag_grammar::{Grammar, Terminal};
 use ag_scan::{Token, fits, scan};
 use ag_value::Text;
-use aggen::{BuildFault, Fault, Translator};
-use llparse::{Ahead, expected_at, tables};
+use llparse::{Ahead, ParseFault, Tables, expected_at, parse, tables};
 use rows::{Mistake, first_word, printed, short_number, shown_bytes};
 use std::alloc::{AllocError, Global};
-use treefile::MemDevice;
+use treefile::{MemDevice, Writer};
 
-/// The translator of a text's grammar.
-pub fn translator(alloc: Global, text: &str) -> Result<Translator, Mistake> {
-    match Translator::build(alloc, text.as_bytes()) {
-        Ok(translator) => Ok(translator),
-        Err(_) => Err(Mistake::Unfit),
+/// Whether a grammar has tables, or its least conflict.
+pub fn table_told(alloc: Global, grammar: &Grammar) -> Result<String, Mistake> {
+    match tables(alloc, grammar) {
+        Ok(_) => Ok(String::from_str(alloc, "no conflict")?),
+        Err(fault) => printed(alloc, &fault),
     }
 }
 
-/// Whether a grammar has tables, or its least conflict.
-pub fn table_told(alloc: Global, text: &str) -> Result<String, Mistake> {
-    let grammar = grammar(alloc, text)?;
-    match tables(alloc, &grammar) {
-        Ok(_) => Ok(String::from_str(alloc, "no conflict")?),
-        Err(fault) => printed(alloc, &fault),
+/// The tables of a grammar, which has some.
+fn tables_of(alloc: Global, grammar: &Grammar) -> Result<Tables, Mistake>
+    ensures { IfOk result (λ tables. FitsGrammar grammar.now tables) }
+{
+    match tables(alloc, grammar) {
+        Ok(tables) => Ok(tables),
+        Err(_) => Err(Mistake::Unfit),
     }
 }
 
@@ -46,19 +50,18 @@ fn ahead(text: &str) -> Result<Ahead, Mistake> {
 }
 
 /// Which production a symbol has at a look-ahead.
-pub fn choice_told(alloc: Global, text: &str, spelled: &str) -> Result<String, Mistake> {
+pub fn choice_told(alloc: Global, grammar: &Grammar, spelled: &str) -> Result<String, Mistake> {
     let (symbol, rest) = first_word(spelled);
     let symbol = short_number(symbol)?;
     let ahead = ahead(rest)?;
-    let translator = translator(alloc, text)?;
-    Ok(format!(in alloc; "{:?}", translator.tables().choice(symbol, ahead))?)
+    let tables = tables_of(alloc, grammar)?;
+    printed(alloc, &tables.choice(symbol, ahead))
 }
 
 /// The tokens of a sentence, or its fault.
-pub fn scan_told(alloc: Global, text: &str, sentence: &[u8]) -> Result<String, Mistake> {
-    let grammar = grammar(alloc, text)?;
-    match scan(alloc, &grammar, sentence) {
-        Ok(tokens) if fits(&grammar, tokens.as_slice()) => Ok(shown(alloc, tokens.as_slice())?),
+pub fn scan_told(alloc: Global, grammar: &Grammar, sentence: &[u8]) -> Result<String, Mistake> {
+    match scan(alloc, grammar, sentence) {
+        Ok(tokens) if fits(grammar, tokens.as_slice()) => Ok(shown(alloc, tokens.as_slice())?),
         Ok(_) => Ok(String::from_str(alloc, "they do not fit")?),
         Err(fault) => printed(alloc, &fault),
     }
@@ -94,7 +97,7 @@ fn show_lex(told: &mut String, lex: &str) -> Result<(), AllocError> {
 }
 
 /// Whether a token of this kind and text is one of a grammar.
-pub fn fits_told(alloc: Global, text: &str, spelled: &str) -> Result<String, Mistake> {
+pub fn fits_told(alloc: Global, grammar: &Grammar, spelled: &str) -> Result<String, Mistake> {
     let (word, rest) = first_word(spelled);
     let (number, lex) = first_word(rest);
     let token = Token {
@@ -103,44 +106,81 @@ pub fn fits_told(alloc: Global, text: &str, spelled: &str) -> Result<String, Mis
         at: 0,
     };
     let tokens = vec![in alloc; token]?;
-    let grammar = grammar(alloc, text)?;
-    Ok(format!(in alloc; "{}", fits(&grammar, tokens.as_slice()))?)
+    Ok(format!(in alloc; "{}", fits(grammar, tokens.as_slice()))?)
 }
 
-/// How many nodes the tree of a sentence has and its file, or what is refused.
-pub fn parse_told(alloc: Global, text: &str, sentence: &str) -> Result<String, Mistake> {
-    match Translator::build(alloc, text.as_bytes()) {
-        Ok(translator) => Ok(parsed(alloc, &translator, sentence)?),
-        Err(fault) => Ok(refused(alloc, fault)?),
+/// The tokens of a sentence, which has some.
+fn tokens_of(alloc: Global, grammar: &Grammar, sentence: &str) -> Result<Vec<Token>, Mistake>
+    ensures { IfOk result (λ tokens. FitAll (vocabulary_of grammar.now) tokens.items) }
+{
+    match scan(alloc, grammar, sentence.as_bytes()) {
+        Ok(tokens) => Ok(tokens),
+        Err(_) => Err(Mistake::Unfit),
     }
 }
 
-fn refused(alloc: Global, fault: BuildFault) -> Result<String, AllocError> {
-    Fault::from(fault).to_string(alloc)
+/// How many nodes the tree of tokens has, whose file a device gets, or why they have none.
+fn parse_tokens(
+    alloc: Global,
+    grammar: &Grammar,
+    tables: &Tables,
+    tokens: &[Token],
+    device: &mut MemDevice,
+) -> Result<u32, ParseFault>
+    requires tables { FitsGrammar grammar.now tables.now }
+    requires tokens { FitAll (vocabulary_of grammar.now) tokens.now }
+{
+    let mut writer = Writer::begin(alloc, device, 0)?;
+    parse(alloc, grammar, tables, tokens, device, &mut writer)
 }
 
-fn parsed(alloc: Global, translator: &Translator, sentence: &str) -> Result<String, AllocError> {
+/// How many nodes the tree of a sentence has, whose file a device gets, or why its tokens have none.
+fn parse_sentence(
+    alloc: Global,
+    grammar: &Grammar,
+    sentence: &str,
+    device: &mut MemDevice,
+) -> Result<Result<u32, ParseFault>, Mistake> {
+    let tokens = tokens_of(alloc, grammar, sentence)?;
+    let tables = tables_of(alloc, grammar)?;
+    Ok(parse_tokens(alloc, grammar, &tables, tokens.as_slice(), device))
+}
+
+/// How many nodes the tree of a sentence has and its file, or what is refused.
+pub fn parse_told(alloc: Global, grammar: &Grammar, sentence: &str) -> Result<String, Mistake> {
     let mut device = MemDevice::new(alloc);
-    match translator.parse_tree(sentence.as_bytes(), &mut device) {
+    match parse_sentence(alloc, grammar, sentence, &mut device)? {
         Ok(count) => {
             let file = shown_bytes(alloc, device.bytes())?;
-            format!(in alloc; "{count} nodes, {file}")
+            Ok(format!(in alloc; "{count} nodes, {file}")?)
         }
-        Err(fault) => fault.to_string(alloc),
+        Err(fault) => Ok(fault.to_string(alloc)?),
+    }
+}
+
+/// The file of the tree of a sentence, which has one.
+pub fn tree_of(alloc: Global, grammar: &Grammar, sentence: &str) -> Result<MemDevice, Mistake> {
+    let mut device = MemDevice::new(alloc);
+    match parse_sentence(alloc, grammar, sentence, &mut device)? {
+        Ok(_) => Ok(device),
+        Err(_) => Err(Mistake::Unfit),
     }
 }
 
 /// Behind how many tokens a sentence is refused, and what could stand there.
-pub fn stand_told(alloc: Global, text: &str, sentence: &str) -> Result<String, Mistake> {
-    let translator = translator(alloc, text)?;
-    let Ok(tokens) = scan(alloc, translator.grammar(), sentence.as_bytes()) else {
-        return Err(Mistake::Unfit);
-    };
-    let stuck = expected_at(
-        alloc,
-        translator.grammar(),
-        translator.tables(),
-        tokens.as_slice(),
-    )?;
+pub fn stand_told(alloc: Global, grammar: &Grammar, sentence: &str) -> Result<String, Mistake> {
+    let tokens = tokens_of(alloc, grammar, sentence)?;
+    let tables = tables_of(alloc, grammar)?;
+    stuck_told(alloc, grammar, &tables, tokens.as_slice())
+}
+
+/// Behind how many tokens a parse is refused, and what could stand there.
+fn stuck_told(
+    alloc: Global,
+    grammar: &Grammar,
+    tables: &Tables,
+    tokens: &[Token],
+) -> Result<String, Mistake> {
+    let stuck = expected_at(alloc, grammar, tables, tokens)?;
     Ok(format!(in alloc; "{} {:?}", stuck.index, stuck.expected)?)
 }

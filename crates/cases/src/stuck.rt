@@ -1,16 +1,15 @@
 //! What is told of the least assignment of a grammar, and of certificates that there is none.
 
-use crate::grammars::grammar;
+use ag_grammar::Grammar;
 use ag_value::Items;
 use passassign::{AssignFault, Strike, Stuck, assign};
 use planchecker::check_stuck;
 use rows::{Mistake, halves, parts, printed, short_number};
 use std::alloc::{AllocError, Global};
 
-/// The least assignment of a text's grammar, or the certificate that there is none.
-pub fn assign_told(alloc: Global, text: &str) -> Result<String, Mistake> {
-    let grammar = grammar(alloc, text)?;
-    match assign(alloc, &grammar) {
+/// The least assignment of a grammar, or the certificate that there is none.
+pub fn assign_told(alloc: Global, grammar: &Grammar) -> Result<String, Mistake> {
+    match assign(alloc, grammar) {
         Ok(assignment) => printed(alloc, &assignment.rows()),
         Err(AssignFault::Stuck(stuck)) => shown(alloc, &stuck),
         Err(AssignFault::NoMemory) => Err(Mistake::NoMemory),
@@ -95,8 +94,7 @@ fn stuck(alloc: Global, spelled: &str) -> Result<Stuck, Mistake> {
 }
 
 /// Whether a grammar has the certificate of a text.
-pub fn stuck_told(alloc: Global, text: &str, spelled: &str) -> Result<String, Mistake> {
+pub fn stuck_told(alloc: Global, grammar: &Grammar, spelled: &str) -> Result<String, Mistake> {
     let stuck = stuck(alloc, spelled)?;
-    let grammar = grammar(alloc, text)?;
-    Ok(format!(in alloc; "{}", check_stuck(&grammar, &stuck))?)
+    Ok(format!(in alloc; "{}", check_stuck(grammar, &stuck))?)
 }

@@ -1,7 +1,7 @@
 //! What sentences, jobs, and the trees of files are translated to.
 
 use crate::sentences::translator;
-use ag_value::show;
+use ag_value::{Value, show};
 use aggen::{Fault, Report, run_job};
 use rows::{Mistake, bytes_of, printed};
 use std::alloc::{AllocError, Global};
@@ -27,12 +27,22 @@ fn report_told(alloc: Global, report: &Report, out: &[u8]) -> Result<String, Mis
     )?)
 }
 
+/// A value that is no text.
+fn value_told(alloc: Global, value: &Value) -> Result<String, Mistake> {
+    let shown = show(alloc, value)?;
+    Ok(format!(in alloc; "no text: {shown}")?)
+}
+
 /// How a translation ended: the text that was written with its report, or the fault.
-fn ending_told(alloc: Global, ended: Result<Report, Fault>, out: &[u8]) -> Result<String, Mistake> {
+fn ending_told(
+    alloc: Global,
+    ended: &Result<Report, Fault>,
+    out: &[u8],
+) -> Result<String, Mistake> {
     match ended {
-        Ok(report) => report_told(alloc, &report, out),
-        Err(Fault::NoText(value)) => Ok(format!(in alloc; "no text: {}", show(alloc, &value)?)?),
-        Err(fault) => printed(alloc, &fault),
+        Ok(report) => report_told(alloc, report, out),
+        Err(Fault::NoText(value)) => value_told(alloc, value),
+        Err(fault) => printed(alloc, fault),
     }
 }
 
@@ -43,7 +53,7 @@ pub fn translate_told(alloc: Global, text: &str, sentence: &str) -> Result<Strin
     let mut b = MemDevice::new(alloc);
     let mut out = Vec::new(alloc);
     let ended = translator.translate(sentence.as_bytes(), &mut a, &mut b, &mut out);
-    ending_told(alloc, ended, out.as_slice())
+    ending_told(alloc, &ended, out.as_slice())
 }
 
 /// The translation of a job.
@@ -52,7 +62,7 @@ pub fn job_told(alloc: Global, text: &str) -> Result<String, Mistake> {
     let mut b = MemDevice::new(alloc);
     let mut out = Vec::new(alloc);
     let ended = run_job(alloc, text.as_bytes(), &mut out, &mut a, &mut b);
-    ending_told(alloc, ended, out.as_slice())
+    ending_told(alloc, &ended, out.as_slice())
 }
 
 /// The translation of the tree whose file a content is.
@@ -63,5 +73,5 @@ pub fn evaluate_told(alloc: Global, text: &str, content: &str) -> Result<String,
     let mut b = MemDevice::new(alloc);
     let mut out = Vec::new(alloc);
     let ended = translator.evaluate_tree(&mut tree, &mut a, &mut b, &mut out);
-    ending_told(alloc, ended, out.as_slice())
+    ending_told(alloc, &ended, out.as_slice())
 }

@@ -1,13 +1,49 @@
 //! The rows one after the other: what was written so far, and the question that waits for its
 //! answer.
 
-use crate::questions::answer;
-use rows::{Mistake, Written, first_word};
+use crate::words::{Mistake, first_word};
+use crate::written::Written;
 use std::alloc::{AllocError, Global};
+use std::io;
+
+/// What answers the questions of rows.
+pub trait Answers {
+    /// What is told where a verb asks for it, of the words behind it or of what was written. A verb
+    /// that asks for something else is misspelt.
+    fn answer(
+        &self,
+        alloc: Global,
+        written: &Written,
+        verb: &str,
+        rest: &str,
+    ) -> Result<String, Mistake>;
+}
+
+/// Tries the rows on standard input. Each line that is wrong is told with its number, and then how
+/// many answers were right.
+pub fn try_rows<R: Input + Print, A: Answers>(
+    rt: &R,
+    alloc: Global,
+    answers: &A,
+) -> io::Result<()> {
+    let mut sheet = Sheet::new(alloc);
+    let mut number = 0u64;
+    for line in rt.lines(alloc) {
+        let line = line?;
+        number = number.wrapping_add(1);
+        if let Some(wrong) = sheet.take(alloc, answers, line.as_str())? {
+            println!(rt; "line {number}: {wrong}")?;
+        }
+    }
+    if let Some(wrong) = sheet.left(alloc)? {
+        println!(rt; "line {number}: {wrong}")?;
+    }
+    println!(rt; "{} answers are right", sheet.right)
+}
 
 /// What was written, and what was told and not yet compared.
 #[derive(Drop)]
-pub struct Sheet {
+struct Sheet {
     written: Written,
     told: Option<String>,
     right: u64,
@@ -15,7 +51,7 @@ pub struct Sheet {
 
 impl Sheet {
     /// A sheet without rows.
-    pub fn new(alloc: Global) -> Sheet {
+    fn new(alloc: Global) -> Sheet {
         Sheet {
             written: Written::new(alloc),
             told: None,
@@ -23,24 +59,24 @@ impl Sheet {
         }
     }
 
-    /// How many answers were right.
-    pub fn right(&self) -> u64 {
-        self.right
-    }
-
     /// What is wrong with a further line, if something is.
-    pub fn take(&mut self, alloc: Global, line: &str) -> Result<Option<String>, AllocError> {
+    fn take<A: Answers>(
+        &mut self,
+        alloc: Global,
+        answers: &A,
+        line: &str,
+    ) -> Result<Option<String>, AllocError> {
         if line.is_empty() || line.starts_with('#') {
             return Ok(None);
         }
         match line.strip_prefix("= ") {
             Some(wanted) => self.compare(alloc, wanted),
-            None => self.ask(alloc, line),
+            None => self.ask(alloc, answers, line),
         }
     }
 
     /// What is told of the last question and was not asked for, if something is.
-    pub fn left(&mut self, alloc: Global) -> Result<Option<String>, AllocError> {
+    fn left(&mut self, alloc: Global) -> Result<Option<String>, AllocError> {
         match self.told.take() {
             Some(told) => Ok(Some(format!(in alloc; "no answer stands above for: {told}")?)),
             None => Ok(None),
@@ -62,9 +98,14 @@ impl Sheet {
     }
 
     /// Follows a line that writes or asks something. The question above has to have its answer.
-    fn ask(&mut self, alloc: Global, line: &str) -> Result<Option<String>, AllocError> {
+    fn ask<A: Answers>(
+        &mut self,
+        alloc: Global,
+        answers: &A,
+        line: &str,
+    ) -> Result<Option<String>, AllocError> {
         let left = self.left(alloc)?;
-        match self.follow(alloc, line) {
+        match self.follow(alloc, answers, line) {
             Ok(told) => {
                 self.told = told;
                 Ok(left)
@@ -74,12 +115,17 @@ impl Sheet {
     }
 
     /// What a line asks for, if it asks something.
-    fn follow(&mut self, alloc: Global, line: &str) -> Result<Option<String>, Mistake> {
+    fn follow<A: Answers>(
+        &mut self,
+        alloc: Global,
+        answers: &A,
+        line: &str,
+    ) -> Result<Option<String>, Mistake> {
         let (verb, rest) = first_word(line);
         if self.written.follow(alloc, verb, rest)? {
             return Ok(None);
         }
-        Ok(Some(answer(alloc, &self.written, verb, rest)?))
+        Ok(Some(answers.answer(alloc, &self.written, verb, rest)?))
     }
 }
 
