@@ -88,6 +88,7 @@ fn calculate(operator: Operator, left: &Value, right: &Value) -> Value
 /// The number that `+`, `-` or `*` gives for two numbers, as a value: None where it gives an error,
 /// for another operator, and for other values.
 #[tactic(auto, unfolding(ag_grammar::specs::values::Arguments::leftmost))]
+#[inline(always)]
 pub fn reckoned(operator: Operator, left: &Value, right: &Value) -> Option<Value>
     ensures value { IfSome result (λ v. v ≡ applied operator left.now right.now) }
     ensures well { IfSome result (λ v. IsWell v) }

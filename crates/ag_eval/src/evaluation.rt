@@ -211,6 +211,7 @@ fn chain_of<'e, V: Env>(
 
 /// The number that an operator gives for the value so far and the operand behind it, where it gives
 /// one and the operand is at hand: no operand is made of that one.
+#[inline(always)]
 fn number_behind<'e, V: Env>(
     expr: &Expr,
     so_far: &Operand<'e>,
@@ -233,6 +234,7 @@ fn number_behind<'e, V: Env>(
 }
 
 /// Another value in the place of one.
+#[inline(always)]
 fn replaced(_old: Value, next: Value) -> Value
     ensures { result ≡ next }
 {
@@ -241,6 +243,7 @@ fn replaced(_old: Value, next: Value) -> Value
 
 /// The value of a chain of numbers that are at hand, where each step gives a number: no operand is
 /// made of any.
+#[inline(always)]
 fn chained_number<'a, V: Env>(
     expr: &Expr,
     first: &'a Node,
@@ -270,6 +273,7 @@ fn chained_number<'a, V: Env>(
 }
 
 /// The value of an operand that is a literal, an occurrence or a bound name: lent as it is.
+#[inline(always)]
 fn at_hand<'a, V: Env>(
     expr: &Expr,
     node: &'a Node,
@@ -291,6 +295,7 @@ fn at_hand<'a, V: Env>(
 }
 
 /// A value that is within the limits.
+#[inline(always)]
 fn within_limits(item: &Value) -> Option<&Value>
     requires { is_item item.now ≡ true }
     ensures { IfSome result (λ v. (v.now ≡ fit item.now) × IsWell v.now) }
@@ -341,6 +346,7 @@ fn literal_value<'e>(literal: &'e Literal) -> Held<'e>
 }
 
 /// The error that stands for a value beyond the limits, if it is.
+#[inline(always)]
 fn excess(item: &Value) -> Option<ErrorCode>
     requires { is_item item.now ≡ true }
     ensures { MatchOption result (IsWell item.now × (fit item.now ≡ item.now))
@@ -388,6 +394,7 @@ fn decided(condition: &Value) -> Result<bool, ErrorCode>
 }
 
 /// The value of an expression that is an occurrence, or a literal within the limits, lent.
+#[inline(always)]
 fn lent_value<'e, V: Env>(expr: &'e Expr, env: &'e V) -> Option<&'e Value>
     requires lends { length expr.now.1 ≤ V.count env.now }
     requires well { AreWell (length expr.now.1) (V.lent env.now) }
@@ -402,6 +409,7 @@ fn lent_value<'e, V: Env>(expr: &'e Expr, env: &'e V) -> Option<&'e Value>
 }
 
 /// The value of an expression that is a chain of numbers at hand.
+#[inline(always)]
 fn reckoned_value<V: Env>(expr: &Expr, env: &V, scope: &Scope<'_>) -> Option<Value>
     requires none { scope.now ≡ [] }
     requires lends { length expr.now.1 ≤ V.count env.now }

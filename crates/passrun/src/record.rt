@@ -53,6 +53,7 @@ impl<T: Drop> From<AllocFailed<T>> for RecordFault {
 
 /// Takes the value of an attribute of a pass: from the bytes where an earlier pass gave it, and a
 /// number in its place where pass k is to give it.
+#[inline(always)]
 fn take_value<'b>(
     alloc: Global,
     pass: u16,
@@ -144,6 +145,7 @@ pub fn read_node(
 }
 
 /// Reads the body of a token of a class: its text goes to the values.
+#[inline(always)]
 fn read_token(
     alloc: Global,
     class: u16,
@@ -171,6 +173,7 @@ fn read_token(
 }
 
 /// Reads the body of what an item asks for: its row goes to the values. The number in the record.
+#[inline(always)]
 pub(crate) fn read_record(
     alloc: Global,
     grammar: &Grammar,

@@ -9,6 +9,7 @@ use ag_value::{ErrorCode, NoMemory, Text, Value};
 use std::alloc::Global;
 
 /// `a + b`
+#[inline(always)]
 pub fn sum(left: &Value, right: &Value) -> Value
     ensures value { result ≡ of_numbers (λ m n. number_value (m +ℤ n)) left.now right.now }
     ensures well { IsWell result }
@@ -23,6 +24,7 @@ pub fn sum(left: &Value, right: &Value) -> Value
 }
 
 /// `a - b`
+#[inline(always)]
 pub fn difference(left: &Value, right: &Value) -> Value
     ensures value { result ≡ of_numbers (λ m n. number_value (m -ℤ n)) left.now right.now }
     ensures well { IsWell result }
@@ -37,6 +39,7 @@ pub fn difference(left: &Value, right: &Value) -> Value
 }
 
 /// `a * b`
+#[inline(always)]
 pub fn product(left: &Value, right: &Value) -> Value
     ensures value { result ≡ of_numbers (λ m n. number_value (m *ℤ n)) left.now right.now }
     ensures well { IsWell result }
