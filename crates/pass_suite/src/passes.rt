@@ -56,28 +56,41 @@ fn is_by_blocks(device: &CountingDevice<'_>) -> bool {
     device.fewest_reads() >= 112 && device.least_gap() >= 400
 }
 
-/// What a translation of the sentence tells, and what its devices have counted.
-fn translated(alloc: Global) -> Result<String, Fail> {
-    let translator = groups(alloc)?;
+/// How many records a translation of the sentence reads, and how many it writes, as it tells.
+fn translate<'p>(
+    alloc: Global,
+    translator: &Translator,
+    a: &mut CountingDevice<'p>,
+    b: &mut CountingDevice<'p>,
+) -> Result<String, Fail> {
     let sentence = sentence(alloc)?;
+    let mut out = Vec::new(alloc);
+    let report = translator.translate(sentence.as_bytes(), a, b, &mut out)?;
+    Ok(format!(in alloc; "{} read, {} written", report.read, report.written)?)
+}
+
+/// What a translation of the sentence tells, and what its devices have counted.
+fn translated(alloc: Global, translator: &Translator) -> Result<String, Fail> {
     let puts = Cell::new(0);
     let mut a = CountingDevice::new(alloc, &puts);
     let mut b = CountingDevice::new(alloc, &puts);
-    let mut out = Vec::new(alloc);
-    let report = translator.translate(sentence.as_bytes(), &mut a, &mut b, &mut out)?;
+    let told = translate(alloc, translator, &mut a, &mut b)?;
     // the parser puts a header and each node, and the pass a header
     let frames = frames_told(alloc, a.bytes, puts.get(), NODES + 2)?;
     let by_blocks = is_by_blocks(&a);
-    Ok(format!(in alloc;
-        "{} read, {} written; {frames}; by blocks: {by_blocks}",
-        report.read, report.written
-    )?)
+    Ok(format!(in alloc; "{told}; {frames}; by blocks: {by_blocks}")?)
+}
+
+/// What a translation tells, by a translator of its own.
+fn groups_translated(alloc: Global) -> Result<String, Fail> {
+    let translator = groups(alloc)?;
+    translated(alloc, &translator)
 }
 
 #[test]
 fn a_translation_writes_while_it_reads(rt: HostRuntime) -> Result<(), Fail> {
     assert_eq!(rt;
-        translated(rt.alloc())?.as_str(),
+        groups_translated(rt.alloc())?.as_str(),
         "65536 read, 65536 written; 65536 read, 65536 put; by blocks: true"
     );
     Ok(())
@@ -145,35 +158,70 @@ fn plan(alloc: Global, grammar: &Grammar) -> Result<Plan, Fail>
     }
 }
 
-/// What three passes over the sentence's tree tell, and what their devices have counted.
-fn run_thrice(alloc: Global) -> Result<String, Fail> {
-    let translator = groups(alloc)?;
-    let plan = plan(alloc, translator.grammar())?;
+/// Leaves the file of the sentence's tree on a device.
+fn parse(
+    alloc: Global,
+    translator: &Translator,
+    device: &mut CountingDevice<'_>,
+) -> Result<(), Fail> {
     let sentence = sentence(alloc)?;
+    translator.parse_tree(sentence.as_bytes(), device)?;
+    Ok(())
+}
+
+/// What three passes over the tree on the first device tell.
+fn run<'p>(
+    alloc: Global,
+    grammar: &Grammar,
+    plan: &Plan,
+    a: &mut CountingDevice<'p>,
+    b: &mut CountingDevice<'p>,
+) -> Result<String, Fail>
+    requires { IsPlan grammar.now plan.now.0 plan.now.1 }
+{
+    let mut meter = Meter::new();
+    let _passes = plan.assignment().passes();
+    let (last, passed) = run_all(alloc, grammar, plan, 1, a, b, &mut meter)?;
+    Ok(format!(in alloc;
+        "last {last:?}, {} read, {} written",
+        passed.read, passed.written
+    )?)
+}
+
+/// What three passes over the sentence's tree tell, and what their devices have counted.
+fn run_thrice(alloc: Global, translator: &Translator, plan: &Plan) -> Result<String, Fail>
+    requires { IsPlan translator.now plan.now.0 plan.now.1 }
+{
     let puts = Cell::new(0);
     let mut a = CountingDevice::new(alloc, &puts);
     let mut b = CountingDevice::new(alloc, &puts);
-    translator.parse_tree(sentence.as_bytes(), &mut a)?;
+    parse(alloc, translator, &mut a)?;
     // each pass puts a header
     let before = puts.get().saturating_add(3);
-    let mut meter = Meter::new();
-    let _passes = plan.assignment().passes();
-    let grammar = translator.grammar();
-    let (last, passed) = run_all(alloc, grammar, &plan, 1, &mut a, &mut b, &mut meter)?;
+    let told = run(alloc, translator.grammar(), plan, &mut a, &mut b)?;
     let bytes = a.bytes.saturating_add(b.bytes);
     let frames = frames_told(alloc, bytes, puts.get(), before)?;
     let by_blocks = is_by_blocks(&a) && is_by_blocks(&b);
-    Ok(format!(in alloc;
-        "{} read, {} written; {frames}; by blocks: {by_blocks}; last {last:?}",
-        passed.read, passed.written
-    )?)
+    Ok(format!(in alloc; "{told}; {frames}; by blocks: {by_blocks}")?)
+}
+
+/// What three passes tell, by a plan whose first two have no rules.
+fn run_by_plan(alloc: Global, translator: &Translator) -> Result<String, Fail> {
+    let plan = plan(alloc, translator.grammar())?;
+    run_thrice(alloc, translator, &plan)
+}
+
+/// What three passes tell, by a translator of their own.
+fn groups_run(alloc: Global) -> Result<String, Fail> {
+    let translator = groups(alloc)?;
+    run_by_plan(alloc, &translator)
 }
 
 #[test]
 fn each_pass_writes_while_it_reads(rt: HostRuntime) -> Result<(), Fail> {
     assert_eq!(rt;
-        run_thrice(rt.alloc())?.as_str(),
-        "196608 read, 196608 written; 196608 read, 196608 put; by blocks: true; last B"
+        groups_run(rt.alloc())?.as_str(),
+        "last B, 196608 read, 196608 written; 196608 read, 196608 put; by blocks: true"
     );
     Ok(())
 }
