@@ -423,6 +423,19 @@ fn reckoned_value<V: Env>(expr: &Expr, env: &V, scope: &Scope<'_>) -> Option<Val
     chained_number(expr, first.get(), others.as_slice(), env, scope)
 }
 
+/// A copy of a value: of a number at once.
+#[inline(always)]
+fn copied(alloc: Global, value: &Value) -> Result<Value, NoMemory>
+    requires { IsWell value.now }
+    ensures value { IfOk result (λ copied. copied ≡ value.now) }
+    ensures well { IfOk result (λ copied. IsWell copied) }
+{
+    match value {
+        Value::Num(number) => Ok(Value::Num(*number)),
+        _ => copy(alloc, value),
+    }
+}
+
 /// The value of an expression where `env` lends the values of its occurrences. Takes memory for
 /// what is made, and for copies: of a value that is lent or bound, where it leaves the expression,
 /// goes into a list or table, or grows; of the part that `nth` or `get` takes of what the expression
@@ -443,7 +456,7 @@ pub fn eval<V: Env>(
 {
     meter.count_one();
     if let Some(value) = lent_value(expr, env) {
-        return copy(alloc, value);
+        return copied(alloc, value);
     }
     let mut scope = Scope::new(alloc);
     if let Some(value) = reckoned_value(expr, env, &scope) {

@@ -24,6 +24,7 @@ use std::str::from_utf8;
 /// `Malformed` (V1) is answered exactly where no front of the input is the spelling of a well
 /// value: what is answered is well and spelled so, and what begins with a spelling is read as that
 /// value.
+#[inline(always)]
 pub fn decode(alloc: Global, input: &[u8]) -> Result<(Value, usize), ValueFault>
     ensures well { IfOk result (λ found. IsWell found.0) }
     ensures within { IfOk result (λ found. found.1 ≤ length input.now) }
@@ -34,11 +35,26 @@ pub fn decode(alloc: Global, input: &[u8]) -> Result<(Value, usize), ValueFault>
         (λ found. found ≡ (value, length (spelling_of value)))
         (λ e. e ≡ ValueFault.NoMemory) }
 {
-    let (value, rest) = value_of(alloc, MAX_DEPTH as usize, input)?;
+    let (value, rest) = front_of(alloc, MAX_DEPTH as usize, input)?;
     if !is_well(&value) {
         return Err(ValueFault::Malformed);
     }
     Ok((value, input.len() - rest.len()))
+}
+
+/// The value at the front, of at most so many levels of lists and tables: a number at once.
+#[inline(always)]
+#[tactic(auto, unfolding(crate::specs::Reading::value_at))]
+fn front_of(alloc: Global, levels: usize, bytes: &[u8]) -> Result<(Value, &[u8]), ValueFault>
+    ensures { Gives (λ x. (x.0, x.1.now)) result (value_at levels bytes.now) }
+{
+    match bytes {
+        [0, rest @ ..] => {
+            let (n, rest) = u64_of(rest)?;
+            Ok((Value::Num(n.cast_signed()), rest))
+        }
+        _ => value_of(alloc, levels, bytes),
+    }
 }
 
 /// The value at the front, of at most so many levels of lists and tables.
@@ -197,6 +213,7 @@ fn u32_of(bytes: &[u8]) -> Result<(u32, &[u8]), ValueFault>
     Ok((number, rest))
 }
 
+#[inline(always)]
 fn u64_of(bytes: &[u8]) -> Result<(u64, &[u8]), ValueFault>
     ensures { Gives (λ x. (x.0, x.1.now)) result (number_at w64 bytes.now) }
 {

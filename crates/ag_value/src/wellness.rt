@@ -10,6 +10,7 @@ use crate::value::Value;
 /// Whether a value is well: at most [`MAX_DEPTH`] deep and [`MAX_WEIGHT`] heavy, with keys that
 /// rise strictly by their bytes in every table, and with no error inside a list or table. Takes no
 /// memory.
+#[inline(always)]
 pub fn is_well(value: &Value) -> bool
     ensures { IsTrue result ↔ IsWell value.now }
 {
