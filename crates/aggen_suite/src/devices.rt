@@ -3,17 +3,22 @@
 ghost use Rattle.std.specs.Prelude.{false};
 
 use crate::endings::Ending;
-use crate::narrow::with_room;
+use crate::narrow::{Narrow, with_room};
 use aggen::show_value;
 use std::alloc::Global;
 use std::test::Fail;
 use treefile::{Device, DeviceFault, FuseDevice, MemDevice};
 
+/// How showing 14 ends at a writer.
+fn shown_to(alloc: Global, out: &mut Narrow) -> Ending {
+    let mut device = MemDevice::new(alloc);
+    Ending::of(show_value(alloc, "14", &mut device, out))
+}
+
 /// How showing 14 ends at a writer with so much room, and what that has taken.
 fn shown_in(alloc: Global, room: usize, fails: bool) -> Result<String, Fail> {
-    let mut device = MemDevice::new(alloc);
     let mut out = with_room(alloc, room, fails)?;
-    let ending = Ending::of(show_value(alloc, "14", &mut device, &mut out));
+    let ending = shown_to(alloc, &mut out);
     Ok(ending.told(alloc, out.taken.as_slice())?)
 }
 
@@ -27,12 +32,17 @@ fn a_writer_that_stops(rt: HostRuntime) -> Result<(), Fail> {
     Ok(())
 }
 
+/// How showing the value of a text ends over a device, and what was written.
+fn shown_over<D: Device>(alloc: Global, text: &str, device: &mut D) -> Result<String, Fail> {
+    let mut out = Vec::new(alloc);
+    let ending = Ending::of(show_value(alloc, text, device, &mut out));
+    Ok(ending.told(alloc, out.as_slice())?)
+}
+
 /// How showing 14 ends where a call of the device fails, and what was written.
 fn shown_without(alloc: Global, call: u64) -> Result<String, Fail> {
     let mut device = FuseDevice::new(MemDevice::new(alloc), call);
-    let mut out = Vec::new(alloc);
-    let ending = Ending::of(show_value(alloc, "14", &mut device, &mut out));
-    Ok(ending.told(alloc, out.as_slice())?)
+    shown_over(alloc, "14", &mut device)
 }
 
 /// The device is called eight times: it is cleared, appended to, asked for its length, and read.
@@ -77,12 +87,11 @@ impl Device for Other {
 
 /// How showing 1 ends where the device gives back these bytes, and what was written.
 fn shown_of(alloc: Global, file: &[u8]) -> Result<String, Fail> {
+    let file = file.to_vec(alloc)?;
     let mut device = Other {
-        file: MemDevice::from_bytes(file.to_vec(alloc)?),
+        file: MemDevice::from_bytes(file),
     };
-    let mut out = Vec::new(alloc);
-    let ending = Ending::of(show_value(alloc, "1", &mut device, &mut out));
-    Ok(ending.told(alloc, out.as_slice())?)
+    shown_over(alloc, "1", &mut device)
 }
 
 /// No file, its header alone, and behind a header a node, a token of class 1, one without a value,

@@ -40,11 +40,6 @@ impl Ending {
         }
     }
 
-    /// Whether nothing was written, where the call was refused for another cause than O2.
-    pub fn is_clean(self, written: &[u8]) -> bool {
-        matches!(self, Ending::Done | Ending::Write) || written.is_empty()
-    }
-
     /// How a call ended, and what it wrote.
     pub fn told(self, alloc: Global, written: &[u8]) -> Result<String, AllocError> {
         let written = str::from_utf8(written).unwrap_or("what is no text");

@@ -1,8 +1,7 @@
 //! Devices of which one call fails: each call in turn, counted up until a run makes fewer. Nothing
 //! goes out where one fails, and the same translator and devices serve the next run.
 
-use crate::endings::Ending;
-use crate::translators::{SENTENCE, TREE, fractions};
+use crate::translators::{SENTENCE, TREE, evaluated, fractions, translated};
 use aggen::Translator;
 use std::alloc::Global;
 use std::test::Fail;
@@ -29,85 +28,106 @@ enum Place {
 /// Whether the first of two runs ends with the translation: then the call that fails is the first
 /// one of the second run. Else the first run has failed, nothing went out, and the second one ends
 /// with the translation.
-fn is_whole(told: &str) -> Result<bool, Fail> {
-    match told {
-        "Done 868352, Device " => Ok(true),
-        "Device , Done 868352" => Ok(false),
+fn is_whole(first: &str, second: &str) -> Result<bool, Fail> {
+    match (first, second) {
+        ("Done 868352", "Device ") => Ok(true),
+        ("Device ", "Done 868352") => Ok(false),
         _ => Err(Fail::from("a run that neither fails nor is whole")),
     }
 }
 
-/// How a translation of the sentence ends, and what goes out.
-fn translated(
+/// A device without bytes of which this call fails, 0 being none.
+fn fused(alloc: Global, call: u64) -> Fused {
+    FuseDevice::new(MemDevice::new(alloc), call)
+}
+
+/// Whether the first of two translations is whole.
+fn translates_twice(
     alloc: Global,
     translator: &Translator,
     a: &mut Fused,
     b: &mut Fused,
-) -> Result<String, Fail> {
-    let mut out = Vec::new(alloc);
-    let ending = Ending::of(translator.translate(SENTENCE, a, b, &mut out));
-    Ok(ending.told(alloc, out.as_slice())?)
+) -> Result<bool, Fail> {
+    let first = translated(alloc, translator, SENTENCE, a, b)?;
+    let second = translated(alloc, translator, SENTENCE, a, b)?;
+    is_whole(first.as_str(), second.as_str())
 }
 
-/// How two translations end where these calls of the devices fail, 0 being none.
-fn translated_without(alloc: Global, a_call: u64, b_call: u64) -> Result<String, Fail> {
-    let translator = fractions(alloc)?;
-    let mut a = FuseDevice::new(MemDevice::new(alloc), a_call);
-    let mut b = FuseDevice::new(MemDevice::new(alloc), b_call);
-    let first = translated(alloc, &translator, &mut a, &mut b)?;
-    let second = translated(alloc, &translator, &mut a, &mut b)?;
-    Ok(format!(in alloc; "{first}, {second}")?)
+/// Whether the first of two translations is whole where these calls of the devices fail.
+fn translates_without(
+    alloc: Global,
+    translator: &Translator,
+    a: u64,
+    b: u64,
+) -> Result<bool, Fail> {
+    let mut a = fused(alloc, a);
+    let mut b = fused(alloc, b);
+    translates_twice(alloc, translator, &mut a, &mut b)
 }
 
-/// How an evaluation of the sentence's tree ends, and what goes out. The device that has the tree
-/// keeps it.
-fn evaluated(
+/// Whether the first of two evaluations of the sentence's tree is whole. The device that has the
+/// tree keeps it.
+fn evaluates_twice(
     alloc: Global,
     translator: &Translator,
     tree: &mut Fused,
     a: &mut Fused,
     b: &mut Fused,
-) -> Result<String, Fail> {
-    let mut out = Vec::new(alloc);
-    let ending = Ending::of(translator.evaluate_tree(tree, a, b, &mut out));
+) -> Result<bool, Fail> {
+    let first = evaluated(alloc, translator, tree, a, b)?;
+    let second = evaluated(alloc, translator, tree, a, b)?;
     if tree.inner().bytes() != TREE {
         return Err(Fail::from("a tree that has changed"));
     }
-    Ok(ending.told(alloc, out.as_slice())?)
+    is_whole(first.as_str(), second.as_str())
 }
 
-/// How two evaluations end where these calls of the devices fail, 0 being none.
-fn evaluated_without(alloc: Global, tree: u64, a: u64, b: u64) -> Result<String, Fail> {
-    let translator = fractions(alloc)?;
-    let mut tree = FuseDevice::new(MemDevice::from_bytes(TREE.to_vec(alloc)?), tree);
-    let mut a = FuseDevice::new(MemDevice::new(alloc), a);
-    let mut b = FuseDevice::new(MemDevice::new(alloc), b);
-    let first = evaluated(alloc, &translator, &mut tree, &mut a, &mut b)?;
-    let second = evaluated(alloc, &translator, &mut tree, &mut a, &mut b)?;
-    Ok(format!(in alloc; "{first}, {second}")?)
+/// Whether the first of two evaluations is whole where these calls of the devices fail.
+fn evaluates_without(
+    alloc: Global,
+    translator: &Translator,
+    tree: u64,
+    a: u64,
+    b: u64,
+) -> Result<bool, Fail> {
+    let bytes = TREE.to_vec(alloc)?;
+    let mut tree = FuseDevice::new(MemDevice::from_bytes(bytes), tree);
+    let mut a = fused(alloc, a);
+    let mut b = fused(alloc, b);
+    evaluates_twice(alloc, translator, &mut tree, &mut a, &mut b)
 }
 
-/// How two runs end where a call of a device fails.
-fn told_without(alloc: Global, place: Place, call: u64) -> Result<String, Fail> {
+/// Whether the first of two runs is whole where a call of a device fails.
+fn is_whole_without(
+    alloc: Global,
+    translator: &Translator,
+    place: Place,
+    call: u64,
+) -> Result<bool, Fail> {
     match place {
-        Place::First => translated_without(alloc, call, 0),
-        Place::Second => translated_without(alloc, 0, call),
-        Place::Tree => evaluated_without(alloc, call, 0, 0),
-        Place::A => evaluated_without(alloc, 0, call, 0),
-        Place::B => evaluated_without(alloc, 0, 0, call),
+        Place::First => translates_without(alloc, translator, call, 0),
+        Place::Second => translates_without(alloc, translator, 0, call),
+        Place::Tree => evaluates_without(alloc, translator, call, 0, 0),
+        Place::A => evaluates_without(alloc, translator, 0, call, 0),
+        Place::B => evaluates_without(alloc, translator, 0, 0, call),
     }
 }
 
 /// The first call of a device that no run makes, counted from 1. Each call before it fails where
 /// it is to.
-fn calls_made(alloc: Global, place: Place) -> Result<u64, Fail> {
+fn counted(alloc: Global, translator: &Translator, place: Place) -> Result<u64, Fail> {
     for call in 1..1000 {
-        let told = told_without(alloc, place, call)?;
-        if is_whole(told.as_str())? {
+        if is_whole_without(alloc, translator, place, call)? {
             return Ok(call);
         }
     }
     Err(Fail::from("a run of a thousand calls"))
+}
+
+/// The same, of a translator of its own.
+fn calls_made(alloc: Global, place: Place) -> Result<u64, Fail> {
+    let translator = fractions(alloc)?;
+    counted(alloc, &translator, place)
 }
 
 #[test]

@@ -30,6 +30,13 @@ impl Read for Faltering<'_> {
     }
 }
 
+/// How a job of a reader ends.
+fn ended(alloc: Global, reader: Faltering<'_>, out: &mut Vec<u8>) -> Ending {
+    let mut a = MemDevice::new(alloc);
+    let mut b = MemDevice::new(alloc);
+    Ending::of(run_job(alloc, reader, out, &mut a, &mut b))
+}
+
 /// How a job ends of a reader that gives so many bytes a read and fails at this read, and what goes
 /// out.
 fn told_of(alloc: Global, bytes: &[u8], step: usize, read: u64) -> Result<String, Fail> {
@@ -38,26 +45,36 @@ fn told_of(alloc: Global, bytes: &[u8], step: usize, read: u64) -> Result<String
         step,
         reads_left: read,
     };
-    let mut a = MemDevice::new(alloc);
-    let mut b = MemDevice::new(alloc);
     let mut out = Vec::new(alloc);
-    let ending = Ending::of(run_job(alloc, reader, &mut out, &mut a, &mut b));
+    let ending = ended(alloc, reader, &mut out);
     Ok(ending.told(alloc, out.as_slice())?)
 }
 
+/// Whether a job is done where the reader fails at this read. Else it is refused, and nothing goes out.
+fn is_done(alloc: Global, job: &[u8], step: usize, read: u64) -> Result<bool, Fail> {
+    let told = told_of(alloc, job, step, read)?;
+    match told.as_str() {
+        "Read " => Ok(false),
+        "Done 868352" => Ok(true),
+        _ => Err(Fail::from("a job that is neither refused nor done")),
+    }
+}
+
 /// The first read that is not made of a job, counted from 1. At each read before it the reader
-/// fails, and then nothing goes out.
-fn reads_made(alloc: Global, step: usize) -> Result<u64, Fail> {
-    let job = format!(in alloc; "{FRACTIONS}%%\n1101.01")?;
+/// fails.
+fn reads_of(alloc: Global, job: &[u8], step: usize) -> Result<u64, Fail> {
     for read in 1..1000 {
-        let told = told_of(alloc, job.as_bytes(), step, read)?;
-        match told.as_str() {
-            "Read " => {}
-            "Done 868352" => return Ok(read),
-            _ => return Err(Fail::from("a job that is neither refused nor done")),
+        if is_done(alloc, job, step, read)? {
+            return Ok(read);
         }
     }
     Err(Fail::from("a job of a thousand reads"))
+}
+
+/// The first read that is not made of a job of binary fractions.
+fn reads_made(alloc: Global, step: usize) -> Result<u64, Fail> {
+    let job = format!(in alloc; "{FRACTIONS}%%\n1101.01")?;
+    reads_of(alloc, job.as_bytes(), step)
 }
 
 /// All bytes at once, and one byte a read, each of which can be the one that fails.

@@ -2,8 +2,7 @@
 
 ghost use Rattle.std.specs.Prelude.{[], false, Some};
 
-use crate::endings::Ending;
-use crate::translators::{SENTENCE, TREE, fractions};
+use crate::translators::{SENTENCE, TREE, evaluated, fractions, translated};
 use ag_eval::Meter;
 use aggen::Translator;
 use backreader::{Arity, Back, turn};
@@ -88,48 +87,41 @@ impl Arity for Chain {
 
 /// A device that lies, over these bytes.
 fn liar_over(alloc: Global, bytes: &[u8], lie: Lie) -> Result<Liar, Fail> {
+    let bytes = bytes.to_vec(alloc)?;
     Ok(Liar {
-        file: MemDevice::from_bytes(bytes.to_vec(alloc)?),
+        file: MemDevice::from_bytes(bytes),
         lie,
         calls: 0,
     })
 }
 
-/// Whether a translation over devices that lie writes nothing where it is refused.
-fn translates_clean(alloc: Global, lie: Lie) -> Result<bool, Fail> {
-    let translator = fractions(alloc)?;
-    let mut a = liar_over(alloc, b"", lie)?;
-    let mut b = liar_over(alloc, b"", lie)?;
-    let mut out = Vec::new(alloc);
-    let ending = Ending::of(translator.translate(SENTENCE, &mut a, &mut b, &mut out));
-    Ok(ending.is_clean(out.as_slice()))
-}
-
-#[test]
-fn translate_returns(rt: HostRuntime) -> Result<(), Fail> {
-    for lie in LIES {
-        assert!(rt; translates_clean(rt.alloc(), lie)?);
+/// A device that lies, without bytes.
+fn empty_liar(alloc: Global, lie: Lie) -> Liar {
+    Liar {
+        file: MemDevice::new(alloc),
+        lie,
+        calls: 0,
     }
-    Ok(())
 }
 
-/// Whether an evaluation over devices that lie writes nothing where it is refused.
-fn evaluates_clean(alloc: Global, lie: Lie) -> Result<bool, Fail> {
-    let translator = fractions(alloc)?;
+/// Whether nothing goes out where a run is refused for another cause than the writer.
+fn is_clean(told: &str) -> bool {
+    told.starts_with("Done ") || told.starts_with("Write ") || told.ends_with(' ')
+}
+
+/// How a translation over devices that lie ends, and what goes out.
+fn translation(alloc: Global, translator: &Translator, lie: Lie) -> Result<String, Fail> {
+    let mut a = empty_liar(alloc, lie);
+    let mut b = empty_liar(alloc, lie);
+    translated(alloc, translator, SENTENCE, &mut a, &mut b)
+}
+
+/// How an evaluation over devices that lie ends, and what goes out.
+fn evaluation(alloc: Global, translator: &Translator, lie: Lie) -> Result<String, Fail> {
     let mut tree = liar_over(alloc, TREE, lie)?;
-    let mut a = liar_over(alloc, b"", lie)?;
-    let mut b = liar_over(alloc, b"", lie)?;
-    let mut out = Vec::new(alloc);
-    let ended = translator.evaluate_tree(&mut tree, &mut a, &mut b, &mut out);
-    Ok(Ending::of(ended).is_clean(out.as_slice()))
-}
-
-#[test]
-fn evaluate_tree_returns(rt: HostRuntime) -> Result<(), Fail> {
-    for lie in LIES {
-        assert!(rt; evaluates_clean(rt.alloc(), lie)?);
-    }
-    Ok(())
+    let mut a = empty_liar(alloc, lie);
+    let mut b = empty_liar(alloc, lie);
+    evaluated(alloc, translator, &mut tree, &mut a, &mut b)
 }
 
 /// Runs the first pass, and then all, over devices that lie.
@@ -144,25 +136,48 @@ fn run_passes(alloc: Global, translator: &Translator, a: &mut Liar, b: &mut Liar
     let _all = run_all(alloc, grammar, plan, 1, a, b, &mut meter);
 }
 
-#[test]
-fn passes_return(rt: HostRuntime) -> Result<(), Fail> {
-    let alloc = rt.alloc();
+/// Runs passes where the first device has the sentence's tree.
+fn passes(alloc: Global, translator: &Translator, lie: Lie) -> Result<(), Fail> {
+    let mut a = liar_over(alloc, TREE, lie)?;
+    let mut b = empty_liar(alloc, lie);
+    run_passes(alloc, translator, &mut a, &mut b);
+    Ok(())
+}
+
+/// Whether all runs of a translator return, and nothing goes out where one is refused.
+fn return_clean(alloc: Global, translator: &Translator, lie: Lie) -> Result<bool, Fail> {
+    passes(alloc, translator, lie)?;
+    let translation = translation(alloc, translator, lie)?;
+    let evaluation = evaluation(alloc, translator, lie)?;
+    Ok(is_clean(translation.as_str()) && is_clean(evaluation.as_str()))
+}
+
+/// The same, of a translator of its own.
+fn runs_return_clean(alloc: Global, lie: Lie) -> Result<bool, Fail> {
     let translator = fractions(alloc)?;
+    return_clean(alloc, &translator, lie)
+}
+
+#[test]
+fn passes_translate_and_evaluate_tree_return(rt: HostRuntime) -> Result<(), Fail> {
     for lie in LIES {
-        let mut a = liar_over(alloc, TREE, lie)?;
-        let mut b = liar_over(alloc, b"", lie)?;
-        run_passes(alloc, &translator, &mut a, &mut b);
+        assert!(rt; runs_return_clean(rt.alloc(), lie)?, "{lie:?}");
     }
+    Ok(())
+}
+
+/// Turns a file round over devices that lie.
+fn turned(alloc: Global, lie: Lie) -> Result<(), Fail> {
+    let mut from = liar_over(alloc, TREE, lie)?;
+    let mut to = empty_liar(alloc, lie);
+    let _turned = turn(alloc, &mut from, &mut to, 1, &Chain {});
     Ok(())
 }
 
 #[test]
 fn turn_returns(rt: HostRuntime) -> Result<(), Fail> {
-    let alloc = rt.alloc();
     for lie in LIES {
-        let mut from = liar_over(alloc, TREE, lie)?;
-        let mut to = liar_over(alloc, b"", lie)?;
-        let _turned = turn(alloc, &mut from, &mut to, 1, &Chain {});
+        turned(rt.alloc(), lie)?;
     }
     Ok(())
 }
@@ -178,12 +193,17 @@ fn lent(alloc: Global, device: &mut Liar) -> Result<u64, Fail> {
     Ok(back.records())
 }
 
+/// How many bodies a reader lends of a device that lies.
+fn lent_by(alloc: Global, lie: Lie) -> Result<u64, Fail> {
+    let mut device = liar_over(alloc, TREE, lie)?;
+    lent(alloc, &mut device)
+}
+
 #[test]
 fn back_returns(rt: HostRuntime) -> Result<(), Fail> {
     for lie in LIES {
-        let mut device = liar_over(rt.alloc(), TREE, lie)?;
         // a file of 118 bytes has 16 frames, and there is no longer one
-        assert!(rt; lent(rt.alloc(), &mut device)? < 17, "{lie:?}");
+        assert!(rt; lent_by(rt.alloc(), lie)? < 17, "{lie:?}");
     }
     Ok(())
 }

@@ -4,7 +4,7 @@ use crate::endings::Ending;
 use aggen::{Fault, Translator};
 use std::alloc::Global;
 use std::test::Fail;
-use treefile::{FuseDevice, MemDevice};
+use treefile::{Device, FuseDevice, MemDevice};
 
 /// The grammar of binary fractions.
 pub const FRACTIONS: &str = "start N;
@@ -39,20 +39,48 @@ pub fn fractions(alloc: Global) -> Result<Translator, Fault> {
     Ok(Translator::build(alloc, FRACTIONS.as_bytes())?)
 }
 
+/// How translating a sentence over two devices ends, and what goes out.
+pub fn translated<D: Device>(
+    alloc: Global,
+    translator: &Translator,
+    sentence: &[u8],
+    a: &mut D,
+    b: &mut D,
+) -> Result<String, Fail> {
+    let mut out = Vec::new(alloc);
+    let ending = Ending::of(translator.translate(sentence, a, b, &mut out));
+    Ok(ending.told(alloc, out.as_slice())?)
+}
+
+/// How evaluating a tree over two other devices ends, and what goes out.
+pub fn evaluated<D: Device>(
+    alloc: Global,
+    translator: &Translator,
+    tree: &mut D,
+    a: &mut D,
+    b: &mut D,
+) -> Result<String, Fail> {
+    let mut out = Vec::new(alloc);
+    let ending = Ending::of(translator.evaluate_tree(tree, a, b, &mut out));
+    Ok(ending.told(alloc, out.as_slice())?)
+}
+
 /// How parsing a sentence ends at a device of which a call fails.
-fn parsed_without(alloc: Global, call: u64) -> Result<Ending, Fail> {
-    let translator = match Translator::build(alloc, FRACTIONS.as_bytes()) {
-        Ok(translator) => translator,
-        Err(fault) => return Err(Fault::from(fault))?,
-    };
+fn parsed_without(alloc: Global, translator: &Translator, call: u64) -> Ending {
     let mut device = FuseDevice::new(MemDevice::new(alloc), call);
-    Ok(Ending::of(translator.parse_tree(b"1", &mut device)))
+    Ending::of(translator.parse_tree(b"1", &mut device))
+}
+
+/// How parsing ends where the first call of the device fails, and so on.
+fn parsed_without_each(alloc: Global) -> Result<[Ending; 8], Fail> {
+    let translator = fractions(alloc)?;
+    Ok([1, 2, 3, 4, 5, 6, 7, 8].map(|call| parsed_without(alloc, &translator, call)))
 }
 
 #[test]
 fn a_device_that_fails(rt: HostRuntime) -> Result<(), Fail> {
-    for call in 1..8 {
-        assert_eq!(rt; parsed_without(rt.alloc(), call)?, Ending::Device);
-    }
+    let mut wanted = [Ending::Device; 8];
+    wanted[7] = Ending::Done;
+    assert_eq!(rt; parsed_without_each(rt.alloc())?, wanted);
     Ok(())
 }
