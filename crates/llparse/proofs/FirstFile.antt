@@ -52,22 +52,22 @@ module _ (g : Grammar) (m : Passes) (from_one : AreFromOne m) where
   left_from_one None = λ i x e. absurd (cc)
   left_from_one (Some q) = from_one q.left
 
-  bare : (p : ℕ) (values : ℕ → Value) → node_body g m 0 p values ≡ body_of Node p []
+  bare : (p : ℕ) (values : ℕ → Value) → node_body version_one g m 0 p values [] ≡ body_of Node p []
   bare p values = ap (body_of Node p) (no_values (left_passes m (slice_get g.productions p)) values (left_from_one (slice_get g.productions p)))
 
   mutual
-    frames : (t : Tree) (v : Valuation) → flat_map frame (postfix LeftToRight (bodies_of g m 0 t v)) ≡ post t
+    frames : (t : Tree) (v : Valuation) → flat_map frame (postfix LeftToRight (bodies_of version_one g m 0 t v)) ≡ post t
     frames (leaf c x) v = append-nil (leaf_frame c x)
     frames (node p ts) v =
-        flat_map-append frame (postfix_all LeftToRight (bodies_of_all g m 0 ts (children v))) (node_body g m 0 p (v []) ∷ [])
-        ∙ ap (λ z. z ++ (frame (node_body g m 0 p (v [])) ++ [])) (frames_all ts (children v))
-        ∙ ap (λ z. posts ts ++ z) (append-nil (frame (node_body g m 0 p (v []))) ∙ ap frame (bare p (v [])))
+        flat_map-append frame (postfix_all LeftToRight (bodies_of_all version_one g m 0 ts (children v))) (node_body version_one g m 0 p (v []) [] ∷ [])
+        ∙ ap (λ z. z ++ (frame (node_body version_one g m 0 p (v []) []) ++ [])) (frames_all ts (children v))
+        ∙ ap (λ z. posts ts ++ z) (append-nil (frame (node_body version_one g m 0 p (v []) [])) ∙ ap frame (bare p (v [])))
 
-    frames_all : (ts : Forest) (vs : ℕ → Valuation) → flat_map frame (postfix_all LeftToRight (bodies_of_all g m 0 ts vs)) ≡ posts ts
+    frames_all : (ts : Forest) (vs : ℕ → Valuation) → flat_map frame (postfix_all LeftToRight (bodies_of_all version_one g m 0 ts vs)) ≡ posts ts
     frames_all none vs = refl
     frames_all (more t ts) vs =
-        flat_map-append frame (postfix LeftToRight (bodies_of g m 0 t (vs 0))) (postfix_all LeftToRight (bodies_of_all g m 0 ts (rest vs)))
-        ∙ ap (λ z. z ++ flat_map frame (postfix_all LeftToRight (bodies_of_all g m 0 ts (rest vs)))) (frames t (vs 0))
+        flat_map-append frame (postfix LeftToRight (bodies_of version_one g m 0 t (vs 0))) (postfix_all LeftToRight (bodies_of_all version_one g m 0 ts (rest vs)))
+        ∙ ap (λ z. z ++ flat_map frame (postfix_all LeftToRight (bodies_of_all version_one g m 0 ts (rest vs)))) (frames t (vs 0))
         ∙ ap (λ z. post t ++ z) (frames_all ts (rest vs))
 
   mutual

@@ -1,5 +1,5 @@
 -- What is to come at each step.
-use Rattle.std.proofs.Common.{ℕ, suc, ◌≡◌, ◌+◌, ◌⊎◌, inl, inr, Bool, true, false, if◌then◌else◌, List, [], ◌∷◌, ◌++◌, Option, Some, None, Result, Ok, Err, Bor, slice_get, drop, length, refl, ap, ◌∙◌, sym, subst, arith}
+use Rattle.std.proofs.Common.{ℕ, zero, suc, ◌≡◌, ◌+◌, ◌⊎◌, inl, inr, Bool, true, false, if◌then◌else◌, List, [], ◌∷◌, ◌++◌, Option, Some, None, Result, Ok, Err, Bor, slice_get, drop, length, refl, ap, ◌∙◌, sym, subst, arith}
 use Rattle.ag_value.specs.declared.value.Value.{Value}
 use Rattle.ag_grammar.specs.declared.grammar.Item.{Item}
 use Rattle.ag_grammar.specs.declared.grammar.Item.TheVariants as item
@@ -17,7 +17,7 @@ use Rattle.treefile.specs.Ending.{Told}
 use Rattle.treefile.specs.Records.{values_up_to}
 use Rattle.treefile.specs.TreeFile.{body_of, version_one}
 use Rattle.treefile.specs.Awaited as awaited
-use Rattle.treefile.specs.Awaited.{IsNodeRecord, IsRecordOf, ToCome, before_others, root_to_come, unvisited}
+use Rattle.treefile.specs.Awaited.{Child, IsNodeRecord, IsRecordOf, ToCome, before_others, root_to_come, told, unvisited}
 use Rattle.treefile.proofs.Coming.{all_to_come, next_to_come}
 use Rattle.treefile.proofs.Backward.{damage_is_there, never_no_file}
 use Rattle.treefile.proofs.Way.{way_is_too_long}
@@ -42,39 +42,54 @@ use Rattle.passrun.proofs.Recorded.{mended}
 use Rattle.passrun.proofs.Steps.{follows_next, next_is, stepped}
 use Rattle.passrun.proofs.Stays.{between_stays, gone_stays}
 
+-- the children of a node of a production, of whose values nothing is told before they are read
+abbrev children : Setting → Production → List Child
+children c q = told false c.grammar c.passes c.read (stored_items q.items) []
+
+told_length : (c : Setting) (xs : List Item) → length (told false c.grammar c.passes c.read xs []) ≡ length xs
+told_length c [] = refl
+told_length c (x ∷ xs) = ap suc (told_length c xs)
+
+told_at : (c : Setting) (xs : List Item) (i : ℕ) (x : Item) → slice_get xs i ≡ Some x → slice_get (told false c.grammar c.passes c.read xs []) i ≡ Some (x, None)
+told_at c [] i x e = let bad : ⊥ = cc in absurd bad
+told_at c (y ∷ xs) zero x e = let same : y ≡ x = cc in ap (λ (z : Item). let child : Child = (z, None) in Some child) same
+told_at c (y ∷ xs) (suc i) x e = told_at c xs i x e
+
 -- a record that was read is one of its item, with the children of its production
-abbrev pub children_of : (c : Setting) (x : Item) (p : ℕ) (body : List ℕ) (old new : List Value) → IsRead c x p body old new → List Item
-children_of c (item.Symbol s) p body old new h = stored_items h.production.items
+abbrev pub children_of : (c : Setting) (x : Item) (p : ℕ) (body : List ℕ) (old new : List Value) → IsRead c x p body old new → List Child
+children_of c (item.Symbol s) p body old new h = children c h.production
 children_of c (item.Terminal (Class d)) p body old new h = []
 children_of c (item.Terminal (Literal l)) p body old new h = []
 
-pub is_record : (c : Setting) (x : Item) (p : ℕ) (body : List ℕ) (old new : List Value) (h : IsRead c x p body old new) → IsRecordOf c.grammar c.passes c.read x body (children_of c x p body old new h)
-is_record c (item.Symbol s) p body old new h = (p, h.production, h.values, record { production = h.there; left = h.left; well = λ a n is le. h.well a; stands = h.same }, refl)
-is_record c (item.Terminal (Class d)) p body old new h = (h.1.text, h.1.fits, h.1.same, refl)
+pub is_record : (c : Setting) (x : Item) (p : ℕ) (body : List ℕ) (old new : List Value) (h : IsRead c x p body old new) → IsRecordOf version_one c.grammar c.passes c.read (x, None) body (children_of c x p body old new h)
+is_record c (item.Symbol s) p body old new h = (p, h.production, h.values, record { production = h.there; left = h.left; well = λ a n is le. h.well a; copies = []; are_copies = refl; stands = h.same }, refl, tt)
+is_record c (item.Terminal (Class d)) p body old new h = (h.1.text, h.1.fits, h.1.same, refl, tt)
 is_record c (item.Terminal (Literal l)) p body old new h = elim h [ ]
 
 -- a body that is no record with values that are all well is none at all
-pub no_record : (c : Setting) (x : Item) (body : List ℕ) → IsNoRecord c x body → awaited.IsNoRecord c.grammar c.passes c.read x body
-no_record c (item.Symbol s) body none ys (p, q, e, is, same) =
+pub no_record : (c : Setting) (x : Item) (body : List ℕ) → IsNoRecord c x body → awaited.IsNoRecord version_one c.grammar c.passes c.read (x, None) body
+no_record c (item.Symbol s) body none ys (p, q, e, is, same, as_told) =
     let m = mended c.read (c.passes s) e is.well in
     let ps : c.passes s ≡ left_passes c.passes (slice_get c.grammar.productions p) = ap c.passes (sym is.left) ∙ ap (left_passes c.passes) (sym is.production) in
     none p q m.0 is.production is.left m.1 (is.stands ∙ ap (λ ps. body_of Node p (values_up_to c.read ps e)) (sym ps) ∙ ap (body_of Node p) m.2 ∙ ap (λ ps. body_of Node p (values_up_to c.read ps m.0)) ps)
-no_record c (item.Terminal (Class d)) body none ys (text, fits, is, same) = none text fits is
+no_record c (item.Terminal (Class d)) body none ys (text, fits, is, same, as_told) = none text fits is
 no_record c (item.Terminal (Literal l)) body none ys h = elim h [ ]
 
 got_more : (x : Item) (i : ℕ) → got (after_get x) i ≡ suc i
 got_more (item.Symbol s) i = refl
 got_more (item.Terminal t) i = refl
 
-pub asked_is : (c : Setting) (q : Production) (ph : Phase) (i : ℕ) (done : List ℕ) (level : ℕ) (xs : List Instr) (todo : ToCome) → Follows c q ph i done xs → asked q level xs todo ≡ before_others (way c) level (unvisited (way c) (stored_items q.items) (got ph i)) todo
+pub asked_is : (c : Setting) (q : Production) (ph : Phase) (i : ℕ) (done : List ℕ) (level : ℕ) (xs : List Instr) (todo : ToCome) → Follows c q ph i done xs → asked q level xs todo ≡ before_others (way c) level (unvisited (way c) (children c q) (got ph i)) todo
 asked_is c q Between i done level [] todo h = elim h [ ]
 asked_is c q Got i done level [] todo h = elim h [ ]
 asked_is c q Gone i done level [] todo h = elim h [ ]
 asked_is c q Between i done level (instr.Get j ∷ xs) todo h =
     let on = asked_is c q (after_get h.2) i done level xs todo h.4 in
     let at : slice_get (stored_items q.items) (nth (way c) (arity q) i) ≡ Some h.2 = ap (item_at q) (sym h.1) ∙ h.3 in
-    ap (λ z. in_front level z (asked q level xs todo)) h.3 ∙ ap (λ t. (level, h.2) ∷ t) (on ∙ ap (λ n. before_others (way c) level (unvisited (way c) (stored_items q.items) n) todo) (got_more h.2 i))
-    ∙ sym (next_to_come (way c) level i (stored_items q.items) h.2 todo h.0 at)
+    let long = told_length c (stored_items q.items) in
+    let child = subst (λ n. slice_get (children c q) (nth (way c) n i) ≡ Some (h.2, None)) (sym long) (told_at c (stored_items q.items) (nth (way c) (arity q) i) h.2 at) in
+    ap (λ z. in_front level z (asked q level xs todo)) h.3 ∙ ap (λ t. (level, (h.2, None)) ∷ t) (on ∙ ap (λ n. before_others (way c) level (unvisited (way c) (children c q) n) todo) (got_more h.2 i))
+    ∙ sym (next_to_come (way c) level i (children c q) (h.2, None) todo (let less = h.0 in omega arith) child)
 asked_is c q Got i done level (instr.Get j ∷ xs) todo h = elim h [ ]
 asked_is c q Gone i done level (instr.Get j ∷ xs) todo h = elim h [ ]
 asked_is c q Between i done level (instr.Go j ∷ xs) todo h = elim h [ ]
@@ -89,7 +104,7 @@ asked_is c q Gone i done level (instr.Set j a r ∷ xs) todo h = elim h [ ]
 asked_is c q Between i done level (instr.Def a r ∷ xs) todo h = asked_is c q Between i (r ∷ done) level xs todo h.1
 asked_is c q Got i done level (instr.Def a r ∷ xs) todo h = asked_is c q Got i (r ∷ done) level xs todo h.1
 asked_is c q Gone i done level (instr.Def a r ∷ xs) todo h = asked_is c q Gone i (r ∷ done) level xs todo h.1
-asked_is c q Between i done level (instr.End ∷ xs) todo h = sym (ap (λ n. before_others (way c) level (unvisited (way c) (stored_items q.items) n) todo) h.0 ∙ (all_to_come (way c) level (stored_items q.items) todo).1)
+asked_is c q Between i done level (instr.End ∷ xs) todo h = sym (ap (λ n. before_others (way c) level (unvisited (way c) (children c q) n) todo) (h.0 ∙ sym (told_length c (stored_items q.items))) ∙ (all_to_come (way c) level (children c q) todo).1)
 asked_is c q Got i done level (instr.End ∷ xs) todo h = elim h [ ]
 asked_is c q Gone i done level (instr.End ∷ xs) todo h = elim h [ ]
 
@@ -121,10 +136,10 @@ module _ (c : Setting) (sound : IsSound c) where
   dir = ap direction_of sound.next
 
   -- the children of a node whose record was read
-  pub children_asked : (p : ℕ) (q : Production) (level : ℕ) (todo : ToCome) → IsProduction c.grammar p q → asked_in (slice_get c.grammar.productions p) level (list_at c p) todo ≡ before_others (other (direction_of c.read)) level (stored_items q.items) todo
+  pub children_asked : (p : ℕ) (q : Production) (level : ℕ) (todo : ToCome) → IsProduction c.grammar p q → asked_in (slice_get c.grammar.productions p) level (list_at c p) todo ≡ before_others (other (direction_of c.read)) level (children c q) todo
   children_asked p q level todo there =
       ap (λ o. asked_in o level (list_at c p) todo) there ∙ asked_is c q Between 0 [] level (list_at c p) todo (sound.course p q there)
-      ∙ ap (λ xs. before_others (way c) level xs todo) (all_to_come (way c) level (stored_items q.items) todo).0 ∙ ap (λ d. before_others d level (stored_items q.items) todo) dir
+      ∙ ap (λ (xs : List Child). before_others (way c) level xs todo) (all_to_come (way c) level (children c q) todo).0 ∙ ap (λ d. before_others d level (children c q) todo) dir
 
   not_going : (x : OpenNode) (xs : List OpenNode) → goes_next (rest_of c x) ≡ false → to_come c (x ∷ xs) ≡ ahead c (x ∷ xs)
   not_going x xs e = ap (λ b. if b then asked_in (slice_get c.grammar.productions x.child) (suc (suc (suc (length xs)))) (list_at c x.child) (ahead c (x ∷ xs)) else ahead c (x ∷ xs)) e
@@ -134,7 +149,7 @@ module _ (c : Setting) (sound : IsSound c) where
 
   -- at a `Get` its item comes next
   pub get_ahead : (x : OpenNode) (xs : List OpenNode) (j : ℕ) (q : Production) (x' : Item) → slice_get (list_at c x.production) x.at ≡ Some (instr.Get j) → IsProduction c.grammar x.production q → item_at q j ≡ Some x'
-      → to_come c (x ∷ xs) ≡ (suc (suc (length xs)), x') ∷ asked q (suc (suc (length xs))) (drop (x.at + 1) (list_at c x.production)) (ahead c xs)
+      → to_come c (x ∷ xs) ≡ (suc (suc (length xs)), (x', None)) ∷ asked q (suc (suc (length xs))) (drop (x.at + 1) (list_at c x.production)) (ahead c xs)
   get_ahead x xs j q x' at there stands =
       let level = suc (suc (length xs)) in
       let rest = drop (x.at + 1) (list_at c x.production) in
@@ -218,7 +233,7 @@ module _ (c : Setting) (sound : IsSound c) where
       let same : o.production ≡ q = cc in
       let first = subst (AreRecords c t.read) (get_ahead x xs j q x' next there stands) here in
       subst (AreRecords c (t.read ++ body ∷ [])) (got_ahead x xs ph o.i o.done j p q x' body old new read next there stands (subst (λ q. Follows c q ph o.i o.done (rest_of c x)) same o.stays.follows))
-      (leaves_on c.grammar c.passes c.read (other (direction_of c.read)) t.read body level x' (children_of c x' p body old new read) (root_to_come c.grammar) todo first (is_record c x' p body old new read))
+      (leaves_on c.grammar c.passes c.read (other (direction_of c.read)) t.read body level (x', None) (children_of c x' p body old new read) (root_to_come c.grammar) todo first (is_record c x' p body old new read))
 
   -- the root's record was read
   pub root_records : (p : ℕ) (body : List ℕ) (old new : List Value) (base : ℕ) → IsRead c (item.Symbol c.grammar.start) p body old new → AreRecords c (body ∷ []) (to_come c (record { production = p; child = 0; at = 0; base = base } ∷ []))
@@ -226,19 +241,19 @@ module _ (c : Setting) (sound : IsSound c) where
       let x : OpenNode = record { production = p; child = 0; at = 0; base = base } in
       let stays = between_stays c read.production 0 [] (list_at c p) (sound.course p read.production read.there) in
       let items = sym (children_asked p read.production 2 [] read.there) ∙ sym (not_going x [] stays) in
-      subst (AreRecords c (body ∷ [])) items (stored_items read.production.items, is_record c (item.Symbol c.grammar.start) p body old new read, refl)
+      subst (AreRecords c (body ∷ [])) items (children c read.production, is_record c (item.Symbol c.grammar.start) p body old new read, refl)
 
-  missing_breaks : (x : Item) (level : ℕ) (todo : ToCome) (found : Result (Option (List ℕ)) FrameFault) → IsMissing c x found → awaited.Breaks c.grammar c.passes c.read ((level, x) ∷ todo) found
+  missing_breaks : (x : Item) (level : ℕ) (todo : ToCome) (found : Result (Option (List ℕ)) FrameFault) → IsMissing c x found → awaited.Breaks version_one c.grammar c.passes c.read ((level, (x, None)) ∷ todo) found
   missing_breaks x level todo (Err e) h = tt
   missing_breaks x level todo (Ok None) h = tt
   missing_breaks x level todo (Ok (Some body)) h = no_record c x body h
 
-  pub unfetched : (x : Item) (open_count : ℕ) (content : List ℕ) (place : Place) (todo : ToCome) (f : RunFault) → IsReadable c content → (h : ComesTo c content place.progress.at ((suc open_count, x) ∷ todo)) → place.progress.records ≡ length h.bodies
+  pub unfetched : (x : Item) (open_count : ℕ) (content : List ℕ) (place : Place) (todo : ToCome) (f : RunFault) → IsReadable c content → (h : ComesTo c content place.progress.at ((suc open_count, (x, None)) ∷ todo)) → place.progress.records ≡ length h.bodies
       → IsUnfetched c x open_count content place f → IsRunFault c content f
   unfetched x n content place todo (fault.Damaged at) readable h count (same, missing) =
-      subst (IsDamaged c content) (sym same) (broken c sound content place.progress.at readable ((suc n, x) ∷ todo, h, missing_breaks x (suc n) todo (next_before version_one content place.progress.at) missing))
-  unfetched x n content place todo fault.TooDeep readable h count deep = way_is_too_long version_one c.grammar c.passes c.read content place.progress.at (length h.bodies) (suc n) most_depth most_nodes x todo (way_to c sound content place.progress.at ((suc n, x) ∷ todo) h) (inl (omega arith))
-  unfetched x n content place todo fault.TooManyNodes readable h count many = way_is_too_long version_one c.grammar c.passes c.read content place.progress.at (length h.bodies) (suc n) most_depth most_nodes x todo (way_to c sound content place.progress.at ((suc n, x) ∷ todo) h) (inr (omega arith))
+      subst (IsDamaged c content) (sym same) (broken c sound content place.progress.at readable ((suc n, (x, None)) ∷ todo, h, missing_breaks x (suc n) todo (next_before version_one content place.progress.at) missing))
+  unfetched x n content place todo fault.TooDeep readable h count deep = way_is_too_long version_one c.grammar c.passes c.read content place.progress.at (length h.bodies) (suc n) most_depth most_nodes (x, None) todo (way_to c sound content place.progress.at ((suc n, (x, None)) ∷ todo) h) (inl (omega arith))
+  unfetched x n content place todo fault.TooManyNodes readable h count many = way_is_too_long version_one c.grammar c.passes c.read content place.progress.at (length h.bodies) (suc n) most_depth most_nodes (x, None) todo (way_to c sound content place.progress.at ((suc n, (x, None)) ∷ todo) h) (inr (omega arith))
   unfetched x n content place todo fault.Device readable h count u = tt
   unfetched x n content place todo fault.NoMemory readable h count u = tt
 

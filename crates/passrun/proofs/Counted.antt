@@ -11,7 +11,8 @@ use Rattle.ag_grammar.specs.grammars.Solution.{Valuation, children, rest}
 use Rattle.ag_grammar.specs.grammars.Tree.{Tree, Forest, leaf, node, none, more, node_count, node_counts}
 use Rattle.ag_grammar.specs.grammars.Counts.{pass_rule_count, rules_of_pass, totals}
 use Rattle.treefile.specs.Orders.{BodyTree, branch, prefix, prefix_all, postfix, postfix_all}
-use Rattle.treefile.specs.Records.{bodies_of, bodies_of_all, node_body}
+use Rattle.treefile.specs.Records.{bodies_of, bodies_of_all}
+use Rattle.treefile.specs.TreeFile.{version_one}
 use Rattle.passcode.specs.declared.instr.Instr.{Instr}
 use Rattle.passcode.specs.declared.instr.Instr.TheVariants as instr
 use Rattle.planchecker.specs.Course.{Phase, Between, Got, Gone, after_get, Follows}
@@ -19,35 +20,36 @@ use Rattle.planchecker.specs.Settings.{Setting, arity, list_at, place, way}
 use Rattle.planchecker.specs.Sound.{IsSound}
 use Rattle.passrun.specs.declared.open_node.OpenNode.{OpenNode}
 use Rattle.passrun.specs.Passing.{Tapes, Awaits, IsCurrent, Passing, IsRootReady, Stays, below, met}
+use Rattle.passrun.specs.Reading.{own_body}
 use Rattle.passrun.specs.Places.{Table}
 use Rattle.passrun.proofs.Finish.{count_of, count_of_all}
 
 mutual
-  post_of : (d : Direction) (g : Grammar) (m : Passes) (k : ℕ) (t : Tree) (v : Valuation) → length (postfix d (bodies_of g m k t v)) ≡ node_count t
+  post_of : (d : Direction) (g : Grammar) (m : Passes) (k : ℕ) (t : Tree) (v : Valuation) → length (postfix d (bodies_of version_one g m k t v)) ≡ node_count t
   post_of d g m k (leaf c x) v = refl
   post_of d g m k (node p ts) v =
       let a = post_of_all d g m k ts (children v) in
-      let e = length-append (postfix_all d (bodies_of_all g m k ts (children v))) (root_of (bodies_of g m k (node p ts) v) ∷ []) in
+      let e = length-append (postfix_all d (bodies_of_all version_one g m k ts (children v))) (root_of (bodies_of version_one g m k (node p ts) v) ∷ []) in
       omega arith
     where
       root_of : BodyTree → List ℕ
       root_of (branch body ts) = body
 
-  pub post_of_all : (d : Direction) (g : Grammar) (m : Passes) (k : ℕ) (ts : Forest) (vs : ℕ → Valuation) → length (postfix_all d (bodies_of_all g m k ts vs)) ≡ node_counts ts
+  pub post_of_all : (d : Direction) (g : Grammar) (m : Passes) (k : ℕ) (ts : Forest) (vs : ℕ → Valuation) → length (postfix_all d (bodies_of_all version_one g m k ts vs)) ≡ node_counts ts
   post_of_all d g m k none vs = refl
   post_of_all LeftToRight g m k (more t ts) vs =
       let a = post_of LeftToRight g m k t (vs 0) in
       let b = post_of_all LeftToRight g m k ts (rest vs) in
-      let e = length-append (postfix LeftToRight (bodies_of g m k t (vs 0))) (postfix_all LeftToRight (bodies_of_all g m k ts (rest vs))) in
+      let e = length-append (postfix LeftToRight (bodies_of version_one g m k t (vs 0))) (postfix_all LeftToRight (bodies_of_all version_one g m k ts (rest vs))) in
       omega arith
   post_of_all RightToLeft g m k (more t ts) vs =
       let a = post_of RightToLeft g m k t (vs 0) in
       let b = post_of_all RightToLeft g m k ts (rest vs) in
-      let e = length-append (postfix_all RightToLeft (bodies_of_all g m k ts (rest vs))) (postfix RightToLeft (bodies_of g m k t (vs 0))) in
+      let e = length-append (postfix_all RightToLeft (bodies_of_all version_one g m k ts (rest vs))) (postfix RightToLeft (bodies_of version_one g m k t (vs 0))) in
       omega arith
 
 -- the list of a tree without its root's body has one body fewer
-below_count : (d : Direction) (g : Grammar) (m : Passes) (k : ℕ) (t : Tree) (v : Valuation) → suc (length (below d (bodies_of g m k t v))) ≡ node_count t
+below_count : (d : Direction) (g : Grammar) (m : Passes) (k : ℕ) (t : Tree) (v : Valuation) → suc (length (below d (bodies_of version_one g m k t v))) ≡ node_count t
 below_count d g m k (leaf c x) v = refl
 below_count d g m k (node p ts) v = ap suc (post_of_all d g m k ts (children v))
 
@@ -110,10 +112,10 @@ module _ (c : Setting) (sound : IsSound c) where
       let pre = count_of_all (way c) c.grammar c.passes c.read ts ws in
       let post = post_of_all (way c) c.grammar c.passes c.write ts ws in
       let a = ap length stays.visits.read in
-      let b = length-append (met c x.production f old).read (prefix_all (way c) (bodies_of_all c.grammar c.passes c.read ts ws)) in
-      let d = length-append old.read (node_body c.grammar c.passes c.read x.production f ∷ []) in
+      let b = length-append (met c x.production f old).read (prefix_all (way c) (bodies_of_all version_one c.grammar c.passes c.read ts ws)) in
+      let d = length-append old.read (own_body c.grammar c.passes c.read x.production f ∷ []) in
       let e' = ap length stays.visits.put in
-      let f' = length-append old.put (postfix_all (way c) (bodies_of_all c.grammar c.passes c.write ts ws)) in
+      let f' = length-append old.put (postfix_all (way c) (bodies_of_all version_one c.grammar c.passes c.write ts ws)) in
       let rules = rules_bound_all ts in
       let own = (few_rules c q next i done (drop x.at (list_at c x.production)) stays.follows).0 in
       let most = few_of x.production (Some q) stays.there in
@@ -137,7 +139,7 @@ module _ (c : Setting) (sound : IsSound c) where
       let n = h.1 in
       (omega arith, omega arith)
   current_counted q Got i level p e old new count h =
-      let body = node_body c.grammar c.passes c.read p (e (place (way c) (arity q) i)) in
+      let body = own_body c.grammar c.passes c.read p (e (place (way c) (arity q) i)) in
       let a = ap (λ z. length z.put) h.0.tapes in
       let b = ap (λ z. length z.read) h.0.tapes in
       let d = length-append old.read (body ∷ []) in
@@ -146,10 +148,10 @@ module _ (c : Setting) (sound : IsSound c) where
   current_counted q Gone i level p e old new count h =
       let t = h.tree in
       let a = ap length h.ready.read in
-      let b = length-append old.read (prefix (way c) (bodies_of c.grammar c.passes c.read t h.values)) in
+      let b = length-append old.read (prefix (way c) (bodies_of version_one c.grammar c.passes c.read t h.values)) in
       let d = count_of (way c) c.grammar c.passes c.read t h.values in
       let e' = ap length h.ready.put in
-      let f' = length-append old.put (below (way c) (bodies_of c.grammar c.passes c.write t h.values)) in
+      let f' = length-append old.put (below (way c) (bodies_of version_one c.grammar c.passes c.write t h.values)) in
       let g' = below_count (way c) c.grammar c.passes c.write t h.values in
       let rules = rules_bound t in
       let n = h.counted in

@@ -2,12 +2,11 @@
 use Rattle.std.specs.List.{flat_map}
 use Rattle.std.proofs.Common.{ℕ, suc, ◌≡◌, ◌≢◌, ◌+◌, ◌^◌, ◌<◌, inl, inr, Bool, true, false, if◌then◌else◌, List, [], ◌∷◌, ◌++◌, Some, Ok, Err, length, refl, ap, ◌∙◌, sym, subst, arith}
 use Rattle.ag_grammar.specs.declared.direction.Direction.{Direction}
-use Rattle.ag_grammar.specs.declared.grammar.Item.{Item}
 use Rattle.ag_grammar.specs.grammars.AttributeGrammar.{Grammar}
 use Rattle.ag_grammar.specs.grammars.Passes.{Passes, direction_of, other}
 use Rattle.treefile.specs.declared.reading.FrameFault.{FrameFault}
 use Rattle.treefile.specs.declared.reading.FrameFault.TheVariants as frame_fault
-use Rattle.treefile.specs.Awaited.{Breaks, IsOnTheWay, IsRecordOf, ToCome, before_others, root_to_come}
+use Rattle.treefile.specs.Awaited.{Breaks, Child, IsOnTheWay, IsRecordOf, ToCome, before_others, root_to_come}
 use Rattle.treefile.specs.Backward.{ReadsTo, before_frame, next_before, pass_in, pass_of}
 use Rattle.treefile.specs.Ending.{is_tree_file, version_one_usable}
 use Rattle.treefile.specs.OneTree.{IsNumbered}
@@ -23,7 +22,7 @@ use Rattle.passrun.specs.Damage.{BreaksAt, ComesTo, IsDamaged, IsReadable, Leave
 use Rattle.passrun.specs.Laws.{ShowsOnce}
 
 -- one record more
-pub leaves_on : (g : Grammar) (m : Passes) (k : ℕ) (d : Direction) (bodies : List (List ℕ)) (body : List ℕ) (level : ℕ) (x : Item) (ys : List Item) (todo left : ToCome) → Leaves g m k d todo bodies ((level, x) ∷ left) → IsRecordOf g m k x body ys
+pub leaves_on : (g : Grammar) (m : Passes) (k : ℕ) (d : Direction) (bodies : List (List ℕ)) (body : List ℕ) (level : ℕ) (x : Child) (ys : List Child) (todo left : ToCome) → Leaves g m k d todo bodies ((level, x) ∷ left) → IsRecordOf version_one g m k x body ys
     → Leaves g m k d todo (bodies ++ body ∷ []) (before_others d (suc level) ys left)
 leaves_on g m k d [] body level x ys todo left h is = subst (λ (t : ToCome). Leaves g m k d t (body ∷ []) (before_others d (suc level) ys left)) (sym h) (ys, is, refl)
 leaves_on g m k d (first ∷ bodies) body level x ys [] left h is = elim h [ ]
@@ -43,27 +42,27 @@ comes_on g m k content (body ∷ bodies) at count start ((level, x) ∷ todo) le
 
 -- two ways that break do so at one offset
 one_break : (g : Grammar) (m : Passes) (k : ℕ) (content : List ℕ) (bodies others : List (List ℕ)) (from at there : ℕ) (todo left rest : ToCome) → IsNumbered g → ReadsTo version_one content from bodies at → ReadsTo version_one content from others there
-    → Leaves g m k (other (direction_of k)) todo bodies left → Leaves g m k (other (direction_of k)) todo others rest → Breaks g m k left (next_before version_one content at) → Breaks g m k rest (next_before version_one content there) → at ≡ there
+    → Leaves g m k (other (direction_of k)) todo bodies left → Leaves g m k (other (direction_of k)) todo others rest → Breaks version_one g m k left (next_before version_one content at) → Breaks version_one g m k rest (next_before version_one content there) → at ≡ there
 one_break g m k content [] [] from at there todo left rest few read read' h h' breaks breaks' = sym read ∙ read'
 one_break g m k content (body ∷ bodies) others from at there [] left rest few read read' h h' breaks breaks' = elim h [ ]
 one_break g m k content [] (another ∷ others) from at there [] left rest few read read' h h' breaks breaks' = elim h' [ ]
 one_break g m k content [] (another ∷ others) from at there ((level, x) ∷ todo) left rest few read read' h h' breaks breaks' =
-    absurd (stops g m k content another at ((level, x) ∷ todo) level x todo h'.0 refl (ap (next_before version_one content) (sym read) ∙ read'.0) h'.1 (subst (λ (t : ToCome). Breaks g m k t (next_before version_one content at)) (sym h) breaks))
+    absurd (stops g m k content another at ((level, x) ∷ todo) level x todo h'.0 refl (ap (next_before version_one content) (sym read) ∙ read'.0) h'.1 (subst (λ (t : ToCome). Breaks version_one g m k t (next_before version_one content at)) (sym h) breaks))
   where
-    stops : (g : Grammar) (m : Passes) (k : ℕ) (content body : List ℕ) (at : ℕ) (left : ToCome) (level : ℕ) (x : Item) (todo : ToCome) (ys : List Item) → left ≡ (level, x) ∷ todo → next_before version_one content at ≡ Ok (Some body) → IsRecordOf g m k x body ys → Breaks g m k left (next_before version_one content at) → ⊥
+    stops : (g : Grammar) (m : Passes) (k : ℕ) (content body : List ℕ) (at : ℕ) (left : ToCome) (level : ℕ) (x : Child) (todo : ToCome) (ys : List Child) → left ≡ (level, x) ∷ todo → next_before version_one content at ≡ Ok (Some body) → IsRecordOf version_one g m k x body ys → Breaks version_one g m k left (next_before version_one content at) → ⊥
     stops g m k content body at left level x todo ys is found record_is breaks =
-        let so : Breaks g m k ((level, x) ∷ todo) (Ok (Some body)) = subst (λ (t : ToCome). Breaks g m k t (Ok (Some body))) is (subst (Breaks g m k left) found breaks) in
+        let so : Breaks version_one g m k ((level, x) ∷ todo) (Ok (Some body)) = subst (λ (t : ToCome). Breaks version_one g m k t (Ok (Some body))) is (subst (Breaks version_one g m k left) found breaks) in
         so ys record_is
 one_break g m k content (body ∷ bodies) [] from at there ((level, x) ∷ todo) left rest few read read' h h' breaks breaks' =
     let found : next_before version_one content there ≡ Ok (Some body) = ap (next_before version_one content) (sym read') ∙ read.0 in
-    let so : Breaks g m k ((level, x) ∷ todo) (Ok (Some body)) = subst (Breaks g m k ((level, x) ∷ todo)) found (subst (λ (t : ToCome). Breaks g m k t (next_before version_one content there)) (sym h') breaks') in
+    let so : Breaks version_one g m k ((level, x) ∷ todo) (Ok (Some body)) = subst (Breaks version_one g m k ((level, x) ∷ todo)) found (subst (λ (t : ToCome). Breaks version_one g m k t (next_before version_one content there)) (sym h') breaks') in
     absurd (so h.0 h.1)
 one_break g m k content (body ∷ bodies) (another ∷ others) from at there ((level, x) ∷ todo) left rest few read read' h h' breaks breaks' =
     let e : Ok (Some another) ≡ Ok (Some body) = sym read'.0 ∙ read.0 in
     let same : another ≡ body = cc in
-    let items : h'.0 ≡ h.0 = one_record g m k x body h'.0 h.0 few (subst (λ (b : List ℕ). IsRecordOf g m k x b h'.0) same h'.1) h.1 in
+    let items : h'.0 ≡ h.0 = one_record version_one g m k x body h'.0 h.0 few (subst (λ (b : List ℕ). IsRecordOf version_one g m k x b h'.0) same h'.1) h.1 in
     one_break g m k content bodies others (before_frame from body) at there (before_others (other (direction_of k)) (suc level) h.0 todo) left rest few read.1 (subst (λ (b : List ℕ). ReadsTo version_one content (before_frame from b) others there) same read'.1)
-    h.2 (subst (λ (ys : List Item). Leaves g m k (other (direction_of k)) (before_others (other (direction_of k)) (suc level) ys todo) others rest) items h'.2) breaks breaks'
+    h.2 (subst (λ (ys : List Child). Leaves g m k (other (direction_of k)) (before_others (other (direction_of k)) (suc level) ys todo) others rest) items h'.2) breaks breaks'
 
 -- what begins as no tree file
 no_file : (is : Bool) (pass : ℕ) (f : FrameFault) → (if is then Ok pass else Err frame_fault.NotATreeFile) ≡ Err f → (is ≡ false) × (f ≡ frame_fault.NotATreeFile)
@@ -99,7 +98,7 @@ module _ (c : Setting) (sound : IsSound c) where
         is.1,
         record {
           none = λ t v tree file.
-              let begun : is_tree_file version_one content ≡ true = ap (is_tree_file version_one) file.stands ∙ begins version_one c.read (flat_map frame (postfix (direction_of c.read) (bodies_of c.grammar c.passes c.read t v))) version_one_usable in
+              let begun : is_tree_file version_one content ≡ true = ap (is_tree_file version_one) file.stands ∙ begins version_one c.read (flat_map frame (postfix (direction_of c.read) (bodies_of version_one c.grammar c.passes c.read t v))) version_one_usable in
               let not_true : false ≡ true = sym is.0 ∙ begun in
               cc;
           place = inl (is.0, refl);

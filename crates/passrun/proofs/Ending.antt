@@ -13,7 +13,7 @@ use Rattle.treefile.specs.Records.{values_up_to}
 use Rattle.treefile.specs.TreeFile.{header, version_one}
 use Rattle.treefile.specs.Writing as writing
 use Rattle.treefile.proofs.Backward.{none_at_header}
-use Rattle.treefile.proofs.Records.{values_well}
+use Rattle.treefile.proofs.Values.{values_well}
 use Rattle.backreader.specs.Place.{HasRead, Place, IsOver, lent_body, progress_after}
 use Rattle.backreader.proofs.Standing.{all_bytes}
 use Rattle.planchecker.specs.Course.{Between}

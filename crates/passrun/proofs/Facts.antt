@@ -10,7 +10,7 @@ use Rattle.ag_grammar.specs.declared.grammar.Rule.{Rule}
 use Rattle.ag_grammar.specs.grammars.AttributeGrammar.{IsProduction, item_at}
 use Rattle.ag_grammar.specs.grammars.Passes.{item_passes}
 use Rattle.treefile.specs.Listed.{count_up_to}
-use Rattle.treefile.proofs.Fitting.{fits_version_one}
+use Rattle.treefile.proofs.Fitting.{few_passes}
 use Rattle.passcode.specs.declared.instr.Instr.{Instr}
 use Rattle.passcode.specs.declared.instr.Instr.TheVariants as instr
 use Rattle.planchecker.specs.Course.{Phase, Between, Got, Gone, got, Follows}
@@ -139,7 +139,7 @@ module _ (c : Setting) (sound : IsSound c) where
   pub few_values : (x : Item) → item_width c x ≤ 16
   few_values (item.Symbol s) =
       let a = row_few c.write (c.passes s) in
-      let b = (fits_version_one c.grammar c.passes sound.accepted sound.legal).1.nodes s in
+      let b = few_passes c.grammar c.passes s sound.accepted sound.legal in
       omega arith
   few_values (item.Terminal (Class d)) = let a = row_few c.write (0 ∷ []) in omega arith
   few_values (item.Terminal (Literal l)) = omega arith

@@ -16,13 +16,15 @@ use Rattle.ag_grammar.specs.grammars.Solution.{Valuation, at, graft, RulesHold, 
 use Rattle.ag_grammar.specs.grammars.Tree.{Tree, Forest, node, FitsAll, depth_of, most_depth}
 use Rattle.ag_grammar.specs.grammars.Counts.{pass_rule_count, rules_of_pass}
 use Rattle.treefile.specs.Orders.{BodyTree, branch, prefix, prefix_all, postfix, postfix_all}
-use Rattle.treefile.specs.Records.{bodies_of, bodies_of_all, node_body, values_up_to}
+use Rattle.treefile.specs.Records.{bodies_of, bodies_of_all, values_up_to}
+use Rattle.treefile.specs.TreeFile.{version_one}
 use Rattle.planchecker.specs.Course.{Phase, Between, Got, Gone, got, Follows, IsKnown, IsFinal, AreDone}
 use Rattle.planchecker.specs.Settings.{Setting, way, arity, place, list_at}
 use Rattle.planchecker.specs.Sound.{IsSound}
 use Rattle.passrun.specs.declared.open_node.OpenNode.{OpenNode}
 use Rattle.passrun.specs.Change.{with_row}
 use Rattle.passrun.specs.Passing.{Tapes, Keeps, Visited, IsHeld, Stays, IsReady, IsGone, met, below}
+use Rattle.passrun.specs.Reading.{own_body}
 use Rattle.passrun.specs.Places.{Table, leftmost, row, rows, place_passes, Roots, visited}
 use Rattle.passrun.proofs.Forests.{add_tree, add_values, fits_add, solves_add, each_add, prefix_add, postfix_add, deepest_add, rules_add, roots_add, all_visited}
 use Rattle.passrun.proofs.Giving.{holds_same, seen_differs}
@@ -180,7 +182,7 @@ module _ (c : Setting) (sound : IsSound c) where
   pub put_child : (s : ℕ) (f : ℕ → Value) (level : ℕ) (x y : OpenNode) (q : Production) (i : ℕ) (done : List ℕ) (e : Table) (ts : Forest) (ws : ℕ → Valuation) (old mid cur new : Tapes) (before sofar count : ℕ)
       → i < arity q → y.production ≡ x.production → Follows c q Between (suc i) done (drop y.at (list_at c y.production))
       → (gone : IsGone c q i level x.child e mid cur count)
-      → new ≡ record { read = cur.read; put = cur.put ++ root_body (bodies_of c.grammar c.passes c.write gone.tree gone.values) ∷ [] }
+      → new ≡ record { read = cur.read; put = cur.put ++ root_body (bodies_of version_one c.grammar c.passes c.write gone.tree gone.values) ∷ [] }
       → Stays c s f level x q Gone Gone i done e ts ws old mid before sofar
       → Stays c s f level y q Between Between (suc i) done e (add_tree (way c) ts gone.tree) (add_values (way c) ts ws gone.values) old new before (sofar + count)
   put_child s f level x y q i done e ts ws old mid cur new before sofar count within same follows gone is stays =
@@ -194,11 +196,11 @@ module _ (c : Setting) (sound : IsSound c) where
           fits = fits_add d c.grammar (stored_items q.items) i ts gone.item t gone.stands within stays.visits.fits gone.ready.took.fits;
           solved = solves_add d (OfPass c.passes c.write) c.grammar ts ws t w stays.visits.solved gone.ready.took.solved;
           well = each_add d (WellAt (λ p. p ≤ c.write)) c.grammar c.passes ts ws t w stays.visits.well gone.ready.took.well;
-          read = ap (λ z. z.read) is ∙ gone.ready.read ∙ ap (λ xs. xs ++ prefix d (bodies_of c.grammar c.passes c.read t w)) stays.visits.read
-              ∙ append_assoc (met c x.production f old).read (prefix_all d (bodies_of_all c.grammar c.passes c.read ts ws)) (prefix d (bodies_of c.grammar c.passes c.read t w))
+          read = ap (λ z. z.read) is ∙ gone.ready.read ∙ ap (λ xs. xs ++ prefix d (bodies_of version_one c.grammar c.passes c.read t w)) stays.visits.read
+              ∙ append_assoc (met c x.production f old).read (prefix_all d (bodies_of_all version_one c.grammar c.passes c.read ts ws)) (prefix d (bodies_of version_one c.grammar c.passes c.read t w))
               ∙ ap (λ xs. (met c x.production f old).read ++ xs) (sym (prefix_add d c.grammar c.passes c.read ts ws t w));
           put = ap (λ z. z.put) is ∙ ap (λ xs. xs ++ root_body bt ∷ []) gone.ready.put ∙ append_assoc mid.put (below d bt) (root_body bt ∷ []) ∙ ap (λ xs. mid.put ++ xs) (whole d bt)
-              ∙ ap (λ xs. xs ++ postfix d bt) stays.visits.put ∙ append_assoc old.put (postfix_all d (bodies_of_all c.grammar c.passes c.write ts ws)) (postfix d bt)
+              ∙ ap (λ xs. xs ++ postfix d bt) stays.visits.put ∙ append_assoc old.put (postfix_all d (bodies_of_all version_one c.grammar c.passes c.write ts ws)) (postfix d bt)
               ∙ ap (λ xs. old.put ++ xs) (sym (postfix_add d c.grammar c.passes c.write ts ws t w));
           deep = deepest_add d most_depth ts t level stays.visits.deep gone.deep;
         });
@@ -217,7 +219,7 @@ module _ (c : Setting) (sound : IsSound c) where
       w = gone.values
 
       bt : BodyTree
-      bt = bodies_of c.grammar c.passes c.write t w
+      bt = bodies_of version_one c.grammar c.passes c.write t w
 
       whole : (d : Direction) (b : BodyTree) → below d b ++ root_body b ∷ [] ≡ postfix d b
       whole d (branch body ts) = refl
@@ -236,7 +238,7 @@ module _ (c : Setting) (sound : IsSound c) where
       };
       number = refl;
       root = λ a. refl;
-      read = stays.visits.read ∙ append_assoc old.read (node_body c.grammar c.passes c.read x.production f ∷ []) (prefix_all (way c) (bodies_of_all c.grammar c.passes c.read ts ws)) ∙ ap (λ b. old.read ++ b ∷ prefix_all (way c) (bodies_of_all c.grammar c.passes c.read ts ws)) body;
+      read = stays.visits.read ∙ append_assoc old.read (own_body c.grammar c.passes c.read x.production f ∷ []) (prefix_all (way c) (bodies_of_all version_one c.grammar c.passes c.read ts ws)) ∙ ap (λ b. old.read ++ b ∷ prefix_all (way c) (bodies_of_all version_one c.grammar c.passes c.read ts ws)) body;
       put = stays.visits.put;
     },
     counts,
@@ -272,7 +274,7 @@ module _ (c : Setting) (sound : IsSound c) where
       passes_are : left_passes c.passes (slice_get c.grammar.productions x.production) ≡ c.passes s
       passes_are = ap (left_passes c.passes) stays.there ∙ ap c.passes stays.left
 
-      body : node_body c.grammar c.passes c.read x.production f ≡ node_body c.grammar c.passes c.read x.production (e 0)
+      body : own_body c.grammar c.passes c.read x.production f ≡ own_body c.grammar c.passes c.read x.production (e 0)
       body = body_same c.read c.grammar c.passes x.production s f (e 0) passes_are (λ a p is le. sym (stays.entered a p is (let n = sound.next in omega arith) (λ z. let n = sound.next in let w = z.0 in omega arith)))
 
       counts : sofar ≡ before + rules_of_pass c.passes c.write c.grammar (node x.production ts)

@@ -46,7 +46,7 @@ module _ (c : Setting) (sound : IsSound c) where
       let l = length-reverse m.waiting.items in
       let levels : n ≡ suc (length xs) = omega arith in
       let todo = asked i.production (suc (suc (length xs))) (drop (x.at + 1) (list_at c x.production)) (ahead c xs) in
-      let here : ComesTo c content m.back.progress.at ((suc (suc (length xs)), x') ∷ todo) = record {
+      let here : ComesTo c content m.back.progress.at ((suc (suc (length xs)), (x', None)) ∷ todo) = record {
         bodies = r.running.tapes.read;
         read = r.running.read w;
         records = subst (AreRecords c r.running.tapes.read) (get_ahead c sound x xs j i.production x' at i.there stands) r.running.ahead;
@@ -62,16 +62,16 @@ module _ (c : Setting) (sound : IsSound c) where
 
   pub root_unfetched : (start : ℕ) (content : List ℕ) (place : Place) (f : RunFault) → start ≡ c.grammar.start → IsReadable c content → place.progress.at ≡ length content → place.progress.records ≡ 0 → IsUnfetched c (item.Symbol start) 0 content place f → IsRunFault c content f
   root_unfetched start content place f is readable end fresh h =
-      let here : ComesTo c content place.progress.at ((1, item.Symbol c.grammar.start) ∷ []) = record { bodies = []; read = sym end; records = refl } in
+      let here : ComesTo c content place.progress.at ((1, (item.Symbol c.grammar.start, None)) ∷ []) = record { bodies = []; read = sym end; records = refl } in
       unfetched c sound (item.Symbol c.grammar.start) 0 content place [] f readable here fresh (subst (λ s. IsUnfetched c (item.Symbol s) 0 content place f) is h)
 
   -- nothing is to come, and something is there
   pub left_over : (content : List ℕ) (at : ℕ) (body : List ℕ) → IsReadable c content → ComesTo c content at [] → next_before version_one content at ≡ Ok (Some body) → IsDamaged c content at
-  left_over content at body readable here found = broken c sound content at readable ([], here, subst (Breaks c.grammar c.passes c.read []) (sym found) tt)
+  left_over content at body readable here found = broken c sound content at readable ([], here, subst (Breaks version_one c.grammar c.passes c.read []) (sym found) tt)
 
   pub end_refused : (content : List ℕ) (at : ℕ) (view : Option (Bor (List ℕ)) → Option (List ℕ)) (f : FrameFault) → IsReadable c content → ComesTo c content at [] → Told view (Err f) (next_before version_one content at) → IsRunFault c content (run_fault_of_frame f)
   end_refused content at view frame_fault.NotATreeFile readable here told = absurd (never_no_file version_one content at told)
-  end_refused content at view (frame_fault.Damaged b) readable here told = subst (IsDamaged c content) (sym (damage_is_there version_one content at b told)) (broken c sound content at readable ([], here, subst (Breaks c.grammar c.passes c.read []) (sym told) tt))
+  end_refused content at view (frame_fault.Damaged b) readable here told = subst (IsDamaged c content) (sym (damage_is_there version_one content at b told)) (broken c sound content at readable ([], here, subst (Breaks version_one c.grammar c.passes c.read []) (sym told) tt))
   end_refused content at view frame_fault.Device readable here told = tt
   end_refused content at view frame_fault.NoMemory readable here told = tt
 

@@ -23,7 +23,7 @@ use Rattle.treefile.specs.TreeFile.{body_of, frame, header, version_one}
 use Rattle.treefile.specs.Writing as writing
 use Rattle.treefile.specs.Listed.{count_up_to}
 use Rattle.treefile.proofs.Backward.{reads_on}
-use Rattle.treefile.proofs.Records.{values_well}
+use Rattle.treefile.proofs.Values.{values_well}
 use Rattle.backreader.specs.Place.{Place, IsOver}
 use Rattle.passcode.specs.declared.instr.Instr.TheVariants as instr
 use Rattle.planchecker.specs.Settings.{Setting, list_at}
@@ -54,7 +54,7 @@ last_row c x rest values f is =
     ap (drop (length values - item_width c x)) is ∙ drop_at rest row (length values - item_width c x) m
 
 -- the body that is put is that of the tree's root
-pub put_is_root : (c : Setting) (x : Item) (t : Tree) (w : Valuation) (rest values : List Value) (number : ℕ) → Took c x t w → root_number t ≡ number → values ≡ rest ++ values_up_to c.write (item_passes c.passes (Some x)) (w []) → last_body c x number values ≡ root_body (bodies_of c.grammar c.passes c.write t w)
+pub put_is_root : (c : Setting) (x : Item) (t : Tree) (w : Valuation) (rest values : List Value) (number : ℕ) → Took c x t w → root_number t ≡ number → values ≡ rest ++ values_up_to c.write (item_passes c.passes (Some x)) (w []) → last_body c x number values ≡ root_body (bodies_of version_one c.grammar c.passes c.write t w)
 put_is_root c (item.Symbol s) (leaf d text) w rest values number took is vs = elim took.fits [ ]
 put_is_root c (item.Terminal (Literal l)) (leaf d text) w rest values number took is vs = elim took.fits [ ]
 put_is_root c (item.Terminal a) (node p ts) w rest values number took is vs = elim took.fits [ ]

@@ -15,6 +15,7 @@ use Rattle.ag_grammar.specs.grammars.Solution.{Valuation, graft, Lends, left_pas
 use Rattle.ag_grammar.specs.grammars.Tree.{Tree, leaf, node, none, depth_of, IsTokenText, most_depth}
 use Rattle.ag_grammar.specs.grammars.Counts.{rules_of_pass}
 use Rattle.treefile.specs.Records.{bodies_of, token_body, values_up_to}
+use Rattle.treefile.specs.TreeFile.{version_one}
 use Rattle.passcode.specs.declared.instr.Instr.{Instr}
 use Rattle.passcode.specs.declared.instr.Instr.TheVariants as instr
 use Rattle.planchecker.specs.Course.{Phase, Between, Got, Gone, got, after_get, Follows, Gives, IsKnown, IsFinal}
@@ -333,7 +334,7 @@ module _ (c : Setting) (sound : IsSound c) where
 
   put_in : (s : ℕ) (f : ℕ → Value) (level : ℕ) (x : OpenNode) (under : List Value) (old : Tapes) (before : ℕ) (ph : Phase) (values : List Value) (t : Tapes) (now j : ℕ) (body : List ℕ)
       → slice_get (list_at c x.production) x.at ≡ Some (instr.Put j)
-      → ((x' : Item) (q0 : Production) (u : Tree) (w : Valuation) (rest : List Value) → IsProduction c.grammar x.production q0 → item_at q0 j ≡ Some x' → Took c x' u w → root_number u ≡ x.child → values ≡ rest ++ values_up_to c.write (item_passes c.passes (Some x')) (w []) → body ≡ root_body (bodies_of c.grammar c.passes c.write u w))
+      → ((x' : Item) (q0 : Production) (u : Tree) (w : Valuation) (rest : List Value) → IsProduction c.grammar x.production q0 → item_at q0 j ≡ Some x' → Took c x' u w → root_number u ≡ x.child → values ≡ rest ++ values_up_to c.write (item_passes c.passes (Some x')) (w []) → body ≡ root_body (bodies_of version_one c.grammar c.passes c.write u w))
       → Opens c s f level x under old before ph values t now → Opens c s f level (stepped x x.child) under old before Between values (record { read = t.read; put = t.put ++ body ∷ [] }) now
   put_in s f level x under old before Between values t now j body at is o = elim (follows_next o.production Between o.i o.done x (instr.Put j) at o.stays.follows) [ ]
   put_in s f level x under old before Got values t now j body at is o = elim (follows_next o.production Got o.i o.done x (instr.Put j) at o.stays.follows) [ ]
@@ -346,7 +347,7 @@ module _ (c : Setting) (sound : IsSound c) where
       let vs : values ≡ (under ++ rows c q o.table o.i) ++ values_up_to c.write (item_passes c.passes (Some g.item)) (g.values []) =
       o.values_are ∙ sym (append_assoc under (rows c q o.table o.i) (row c q o.table pl)) ∙ ap (λ ps. (under ++ rows c q o.table o.i) ++ values_up_to c.write ps (o.table pl)) ps
       ∙ ap (λ vs. (under ++ rows c q o.table o.i) ++ vs) (same_values c.write (item_passes c.passes (Some g.item)) (o.table pl) (g.values []) (λ a p at le. sym (g.ready.root a))) in
-      let body' : body ≡ root_body (bodies_of c.grammar c.passes c.write g.tree g.values) = is g.item q g.tree g.values (under ++ rows c q o.table o.i) o.stays.there (ap (item_at q) next.1 ∙ g.stands) g.ready.took g.ready.number vs in
+      let body' : body ≡ root_body (bodies_of version_one c.grammar c.passes c.write g.tree g.values) = is g.item q g.tree g.values (under ++ rows c q o.table o.i) o.stays.there (ap (item_at q) next.1 ∙ g.stands) g.ready.took g.ready.number vs in
       let new : Tapes = record { read = t.read; put = t.put ++ body ∷ [] } in
       record {
         production = q;
@@ -367,7 +368,7 @@ module _ (c : Setting) (sound : IsSound c) where
 
   pub step_put : (root : ℕ) (x : OpenNode) (xs : List OpenNode) (values : List Value) (t : Tapes) (now j : ℕ) (body : List ℕ)
       → slice_get (list_at c x.production) x.at ≡ Some (instr.Put j)
-      → ((x' : Item) (q0 : Production) (u : Tree) (w : Valuation) (rest : List Value) → IsProduction c.grammar x.production q0 → item_at q0 j ≡ Some x' → Took c x' u w → root_number u ≡ x.child → values ≡ rest ++ values_up_to c.write (item_passes c.passes (Some x')) (w []) → body ≡ root_body (bodies_of c.grammar c.passes c.write u w))
+      → ((x' : Item) (q0 : Production) (u : Tree) (w : Valuation) (rest : List Value) → IsProduction c.grammar x.production q0 → item_at q0 j ≡ Some x' → Took c x' u w → root_number u ≡ x.child → values ≡ rest ++ values_up_to c.write (item_passes c.passes (Some x')) (w []) → body ≡ root_body (bodies_of version_one c.grammar c.passes c.write u w))
       → Passing c root (x ∷ xs) values t now → Passing c root (stepped x x.child ∷ xs) values (record { read = t.read; put = t.put ++ body ∷ [] }) now
   step_put root x xs values t now j body at is (s, f, under, old, before, waits, ph, o) =
       (s, f, under, old, before, waits, Between, put_in s f (suc (length xs)) x under old before ph values t now j body at is o)

@@ -7,13 +7,13 @@ use Rattle.ag_grammar.specs.declared.grammar.Target.{Target}
 use Rattle.ag_grammar.specs.grammars.Accepted.{IsAccepted, most_stored}
 use Rattle.ag_grammar.specs.grammars.AttributeGrammar.{Grammar, HasKind, IsProduction, Kind, found_kind, given_kind, item_at, item_kinds, stored_items, places_of}
 use Rattle.ag_grammar.specs.grammars.Passes.{IsLegal, Passes}
-use Rattle.treefile.proofs.Fitting.{fits_version_one}
+use Rattle.treefile.proofs.Fitting.{few_passes}
 use Rattle.passrun.specs.Laid.{AreWithin}
 use Rattle.passrun.specs.Starts.{AreSmall}
 
 -- no row has more values than a record of version 1
 pub are_small : (g : Grammar) (m : Passes) → IsAccepted g → IsLegal g m → AreSmall m
-are_small g m accepted legal s = (fits_version_one g m accepted legal).1.nodes s
+are_small g m accepted legal s = few_passes g m s accepted legal
 
 pub few_places : (g : Grammar) (p : ℕ) (q : Production) → IsAccepted g → IsProduction g p q → length (places_of q) ≤ most_stored + 1
 few_places g p q accepted is = let few = accepted.limits.stored_count p q is in omega arith

@@ -28,7 +28,7 @@ unfolding next_before
 before_header = refl
 
 pub header_alone : ShowsAt (fractions 0) (header version_one 0) 6
-header_alone = inr (inr (record { begins = header_begins; number = refl }, (root_to_come binary, record { bodies = []; read = refl; records = refl }, subst (Breaks binary binary_passes 0 (root_to_come binary)) (sym before_header) tt)))
+header_alone = inr (inr (record { begins = header_begins; number = refl }, (root_to_come binary, record { bodies = []; read = refl; records = refl }, subst (Breaks version_one binary binary_passes 0 (root_to_come binary)) (sym before_header) tt)))
 
 -- the file of Q's record alone
 abbrev q_file : List ℕ
@@ -43,4 +43,4 @@ unfolding next_before body_before fits_before
 q_at_end = refl
 
 pub q_alone : ShowsAt (fractions 0) (file version_one 0 ((0 ∷ 0 ∷ 1 ∷ []) ∷ [])) 13
-q_alone = inr (inr (record { begins = q_begins; number = refl }, (root_to_come binary, record { bodies = []; read = refl; records = refl }, subst (Breaks binary binary_passes 0 (root_to_come binary)) (sym q_at_end) q_is_none)))
+q_alone = inr (inr (record { begins = q_begins; number = refl }, (root_to_come binary, record { bodies = []; read = refl; records = refl }, subst (Breaks version_one binary binary_passes 0 (root_to_come binary)) (sym q_at_end) q_is_none)))

@@ -28,7 +28,7 @@ goes_next (instr.End ∷ xs) = false
 -- an item of a level in front of others, where there is one
 abbrev pub in_front : ℕ → Option Item → ToCome → ToCome
 in_front level None others = others
-in_front level (Some x) others = (level, x) ∷ others
+in_front level (Some x) others = (level, (x, None)) ∷ others
 
 -- the items that a list of instructions of a production is still to get, before others
 abbrev pub asked : Production → ℕ → List Instr → ToCome → ToCome

@@ -2,10 +2,9 @@
 -- project's.
 use Rattle.std.specs.Prelude.{ℕ, suc, ◌≡◌, ◌≢◌, ◌⊎◌, List, [], ◌∷◌, length, true, false}
 use Rattle.ag_grammar.specs.declared.direction.Direction.{Direction}
-use Rattle.ag_grammar.specs.declared.grammar.Item.{Item}
 use Rattle.ag_grammar.specs.grammars.AttributeGrammar.{Grammar}
 use Rattle.ag_grammar.specs.grammars.Passes.{Passes, direction_of, other}
-use Rattle.treefile.specs.Awaited.{Breaks, HasNoTree, IsRecordOf, ToCome, before_others, root_to_come}
+use Rattle.treefile.specs.Awaited.{Breaks, Child, HasNoTree, IsRecordOf, ToCome, before_others, root_to_come}
 use Rattle.treefile.specs.Backward.{ReadsTo, next_before, pass_of}
 use Rattle.treefile.specs.Ending.{is_tree_file}
 use Rattle.treefile.specs.TreeFile.{version_one}
@@ -22,7 +21,7 @@ pub record IsReadable (c : Setting) (content : List ℕ) : Type 0 where
 abbrev pub Leaves : Grammar → Passes → ℕ → Direction → ToCome → List (List ℕ) → ToCome → Type 0
 Leaves g m k d todo [] left = todo ≡ left
 Leaves g m k d [] (body ∷ bodies) left = ⊥
-Leaves g m k d (x ∷ xs) (body ∷ bodies) left = (ys : List Item) × IsRecordOf g m k x.1 body ys × Leaves g m k d (before_others d (suc x.0) ys xs) bodies left
+Leaves g m k d (x ∷ xs) (body ∷ bodies) left = (ys : List Child) × IsRecordOf version_one g m k x.1 body ys × Leaves g m k d (before_others d (suc x.0) ys xs) bodies left
 
 -- The bodies that a pass reads, from the end of a file on, are records of the grammar at their places: of the root first, and each
 -- node's before those of its children. Trees of these items are still to come.
@@ -38,7 +37,7 @@ pub record ComesTo (c : Setting) (content : List ℕ) (at : ℕ) (todo : ToCome)
 -- The way breaks at an offset that it comes to: what ends there is no frame; or it is one whose body is no record of the item that is
 -- to come first; or nothing is to come, and it is left over; or the header ends there, and an item is still to come.
 abbrev pub BreaksAt : Setting → List ℕ → ℕ → Type 0
-BreaksAt c content at = (todo : ToCome) × ComesTo c content at todo × Breaks c.grammar c.passes c.read todo (next_before version_one content at)
+BreaksAt c content at = (todo : ToCome) × ComesTo c content at todo × Breaks version_one c.grammar c.passes c.read todo (next_before version_one content at)
 
 -- The offset where it shows that a content is the file of the pass before of no tree: 0 where it begins as no tree file, 4 where it is
 -- that of another pass, and else the one at which the way breaks.

@@ -15,10 +15,12 @@ use Rattle.ag_grammar.specs.grammars.Solution.{Valuation, Solves, SolvesAll, OfP
 use Rattle.ag_grammar.specs.grammars.Tree.{Tree, Forest, leaf, node, Fits, FitsAll, depth_of, deepest, most_depth}
 use Rattle.ag_grammar.specs.grammars.Counts.{pass_rule_count, rules_of_pass, totals}
 use Rattle.treefile.specs.Orders.{BodyTree, branch, prefix, prefix_all, postfix_all}
-use Rattle.treefile.specs.Records.{bodies_of, bodies_of_all, node_body, values_up_to}
+use Rattle.treefile.specs.Records.{bodies_of, bodies_of_all, values_up_to}
+use Rattle.treefile.specs.TreeFile.{version_one}
 use Rattle.planchecker.specs.Settings.{Setting, way, list_at, arity, place}
 use Rattle.planchecker.specs.Course.{Phase, Between, Got, Gone, got, IsKnown, IsAtHand, Follows}
 use Rattle.passrun.specs.declared.open_node.OpenNode.{OpenNode}
+use Rattle.passrun.specs.Reading.{own_body}
 use Rattle.passrun.specs.Places.{visited, Table, rows, Roots}
 
 -- the bodies that were read so far, and those that were put
@@ -51,8 +53,8 @@ pub record Visited (c : Setting) (q : Production) (i level : ℕ) (ts : Forest) 
   pub fits : FitsAll c.grammar (visited (way c) (stored_items q.items) i) ts
   pub solved : SolvesAll (OfPass c.passes c.write) c.grammar ts ws
   pub well : AtEachNodeOf (WellAt (λ p. p ≤ c.write)) c.grammar c.passes ts ws ws
-  pub read : new.read ≡ old.read ++ prefix_all (way c) (bodies_of_all c.grammar c.passes c.read ts ws)
-  pub put : new.put ≡ old.put ++ postfix_all (way c) (bodies_of_all c.grammar c.passes c.write ts ws)
+  pub read : new.read ≡ old.read ++ prefix_all (way c) (bodies_of_all version_one c.grammar c.passes c.read ts ws)
+  pub put : new.put ≡ old.put ++ postfix_all (way c) (bodies_of_all version_one c.grammar c.passes c.write ts ws)
   pub deep : deepest ts + level ≤ most_depth
 
 -- The record of a node was read that stands at the next place, and has these values.
@@ -62,7 +64,7 @@ pub record IsGot (c : Setting) (q : Production) (i level p : ℕ) (e : Table) (o
   pub production : Production
   pub there : IsProduction c.grammar p production
   pub left : production.left ≡ symbol
-  pub tapes : new ≡ record { read = old.read ++ node_body c.grammar c.passes c.read p (e (place (way c) (arity q) i)) ∷ []; put = old.put }
+  pub tapes : new ≡ record { read = old.read ++ own_body c.grammar c.passes c.read p (e (place (way c) (arity q) i)) ∷ []; put = old.put }
   pub deep : level < most_depth
 
 -- A tree was read, and put but for its own record, which the number and the values of its root make.
@@ -70,8 +72,8 @@ pub record IsReady (c : Setting) (x : Item) (p : ℕ) (f : ℕ → Value) (t : T
   pub took : Took c x t w
   pub number : root_number t ≡ p
   pub root : (a : ℕ) → w [] a ≡ f a
-  pub read : new.read ≡ old.read ++ prefix (way c) (bodies_of c.grammar c.passes c.read t w)
-  pub put : new.put ≡ old.put ++ below (way c) (bodies_of c.grammar c.passes c.write t w)
+  pub read : new.read ≡ old.read ++ prefix (way c) (bodies_of version_one c.grammar c.passes c.read t w)
+  pub put : new.put ≡ old.put ++ below (way c) (bodies_of version_one c.grammar c.passes c.write t w)
 
 -- The tree at the next place is so.
 pub record IsGone (c : Setting) (q : Production) (i level p : ℕ) (e : Table) (old new : Tapes) (count : ℕ) : Type 0 where
@@ -102,7 +104,7 @@ AreHeld c q ph i done e = (r : ℕ) (u : Rule) → Has done r → slice_get q.ru
 
 -- the tapes behind the record of a node with some values
 abbrev pub met : Setting → ℕ → (ℕ → Value) → Tapes → Tapes
-met c p f old = record { read = old.read ++ node_body c.grammar c.passes c.read p f ∷ []; put = old.put }
+met c p f old = record { read = old.read ++ own_body c.grammar c.passes c.read p f ∷ []; put = old.put }
 
 -- A node of symbol s is open, that was met with the values f at the tapes `old`: i of its children were visited, and some
 -- rules were run. What is left of its instructions can be followed in the phase `next`.

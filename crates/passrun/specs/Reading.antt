@@ -8,9 +8,11 @@ use Rattle.ag_grammar.specs.declared.grammar.Item.{Item}
 use Rattle.ag_grammar.specs.declared.grammar.Item.TheVariants as item
 use Rattle.ag_grammar.specs.declared.grammar.Terminal.TheVariants.{Literal, Class}
 use Rattle.ag_grammar.specs.declared.grammar.Production.{Production}
-use Rattle.ag_grammar.specs.grammars.AttributeGrammar.{IsProduction}
+use Rattle.ag_grammar.specs.grammars.AttributeGrammar.{Grammar, IsProduction}
+use Rattle.ag_grammar.specs.grammars.Passes.{Passes}
 use Rattle.ag_grammar.specs.grammars.Tree.{IsTokenText}
 use Rattle.treefile.specs.Records.{values_up_to, node_body, token_body}
+use Rattle.treefile.specs.TreeFile.{version_one}
 use Rattle.planchecker.specs.Settings.{Setting}
 
 -- the value of an attribute of a pass, in a list that has those of the passes up to k
@@ -41,6 +43,10 @@ pub record IsRow (read write : ℕ) (passes : List ℕ) (bytes : List ℕ) (old 
 abbrev pub IsNoRow : ℕ → List ℕ → List ℕ → Type 0
 IsNoRow read passes bytes = (h : ℕ → Value) → ((a : ℕ) → IsWell (h a)) → bytes ≡ flat_map spelling_of (values_up_to read passes h) → ⊥
 
+-- the record of a node, which has its own values alone
+abbrev pub own_body : Grammar → Passes → ℕ → ℕ → (ℕ → Value) → List ℕ
+own_body g m k p values = node_body version_one g m k p values []
+
 -- a body is the record of a node of symbol s with this production, and its row was read
 pub record IsNodeRead (c : Setting) (s p : ℕ) (body : List ℕ) (old new : List Value) : Type 0 where
   pub production : Production
@@ -49,11 +55,11 @@ pub record IsNodeRead (c : Setting) (s p : ℕ) (body : List ℕ) (old new : Lis
   pub values : ℕ → Value
   pub well : (a : ℕ) → IsWell (values a)
   pub row : new ≡ old ++ values_up_to c.write (c.passes s) values
-  pub same : body ≡ node_body c.grammar c.passes c.read p values
+  pub same : body ≡ own_body c.grammar c.passes c.read p values
 
 -- a body is no record of a node of symbol s
 abbrev pub IsNoNode : Setting → ℕ → List ℕ → Type 0
-IsNoNode c s body = (p : ℕ) (q : Production) (h : ℕ → Value) → IsProduction c.grammar p q → q.left ≡ s → ((a : ℕ) → IsWell (h a)) → body ≡ node_body c.grammar c.passes c.read p h → ⊥
+IsNoNode c s body = (p : ℕ) (q : Production) (h : ℕ → Value) → IsProduction c.grammar p q → q.left ≡ s → ((a : ℕ) → IsWell (h a)) → body ≡ own_body c.grammar c.passes c.read p h → ⊥
 
 -- a body is the record of a token of a class, and its text was read
 pub record IsTokenRead (d : ℕ) (body : List ℕ) (old new : List Value) : Type 0 where

@@ -90,7 +90,7 @@ root_read g rows code last a p body new x plan greatest out read is =
       number = p;
       production = read.production;
       values = read.values;
-      node = record { production = read.there; left = read.left; well = λ i n e le. read.well i; stands = read.same ∙ ap (λ k. node_body g (passes_of rows) k p read.values) back };
+      node = record { production = read.there; left = read.left; well = λ i n e le. read.well i; copies = []; are_copies = refl; stands = read.same ∙ ap (λ k. node_body version_one g (passes_of rows) k p read.values []) back };
       attribute = a;
       out = out;
       value = same ∙ sym is;
@@ -102,7 +102,7 @@ no_root g rows code last body greatest nothing x root =
     let m = passes_of rows in
     let n = root.number in
     let same : root.last ≡ last + 1 - 1 = one_greatest rows root.last last root.greatest greatest ∙ omega arith in
-    let it : IsNodeRecord g m (last + 1 - 1) g.start body n root.production root.values = subst (λ k. IsNodeRecord g m k g.start body n root.production root.values) same root.node in
+    let it : IsNodeRecord version_one g m (last + 1 - 1) g.start body n root.production root.values = subst (λ k. IsNodeRecord version_one g m k g.start body n root.production root.values) same root.node in
     let good = mended (last + 1 - 1) (m g.start) root.values it.well in
     let passes : left_passes m (slice_get g.productions n) ≡ m g.start = ap (left_passes m) it.production ∙ ap m it.left in
     nothing n root.production good.0 it.production it.left good.1
@@ -110,17 +110,17 @@ no_root g rows code last body greatest nothing x root =
 
 -- The last record of a tree's file is the root's.
 root_of_tree : (g : Grammar) (rows : List (List ℕ)) (code : Lists) (last : ℕ) (t : Tree) (v : Valuation) (content : List ℕ) → IsAccepted g → IsPlan g rows code → IsTreeOf g t → IsFileOfTree version_one g (passes_of rows) last t v content
-    → (body : List ℕ) × (p : ℕ) × (q : _) × (last_body_of version_one content ≡ Ok body) × IsNodeRecord g (passes_of rows) last g.start body p q (v [])
+    → (body : List ℕ) × (p : ℕ) × (q : _) × (last_body_of version_one content ≡ Ok body) × IsNodeRecord version_one g (passes_of rows) last g.start body p q (v [])
 root_of_tree g rows code last (leaf c x) v content accepted plan fits is = absurd fits
 root_of_tree g rows code last (node p ts) v content accepted plan fits is =
     let m = passes_of rows in
     let usable = fits_version_one g m accepted plan.legal in
     let passes : left_passes m (slice_get g.productions p) ≡ m g.start = ap (left_passes m) fits.1 ∙ ap m fits.2 in (
-      node_body g m last p (v []),
+      node_body version_one g m last p (v []) [],
       p,
       fits.0,
-      root_is_last version_one g m last p ts v content version_one_usable usable.1 is,
-      record { production = fits.1; left = fits.2; well = subst (λ ps. WellAt (λ n. n ≤ last) ps (v []) (v [])) passes is.well.0; stands = refl },
+      root_is_last version_one g m last p ts v content version_one_usable usable.1 fits is,
+      record { production = fits.1; left = fits.2; well = subst (λ ps. WellAt (λ n. n ≤ last) ps (v []) (v [])) passes is.well.0; copies = []; are_copies = refl; stands = refl },
     )
 
 -- the value that a content ends with is the translation of the tree whose file it is
@@ -132,8 +132,8 @@ found_is_translation g rows code last t v content x accepted plan greatest fits 
     let ok : Ok found.body ≡ Ok tree.0 = sym found.last ∙ tree.3 in
     let bodies : found.body ≡ tree.0 = cc in
     let lasts = one_greatest rows root.last last root.greatest greatest in
-    let mine : IsNodeRecord g m last g.start tree.0 root.number root.production root.values = subst (λ k. IsNodeRecord g m k g.start tree.0 root.number root.production root.values) lasts (subst (λ b. IsNodeRecord g m root.last g.start b root.number root.production root.values) bodies root.node) in
-    let one = same_node g m last g.start g.start root.number tree.1 tree.0 root.production tree.2 root.values (v []) (fits_version_one g m accepted plan.legal).0 mine tree.4 in
+    let mine : IsNodeRecord version_one g m last g.start tree.0 root.number root.production root.values = subst (λ k. IsNodeRecord version_one g m k g.start tree.0 root.number root.production root.values) lasts (subst (λ b. IsNodeRecord version_one g m root.last g.start b root.number root.production root.values) bodies root.node) in
+    let one = same_node version_one g m last g.start g.start root.number tree.1 tree.0 root.production tree.2 root.values (v []) (fits_version_one g m accepted plan.legal).0 mine tree.4 in
     let pass = out_pass g m root.attribute plan.legal root.out in
     let few = at_most rows last g.start greatest.most root.attribute pass.0 pass.1 in
     (root.attribute, root.out, sym (one.1 root.attribute pass.0 pass.1 few) ∙ root.value)

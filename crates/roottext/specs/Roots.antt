@@ -24,7 +24,7 @@ pub record IsRootRecord (g : Grammar) (rows : List (List ℕ)) (body : List ℕ)
   pub number : ℕ
   pub production : Production
   pub values : ℕ → Value
-  pub node : IsNodeRecord g (passes_of rows) last g.start body number production values
+  pub node : IsNodeRecord version_one g (passes_of rows) last g.start body number production values
   pub attribute : ℕ
   pub out : IsOut g attribute
   pub value : values attribute ≡ x

@@ -1,6 +1,7 @@
 pub mod Backward
 pub mod Beginning
 pub mod Coming
+pub mod Copies
 pub mod Files
 pub mod Fitting
 pub mod Frames
@@ -13,6 +14,7 @@ pub mod Run
 pub mod SameFile
 pub mod Sizes
 pub mod Spelled
+pub mod Values
 pub mod Way
 pub mod WorkedFiles
 pub mod WorkedRecords

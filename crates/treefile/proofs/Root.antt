@@ -9,7 +9,7 @@ use Rattle.ag_grammar.specs.grammars.Tree.{node}
 use Rattle.treefile.specs.Ending.{IsBody, last_body_of}
 use Rattle.treefile.specs.Laws.{RootIsLast, ValuesAreWhole}
 use Rattle.treefile.specs.Orders.{postfix_all}
-use Rattle.treefile.specs.Records.{bodies_of_all, node_body, values_up_to}
+use Rattle.treefile.specs.Records.{bodies_of_all, copies_of, node_body, values_up_to}
 use Rattle.treefile.proofs.Files.{last_of_file}
 use Rattle.treefile.proofs.Records.{file_fits}
 
@@ -19,10 +19,11 @@ last_is P [] x all = All-head P x [] all
 last_is P (y ∷ xs) x all = last_is P xs x (All-tail P y (xs ++ x ∷ []) all)
 
 pub root_is_last : RootIsLast
-root_is_last version g m k p ts v content usable fits is =
-    let others = postfix_all (direction_of k) (bodies_of_all g m k ts (children v)) in
-    let body : IsBody version (node_body g m k p (v [])) = last_is (IsBody version) others (node_body g m k p (v [])) (file_fits version g m k (node p ts) v content fits is) in
-    ap (last_body_of version) is.stands ∙ last_of_file version k others (node_body g m k p (v [])) usable body.least body.greatest
+root_is_last version g m k p ts v content usable fits tree is =
+    let others = postfix_all (direction_of k) (bodies_of_all version g m k ts (children v)) in
+    let root = node_body version g m k p (v []) (copies_of g m k ts (children v)) in
+    let body : IsBody version root = last_is (IsBody version) others root (file_fits version g m k (node p ts) v content fits tree is) in
+    ap (last_body_of version) is.stands ∙ last_of_file version k others root usable body.least body.greatest
 
 pub values_are_whole : ValuesAreWhole
 values_are_whole k [] e a p all is = absurd (let bad : ⊥ = cc in bad)

@@ -40,8 +40,8 @@ well_number n small = record {
 pub binary_numbered : IsNumbered binary
 binary_numbered = omega arith
 
-pub binary_fits : FitsVersion version_one binary_passes
-binary_fits = record { tokens = omega arith; nodes = few }
+pub binary_fits : FitsVersion version_one binary binary_passes
+binary_fits = record { tokens = omega arith; nodes = λ p q is. few q.left }
   where
     few : (s : ℕ) → length (binary_passes s) ≤ 16
     few zero = omega arith
@@ -111,8 +111,8 @@ iffy_unrecorded is = let same : [] ≡ iffy = text_same [] iffy is.texts.1.0 in 
 sample_numbered : IsNumbered sample
 sample_numbered = omega arith
 
-sample_fit : FitsVersion version_one sample_passes
-sample_fit = record { tokens = omega arith; nodes = few }
+sample_fit : FitsVersion version_one sample sample_passes
+sample_fit = record { tokens = omega arith; nodes = λ p q is. few q.left }
   where
     few : (s : ℕ) → length (sample_passes s) ≤ 16
     few zero = omega arith
@@ -162,7 +162,7 @@ number = Num (pos 65536) ∷ []
 number_well : All IsWell number
 number_well = All-cons IsWell (Num (pos 65536)) [] (well_number 65536 (omega arith)) (All-nil IsWell)
 
-pub t_listed : IsListedRecord binary binary_passes 1 3 record_of_t 4 (production_of 3 []) (Num (pos 65536) ∷ [])
+pub t_listed : IsListedRecord version_one binary binary_passes 1 3 record_of_t 4 (production_of 3 []) (Num (pos 65536) ∷ [])
 t_listed = record { production = refl; left = refl; count = refl; well = number_well; stands = simp spellings }
 
 pub number_spelled : AreSpelled 1 spelled_number
@@ -186,5 +186,5 @@ number_alone = value_is_missing (spelled_number ++ 9 ∷ []) number (9 ∷ []) 2
 
 pub root_of_one : last_body_of version_one pass_2_of_one ≡ Ok record_of_n
 root_of_one =
-    let bytes : node_body binary binary_passes 2 0 (values_of_one []) ≡ record_of_n = simp spellings in
-    root_is_last version_one binary binary_passes 2 0 _ values_of_one pass_2_of_one version_one_usable binary_fits one_stands ∙ ap Ok bytes
+    let bytes : node_body version_one binary binary_passes 2 0 (values_of_one []) [] ≡ record_of_n = simp spellings in
+    root_is_last version_one binary binary_passes 2 0 _ values_of_one pass_2_of_one version_one_usable binary_fits one_fits one_stands ∙ ap Ok bytes

@@ -6,7 +6,7 @@ use Rattle.std.proofs.Common.{lit<}
 use Rattle.ag_value.specs.Measure.{max_weight}
 use Rattle.treefile.specs.declared.reading.FrameFault.{FrameFault}
 use Rattle.treefile.specs.declared.reading.FrameFault.TheVariants.{NotATreeFile, Damaged, Device, NoMemory}
-use Rattle.treefile.specs.TreeFile.{Version, version_one, header, frame, file_of_fourteen}
+use Rattle.treefile.specs.TreeFile.{Version, version_one, version_two, header, frame, file_of_fourteen}
 
 -- how many bytes a header has
 abbrev pub header_bytes : ℕ
@@ -84,9 +84,12 @@ Told view (Err (Damaged at)) read = read ≡ Err (Damaged at)
 Told view (Err Device) read = Unit {0}
 Told view (Err NoMemory) read = Unit {0}
 
--- version 1 is usable
+-- versions 1 and 2 are usable
 pub version_one_usable : IsUsable version_one
 version_one_usable = record { four = refl; narrow = lit< tt }
+
+pub version_two_usable : IsUsable version_two
+version_two_usable = record { four = refl; narrow = lit< tt }
 
 -- the one record of a file of 22 bytes
 pub last_of_fourteen : last_body_of version_one file_of_fourteen ≡ Ok (1 ∷ 0 ∷ 0 ∷ 0 ∷ 0 ∷ 0 ∷ 0 ∷ 0 ∷ 0 ∷ 0 ∷ 0 ∷ 14 ∷ [])

@@ -1,5 +1,5 @@
 -- What the laws on the files of trees state.
-use Rattle.std.specs.Prelude.{ℕ, suc, ◌≡◌, ◌^◌, ◌<◌, ◌≤◌, ◌++◌, ◌↔◌, List, [], ◌∷◌, Some, None, Ok, slice_get, length, true}
+use Rattle.std.specs.Prelude.{ℕ, suc, ◌≡◌, ◌^◌, ◌<◌, ◌≤◌, ◌++◌, ◌↔◌, List, [], ◌∷◌, Some, None, Ok, slice_get, drop, length, true}
 use Rattle.ag_value.specs.declared.value.Value.{Value}
 use Rattle.ag_grammar.specs.Lists.{Each}
 use Rattle.ag_grammar.specs.declared.direction.Direction.{Direction}
@@ -9,44 +9,45 @@ use Rattle.ag_grammar.specs.declared.grammar.Production.{Production}
 use Rattle.ag_grammar.specs.grammars.Accepted.{IsAccepted}
 use Rattle.ag_grammar.specs.grammars.AttributeGrammar.{Grammar, stored_items}
 use Rattle.ag_grammar.specs.grammars.Passes.{Passes, IsLegal, direction_of, nth, other}
-use Rattle.ag_grammar.specs.grammars.Solution.{Same, SameAt, Valuation}
+use Rattle.ag_grammar.specs.grammars.Solution.{Same, SameAt, Valuation, children}
 use Rattle.ag_grammar.specs.grammars.Tree.{Forest, Tree, IsTreeOf, node}
-use Rattle.treefile.specs.Awaited.{AreThere, Awaits, Breaks, HasNoTree, HasNoTreeWithin, IsNodeRecord, IsOnTheWay, IsRecordOf, IsTooLarge, ToCome, before_others, root_to_come, unvisited}
+use Rattle.treefile.specs.Awaited.{AreThere, Awaits, Breaks, Child, HasNoTree, HasNoTreeWithin, IsNodeRecord, IsOnTheWay, IsRecordOf, IsTooLarge, ToCome, before_others, root_to_come, told, unvisited}
 use Rattle.treefile.specs.Backward.{before_frame, next_before, pass_of}
 use Rattle.treefile.specs.Ending.{IsUsable, is_tree_file, last_body_of}
-use Rattle.treefile.specs.Listed.{AreSpelled, BeginsNoValue, HasRead, IsListedRecord}
+use Rattle.treefile.specs.Listed.{AreSpelled, BeginsNoValue, HasRead, IsListedRecord, count_up_to}
 use Rattle.treefile.specs.OneTree.{IsNumbered, IsRecorded}
 use Rattle.treefile.specs.Orders.{postfix, prefix}
-use Rattle.treefile.specs.Records.{FitsVersion, IsFileOfTree, bodies_of, node_body, values_up_to}
+use Rattle.treefile.specs.Records.{FitsVersion, IsFileOfTree, bodies_of, copies_of, node_body, values_up_to}
 use Rattle.treefile.specs.Runs.{RunsPass, RunsPasses}
 use Rattle.treefile.specs.TreeFile.{Version}
 
--- A body is the record of a node of one production at most, and with one value of each attribute up to the pass.
+-- A body is the record of a node of one production at most, with one value of each attribute up to the pass, and with one list of
+-- copies.
 abbrev pub OneNode : Type 0
-OneNode = (g : Grammar) (m : Passes) (k s z p r : ℕ) (body : List ℕ) (q w : Production) (e f : ℕ → Value) → IsNumbered g → IsNodeRecord g m k s body p q e → IsNodeRecord g m k z body r w f → (p ≡ r) × SameAt (λ n. n ≤ k) (m s) e f
+OneNode = (version : Version) (g : Grammar) (m : Passes) (k s z p r : ℕ) (body : List ℕ) (q w : Production) (e f : ℕ → Value) → IsNumbered g → (a : IsNodeRecord version g m k s body p q e) (b : IsNodeRecord version g m k z body r w f) → (p ≡ r) × SameAt (λ n. n ≤ k) (m s) e f × (a.copies ≡ b.copies)
 
 -- A list begins with the records of one tree of an item at most, and of one valuation of it up to the pass: each node before
 -- its children, these in a direction.
 abbrev pub OneTreeInFront : Type 0
-OneTreeInFront = (g : Grammar) (m : Passes) (k : ℕ) (d : Direction) (x : Item) (t s : Tree) (u w : Valuation) (rest others : List (List ℕ)) → IsNumbered g → IsRecorded g m k x t u → IsRecorded g m k x s w → prefix d (bodies_of g m k t u) ++ rest ≡ prefix d (bodies_of g m k s w) ++ others → (t ≡ s) × Same (λ p. p ≤ k) g m t u w × (rest ≡ others)
+OneTreeInFront = (version : Version) (g : Grammar) (m : Passes) (k : ℕ) (d : Direction) (x : Item) (t s : Tree) (u w : Valuation) (rest others : List (List ℕ)) → IsNumbered g → IsRecorded g m k x t u → IsRecorded g m k x s w → prefix d (bodies_of version g m k t u) ++ rest ≡ prefix d (bodies_of version g m k s w) ++ others → (t ≡ s) × Same (λ p. p ≤ k) g m t u w × (rest ≡ others)
 
 -- A list ends with the records of one tree of an item at most, and of one valuation of it up to the pass: each node behind its
 -- children.
 abbrev pub OneTreeAtEnd : Type 0
-OneTreeAtEnd = (g : Grammar) (m : Passes) (k : ℕ) (d : Direction) (x : Item) (t s : Tree) (u w : Valuation) (front others : List (List ℕ)) → IsNumbered g → IsRecorded g m k x t u → IsRecorded g m k x s w → front ++ postfix d (bodies_of g m k t u) ≡ others ++ postfix d (bodies_of g m k s w) → (t ≡ s) × Same (λ p. p ≤ k) g m t u w × (front ≡ others)
+OneTreeAtEnd = (version : Version) (g : Grammar) (m : Passes) (k : ℕ) (d : Direction) (x : Item) (t s : Tree) (u w : Valuation) (front others : List (List ℕ)) → IsNumbered g → IsRecorded g m k x t u → IsRecorded g m k x s w → front ++ postfix d (bodies_of version g m k t u) ≡ others ++ postfix d (bodies_of version g m k s w) → (t ≡ s) × Same (λ p. p ≤ k) g m t u w × (front ≡ others)
 
 -- A content is the file of pass k of one tree of the grammar at most, and of one valuation of it up to the pass.
 abbrev pub OneReading : Type 0
-OneReading = (version : Version) (g : Grammar) (m : Passes) (k : ℕ) (t s : Tree) (u w : Valuation) (content : List ℕ) → IsUsable version → FitsVersion version m → IsNumbered g → IsTreeOf g t → IsTreeOf g s → IsFileOfTree version g m k t u content → IsFileOfTree version g m k s w content → (t ≡ s) × Same (λ p. p ≤ k) g m t u w
+OneReading = (version : Version) (g : Grammar) (m : Passes) (k : ℕ) (t s : Tree) (u w : Valuation) (content : List ℕ) → IsUsable version → FitsVersion version g m → IsNumbered g → IsTreeOf g t → IsTreeOf g s → IsFileOfTree version g m k t u content → IsFileOfTree version g m k s w content → (t ≡ s) × Same (λ p. p ≤ k) g m t u w
 
 -- Values that are the same up to pass k have the same file of it.
 abbrev pub SameFile : Type 0
 SameFile = (version : Version) (g : Grammar) (m : Passes) (k : ℕ) (t : Tree) (u w : Valuation) (content : List ℕ) → Same (λ p. p ≤ k) g m t u w → IsFileOfTree version g m k t u content → IsFileOfTree version g m k t w content
 
--- A record can number the productions of an accepted grammar, and under a legal assignment it has no more values than version 1
+-- A record can number the productions of an accepted grammar, and under a legal assignment it has no more values than the version
 -- allows.
-abbrev pub FitsVersionOne : Version → Type 0
-FitsVersionOne version = (g : Grammar) (m : Passes) → IsAccepted g → IsLegal g m → IsNumbered g × FitsVersion version m
+abbrev pub FitsAccepted : Version → Type 0
+FitsAccepted version = (g : Grammar) (m : Passes) → IsAccepted g → IsLegal g m → IsNumbered g × FitsVersion version g m
 
 -- No pass was run: the values are as before.
 abbrev pub StartsRun : Type 0
@@ -64,13 +65,14 @@ RefusalGoesBack = (version : Version) (g : Grammar) (m : Passes) (k last : ℕ) 
 abbrev pub RefusalWithinGoesBack : Type 0
 RefusalWithinGoesBack = (depth nodes : ℕ) (version : Version) (g : Grammar) (m : Passes) (k last : ℕ) (start now before : List ℕ) → RunsPasses version g m k last start now before → HasNoTreeWithin depth nodes version g m last now → HasNoTreeWithin depth nodes version g m k start
 
--- A body is the record of an item with one list of children's items at most.
+-- A body is the record of a child with one list of its own children at most.
 abbrev pub OneRecord : Type 0
-OneRecord = (g : Grammar) (m : Passes) (k : ℕ) (x : Item) (body : List ℕ) (ys zs : List Item) → IsNumbered g → IsRecordOf g m k x body ys → IsRecordOf g m k x body zs → ys ≡ zs
+OneRecord = (version : Version) (g : Grammar) (m : Passes) (k : ℕ) (x : Child) (body : List ℕ) (ys zs : List Child) → IsNumbered g → IsRecordOf version g m k x body ys → IsRecordOf version g m k x body zs → ys ≡ zs
 
--- A body is a record of a symbol exactly where it has a production of it and as many well values as it should.
+-- A body is a record of a symbol exactly where it has a production of it and as many well values as it should. Those behind its own
+-- are the copies.
 abbrev pub ListedRecord : Type 0
-ListedRecord = (g : Grammar) (m : Passes) (k s : ℕ) (body : List ℕ) (ys : List Item) → IsRecordOf g m k (item.Symbol s) body ys ↔ ((p : ℕ) × (q : Production) × (vs : List Value) × IsListedRecord g m k s body p q vs × (ys ≡ stored_items q.items))
+ListedRecord = (version : Version) (g : Grammar) (m : Passes) (k s : ℕ) (body : List ℕ) (ys : List Child) → IsRecordOf version g m k (item.Symbol s, None) body ys ↔ ((p : ℕ) × (q : Production) × (vs : List Value) × IsListedRecord version g m k s body p q vs × (ys ≡ told version.has_copies g m k (stored_items q.items) (drop (count_up_to k (m s)) vs)))
 
 -- Where fewer values were read of some bytes than there should be, and no other begins behind them, the bytes spell not so
 -- many;
@@ -83,23 +85,23 @@ BytesAreLeft = (bytes : List ℕ) (vs : List Value) (rest : List ℕ) (n : ℕ) 
 
 -- At the end of a content the root is to come,
 abbrev pub WayBegins : Type 0
-WayBegins = (version : Version) (g : Grammar) (m : Passes) (k : ℕ) (content : List ℕ) → IsUsable version → FitsVersion version m → IsOnTheWay version g m k content (length content) 0 (root_to_come g)
+WayBegins = (version : Version) (g : Grammar) (m : Passes) (k : ℕ) (content : List ℕ) → IsUsable version → FitsVersion version g m → IsOnTheWay version g m k content (length content) 0 (root_to_come g)
 
--- and behind a record of the first item that is to come its children are, before the others.
+-- and behind a record of the first child that is to come its own children are, before the others.
 abbrev pub WayGoesOn : Type 0
-WayGoesOn = (version : Version) (g : Grammar) (m : Passes) (k : ℕ) (content body : List ℕ) (at count level : ℕ) (x : Item) (ys : List Item) (todo : ToCome) → IsNumbered g → IsOnTheWay version g m k content at count ((level, x) ∷ todo) → next_before version content at ≡ Ok (Some body) → IsRecordOf g m k x body ys → IsOnTheWay version g m k content (before_frame at body) (suc count) (before_others (other (direction_of k)) (suc level) ys todo)
+WayGoesOn = (version : Version) (g : Grammar) (m : Passes) (k : ℕ) (content body : List ℕ) (at count level : ℕ) (x : Child) (ys : List Child) (todo : ToCome) → IsNumbered g → IsOnTheWay version g m k content at count ((level, x) ∷ todo) → next_before version content at ≡ Ok (Some body) → IsRecordOf version g m k x body ys → IsOnTheWay version g m k content (before_frame at body) (suc count) (before_others (other (direction_of k)) (suc level) ys todo)
 
--- Behind i visited items of a right side the next one is to come, and the others of that right side behind it;
+-- Behind i visited members of a right side the next one is to come, and the others of that right side behind it;
 abbrev pub NextToCome : Type 0
-NextToCome = (d : Direction) (level i : ℕ) (xs : List Item) (x : Item) (todo : ToCome) → i < length xs → slice_get xs (nth d (length xs) i) ≡ Some x → before_others d level (unvisited d xs i) todo ≡ (level, x) ∷ before_others d level (unvisited d xs (suc i)) todo
+NextToCome = (d : Direction) (level i : ℕ) (xs : List Child) (x : Child) (todo : ToCome) → i < length xs → slice_get xs (nth d (length xs) i) ≡ Some x → before_others d level (unvisited d xs i) todo ≡ (level, x) ∷ before_others d level (unvisited d xs (suc i)) todo
 
 -- before the first one all of them are, and behind the last one none.
 abbrev pub AllToCome : Type 0
-AllToCome = (d : Direction) (level : ℕ) (xs : List Item) (todo : ToCome) → (unvisited d xs 0 ≡ xs) × (before_others d level (unvisited d xs (length xs)) todo ≡ todo)
+AllToCome = (d : Direction) (level : ℕ) (xs : List Child) (todo : ToCome) → (unvisited d xs 0 ≡ xs) × (before_others d level (unvisited d xs (length xs)) todo ≡ todo)
 
 -- Bodies are awaited exactly where they are the records of such trees.
 abbrev pub AwaitedAreThere : Type 0
-AwaitedAreThere = (g : Grammar) (m : Passes) (k deepest : ℕ) (d : Direction) (todo : ToCome) (bodies : List (List ℕ)) → Awaits g m k d deepest todo bodies ↔ AreThere g m k d deepest todo bodies
+AwaitedAreThere = (version : Version) (g : Grammar) (m : Passes) (k deepest : ℕ) (d : Direction) (todo : ToCome) (bodies : List (List ℕ)) → Awaits version g m k d deepest todo bodies ↔ AreThere version g m k d deepest todo bodies
 
 -- Where nothing is to come and the content is the file of a tree, everything was read: the header ends there.
 abbrev pub WayEnds : Type 0
@@ -107,11 +109,11 @@ WayEnds = (version : Version) (g : Grammar) (m : Passes) (k : ℕ) (content : Li
 
 -- Where what is found before an offset is not what is to come, the content is the file of no tree;
 abbrev pub WayBreaks : Type 0
-WayBreaks = (version : Version) (g : Grammar) (m : Passes) (k : ℕ) (content : List ℕ) (at count : ℕ) (todo : ToCome) → IsOnTheWay version g m k content at count todo → Breaks g m k todo (next_before version content at) → HasNoTree version g m k content
+WayBreaks = (version : Version) (g : Grammar) (m : Passes) (k : ℕ) (content : List ℕ) (at count : ℕ) (todo : ToCome) → IsOnTheWay version g m k content at count todo → Breaks version g m k todo (next_before version content at) → HasNoTree version g m k content
 
 -- where a tree at too deep a level, or one record too many, is to come, it is that of none within the limits;
 abbrev pub WayIsTooLong : Type 0
-WayIsTooLong = (version : Version) (g : Grammar) (m : Passes) (k : ℕ) (content : List ℕ) (at count level depth nodes : ℕ) (x : Item) (todo : ToCome) → IsOnTheWay version g m k content at count ((level, x) ∷ todo) → IsTooLarge depth nodes level count → HasNoTreeWithin depth nodes version g m k content
+WayIsTooLong = (version : Version) (g : Grammar) (m : Passes) (k : ℕ) (content : List ℕ) (at count level depth nodes : ℕ) (x : Child) (todo : ToCome) → IsOnTheWay version g m k content at count ((level, x) ∷ todo) → IsTooLarge depth nodes level count → HasNoTreeWithin depth nodes version g m k content
 
 -- and it is that of none where it begins otherwise than a tree file of the pass.
 abbrev pub NoFileHasNoTree : Type 0
@@ -119,7 +121,7 @@ NoFileHasNoTree = (version : Version) (g : Grammar) (m : Passes) (k : ℕ) (cont
 
 -- The last body of a tree's file is the root's record,
 abbrev pub RootIsLast : Type 0
-RootIsLast = (version : Version) (g : Grammar) (m : Passes) (k p : ℕ) (ts : Forest) (v : Valuation) (content : List ℕ) → IsUsable version → FitsVersion version m → IsFileOfTree version g m k (node p ts) v content → last_body_of version content ≡ Ok (node_body g m k p (v []))
+RootIsLast = (version : Version) (g : Grammar) (m : Passes) (k p : ℕ) (ts : Forest) (v : Valuation) (content : List ℕ) → IsUsable version → FitsVersion version g m → IsTreeOf g (node p ts) → IsFileOfTree version g m k (node p ts) v content → last_body_of version content ≡ Ok (node_body version g m k p (v []) (copies_of g m k ts (children v)))
 
 -- and in that of the last pass each attribute has its value at its number.
 abbrev pub ValuesAreWhole : Type 0

@@ -1,13 +1,17 @@
 -- The values of a record as a list, as its body spells them one behind the other. All of this is this project's.
-use Rattle.std.specs.Prelude.{ℕ, zero, suc, ◌≡◌, ◌+◌, ◌++◌, nat_le, List, [], ◌∷◌, length, pos, All, if◌then◌else◌, refl}
+use Rattle.std.specs.Prelude.{ℕ, zero, suc, ◌≡◌, ◌+◌, ◌++◌, nat_le, Bool, true, false, List, [], ◌∷◌, length, pos, All, if◌then◌else◌, refl}
 use Rattle.std.specs.List.{flat_map}
 use Rattle.ag_value.specs.declared.value.Value.{Value, Num}
 use Rattle.ag_value.specs.Spelling.{spelling_of}
 use Rattle.ag_value.specs.Well.{IsWell}
 use Rattle.ag_grammar.specs.declared.grammar.Production.{Production}
-use Rattle.ag_grammar.specs.grammars.AttributeGrammar.{Grammar, IsProduction}
+use Rattle.ag_grammar.specs.declared.grammar.Item.TheVariants as item
+use Rattle.ag_grammar.specs.declared.grammar.Item.{Item}
+use Rattle.ag_grammar.specs.declared.grammar.Terminal.TheVariants.{Literal, Class}
+use Rattle.ag_grammar.specs.grammars.AttributeGrammar.{Grammar, IsProduction, stored_items}
 use Rattle.ag_grammar.specs.grammars.Passes.{Passes}
-use Rattle.treefile.specs.TreeFile.{body_of}
+use Rattle.treefile.specs.Records.{synthesized_passes}
+use Rattle.treefile.specs.TreeFile.{Version, body_of}
 use Rattle.treefile.specs.declared.body.Kind.TheVariants.{Node}
 
 -- how many of the attributes with these passes are of a pass up to k
@@ -32,12 +36,28 @@ placed k [] vs a = Num (pos 0)
 placed k (p ∷ ps) vs zero = first_of_values vs
 placed k (p ∷ ps) vs (suc a) = placed k ps (if nat_le p k then others_of_values vs else vs) a
 
+-- how many values the copy of an item's tree has in the file of pass k
+abbrev pub copied_count : Grammar → Passes → ℕ → Item → ℕ
+copied_count g m k (item.Symbol s) = count_up_to k (synthesized_passes g m s)
+copied_count g m k (item.Terminal (Class c)) = 1
+copied_count g m k (item.Terminal (Literal l)) = 0
+
+-- and those of some items
+abbrev pub copies_count : Grammar → Passes → ℕ → List Item → ℕ
+copies_count g m k [] = 0
+copies_count g m k (x ∷ xs) = copied_count g m k x + copies_count g m k xs
+
+-- how many values the record of a node has in the file of pass k, with its copies where it has them
+abbrev pub stored_count : Bool → Grammar → Passes → ℕ → Production → ℕ
+stored_count false g m k q = count_up_to k (m q.left)
+stored_count true g m k q = count_up_to k (m q.left) + copies_count g m k (stored_items q.items)
+
 -- A body is the record of a node of symbol s in the file of pass k, with its values as a list: of a production of the symbol,
--- and with as many well values as it has attributes of passes up to k.
-pub record IsListedRecord (g : Grammar) (m : Passes) (k s : ℕ) (body : List ℕ) (p : ℕ) (q : Production) (vs : List Value) : Type 0 where
+-- and with as many well values as it has attributes of passes up to k, and copies of its children's.
+pub record IsListedRecord (version : Version) (g : Grammar) (m : Passes) (k s : ℕ) (body : List ℕ) (p : ℕ) (q : Production) (vs : List Value) : Type 0 where
   pub production : IsProduction g p q
   pub left : q.left ≡ s
-  pub count : length vs ≡ count_up_to k (m s)
+  pub count : length vs ≡ stored_count version.has_copies g m k q
   pub well : All IsWell vs
   pub stands : body ≡ body_of Node p vs
 

@@ -1,9 +1,9 @@
 -- The bytes of a tree file of a version: this project's layout. All numbers are big-endian.
-use Rattle.std.specs.Prelude.{◌≡◌, ℕ, List, [], ◌∷◌, ◌++◌, length, pos, refl}
+use Rattle.std.specs.Prelude.{◌≡◌, ℕ, ◌+◌, ◌*◌, Bool, true, false, List, [], ◌∷◌, ◌++◌, length, pos, refl}
 use Rattle.std.proofs.Common.{ap, sym, ◌∙◌}
 use Rattle.std.specs.List.{flat_map}
 use Rattle.std.specs.Int.{w16, w32, to_be_bytes}
-use Rattle.ag_grammar.specs.declared.limits.TheConstants.{MOST_ATTRIBUTES}
+use Rattle.ag_grammar.specs.declared.limits.TheConstants.{MOST_ATTRIBUTES, MOST_STORED}
 use Rattle.ag_value.specs.declared.value.Value.{Value}
 use Rattle.ag_value.specs.declared.value.Value.TheVariants as value
 use Rattle.ag_value.specs.declared.value.Value.TheVariants.{rolls-Num}
@@ -13,14 +13,20 @@ use Rattle.ag_value.specs.Spelling.{spelling_of, spelling_step}
 use Rattle.treefile.specs.declared.body.Kind.{Kind}
 use Rattle.treefile.specs.declared.body.Kind.TheVariants.{Node, Token}
 
--- a version of tree files: the bytes with which each of its files begins, and how many values a record has at most
+-- a version of tree files: the bytes with which each of its files begins, how many values a record has at most, and whether that
+-- of a node has copies of its children's
 pub record Version : Type 0 where
   pub magic : List ℕ
   pub most_values : ℕ
+  pub has_copies : Bool
 
 -- version 1: AGT1, and at most as many values as a symbol has attributes
 abbrev pub version_one : Version
-version_one = record { magic = 65 ∷ 71 ∷ 84 ∷ 49 ∷ []; most_values = MOST_ATTRIBUTES }
+version_one = record { magic = 65 ∷ 71 ∷ 84 ∷ 49 ∷ []; most_values = MOST_ATTRIBUTES; has_copies = false }
+
+-- version 2: AGT2, and as many values besides for each child
+abbrev pub version_two : Version
+version_two = record { magic = 65 ∷ 71 ∷ 84 ∷ 50 ∷ []; most_values = MOST_ATTRIBUTES + MOST_STORED * MOST_ATTRIBUTES; has_copies = true }
 
 -- the first bytes of a file: those of its version, and the number of the pass that wrote it in two
 abbrev pub header : Version → ℕ → List ℕ

@@ -1,6 +1,6 @@
 //! What is true of the definitions of trees of bodies and of their files alone.
 
-ghost use Rattle.std.specs.Prelude.{◌≡◌, ◌≤◌, ◌++◌, ◌∷◌, ℕ, List, [], Option, All, Ok, length, pos};
+ghost use Rattle.std.specs.Prelude.{◌≡◌, ◌≤◌, ◌++◌, ◌∷◌, ℕ, List, [], Option, None, All, Ok, length, pos};
 ghost use Rattle.std.specs.Prelude.{reverse};
 ghost use Rattle.ag_value.specs.declared.value.Value.{Num, Text};
 ghost use Rattle.ag_grammar.specs.declared.direction.Direction.{Direction};
@@ -17,7 +17,7 @@ ghost use Rattle.treefile.specs.Awaited.{AreThere, Awaits, HasNoTree, HasNoTreeW
 ghost use Rattle.treefile.specs.Awaited.{IsNoRecord, IsOnTheWay, IsRecordOf, root_to_come};
 ghost use Rattle.treefile.specs.Backward.{ReadsBack};
 ghost use Rattle.treefile.specs.Ending.{IsBody, IsUsable, last_body_of};
-ghost use Rattle.treefile.specs.Laws.{AllToCome, AwaitedAreThere, BytesAreLeft, FitsVersionOne};
+ghost use Rattle.treefile.specs.Laws.{AllToCome, AwaitedAreThere, BytesAreLeft, FitsAccepted};
 ghost use Rattle.treefile.specs.Laws.{GoesOnRun, ListedRecord, NextToCome, NoFileHasNoTree, OneNode};
 ghost use Rattle.treefile.specs.Laws.{OneReading, OneRecord, OneTreeAtEnd, OneTreeInFront};
 ghost use Rattle.treefile.specs.Laws.{RefusalGoesBack, RefusalWithinGoesBack, RootIsLast, SameFile};
@@ -28,8 +28,9 @@ ghost use Rattle.treefile.specs.OneTree.{IsNumbered, IsRecorded};
 ghost use Rattle.treefile.specs.Orders.{BodyTree, IsRanked, postfix, prefix};
 ghost use Rattle.treefile.specs.Records.{FitsVersion, IsFileOfTree, bodies_of, file_of_tree};
 ghost use Rattle.treefile.specs.Runs.{RunsPass, RunsPasses};
-ghost use Rattle.treefile.specs.TreeFile.{Version, file, header, version_one};
-ghost use Rattle.treefile.specs.Worked.{binary, binary_passes, bodies_of_one, file_of_iffy};
+ghost use Rattle.treefile.specs.TreeFile.{Version, file, header, version_one, version_two};
+ghost use Rattle.treefile.specs.Worked.{binary, binary_passes, bodies_of_one, copies_1_of_one};
+ghost use Rattle.treefile.specs.Worked.{copies_2_of_one, copies_of_iffy, file_of_iffy};
 ghost use Rattle.treefile.specs.Worked.{file_of_x_x, iffy_passes, pass_0_of_one, pass_1_of_one};
 ghost use Rattle.treefile.specs.Worked.{pass_2_of_one, production_of, record_of_iffy, record_of_n};
 ghost use Rattle.treefile.specs.Worked.{record_of_t, spelled_number, tree_of_one, values_of_one};
@@ -58,20 +59,20 @@ pub fn lists_tell_trees()
 /// back as the tree's prefix list in the other direction: each node before its children.
 pub fn trees_are_read_back()
     ensures bodies { (version : Version) (grammar : Grammar) (passes : Passes) (pass : ℕ)
-        (tree : Tree) (values : Valuation) (content : List ℕ) → FitsVersion version passes →
-        IsFileOfTree version grammar passes pass tree values content →
-        All (IsBody version)
-        (postfix (direction_of pass) (bodies_of grammar passes pass tree values)) }
+        (tree : Tree) (values : Valuation) (content : List ℕ) →
+        FitsVersion version grammar passes → IsTreeOf grammar tree →
+        IsFileOfTree version grammar passes pass tree values content → All (IsBody version)
+        (postfix (direction_of pass) (bodies_of version grammar passes pass tree values)) }
     ensures back { (version : Version) (grammar : Grammar) (passes : Passes) (pass : ℕ)
         (tree : Tree) (values : Valuation) (content : List ℕ) → IsUsable version →
-        FitsVersion version passes →
+        FitsVersion version grammar passes → IsTreeOf grammar tree →
         IsFileOfTree version grammar passes pass tree values content →
         ReadsBack version content (length content)
-        (prefix (other (direction_of pass)) (bodies_of grammar passes pass tree values)) }
+        (prefix (other (direction_of pass)) (bodies_of version grammar passes pass tree values)) }
 {}
 
 /// The files of `1` in the grammar of binary fractions, byte for byte, and the one of `iffy if`. Of
-/// pass 0 no value stands in them but the text of a token.
+/// pass 0 no value stands in them but the text of a token. In version 2 a record has copies too.
 pub fn worked_files()
     ensures first { (values : Valuation) →
         file_of_tree version_one binary binary_passes 0 tree_of_one values ≡ pass_0_of_one }
@@ -81,6 +82,12 @@ pub fn worked_files()
         ≡ pass_2_of_one }
     ensures token { (values : Valuation) →
         file_of_tree version_one token_sample iffy_passes 0 token_tree values ≡ file_of_iffy }
+    ensures copied_second { file_of_tree version_two binary binary_passes 1 tree_of_one
+        values_of_one ≡ copies_1_of_one }
+    ensures copied_third { file_of_tree version_two binary binary_passes 2 tree_of_one
+        values_of_one ≡ copies_2_of_one }
+    ensures copied_token { (values : Valuation) →
+        file_of_tree version_two token_sample iffy_passes 0 token_tree values ≡ copies_of_iffy }
 {}
 
 /// A record tells its node's production and values. A list begins with the records of one tree of an
@@ -94,11 +101,12 @@ pub fn records_tell_trees()
 
 /// A content is the file of a pass of one tree of the grammar at most, and of one valuation of it up to
 /// the pass; and values that are the same up to the pass have the same file. What is asked of the
-/// grammar and of the version is so of accepted grammars in version 1.
+/// grammar and of the version is so of accepted grammars in versions 1 and 2.
 pub fn files_have_one_tree()
     ensures reading { OneReading }
     ensures same { SameFile }
-    ensures fits { FitsVersionOne version_one }
+    ensures one { FitsAccepted version_one }
+    ensures two { FitsAccepted version_two }
 {}
 
 /// Passes over files, one after the other. Where none has run the file is as it was, and one more has
@@ -162,7 +170,7 @@ pub fn worked_records()
     ensures pass { RunsPass version_one sample sample_passes 0 (file_of_x_x 0) (file_of_x_x 1) }
     ensures run { RunsPasses version_one sample sample_passes 0 1 (file_of_x_x 0) (file_of_x_x 1)
         (file_of_x_x 0) }
-    ensures listed { IsListedRecord binary binary_passes 1 3 record_of_t 4 (production_of 3 [])
+    ensures listed { IsListedRecord version_one binary binary_passes 1 3 record_of_t 4 (production_of 3 [])
         (Num (pos 65536) ∷ []) }
     ensures spelled { AreSpelled 1 spelled_number }
     ensures read { HasRead (spelled_number ++ 9 ∷ []) (Num (pos 65536) ∷ []) (9 ∷ []) }
@@ -175,20 +183,22 @@ pub fn worked_records()
 /// three levels, and of none of two; nor is the file that of a tree of three nodes at most. A header
 /// alone is the file of no tree, nor is a file with Q's record alone, nor is this one a file of pass 1.
 pub fn worked_way()
-    ensures one { IsRecordOf binary binary_passes 1 (item.Symbol 3) record_of_t [] }
-    ensures token { IsRecordOf token_sample iffy_passes 0 (item.Terminal (Class 0))
-        record_of_iffy [] }
-    ensures none { IsNoRecord binary binary_passes 0 (item.Symbol 0) (0 ∷ 0 ∷ 1 ∷ []) }
-    ensures awaited { Awaits binary binary_passes 0 RightToLeft 3 (root_to_come binary)
-        bodies_of_one }
-    ensures there { AreThere binary binary_passes 0 RightToLeft 3 (root_to_come binary)
-        bodies_of_one }
-    ensures deep { Awaits binary binary_passes 0 RightToLeft 2 (root_to_come binary)
+    ensures one { IsRecordOf version_one binary binary_passes 1 (item.Symbol 3, None)
+        record_of_t [] }
+    ensures token { IsRecordOf version_one token_sample iffy_passes 0
+        (item.Terminal (Class 0), None) record_of_iffy [] }
+    ensures none { IsNoRecord version_one binary binary_passes 0 (item.Symbol 0, None)
+        (0 ∷ 0 ∷ 1 ∷ []) }
+    ensures awaited { Awaits version_one binary binary_passes 0 RightToLeft 3
+        (root_to_come binary) bodies_of_one }
+    ensures there { AreThere version_one binary binary_passes 0 RightToLeft 3
+        (root_to_come binary) bodies_of_one }
+    ensures deep { Awaits version_one binary binary_passes 0 RightToLeft 2 (root_to_come binary)
         bodies_of_one → ⊥ }
     ensures begins { IsOnTheWay version_one binary binary_passes 0 pass_0_of_one 41 0
         (root_to_come binary) }
     ensures goes { IsOnTheWay version_one binary binary_passes 0 pass_0_of_one 34 1
-        ((2, item.Symbol 1) ∷ (2, item.Symbol 2) ∷ []) }
+        ((2, (item.Symbol 1, None)) ∷ (2, (item.Symbol 2, None)) ∷ []) }
     ensures levels { HasNoTreeWithin 2 most_nodes version_one binary binary_passes 0
         pass_0_of_one }
     ensures nodes { HasNoTreeWithin most_depth 3 version_one binary binary_passes 0

@@ -1,8 +1,6 @@
-use Rattle.std.proofs.Common.{◌-◌, ◌≤◌, All, Err, List, ap, arith, drop, length, take}
-use Rattle.std.proofs.lemmas.List.{length-drop, length-take}
+use Rattle.std.proofs.Common.{◌-◌, Err, ap, length}
 use Rattle.std.proofs.lemmas.List.Elements.{All-drop, All-take}
 use Rattle.std.proofs.lemmas.Result.{err_from_is_err_and}
-use Rattle.ag_value.specs.declared.value.Value.{Value}
 use Rattle.ag_value.specs.Well.{IsWell}
 use Rattle.treefile.specs.TreeFile.{body_of, version_one}
 use Rattle.treefile.proofs.Beginning.{one_added, one_refused}
