@@ -1,5 +1,5 @@
 -- Which refusals are true where a parser stops.
-use Rattle.std.proofs.Common.{◌≡◌, ℕ, ◌≤◌, Bool, List, length, reverse, slice_get, Some, refl, sym, subst, arith}
+use Rattle.std.proofs.Common.{◌≡◌, ℕ, ◌≤◌, Bool, List, ◌∷◌, length, reverse, slice_get, Some, refl, sym, subst, arith}
 use Rattle.std.proofs.lemmas.List.{length-reverse}
 use Rattle.ag_grammar.specs.declared.grammar.Item.TheVariants as item
 use Rattle.ag_grammar.specs.declared.grammar.Terminal.TheVariants.{Class}
@@ -12,30 +12,31 @@ use Rattle.llparse.specs.Sentences.{offset_at, words_of, IsStuckAt}
 use Rattle.llparse.specs.Turns.{Asks, Faces, IsFull}
 use Rattle.llparse.specs.declared.parse_fault.ParseFault.{ParseFault}
 use Rattle.llparse.specs.declared.parse_fault.ParseFault.TheVariants as fault
+use Rattle.llparse.specs.declared.parser.OpenNode.{OpenNode}
 use Rattle.llparse.specs.declared.parser.Parser.{Parser}
 use Rattle.llparse.proofs.Stacks as stacks
 use Rattle.llparse.proofs.Starts as starts
 
 module _ (g : Grammar) (tokens : List Token) (honest : Bool) (front : List ℕ) where
   -- no node more is within the limits
-  pub full_node : IsAccepted g → (p : Parser) (s : ℕ) (bytes : List ℕ) (e : ParseFault) → IsFull p e → Asks (task_of g tokens honest front) s p bytes → IsRefused (task_of g tokens honest front) (offset_at tokens) e
-  full_node accepted p s bytes (fault.Unexpected at) full a = absurd full
-  full_node accepted p s bytes fault.TooDeep full a =
-      let deep : most_depth ≤ length (reverse p.stack.items) = omega (arith, length-reverse p.stack.items) in
-      starts.deep_node (task_of g tokens honest front) accepted s (reverse p.stack.items) p.taken p.count bytes deep a
-  full_node accepted p s bytes fault.TooManyNodes full a = starts.large_node (task_of g tokens honest front) accepted s (reverse p.stack.items) p.taken p.count bytes full a
-  full_node accepted p s bytes fault.Device full a = absurd full
-  full_node accepted p s bytes fault.NoMemory full a = absurd full
+  pub full_node : IsAccepted g → (node : OpenNode) (p : Parser) (s : ℕ) (bytes : List ℕ) (e : ParseFault) → IsFull p e → Asks (task_of g tokens honest front) s node p bytes → IsRefused (task_of g tokens honest front) (offset_at tokens) e
+  full_node accepted node p s bytes (fault.Unexpected at) full a = absurd full
+  full_node accepted node p s bytes fault.TooDeep full a =
+      let deep : most_depth ≤ length (node ∷ reverse p.waiting.items) = omega (arith, length-reverse p.waiting.items) in
+      starts.deep_node (task_of g tokens honest front) accepted s (node ∷ reverse p.waiting.items) p.taken p.count bytes deep a
+  full_node accepted node p s bytes fault.TooManyNodes full a = starts.large_node (task_of g tokens honest front) accepted s (node ∷ reverse p.waiting.items) p.taken p.count bytes full a
+  full_node accepted node p s bytes fault.Device full a = absurd full
+  full_node accepted node p s bytes fault.NoMemory full a = absurd full
 
   -- nor a leaf
-  pub full_leaf : IsAccepted g → (p : Parser) (c : ℕ) (bytes : List ℕ) (e : ParseFault) → IsFull p e → Faces (task_of g tokens honest front) (item.Terminal (Class c)) p bytes → IsRefused (task_of g tokens honest front) (offset_at tokens) e
-  full_leaf accepted p c bytes (fault.Unexpected at) full b = absurd full
-  full_leaf accepted p c bytes fault.TooDeep full b =
-      let deep : most_depth ≤ length (reverse p.stack.items) = omega (arith, length-reverse p.stack.items) in
-      stacks.deep_leaf (task_of g tokens honest front) accepted c (reverse p.stack.items) p.taken p.count bytes deep b
-  full_leaf accepted p c bytes fault.TooManyNodes full b = stacks.large_leaf (task_of g tokens honest front) accepted c (reverse p.stack.items) p.taken p.count bytes full b
-  full_leaf accepted p c bytes fault.Device full b = absurd full
-  full_leaf accepted p c bytes fault.NoMemory full b = absurd full
+  pub full_leaf : IsAccepted g → (node : OpenNode) (p : Parser) (c : ℕ) (bytes : List ℕ) (e : ParseFault) → IsFull p e → Faces (task_of g tokens honest front) (item.Terminal (Class c)) node p bytes → IsRefused (task_of g tokens honest front) (offset_at tokens) e
+  full_leaf accepted node p c bytes (fault.Unexpected at) full b = absurd full
+  full_leaf accepted node p c bytes fault.TooDeep full b =
+      let deep : most_depth ≤ length (node ∷ reverse p.waiting.items) = omega (arith, length-reverse p.waiting.items) in
+      stacks.deep_leaf (task_of g tokens honest front) accepted c (node ∷ reverse p.waiting.items) p.taken p.count bytes deep b
+  full_leaf accepted node p c bytes fault.TooManyNodes full b = stacks.large_leaf (task_of g tokens honest front) accepted c (node ∷ reverse p.waiting.items) p.taken p.count bytes full b
+  full_leaf accepted node p c bytes fault.Device full b = absurd full
+  full_leaf accepted node p c bytes fault.NoMemory full b = absurd full
 
   -- what comes next can't be taken
   pub stuck : (i : ℕ) (e : ParseFault) → e ≡ fault.Unexpected (offset_at tokens i) → IsStuckAt g (words_of tokens) i → IsRefused (task_of g tokens honest front) (offset_at tokens) e

@@ -1,5 +1,5 @@
 -- What each step keeps true, over the stack of open nodes from its top.
-use Rattle.std.proofs.Common.{◌≡◌, ℕ, zero, suc, ◌+◌, ◌-◌, ◌*◌, ◌<◌, ◌≤◌, List, [], ◌∷◌, ◌++◌, length, drop, reverse, slice_get, Some, None, refl, ap, ◌∙◌, subst, arith}
+use Rattle.std.proofs.Common.{◌≡◌, ℕ, zero, suc, ◌+◌, ◌-◌, ◌*◌, ◌<◌, ◌≤◌, List, [], ◌∷◌, ◌++◌, length, drop, slice_get, Some, None, refl, ap, ◌∙◌, subst, arith}
 use Rattle.std.proofs.Math.Nat.{mul-suc, mul-le-mul_left}
 use Rattle.ag_grammar.specs.declared.grammar.Item.TheVariants as item
 use Rattle.ag_grammar.specs.declared.grammar.Item.{Item}
@@ -12,13 +12,13 @@ use Rattle.ag_grammar.specs.grammars.Yield as yields
 use Rattle.ag_grammar.specs.grammars.Yield.{Lexeme}
 use Rattle.treefile.specs.Device.{WhenHonest}
 use Rattle.llparse.specs.Ahead.{ahead_of}
-use Rattle.llparse.specs.Parsing.{Task, Reading, Asked, Between, Before, IsTooDeep, IsTooLarge, right_side, leaf_frame, node_frame, most, weight, steps_left}
+use Rattle.llparse.specs.Parsing.{Task, Reading, Asked, Between, Before, IsTooDeep, IsTooLarge, right_side, leaf_frame, node_frame, most, steps_left}
 use Rattle.llparse.specs.Sentences.{IsStuckAt}
 use Rattle.llparse.specs.Turns.{advanced}
 use Rattle.llparse.specs.declared.ahead.Ahead.TheVariants as ahead
 use Rattle.llparse.specs.declared.parser.OpenNode.{OpenNode}
 use Rattle.llparse.proofs.Closing as closing
-use Rattle.llparse.proofs.Fronts.{on_top, rest_at, rest_none}
+use Rattle.llparse.proofs.Fronts.{rest_at, rest_none}
 use Rattle.llparse.proofs.Leaves as leaves
 use Rattle.llparse.proofs.Literals as literals
 use Rattle.llparse.proofs.Starts as starts
@@ -80,16 +80,9 @@ most_is (q ∷ qs) zero = omega arith
 most_is (q ∷ qs) (suc p) = let e = most_is qs p in omega arith
 
 module _ (g : Grammar) (nodes : ℕ) where
-  pub fewer_taken : (old less : List OpenNode) (node : OpenNode) (n : ℕ) → old ≡ less ++ node ∷ [] → steps_left g nodes (reverse less) n < steps_left g nodes (reverse old) n
-  fewer_taken old less node n was = let a = ap (weight g) (on_top less old node was) in omega arith
-
-  pub fewer_passed : (old less full : List OpenNode) (node : OpenNode) (x : Item) (n : ℕ) → old ≡ less ++ node ∷ [] → full ≡ less ++ advanced node ∷ []
-      → slice_get (right_side g node.production) node.place ≡ Some x → steps_left g nodes (reverse full) n < steps_left g nodes (reverse old) n
-  fewer_passed old less full node x n was now next =
-      let a = ap (weight g) (on_top less old node was) in
-      let b = ap (weight g) (on_top less full (advanced node) now) in
-      let c = ap length (rest_at (right_side g node.production) node.place x next) in
-      omega arith
+  pub fewer_passed : (node : OpenNode) (x : Item) (fs : List OpenNode) (n : ℕ) → slice_get (right_side g node.production) node.place ≡ Some x
+      → steps_left g nodes (advanced node ∷ fs) n < steps_left g nodes (node ∷ fs) n
+  fewer_passed node x fs n next = let c = ap length (rest_at (right_side g node.production) node.place x next) in omega arith
 
   pub fewer_counted : (fs : List OpenNode) (n m : ℕ) → n ≤ m → steps_left g nodes fs m ≤ steps_left g nodes fs n
   fewer_counted fs n m le =
@@ -97,10 +90,8 @@ module _ (g : Grammar) (nodes : ℕ) where
       let times = mul-le-mul_left {m = nodes - m} {n = nodes - n} (most g.productions + 2) smaller in
       omega arith
 
-  pub fewer_opened : (old full : List OpenNode) (p n : ℕ) → full ≡ old ++ record { production = p; place = 0 } ∷ [] → n < nodes
-      → steps_left g nodes (reverse full) (n + 1) < steps_left g nodes (reverse old) n
-  fewer_opened old full p n now le =
-      let v = ap (weight g) (on_top old full (record { production = p; place = 0 }) now) in
+  pub fewer_opened : (fs : List OpenNode) (p n : ℕ) → n < nodes → steps_left g nodes (record { production = p; place = 0 } ∷ fs) (n + 1) < steps_left g nodes fs n
+  fewer_opened fs p n le =
       let longest = most_is g.productions p in
       let one : nodes - n ≡ suc (nodes - (n + 1)) = omega arith in
       let times : (most g.productions + 2) * (nodes - n) ≡ (most g.productions + 2) * (nodes - (n + 1)) + (most g.productions + 2) = ap (λ z. (most g.productions + 2) * z) one ∙ mul-suc (most g.productions + 2) (nodes - (n + 1)) in

@@ -1,27 +1,37 @@
--- What one turn of a parser keeps: a node is taken off the stack and closed, or put back behind its next item.
-use Rattle.std.proofs.Common.{◌≡◌, ℕ, ◌+◌, ◌<◌, ◌≤◌, Bool, List, [], ◌∷◌, ◌++◌, length, reverse, slice_get, Option, Some, None, refl, ap, sym, ◌∙◌, subst, arith}
-use Rattle.std.proofs.lemmas.List.{length-append, length-map}
-use Rattle.std.specs.Global.{Vec}
+-- What one turn of a parser keeps: the innermost open node is closed, or goes behind its next item.
+use Rattle.std.proofs.Common.{◌≡◌, ℕ, ◌<◌, ◌≤◌, Bool, List, [], ◌∷◌, ◌++◌, drop, length, reverse, Some, None, refl, sym, ◌∙◌, subst, arith}
+use Rattle.std.proofs.lemmas.List.{length-map}
+use Rattle.std.proofs.lemmas.Option.{slice_get_within}
 use Rattle.ag_grammar.specs.declared.grammar.Item.{Item}
+use Rattle.ag_grammar.specs.grammars.Accepted.{IsAccepted}
 use Rattle.ag_grammar.specs.grammars.AttributeGrammar.{Grammar}
 use Rattle.ag_grammar.specs.grammars.Tree.{most_nodes}
 use Rattle.ag_grammar.specs.grammars.Yield.{Lexeme}
 use Rattle.ag_scan.specs.declared.token.Token.{Token}
 use Rattle.treefile.specs.Device.{Persists, WhenHonest}
-use Rattle.llparse.specs.Parsing.{Task, task_of, Between, Before, IsParsed, node_frame, right_side}
+use Rattle.llparse.specs.Ahead.{ahead_of}
+use Rattle.llparse.specs.Parsing.{Task, task_of, Asked, Between, Whole, IsParsed, node_frame, right_side}
 use Rattle.llparse.specs.Sentences.{IsStuckAt, words_of}
-use Rattle.llparse.specs.Turns.{left_of, advanced, Asks, Faces, Advances, IsBetween}
+use Rattle.llparse.specs.Tables.{Choices, FitsGrammar, choice_of}
+use Rattle.llparse.specs.Turns.{advanced, left_of, Advances, Faces, IsBetween}
 use Rattle.llparse.specs.declared.parser.OpenNode.{OpenNode}
 use Rattle.llparse.specs.declared.parser.Parser.{Parser}
 use Rattle.llparse.proofs.Closing.{no_end, on_end}
-use Rattle.llparse.proofs.Fronts.{on_top}
 use Rattle.llparse.proofs.Stacks.{closed, ends, faces, fewer_counted, fewer_passed}
-use Rattle.llparse.proofs.Starts.{begin}
+use Rattle.llparse.proofs.Starts.{begin, no_rule, on_open}
 
--- at the beginning the start symbol is asked
-pub begun : (k : Task) (p : Parser) (s : ℕ) (bytes : List ℕ) → p.stack.items ≡ [] → p.taken ≡ 0 → p.count ≡ 0 → s ≡ k.grammar.start → bytes ≡ k.front → Asks k s p bytes
-begun k p s bytes stack taken count start front =
-    rw (stack, taken, count, start) (begin k bytes front)
+-- at the beginning the root is open, or no production of its symbol can come
+module _ (k : Task) (tables : Choices) (fits : FitsGrammar k.grammar tables) (s : ℕ) (start : s ≡ k.grammar.start) where
+  at_start : Asked k s [] 0 0 k.front
+  at_start = rw start (begin k k.front refl)
+
+  pub begun : (node : OpenNode) (p : Parser) → 0 < k.nodes → 0 < k.depth → p.waiting.items ≡ [] → p.taken ≡ 0 → p.count ≡ 1 → node.place ≡ 0 → choice_of tables s (ahead_of (drop 0 k.words)) ≡ Some node.production
+      → IsBetween k node p k.front
+  begun node p more_nodes more_levels waiting taken count place chosen =
+      rw (waiting, taken, count, place) (on_open k tables fits s node.production [] 0 0 k.front chosen more_nodes more_levels at_start)
+
+  pub not_begun : IsAccepted k.grammar → choice_of tables s (ahead_of (drop 0 k.words)) ≡ None → IsStuckAt k.grammar k.words 0
+  not_begun accepted unnamed = no_rule k tables fits accepted s [] 0 0 k.front unnamed at_start
 
 -- a call of the device keeps what calls before it kept
 pub persists_on : {E : Type 0} (a b d : Bool) (x y z : ℕ) → Persists a b x y ⊥ → Persists b d y z E → Persists a d x z ⊥
@@ -30,64 +40,31 @@ persists_on a b d x y z p q =
     let second = q.kept in
     record { honest = q.honest ∙ p.honest; kept = omega arith; bounded = λ h. q.bounded (p.bounded h); cause = λ h. absurd h }
 
-module _ (p : Parser) (less : Vec OpenNode) (node : OpenNode) (was : p.stack.items ≡ less.items ++ node ∷ []) where
-  abbrev popped : Parser
-  popped = record p { stack = less }
+-- an open node has a production
+pub within : (k : Task) (node : OpenNode) (p : Parser) (bytes : List ℕ) → IsBetween k node p bytes → node.production < length k.grammar.productions
+within k node p bytes stands = slice_get_within k.grammar.productions node.production stands.stands.0 stands.stands.2
 
-  module _ (g : Grammar) (o : Option Item) (q : Parser) (advances : Advances g node o popped q) where
-    at_end : o ≡ None → (slice_get (right_side g node.production) node.place ≡ None) × (q ≡ popped)
-    at_end e = subst (λ x. Advances g node x popped q) e advances
+-- the innermost open node has an item next, and goes behind it
+module _ (k : Task) (node now : OpenNode) (x : Item) (passed : Advances (right_side k.grammar node.production) node (Some x) now) where
+  pub faced : (y : Item) → x ≡ y → (p : Parser) (bytes : List ℕ) → IsBetween k node p bytes → Faces k y now p bytes
+  faced y is p bytes stands = rw (sym is, passed.1) (faces k node x (reverse p.waiting.items) p.taken p.count bytes passed.0 stands)
 
-    at_item : (x : Item) → o ≡ Some x → (slice_get (right_side g node.production) node.place ≡ Some x) × (q.stack.items ≡ less.items ++ advanced node ∷ []) × (q.taken ≡ p.taken) × (q.count ≡ p.count)
-    at_item x e = subst (λ x. Advances g node x popped q) e advances
+  -- fewer steps are left
+  pub smaller : (p r : Parser) → r.waiting.items ≡ p.waiting.items → p.count ≤ r.count → left_of k.grammar now r < left_of k.grammar node p
+  smaller p r same le =
+      let fewer = fewer_passed k.grammar most_nodes node x (reverse p.waiting.items) p.count passed.0 in
+      let counted = fewer_counted k.grammar most_nodes (advanced node ∷ reverse p.waiting.items) p.count r.count le in
+      rw (passed.1, same) (omega arith)
 
-    -- one frame more for the node that is closed
-    pub written_end : o ≡ None → (w v : ℕ) → w + length p.stack.items ≡ p.count → v ≡ w + 1 → v + length q.stack.items ≡ q.count
-    written_end e w v sum more =
-        let h = at_end e in
-        let sizes = ap length was ∙ length-append less.items (node ∷ []) in
-        let left = ap (λ (z : Parser). length z.stack.items) h.1 in
-        let count = ap (λ (z : Parser). z.count) h.1 in
-        omega arith
-
-    pub written_item : (x : Item) → o ≡ Some x → (w : ℕ) → w + length p.stack.items ≡ p.count → w + length q.stack.items ≡ q.count
-    written_item x e w sum =
-        let h = at_item x e in
-        let sizes = ap length was ∙ length-append less.items (node ∷ []) in
-        let again = ap length h.1 ∙ length-append less.items (advanced node ∷ []) in
-        let count = h.3 in
-        omega arith
-
-    -- fewer steps are left behind an item
-    pub smaller : (x : Item) → o ≡ Some x → (r : Parser) → r.stack.items ≡ q.stack.items → q.count ≤ r.count → left_of g r < left_of g p
-    smaller x e r same le =
-        let h = at_item x e in
-        let fewer = fewer_passed g most_nodes p.stack.items less.items r.stack.items node x p.count was (same ∙ h.1) h.0 in
-        let count : p.count ≤ r.count = omega (arith, h.3) in
-        let counted = fewer_counted g most_nodes (reverse r.stack.items) p.count r.count count in
-        omega arith
-
-  module _ (k : Task) (o : Option Item) (q : Parser) (advances : Advances k.grammar node o popped q) (bytes : List ℕ) (stands : IsBetween k p bytes) where
-    holds : Between k (node ∷ reverse less.items) p.taken p.count bytes
-    holds = subst (λ fs. Between k fs p.taken p.count bytes) (on_top less.items p.stack.items node was) stands
-
-    -- a node at its end is closed
-    pub ended : o ≡ None → (out : List ℕ) → WhenHonest k.honest (out ≡ bytes ++ node_frame node.production) → IsBetween k q out
-    ended e out put =
-        let h = at_end k.grammar o q advances e in
-        subst (λ z. IsBetween k z out) (sym h.1) (closed k node.production (reverse less.items) p.taken p.count bytes out put (ends k node (reverse less.items) p.taken p.count bytes h.0 holds))
-
-    -- and else its next item is read
-    pub faced : (x : Item) → o ≡ Some x → Faces k x q bytes
-    faced x e =
-        let h = at_item k.grammar o q advances x e in
-        let before = faces k node x (reverse less.items) p.taken p.count bytes h.0 holds in
-        let counted = subst (λ n. Before k x (advanced node ∷ reverse less.items) p.taken n bytes) (sym h.3) before in
-        let taken = subst (λ i. Before k x (advanced node ∷ reverse less.items) i q.count bytes) (sym h.2) counted in
-        subst (λ fs. Before k x fs q.taken q.count bytes) (sym (on_top less.items q.stack.items (advanced node) h.1)) taken
+-- it is at its end, and closed
+pub ended : (k : Task) (node now : OpenNode) (p : Parser) (bytes out : List ℕ) → Advances (right_side k.grammar node.production) node None now
+    → WhenHonest k.honest (out ≡ bytes ++ node_frame now.production) → IsBetween k node p bytes → Between k (reverse p.waiting.items) p.taken p.count out
+ended k node now p bytes out over put stands =
+    let as_was = subst (λ (f : OpenNode). WhenHonest k.honest (out ≡ bytes ++ node_frame f.production)) over.1 put in
+    closed k node.production (reverse p.waiting.items) p.taken p.count bytes out as_was (ends k node (reverse p.waiting.items) p.taken p.count bytes over.0 stands)
 
 -- the end of a parse
-module _ (g : Grammar) (tokens : List Token) (honest : Bool) (front : List ℕ) (p : Parser) (bytes : List ℕ) (none_open : length p.stack.items ≡ 0) (stands : IsBetween (task_of g tokens honest front) p bytes) where
+module _ (g : Grammar) (tokens : List Token) (honest : Bool) (front : List ℕ) (p : Parser) (bytes : List ℕ) (none_waits : length p.waiting.items ≡ 0) (stands : Between (task_of g tokens honest front) (reverse p.waiting.items) p.taken p.count bytes) where
   nothing : (xs : List OpenNode) → length xs ≡ 0 → reverse xs ≡ []
   nothing [] e = refl
   nothing (x ∷ xs) e = absurd (omega arith)
@@ -95,8 +72,8 @@ module _ (g : Grammar) (tokens : List Token) (honest : Bool) (front : List ℕ) 
   as_many : length (words_of tokens) ≡ length tokens
   as_many = length-map tokens (λ (t : Token). let w : Lexeme = (t.kind, t.lex) in w)
 
-  done : Between (task_of g tokens honest front) [] p.taken p.count bytes
-  done = subst (λ fs. Between (task_of g tokens honest front) fs p.taken p.count bytes) (nothing p.stack.items none_open) stands
+  done : Whole (task_of g tokens honest front) p.taken p.count bytes
+  done = subst (λ fs. Between (task_of g tokens honest front) fs p.taken p.count bytes) (nothing p.waiting.items none_waits) stands
 
   pub all_taken : length tokens ≤ p.taken → IsParsed (task_of g tokens honest front) p.count bytes
   all_taken le =

@@ -1,5 +1,5 @@
 -- What each step of a parser does (this project's).
-use Rattle.std.specs.Prelude.{◌≡◌, ℕ, ◌+◌, ◌≤◌, Bool, List, [], ◌∷◌, ◌++◌, length, reverse, slice_get, Option, Some, None}
+use Rattle.std.specs.Prelude.{◌≡◌, ℕ, ◌+◌, ◌≤◌, Bool, List, ◌∷◌, length, reverse, slice_get, Option, Some, None}
 use Rattle.ag_grammar.specs.declared.grammar.Item.{Item}
 use Rattle.ag_grammar.specs.grammars.Accepted.{IsAccepted}
 use Rattle.ag_grammar.specs.grammars.AttributeGrammar.{Grammar}
@@ -7,7 +7,7 @@ use Rattle.ag_grammar.specs.grammars.Tree.{most_depth, most_nodes}
 use Rattle.ag_scan.specs.Tokens.{FitAll}
 use Rattle.ag_scan.specs.Words.{vocabulary_of}
 use Rattle.ag_scan.specs.declared.token.Token.{Token}
-use Rattle.llparse.specs.Parsing.{Task, task_of, right_side, Asked, Between, Before, IsRefused, steps_left}
+use Rattle.llparse.specs.Parsing.{Task, task_of, Asked, Between, Before, IsRefused, steps_left}
 use Rattle.llparse.specs.Sentences.{offset_at}
 use Rattle.llparse.specs.Tables.{Choices, FitsGrammar}
 use Rattle.llparse.specs.declared.parse_fault.ParseFault.{ParseFault}
@@ -15,17 +15,17 @@ use Rattle.llparse.specs.declared.parse_fault.ParseFault.TheVariants as fault
 use Rattle.llparse.specs.declared.parser.OpenNode.{OpenNode}
 use Rattle.llparse.specs.declared.parser.Parser.{Parser}
 
--- a parser is between two steps
-abbrev pub IsBetween : Task → Parser → List ℕ → Type 0
-IsBetween k p bytes = Between k (reverse p.stack.items) p.taken p.count bytes
+-- a parser is between two steps, with this innermost open node
+abbrev pub IsBetween : Task → OpenNode → Parser → List ℕ → Type 0
+IsBetween k node p bytes = Between k (node ∷ reverse p.waiting.items) p.taken p.count bytes
 
--- a tree of a symbol comes next
-abbrev pub Asks : Task → ℕ → Parser → List ℕ → Type 0
-Asks k s p bytes = Asked k s (reverse p.stack.items) p.taken p.count bytes
+-- a tree of a symbol comes next in the innermost open node
+abbrev pub Asks : Task → ℕ → OpenNode → Parser → List ℕ → Type 0
+Asks k s node p bytes = Asked k s (node ∷ reverse p.waiting.items) p.taken p.count bytes
 
 -- the innermost open node has an item next, which its place is behind
-abbrev pub Faces : Task → Item → Parser → List ℕ → Type 0
-Faces k x p bytes = Before k x (reverse p.stack.items) p.taken p.count bytes
+abbrev pub Faces : Task → Item → OpenNode → Parser → List ℕ → Type 0
+Faces k x node p bytes = Before k x (node ∷ reverse p.waiting.items) p.taken p.count bytes
 
 -- an accepted grammar that tables fit
 abbrev pub HasTables : Choices → Grammar → Type 0
@@ -49,20 +49,19 @@ Refuses P tokens A e = Leads P tokens A (λ k bytes. IsRefused k (offset_at toke
 
 -- which limit a parser has reached
 abbrev pub IsFull : Parser → ParseFault → Type 0
-IsFull p fault.TooDeep = most_depth ≤ length p.stack.items
+IsFull p fault.TooDeep = most_depth ≤ length p.waiting.items + 1
 IsFull p fault.TooManyNodes = most_nodes ≤ p.count
 IsFull p fault = ⊥
 
 -- how many steps are left at most
-abbrev pub left_of : Grammar → Parser → ℕ
-left_of g p = steps_left g most_nodes (reverse p.stack.items) p.count
+abbrev pub left_of : Grammar → OpenNode → Parser → ℕ
+left_of g node p = steps_left g most_nodes (node ∷ reverse p.waiting.items) p.count
 
 -- an open node behind its item
 abbrev pub advanced : OpenNode → OpenNode
 advanced node = record node { place = node.place + 1 }
 
--- A node that was taken off the stack has this item next, and is put back behind it; or it is at its end.
-abbrev pub Advances : Grammar → OpenNode → Option Item → Parser → Parser → Type 0
-Advances g node None old new = (slice_get (right_side g node.production) node.place ≡ None) × (new ≡ old)
-Advances g node (Some x) old new =
-    (slice_get (right_side g node.production) node.place ≡ Some x) × (new.stack.items ≡ old.stack.items ++ advanced node ∷ []) × (new.taken ≡ old.taken) × (new.count ≡ old.count)
+-- An open node of a right side has this item next, and goes behind it; or it is at its end.
+abbrev pub Advances : List Item → OpenNode → Option Item → OpenNode → Type 0
+Advances items old None new = (slice_get items old.place ≡ None) × (new ≡ old)
+Advances items old (Some x) new = (slice_get items old.place ≡ Some x) × (new ≡ advanced old)

@@ -1,13 +1,15 @@
 //! What could stand where a sentence is refused: each look-ahead is tried behind the tokens before
 //! that place.
 ghost use Rattle.std.specs.Prelude.{◌≡◌, ◌≤◌, true, length, All, IfOk, OnOk};
+ghost use Rattle.llparse.specs.Parsing.{right_side};
 ghost use Rattle.llparse.specs.Tables.{is_known};
+ghost use Rattle.llparse.specs.Turns.{Advances};
 
 use crate::ahead::Ahead;
 use crate::lookup::Tables;
 use crate::nodes::Sizes;
 use crate::parse_fault::ParseFault;
-use crate::parser::Parser;
+use crate::parser::{OpenNode, Parser, new_node, next_item};
 use crate::tokens::expect;
 use ag_grammar::{Grammar, Item, Terminal};
 use ag_scan::Token;
@@ -16,7 +18,7 @@ use std::alloc::Global;
 
 /// Takes a token of the terminal that comes next, and writes nothing.
 fn pass(parser: &mut Parser, tokens: &[Token], terminal: Terminal) -> Result<(), ParseFault>
-    ensures stack { OnOk result (parser.new.stack.items ≡ parser.old.stack.items) }
+    ensures waiting { OnOk result (parser.new.waiting.items ≡ parser.old.waiting.items) }
     ensures count { OnOk result (parser.old.count ≤ parser.new.count) }
 {
     expect(tokens, parser.taken, terminal)?;
@@ -28,30 +30,46 @@ fn pass(parser: &mut Parser, tokens: &[Token], terminal: Terminal) -> Result<(),
     Ok(())
 }
 
-/// Goes on with the open nodes until so many tokens are taken or nothing is open, and writes
-/// nothing. A refusal leaves the parser at the token that it can't take.
+/// The item that an open node has next, which the node goes behind; none where it is at its end, and
+/// where the grammar has no such production.
+fn next_if_any(grammar: &Grammar, node: &mut OpenNode) -> Option<Item>
+    ensures { Advances (right_side grammar.now node.old.production) node.old result node.new }
+{
+    if (node.production as usize) < grammar.productions().len() {
+        return next_item(grammar, node);
+    }
+    None
+}
+
+/// Goes on with the innermost open node and those that wait for it, until so many tokens are taken
+/// or nothing is open, and writes nothing. Gives the node that is then the innermost one, if any. A
+/// refusal leaves the parser at the token that it can't take.
 fn go_on(
     parser: &mut Parser,
+    innermost: OpenNode,
     grammar: &Grammar,
     tables: &Tables,
     tokens: &[Token],
     until: usize,
-) -> Result<(), ParseFault> {
-    while let Some(node) = parser.stack.pop() {
-        match parser.advance(grammar, node)? {
-            None => {}
-            Some(item) => match item {
-                Item::Symbol(symbol) => parser.open(tables, tokens, symbol)?,
-                Item::Terminal(terminal) => {
-                    pass(parser, tokens, terminal)?;
-                    if until <= parser.taken {
-                        return Ok(());
-                    }
+) -> Result<Option<OpenNode>, ParseFault> {
+    let mut node = innermost;
+    loop {
+        match next_if_any(grammar, &mut node) {
+            Some(Item::Terminal(terminal)) => {
+                pass(parser, tokens, terminal)?;
+                if until <= parser.taken {
+                    return Ok(Some(node));
                 }
-            },
+            }
+            Some(Item::Symbol(symbol)) => node = parser.open(tables, tokens, node, symbol)?,
+            None => {
+                let Some(outer) = parser.waiting.pop() else {
+                    return Ok(None);
+                };
+                node = outer;
+            }
         }
     }
-    Ok(())
 }
 
 /// The start symbol is opened and then gone on with, until so many tokens are taken.
@@ -61,41 +79,34 @@ fn begin(
     tables: &Tables,
     tokens: &[Token],
     until: usize,
-) -> Result<(), ParseFault> {
-    parser.open(tables, tokens, grammar.start())?;
-    go_on(parser, grammar, tables, tokens, until)
+) -> Result<Option<OpenNode>, ParseFault> {
+    let root = new_node(tables, tokens, 0, grammar.start())?;
+    go_on(parser, root, grammar, tables, tokens, until)
 }
 
-/// A parser that has taken no token.
-fn at_front(alloc: Global) -> Parser {
-    Parser {
-        stack: Vec::new(alloc),
-        taken: 0,
-        count: 0,
-    }
-}
-
-/// Whether a look-ahead could stand behind what a parser has taken.
+/// Whether a look-ahead could stand behind what a parser has taken, with its innermost open node, if
+/// any.
 fn could_stand(
     alloc: Global,
     grammar: &Grammar,
     tables: &Tables,
     before: &Parser,
+    innermost: Option<OpenNode>,
     ahead: Ahead,
 ) -> Result<bool, NoMemory> {
     let tokens = tokens_of(alloc, ahead)?;
     let mut trial = Parser {
-        stack: before.stack.clone()?,
+        waiting: before.waiting.clone()?,
         taken: 0,
         count: before.count,
     };
-    let tried = if before.taken == 0 {
-        begin(&mut trial, grammar, tables, tokens.as_slice(), 1)
-    } else {
-        go_on(&mut trial, grammar, tables, tokens.as_slice(), 1)
+    let tried = match innermost {
+        Some(node) => go_on(&mut trial, node, grammar, tables, tokens.as_slice(), 1),
+        None if before.taken == 0 => begin(&mut trial, grammar, tables, tokens.as_slice(), 1),
+        None => Ok(None),
     };
     match tried {
-        Ok(()) => Ok(trial.taken == tokens.len()),
+        Ok(_) => Ok(trial.taken == tokens.len()),
         Err(ParseFault::NoMemory) => Err(NoMemory::NoMemory),
         Err(_) => Ok(false),
     }
@@ -132,9 +143,9 @@ fn taken_of(
     tables: &Tables,
     tokens: &[Token],
 ) -> Result<(usize, bool), NoMemory> {
-    let mut parser = at_front(alloc);
+    let mut parser = Parser::new(alloc);
     let refused = match begin(&mut parser, grammar, tables, tokens, usize::MAX) {
-        Ok(()) => parser.taken < tokens.len(),
+        Ok(_) => parser.taken < tokens.len(),
         Err(ParseFault::Unexpected(_)) => true,
         Err(ParseFault::NoMemory) => return Err(NoMemory::NoMemory),
         Err(_) => false,
@@ -142,19 +153,21 @@ fn taken_of(
     Ok((parser.taken, refused))
 }
 
-/// A parser that has taken so many tokens, and has not looked at the next one.
+/// A parser that has taken so many tokens, and has not looked at the next one, with its innermost
+/// open node. None is told before the first token, where the next one chooses the root's production.
 fn parser_behind(
     alloc: Global,
     grammar: &Grammar,
     tables: &Tables,
     tokens: &[Token],
     count: usize,
-) -> Result<Parser, ParseFault> {
-    let mut parser = at_front(alloc);
-    if 0 < count {
-        begin(&mut parser, grammar, tables, tokens, count)?;
+) -> Result<(Parser, Option<OpenNode>), ParseFault> {
+    let mut parser = Parser::new(alloc);
+    if count == 0 {
+        return Ok((parser, None));
     }
-    Ok(parser)
+    let innermost = begin(&mut parser, grammar, tables, tokens, count)?;
+    Ok((parser, innermost))
 }
 
 /// The place where `parse` refuses these tokens by P1, and what could stand there. Each look-ahead
@@ -179,15 +192,15 @@ pub fn expected_at(
     if !refused {
         return Ok(Stuck { index, expected });
     }
-    let before = match parser_behind(alloc, grammar, tables, tokens, index) {
-        Ok(parser) => parser,
+    let (before, innermost) = match parser_behind(alloc, grammar, tables, tokens, index) {
+        Ok(behind) => behind,
         Err(ParseFault::NoMemory) => return Err(NoMemory::NoMemory),
         Err(_) => return Ok(Stuck { index, expected }),
     };
     let sizes = Sizes::of(grammar);
     for place in 0..sizes.aheads() {
         let ahead = sizes.ahead(place);
-        if could_stand(alloc, grammar, tables, &before, ahead)? {
+        if could_stand(alloc, grammar, tables, &before, innermost, ahead)? {
             expected.push(ahead)?;
         }
     }

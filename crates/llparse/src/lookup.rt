@@ -32,6 +32,7 @@ impl Model for Tables {
 }
 
 /// What stands at a symbol's place.
+#[inline(always)]
 fn entry(choices: &[Option<u16>], symbol: usize) -> Option<u16>
     ensures { result ≡ choice_at choices.now symbol }
 {
@@ -44,6 +45,7 @@ fn entry(choices: &[Option<u16>], symbol: usize) -> Option<u16>
 impl Tables {
     /// The production that a symbol has at a look-ahead, in constant time; none where no production
     /// of the symbol predicts it. Takes no memory.
+    #[inline(always)]
     pub fn choice(&self, symbol: u16, ahead: Ahead) -> Option<u16>
         ensures { result ≡ choice_of self.now symbol ahead }
     {

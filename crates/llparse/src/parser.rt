@@ -1,16 +1,18 @@
 //! How far a sentence is parsed, and the steps that go on with it.
-ghost use Rattle.std.specs.Prelude.{◌≡◌, ◌≤◌, ◌<◌, ◌+◌, ◌∷◌, ◌++◌, [], ℕ, Bool, List, true, false};
-ghost use Rattle.std.specs.Prelude.{length, slice_get, reverse, MatchOption, Some, None};
-ghost use Rattle.std.specs.Prelude.{IfErr, IfOk, IfSome, IsErrOf, OnOk};
+ghost use Rattle.std.specs.Prelude.{◌≡◌, ◌≤◌, ◌<◌, ◌+◌, ◌++◌, [], ℕ, true, false};
+ghost use Rattle.std.specs.Prelude.{drop, length, Some, None};
+ghost use Rattle.std.specs.Prelude.{IfErr, IfOk, IsErrOf, OnErr, OnOk};
 ghost use Rattle.ag_grammar.specs.declared.grammar.Item.TheVariants as item;
 ghost use Rattle.ag_grammar.specs.declared.grammar.Terminal.TheVariants as terminal;
-ghost use Rattle.ag_grammar.specs.grammars.Accepted.{most_items};
 ghost use Rattle.ag_grammar.specs.grammars.AttributeGrammar.{Grammar as AGrammar};
 ghost use Rattle.ag_grammar.specs.grammars.Tree.{IsTokenText, most_depth, most_nodes};
 ghost use Rattle.treefile.specs.Beginning.{AddsFrames};
 ghost use Rattle.treefile.specs.Device.{Persists, WhenHonest};
+ghost use Rattle.llparse.specs.Ahead.{ahead_of};
 ghost use Rattle.llparse.specs.Parsing.{leaf_frame, node_frame, right_side};
 ghost use Rattle.llparse.specs.Refusals.{IsWant};
+ghost use Rattle.llparse.specs.Sentences.{offset_at, words_of};
+ghost use Rattle.llparse.specs.Tables.{choice_of};
 ghost use Rattle.llparse.specs.Turns.{left_of, Asks, Faces, IsFull, Leads, Advances, IsBetween};
 ghost use Rattle.llparse.specs.Turns.{HasTables, HasTokens, Refuses, Writes};
 
@@ -20,7 +22,7 @@ use crate::tokens::{expect, next_of, unexpected};
 use ag_grammar::limits::{MOST_DEPTH, MOST_NODES};
 use ag_grammar::{Grammar, Item, Terminal};
 use ag_scan::Token;
-use ag_value::{NoMemory, Text, Value};
+use ag_value::{Text, Value};
 use std::alloc::Global;
 use treefile::{Device, Kind, Writer};
 
@@ -31,20 +33,49 @@ pub(crate) struct OpenNode {
     pub(crate) place: u16,
 }
 
-/// The item that an open node has next.
-fn item_at(grammar: &Grammar, node: OpenNode) -> Option<Item>
-    ensures item { result ≡ slice_get (right_side grammar.now node.production) node.place }
-    ensures room { IfSome result (λ _. node.place < most_items) }
+/// The item that an open node has next, which the node goes behind; none where it is at its end.
+#[inline(always)]
+pub(crate) fn next_item(grammar: &Grammar, node: &mut OpenNode) -> Option<Item>
+    requires { node.old.production < length grammar.now.productions }
+    ensures { Advances (right_side grammar.now node.old.production) node.old result node.new }
 {
-    let production = grammar.productions().get(node.production as usize)?;
-    production
+    let production = &grammar.productions()[node.production as usize];
+    let item = production
         .items
         .as_slice()
         .get(node.place as usize)
-        .copied()
+        .copied()?;
+    node.place += 1;
+    Some(item)
+}
+
+/// A node of the symbol that comes next behind so many tokens, open at its beginning.
+#[inline(always)]
+pub(crate) fn new_node(
+    tables: &Tables,
+    tokens: &[Token],
+    at: usize,
+    symbol: u16,
+) -> Result<OpenNode, ParseFault>
+    ensures begins { IfOk result (λ node. node.place ≡ 0) }
+    ensures chosen { IfOk result (λ node.
+        choice_of tables.now symbol (ahead_of (drop at (words_of tokens.now)))
+        ≡ Some node.production) }
+    ensures none { OnErr result
+        (choice_of tables.now symbol (ahead_of (drop at (words_of tokens.now))) ≡ None) }
+    ensures place { IfErr result (λ e. e ≡ ParseFault.Unexpected (offset_at tokens.now at)) }
+{
+    match tables.choice(symbol, next_of(tokens, at)) {
+        Some(production) => Ok(OpenNode {
+            production,
+            place: 0,
+        }),
+        None => Err(unexpected(tokens, at)),
+    }
 }
 
 /// Appends the record of a leaf.
+#[inline(always)]
 fn put_leaf<D: Device>(
     alloc: Global,
     class: u16,
@@ -73,6 +104,7 @@ fn put_leaf<D: Device>(
 }
 
 /// Appends the record of a node.
+#[inline(always)]
 pub(crate) fn put_node<D: Device>(
     production: u16,
     device: &mut D,
@@ -96,23 +128,38 @@ pub(crate) fn put_node<D: Device>(
     Ok(())
 }
 
-/// How far a sentence is parsed: the open nodes, the innermost last, how many tokens are taken, and
-/// how many nodes are opened, leaves among them. It takes four bytes for an open node.
+/// How far a sentence is parsed: the nodes that wait for the innermost open one, the outermost
+/// first, how many tokens are taken, and how many nodes are opened, leaves among them. It takes
+/// four bytes for a node that waits.
 #[derive(Drop)]
 pub(crate) struct Parser {
-    pub(crate) stack: Vec<OpenNode>,
+    pub(crate) waiting: Vec<OpenNode>,
     pub(crate) taken: usize,
     pub(crate) count: u32,
 }
 
 impl Parser {
-    /// Whether one node more is within the limits.
+    /// A parser whose root alone is open, and which has taken no token.
+    pub(crate) fn new(alloc: Global) -> Parser
+        ensures waiting { result.waiting.items ≡ [] }
+        ensures taken { result.taken ≡ 0 }
+        ensures count { result.count ≡ 1 }
+    {
+        Parser {
+            waiting: Vec::new(alloc),
+            taken: 0,
+            count: 1,
+        }
+    }
+
+    /// Whether one node more is within the limits, below those that wait and the innermost one.
+    #[inline(always)]
     pub(crate) fn has_room(&self) -> Result<(), ParseFault>
-        ensures room { OnOk result ((length self.now.stack.items < most_depth)
+        ensures room { OnOk result ((length self.now.waiting.items + 1 < most_depth)
             × (self.now.count < most_nodes)) }
         ensures full { IfErr result (IsFull self.now) }
     {
-        if self.stack.len() >= MOST_DEPTH {
+        if self.waiting.len() + 1 >= MOST_DEPTH {
             return Err(ParseFault::TooDeep);
         }
         if self.count >= MOST_NODES {
@@ -121,62 +168,41 @@ impl Parser {
         Ok(())
     }
 
-    /// The item that a node has next which was taken off the stack, and which is put back behind it;
-    /// none where the node is at its end.
-    pub(crate) fn advance(
-        &mut self,
-        grammar: &Grammar,
-        node: OpenNode,
-    ) -> Result<Option<Item>, NoMemory>
-        ensures advances { IfOk result (λ item. Advances grammar.now node item self.old self.new) }
-    {
-        let Some(item) = item_at(grammar, node) else {
-            return Ok(None);
-        };
-        self.stack.push(OpenNode {
-            production: node.production,
-            place: node.place + 1,
-        })?;
-        Ok(Some(item))
-    }
-
-    /// Opens a node of the symbol that comes next.
+    /// Opens a node of the symbol that comes next in a node, which waits for it.
     #[inline(always)]
     pub(crate) fn open(
         &mut self,
         tables: &Tables,
         tokens: &[Token],
+        outer: OpenNode,
         symbol: u16,
-    ) -> Result<(), ParseFault>
-        ensures opens { OnOk result (Leads (HasTables tables.now) tokens.now
-            (λ k. Asks k symbol self.old) (λ k. IsBetween k self.new)) }
+    ) -> Result<OpenNode, ParseFault>
+        ensures opens { IfOk result (λ node. Leads (HasTables tables.now) tokens.now
+            (λ k. Asks k symbol outer self.old) (λ k. IsBetween k node self.new)) }
         ensures refuses { IfErr result (Refuses (HasTables tables.now) tokens.now
-            (λ k. Asks k symbol self.old)) }
-        ensures steps { OnOk result ((g : AGrammar) → left_of g self.new < left_of g self.old) }
-        ensures counted { OnOk result (length self.new.stack.items + self.old.count
-            ≡ length self.old.stack.items + self.new.count) }
+            (λ k. Asks k symbol outer self.old)) }
+        ensures steps { IfOk result (λ node. (g : AGrammar)
+            → left_of g node self.new < left_of g outer self.old) }
+        ensures counted { OnOk result (length self.new.waiting.items + self.old.count
+            ≡ length self.old.waiting.items + self.new.count) }
         ensures calm { IsErrOf result ParseFault.Device → ⊥ }
     {
-        let Some(production) = tables.choice(symbol, next_of(tokens, self.taken)) else {
-            return Err(unexpected(tokens, self.taken));
-        };
+        let node = new_node(tables, tokens, self.taken, symbol)?;
         self.has_room()?;
-        self.stack.push(OpenNode {
-            production,
-            place: 0,
-        })?;
+        self.waiting.push(outer)?;
         self.count += 1;
-        Ok(())
+        Ok(node)
     }
 
     /// Takes a token of a literal, which has no record.
+    #[inline(always)]
     fn take_literal(&mut self, tokens: &[Token], literal: u16) -> Result<(), ParseFault>
-        ensures takes { OnOk result (Leads (HasTokens tokens.now) tokens.now
-            (λ k. Faces k (item.Terminal (terminal.Literal literal)) self.old)
-            (λ k. IsBetween k self.new)) }
-        ensures refuses { IfErr result (Refuses (HasTokens tokens.now)
-            tokens.now (λ k. Faces k (item.Terminal (terminal.Literal literal)) self.old)) }
-        ensures stack { OnOk result (self.new.stack.items ≡ self.old.stack.items) }
+        ensures takes { OnOk result ((node : OpenNode) → Leads (HasTokens tokens.now) tokens.now
+            (λ k. Faces k (item.Terminal (terminal.Literal literal)) node self.old)
+            (λ k. IsBetween k node self.new)) }
+        ensures refuses { (node : OpenNode) → IfErr result (Refuses (HasTokens tokens.now)
+            tokens.now (λ k. Faces k (item.Terminal (terminal.Literal literal)) node self.old)) }
+        ensures waiting { OnOk result (self.new.waiting.items ≡ self.old.waiting.items) }
         ensures count { OnOk result (self.new.count ≡ self.old.count) }
         ensures calm { IsErrOf result ParseFault.Device → ⊥ }
     {
@@ -186,6 +212,7 @@ impl Parser {
     }
 
     /// Takes a token of a class, and appends its record.
+    #[inline(always)]
     fn take_class<D: Device>(
         &mut self,
         alloc: Global,
@@ -195,15 +222,16 @@ impl Parser {
         writer: &mut Writer,
     ) -> Result<(), ParseFault>
         requires fits { (g : AGrammar) × HasTokens tokens.now g }
-        requires written { writer.old.written + length self.old.stack.items ≡ self.old.count }
+        requires written { writer.old.written + length self.old.waiting.items + 1
+            ≡ self.old.count }
         requires fine { writer.old.is_broken ≡ false }
-        ensures takes { OnOk result (Writes (HasTokens tokens.now) tokens.now
+        ensures takes { OnOk result ((node : OpenNode) → Writes (HasTokens tokens.now) tokens.now
             (D.is_honest device.old) (D.content device.old) (D.content device.new)
-            (λ k. Faces k (item.Terminal (terminal.Class class)) self.old)
-            (λ k. IsBetween k self.new)) }
-        ensures refuses { IfErr result (Refuses (HasTokens tokens.now)
-            tokens.now (λ k. Faces k (item.Terminal (terminal.Class class)) self.old)) }
-        ensures stack { OnOk result (self.new.stack.items ≡ self.old.stack.items) }
+            (λ k. Faces k (item.Terminal (terminal.Class class)) node self.old)
+            (λ k. IsBetween k node self.new)) }
+        ensures refuses { (node : OpenNode) → IfErr result (Refuses (HasTokens tokens.now)
+            tokens.now (λ k. Faces k (item.Terminal (terminal.Class class)) node self.old)) }
+        ensures waiting { OnOk result (self.new.waiting.items ≡ self.old.waiting.items) }
         ensures count { OnOk result (self.new.count ≡ self.old.count + 1) }
         ensures written { OnOk result (writer.new
             ≡ record writer.old { written = writer.old.written + 1 }) }
@@ -223,6 +251,7 @@ impl Parser {
     }
 
     /// Takes a token of the terminal that comes next.
+    #[inline(always)]
     pub(crate) fn take<D: Device>(
         &mut self,
         alloc: Global,
@@ -232,17 +261,19 @@ impl Parser {
         writer: &mut Writer,
     ) -> Result<(), ParseFault>
         requires fits { (g : AGrammar) × HasTokens tokens.now g }
-        requires written { writer.old.written + length self.old.stack.items ≡ self.old.count }
+        requires written { writer.old.written + length self.old.waiting.items + 1
+            ≡ self.old.count }
         requires fine { writer.old.is_broken ≡ false }
-        ensures takes { OnOk result (Writes (HasTokens tokens.now) tokens.now
+        ensures takes { OnOk result ((node : OpenNode) → Writes (HasTokens tokens.now) tokens.now
             (D.is_honest device.old) (D.content device.old) (D.content device.new)
-            (λ k. Faces k (item.Terminal terminal) self.old) (λ k. IsBetween k self.new)) }
-        ensures refuses { IfErr result (Refuses (HasTokens tokens.now)
-            tokens.now (λ k. Faces k (item.Terminal terminal) self.old)) }
-        ensures stack { OnOk result (self.new.stack.items ≡ self.old.stack.items) }
+            (λ k. Faces k (item.Terminal terminal) node self.old)
+            (λ k. IsBetween k node self.new)) }
+        ensures refuses { (node : OpenNode) → IfErr result (Refuses (HasTokens tokens.now)
+            tokens.now (λ k. Faces k (item.Terminal terminal) node self.old)) }
+        ensures waiting { OnOk result (self.new.waiting.items ≡ self.old.waiting.items) }
         ensures count { OnOk result (self.old.count ≤ self.new.count) }
         ensures written { OnOk result
-            (writer.new.written + length self.new.stack.items ≡ self.new.count) }
+            (writer.new.written + length self.new.waiting.items + 1 ≡ self.new.count) }
         ensures fine { OnOk result (writer.new.is_broken ≡ false) }
         ensures adds { WhenHonest (D.is_honest device.old)
             (AddsFrames (D.content device.old) (D.content device.new) result) }

@@ -16,7 +16,7 @@ ghost use Rattle.llparse.specs.Tables.{FitsGrammar};
 
 use crate::lookup::Tables;
 use crate::parse_fault::ParseFault;
-use crate::parser::{Parser, put_node};
+use crate::parser::{Parser, new_node, next_item, put_node};
 use crate::tokens::unexpected;
 use ag_grammar::{Grammar, Item};
 use ag_scan::Token;
@@ -49,21 +49,21 @@ fn run<D: Device>(
     ensures persists { Persists (D.is_honest device.old) (D.is_honest device.new)
         (D.failures device.old) (D.failures device.new) (IsErrOf result ParseFault.Device) }
 {
-    let mut parser = Parser {
-        stack: Vec::new(alloc),
-        taken: 0,
-        count: 0,
-    };
-    parser.open(tables, tokens, grammar.start())?;
-    while let Some(node) = parser.stack.pop() {
-        match parser.advance(grammar, node)? {
-            None => put_node(node.production, device, writer)?,
-            Some(item) => match item {
-                Item::Symbol(symbol) => parser.open(tables, tokens, symbol)?,
-                Item::Terminal(terminal) => {
-                    parser.take(alloc, tokens, terminal, device, writer)?
-                }
-            },
+    let mut parser = Parser::new(alloc);
+    let mut node = new_node(tables, tokens, 0, grammar.start())?;
+    loop {
+        match next_item(grammar, &mut node) {
+            Some(Item::Terminal(terminal)) => {
+                parser.take(alloc, tokens, terminal, device, writer)?;
+            }
+            Some(Item::Symbol(symbol)) => node = parser.open(tables, tokens, node, symbol)?,
+            None => {
+                put_node(node.production, device, writer)?;
+                let Some(outer) = parser.waiting.pop() else {
+                    break;
+                };
+                node = outer;
+            }
         }
     }
     if parser.taken < tokens.len() {
@@ -77,8 +77,8 @@ fn run<D: Device>(
 /// left to right, and for each token of a class; a literal has none.
 ///
 /// Asks for tables of the grammar, tokens that fit it, and a writer that was just begun on the
-/// device with pass 0. Takes memory for a stack of four bytes an open node, for the text of one
-/// token and for one frame.
+/// device with pass 0. Takes memory for a stack of four bytes an open node but the innermost one,
+/// for the text of one token and for one frame.
 ///
 /// P1 Unexpected where no tree has these tokens; P2 TooDeep and P3 TooManyNodes where each that has
 /// them is beyond the limit, and each that begins with some of them and goes on with the look-ahead

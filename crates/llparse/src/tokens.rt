@@ -14,6 +14,7 @@ use ag_scan::Token;
 use ag_value::Text;
 
 /// What comes next behind so many tokens.
+#[inline(always)]
 pub(crate) fn next_of(tokens: &[Token], at: usize) -> Ahead
     ensures { result ≡ ahead_of (drop at (words_of tokens.now)) }
 {
@@ -24,6 +25,7 @@ pub(crate) fn next_of(tokens: &[Token], at: usize) -> Ahead
 }
 
 /// The refusal of the token behind so many, or of the end.
+#[cold]
 pub(crate) fn unexpected(tokens: &[Token], at: usize) -> ParseFault
     ensures { result ≡ ParseFault.Unexpected (offset_at tokens.now at) }
 {
@@ -36,6 +38,7 @@ pub(crate) fn unexpected(tokens: &[Token], at: usize) -> ParseFault
     }
 }
 
+#[inline(always)]
 fn same(a: Terminal, b: Terminal) -> bool
     ensures { IsTrue result ↔ (a ≡ b) }
 {
@@ -47,6 +50,7 @@ fn same(a: Terminal, b: Terminal) -> bool
 }
 
 /// The text of the token behind so many, where it is one of a terminal.
+#[inline(always)]
 pub(crate) fn expect(tokens: &[Token], at: usize, kind: Terminal) -> Result<&Text, ParseFault>
     ensures taken { IfOk result (λ lex. drop at (words_of tokens.now)
         ≡ (kind, lex.now) ∷ drop (at + 1) (words_of tokens.now)) }

@@ -6,14 +6,14 @@ use Rattle.llparse.specs.Turns.{left_of, IsBetween}
 use Rattle.llparse.specs.declared.parse_fault.ParseFault.{ParseFault}
 use Rattle.llparse.proofs.parsing.run.Given as goal
 
-abbrev pub invariant-loop-node : goal.invariant-loop-node
-invariant-loop-node g l = record {
-  stands : IsBetween (task_of l.grammar l.tokens (g.D.Device.is_honest l.initial.device) (g.D.Device.content l.initial.device)) l.parser (g.D.Device.content l.device);
-  written : l.writer.written + length l.parser.stack.items ≡ l.parser.count;
+abbrev pub invariant-loop-terminal : goal.invariant-loop-terminal
+invariant-loop-terminal g l = record {
+  stands : IsBetween (task_of l.grammar l.tokens (g.D.Device.is_honest l.initial.device) (g.D.Device.content l.initial.device)) l.node l.parser (g.D.Device.content l.device);
+  written : l.writer.written + length l.parser.waiting.items + 1 ≡ l.parser.count;
   fine : l.writer.is_broken ≡ false;
   frames : WhenHonest (g.D.Device.is_honest l.initial.device) (AddsFrames {E = ParseFault} (g.D.Device.content l.initial.device) (g.D.Device.content l.device) (Ok tt));
   persists : Persists (g.D.Device.is_honest l.initial.device) (g.D.Device.is_honest l.device) (g.D.Device.failures l.initial.device) (g.D.Device.failures l.device) ⊥;
 }
 
-abbrev pub decreases-loop-node : goal.decreases-loop-node
-decreases-loop-node g l = left_of l.grammar l.parser
+abbrev pub decreases-loop-terminal : goal.decreases-loop-terminal
+decreases-loop-terminal g l = left_of l.grammar l.node l.parser

@@ -1,4 +1,4 @@
-use Rattle.std.proofs.Common.{◌+◌, ◌<◌, length, drop, reverse, arith}
+use Rattle.std.proofs.Common.{◌+◌, ◌<◌, ◌∷◌, length, drop, reverse, arith}
 use Rattle.std.proofs.lemmas.List.{length-reverse}
 use Rattle.std.proofs.lemmas.Result.{err_from_is_err_and}
 use Rattle.ag_grammar.specs.grammars.Tree.{most_depth}
@@ -12,21 +12,21 @@ use Rattle.llparse.proofs.Stacks.{class, no_class}
 use Rattle.llparse.proofs.parser.Parser.take_class.Goals as goal
 
 pub returns-in_err-lex-clause-refuses : goal.returns-in_err-lex-clause-refuses
-returns-in_err-lex-clause-refuses g c =
+returns-in_err-lex-clause-refuses g c = λ node.
     let p = err_from_is_err_and c.from_residual.result c.from_residual.ensures.1 in
     rw (p.1, p.2) (λ gr honest front bytes has b. stuck gr c.args.tokens.now honest front c.args.self.now.taken c.in_err-lex.field-0.0 c.in_err-lex.ensures.place
-    (no_class (task_of gr c.args.tokens.now honest front) has.0 c.args.class (reverse c.args.self.now.stack.items) c.args.self.now.taken c.args.self.now.count bytes c.in_err-lex.ensures.other b))
+    (no_class (task_of gr c.args.tokens.now honest front) has.0 c.args.class (node ∷ reverse c.args.self.now.waiting.items) c.args.self.now.taken c.args.self.now.count bytes c.in_err-lex.ensures.other b))
 
 pub returns-in_err-has_room-clause-refuses : goal.returns-in_err-has_room-clause-refuses
-returns-in_err-has_room-clause-refuses g c =
+returns-in_err-has_room-clause-refuses g c = λ node.
     let p = err_from_is_err_and c.from_residual-in_err-has_room.result c.from_residual-in_err-has_room.ensures.1 in
-    rw (p.1, p.2) (λ gr honest front bytes has b. full_leaf gr c.args.tokens.now honest front has.0 c.args.self.now c.args.class bytes c.in_err-has_room.field-0.0 c.in_err-has_room.ensures.full b)
+    rw (p.1, p.2) (λ gr honest front bytes has b. full_leaf gr c.args.tokens.now honest front has.0 node c.args.self.now c.args.class bytes c.in_err-has_room.field-0.0 c.in_err-has_room.ensures.full b)
 
 pub returns-clause-takes : goal.returns-clause-takes
-returns-clause-takes g c = λ gr front has b.
+returns-clause-takes g c = λ node gr front has b.
     let room = c.in_ok-has_room.ensures.room in
-    let levels : length (reverse c.args.self.now.stack.items) < most_depth = omega (arith, length-reverse c.args.self.now.stack.items, room.0) in
-    class (task_of gr c.args.tokens.now (g.D.Device.is_honest c.args.device.now) front) c.args.class c.in_ok-lex.lex.now (reverse c.args.self.now.stack.items) c.args.self.now.taken c.args.self.now.count (g.D.Device.content c.args.device.now) (g.D.Device.content c.put_leaf.new.device)
+    let levels : length (node ∷ reverse c.args.self.now.waiting.items) < most_depth = omega (arith, length-reverse c.args.self.now.waiting.items, room.0) in
+    class (task_of gr c.args.tokens.now (g.D.Device.is_honest c.args.device.now) front) c.args.class c.in_ok-lex.lex.now (node ∷ reverse c.args.self.now.waiting.items) c.args.self.now.taken c.args.self.now.count (g.D.Device.content c.args.device.now) (g.D.Device.content c.put_leaf.new.device)
     (drop (c.args.self.now.taken + 1) (words_of c.args.tokens.now)) c.in_ok-lex.ensures.taken (c.in_ok-lex.ensures.fits (vocabulary_of gr) has.1).1 c.in_ok-put_leaf.ensures.frame room.1 levels b
 
 pub returns-in_err-lex-clause-adds : goal.returns-in_err-lex-clause-adds
