@@ -9,9 +9,10 @@ pictures show what a file says (`tools/picture`). It is no part of what is prove
 import re
 from dataclasses import dataclass, field
 
-LETTERS = b"AGT1"
+LETTERS = b"AGT2"
 HEADER = 6
-LONGEST_BODY = 3 + 16 * 1_048_576
+# 16 values of the node's own, and 16 for each of 16 children
+LONGEST_BODY = 3 + 272 * 1_048_576
 LONGEST_SPELLING = 1_048_576
 DEEPEST_VALUE = 64
 LONGEST_LEX = 65_535
@@ -48,10 +49,11 @@ class Item:
 
 @dataclass
 class Symbol:
-    """A symbol: its attributes in declared order, the synthesized ones first."""
+    """A symbol: its attributes in declared order, the synthesized ones first, and how many of these there are."""
 
     name: str
     attributes: list
+    synthesized: int = 0
 
 
 @dataclass
@@ -199,6 +201,8 @@ def symbol_in(tokens):
         if tokens.is_word(word):
             tokens.step()
             symbol.attributes += tokens.names()
+        if word == "syn":
+            symbol.synthesized = len(symbol.attributes)
     tokens.take(";")
     return symbol
 
@@ -388,7 +392,7 @@ def shown(value):
 
 @dataclass
 class Record:
-    """A record of a tree file: its values by name, in declared order; and where it stands in the tree: the number of its
+    """A record of a tree file: its own values by name, in declared order; and where it stands in the tree: the number of its
     parent's record in the order of reading (None of the root's), its place there, and its level, from 1. A token has no
     production."""
 
@@ -424,7 +428,7 @@ def pass_of(content):
 
 
 def body_before(content, end):
-    """The offset of the body whose frame ends at an offset, or None where none does: a length of 3 to 16,777,219 in four
+    """The offset of the body whose frame ends at an offset, or None where none does: a length of 3 to 285,212,675 in four
     bytes, and before it as many bytes behind the header."""
     if end - HEADER < 4:
         return None
@@ -434,15 +438,14 @@ def body_before(content, end):
     return end - 4 - length
 
 
-def values_in(spellings, count):
-    """So many values and nothing behind them."""
-    values, at = [], 0
+def values_in(spellings, at, count):
+    """So many values from an offset on, and the offsets where they begin and where the last ends."""
+    values, offsets = [], [at]
     for _ in range(count):
         value, at = value_at(spellings, at)
         values.append(value)
-    if at != len(spellings):
-        raise Malformed
-    return values
+        offsets.append(at)
+    return values, offsets
 
 
 class Reader:
@@ -451,61 +454,83 @@ class Reader:
     def __init__(self, grammar, passes, number):
         """`passes` may be None where the pass is 0, which has no values of attributes."""
         self.grammar, self.number = grammar, number
-        self.known = []
+        self.known, self.copied = [], []
         for symbol, it in enumerate(grammar.symbols):
-            by = (name for name in it.attributes if number and passes[symbol, name] <= number)
-            self.known.append(list(by))
+            by = [bool(number) and passes[symbol, name] <= number for name in it.attributes]
+            self.known.append([name for name, is_known in zip(it.attributes, by) if is_known])
+            self.copied.append(sum(by[: it.synthesized]))
         self.children = [production.stored() for production in grammar.productions]
 
-    def record_in(self, body, item):
-        """The production (None of a token) and the values of a body that is to be a record of an item; else Malformed."""
-        kind, which = body[0], int.from_bytes(body[1:3], "big")
+    def copies_of(self, item):
+        """How many values of a child its parent's record has copies of: those synthesized, or the text of a token."""
+        return 1 if item.kind == "class" else self.copied[item.which]
+
+    def token_in(self, spelling):
+        """The value of a token, and the bytes that its parent's record has to have of it."""
+        (lex,), (_, end) = values_in(spelling, 0, 1)
+        if end != len(spelling) or not isinstance(lex, str) or len(lex.encode()) > LONGEST_LEX:
+            raise Malformed
+        return {"lex": lex}, spelling
+
+    def record_in(self, body, item, told):
+        """The production (None of a token), the values of a body that is to be a record of an item, and what it tells of each
+        child, as bytes; else Malformed, as where its parent's record told something else of it."""
+        kind, which, spellings = body[0], int.from_bytes(body[1:3], "big"), body[3:]
         if item.kind == "class":
-            if (kind, which) != (1, item.which):
+            values, copied = self.token_in(spellings)
+            if (kind, which) != (1, item.which) or told not in (None, copied):
                 raise Malformed
-            (lex,) = values_in(body[3:], 1)
-            if not isinstance(lex, str) or len(lex.encode()) > LONGEST_LEX:
-                raise Malformed
-            return None, {"lex": lex}
+            return None, values, []
         if kind != 0 or which >= len(self.children) or self.grammar.productions[which].left != item.which:
             raise Malformed
-        names = self.known[item.which]
-        return which, dict(zip(names, values_in(body[3:], len(names))))
+        names, copies = self.known[item.which], []
+        values, offsets = values_in(spellings, 0, len(names))
+        if told not in (None, spellings[: offsets[self.copied[item.which]]]):
+            raise Malformed
+        for child in self.children[which]:
+            begin = offsets[-1]
+            offsets += values_in(spellings, begin, self.copies_of(child))[1]
+            copies.append(spellings[begin : offsets[-1]])
+        if offsets[-1] != len(spellings):
+            raise Malformed
+        return which, dict(zip(names, values)), copies
 
-    def waiting(self, production, record, level):
-        """What a node awaits behind it, the last first: its children, the rightmost first where the pass is even."""
-        places = list(enumerate(self.children[production], 1))
+    def waiting(self, production, copies, record, level):
+        """What a node awaits behind it, the last first: its children, the rightmost first where the pass is even, each with
+        what the node's record tells of it."""
+        places = list(enumerate(zip(self.children[production], copies), 1))
         if self.number % 2 == 1:
             places.reverse()
-        return [(item, record, place, level + 1) for place, item in places]
+        return [(item, told, record, place, level + 1) for place, (item, told) in places]
 
 
 def read_tree(content, grammar, passes, number, visit=None):
     """What a content is as the file of a pass: reads its frames from the end, each as the record that the tree awaits there,
     and hands each to `visit`. The first fault ends it: 0 where the file begins as none, 4 where it is of another pass, 6 where
-    a frame is missing, else the end of the frame that is none, no record of what is awaited, or left over."""
+    a frame is missing, else the end of the frame that is none, no record of what is awaited, otherwise than its parent's record
+    tells, or left over."""
     answer = Answer()
     if pass_of(content) != number:
         is_none = pass_of(content) is None
         answer.fault, answer.why = (0, "no tree file begins so") if is_none else (4, "the file is of another pass")
         return answer
     reader, end = Reader(grammar, passes, number), len(content)
-    awaited = [(Item("symbol", grammar.start), None, 0, 1)]
+    awaited = [(Item("symbol", grammar.start), None, None, 0, 1)]
     while awaited:
-        item, parent, place, level = awaited.pop()
+        item, told, parent, place, level = awaited.pop()
         answer.beyond = answer.beyond or beyond(level, answer.records)
         begin = body_before(content, end)
         try:
             if begin is None:
                 raise Malformed
-            production, values = reader.record_in(content[begin : end - 4], item)
+            production, values, copies = reader.record_in(content[begin : end - 4], item, told)
         except Malformed:
             answer.fault, answer.why = end, why_none(grammar, begin, end, item)
             return answer
         if visit:
             visit(Record(item, production, values, parent, place, level))
         if production is not None:
-            awaited += reader.waiting(production, answer.records, level)
+            awaited += reader.waiting(production, copies, answer.records, level)
         answer.records, end = answer.records + 1, begin
     if end != HEADER:
         answer.fault, answer.why = end, "the tree is whole, and something is left over"

@@ -35,7 +35,8 @@ static void parse(struct scanner *scanner) {
 /* The passes */
 
 /* An open node: its production, how many of its children were visited, its values, and the sizes of its children, of which
-   there are none where it is a leaf. The root has no place, and a text where the others have their size. */
+   there are none where it is a leaf: pass 1 gives them, and pass 2 reads copies of them. The root has no place, and a text where
+   the others have their size. */
 struct node {
     enum production production;
     unsigned visited;
@@ -66,27 +67,40 @@ static unsigned children_of(enum production production) {
 
 /* Opens the node below so many open ones whose record comes next in the file of the pass before this one. */
 static void open_node(struct node *node, unsigned open, unsigned pass, struct reader *from) {
-    unsigned production;
-    if (open == 0 && pass == 2) {
-        production = take_text(from, &node->out);
-    } else {
-        production = take_numbers(from, &node->size, pass - 1);
-    }
+    unsigned production = take_record(from);
     if (open == 0 ? production > ROOT_GROUP : production < LEAF || production > GROUP) {
         damaged(from);
     }
     node->production = (enum production)production;
     node->visited = 0;
+    if (pass == 2) {
+        if (open == 0) {
+            take_text(from, &node->out);
+        } else {
+            node->size = take_number(from);
+        }
+        for (unsigned child = 0; child < children_of(node->production); child++) {
+            node->sizes[child] = take_number(from);
+        }
+    }
+    end_values(from);
 }
 
 /* Puts the record of a node, whose values up to this pass are there. */
 static void put_node(const struct node *node, unsigned pass, struct file *to) {
+    begin_record(to, node->production);
     if (node->production <= ROOT_GROUP) {
-        put_text(to, node->production, &node->out);
+        put_text(to, &node->out);
     } else {
-        const int64_t numbers[] = {node->size, node->at};
-        put_numbers(to, node->production, numbers, pass);
+        put_number(to, node->size);
+        if (pass == 2) {
+            put_number(to, node->at);
+        }
     }
+    for (unsigned child = 0; child < children_of(node->production); child++) {
+        put_number(to, node->sizes[child]);
+    }
+    end_record(to);
 }
 
 static void run_first_pass(struct reader *from, struct file *to) {
@@ -117,7 +131,7 @@ static void run_first_pass(struct reader *from, struct file *to) {
     }
 }
 
-/* The rule for the place of the child that was read last. */
+/* The rule for the place of the child that was read last, by the sizes of those before it. */
 static int64_t place_of_child(const struct node *node) {
     if (node->production == GROUP) {
         return sum_of(node->at, node->sizes, node->visited);
@@ -138,8 +152,11 @@ static void run_second_pass(struct reader *from, struct file *to) {
             count_node(&count, open + 1, OF_FILE);
             open_node(child, open, 2, from);
             open++;
+            if (child->size != node->sizes[node->visited]) {
+                damaged(from);
+            }
             child->at = place_of_child(node);
-            node->sizes[node->visited++] = child->size;
+            node->visited++;
         } else {
             put_node(node, 2, to);
             open--;
@@ -155,4 +172,10 @@ static void run_pass(unsigned pass, struct reader *from, struct file *to) {
     }
 }
 
-const struct translator flat = {"flat", {'(', '.', ')'}, 2, parse, run_pass};
+static void take_root(struct reader *from, struct text *out) {
+    struct node root;
+    open_node(&root, 0, 2, from);
+    *out = root.out;
+}
+
+const struct translator flat = {"flat", {'(', '.', ')'}, 2, parse, run_pass, take_root};

@@ -66,17 +66,21 @@ static void parse(struct scanner *scanner) {
 
 /* The pass */
 
-/* An open node: its production, how many of its children were not visited yet, and its value. */
+/* An open node: its production, how many of its children were not visited yet, its value, and those of its children that were
+   visited: numbers by their places, and the text of a rest of the groups. */
 struct node {
     enum production production;
     unsigned unvisited;
     int64_t c;
+    int64_t cs[2];
     struct text out;
+    struct text rest;
 };
 
 /* Opens the node of this symbol whose record comes next. */
 static void open_node(struct node *node, enum symbol symbol, struct reader *from) {
-    unsigned production = take_numbers(from, NULL, 0);
+    unsigned production = take_record(from);
+    end_values(from);
     if (production >= PRODUCTIONS || shapes[production].left != symbol) {
         damaged(from);
     }
@@ -86,15 +90,34 @@ static void open_node(struct node *node, enum symbol symbol, struct reader *from
 
 /* Evaluates the rule of a node whose children are done, and puts its record. */
 static void close_node(struct node *node, struct file *to) {
+    begin_record(to, node->production);
     switch (node->production) {
     case MORE_GROUPS:
+        node->out.length = 0;
+        put_text(to, &node->out);
+        put_number(to, node->cs[0]);
+        put_text(to, &node->rest);
+        break;
     case NO_GROUPS:
         node->out.length = 0;
-        put_text(to, node->production, &node->out);
+        put_text(to, &node->out);
         break;
     default:
         node->c = 0;
-        put_numbers(to, node->production, &node->c, 1);
+        put_number(to, node->c);
+        for (unsigned child = 0; child < shapes[node->production].count; child++) {
+            put_number(to, node->cs[child]);
+        }
+    }
+    end_record(to);
+}
+
+/* Gives the node above what it has a copy of. */
+static void hand_over(const struct node *node, struct node *above) {
+    if (shapes[node->production].left == GROUPS) {
+        above->rest = node->out;
+    } else {
+        above->cs[above->unvisited] = node->c;
     }
 }
 
@@ -113,8 +136,23 @@ static void run_pass(unsigned pass, struct reader *from, struct file *to) {
         } else {
             close_node(node, to);
             open--;
+            if (open > 0) {
+                hand_over(node, node - 1);
+            }
         }
     }
 }
 
-const struct translator lists = {"lists", {'x', ',', ';'}, 1, parse, run_pass};
+static void take_root(struct reader *from, struct text *out) {
+    if (take_record(from) == NO_GROUPS) {
+        take_text(from, out);
+    } else {
+        struct text rest;
+        take_text(from, out);
+        take_number(from);
+        take_text(from, &rest);
+    }
+    end_values(from);
+}
+
+const struct translator lists = {"lists", {'x', ',', ';'}, 1, parse, run_pass, take_root};

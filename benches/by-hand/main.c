@@ -94,7 +94,7 @@ static void evaluate(const struct translator *translator, struct file *tree, str
     }
     struct text out;
     start_reading(&reader, from, translator->passes);
-    take_text(&reader, &out);
+    translator->take_root(&reader, &out);
     if (fwrite(out.bytes, 1, out.length, stdout) != out.length || fflush(stdout) != 0) {
         refuse(8, "O2 the text could not be written whole");
     }

@@ -39,6 +39,8 @@ struct translator {
     unsigned passes;
     void (*parse)(struct scanner *scanner);
     void (*run_pass)(unsigned pass, struct reader *from, struct file *to);
+    /* takes the root's record of the last file: its text */
+    void (*take_root)(struct reader *from, struct text *out);
 };
 
 extern const struct translator lists;

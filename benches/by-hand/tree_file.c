@@ -56,7 +56,7 @@ static struct file file_on_disk(const char *path, int flags) {
     if (descriptor < 0) {
         refuse(8, "the file can't be opened or made: %s", path);
     }
-    return (struct file){descriptor, memory_for(NULL, BLOCK), 0, BLOCK};
+    return (struct file){descriptor, memory_for(NULL, BLOCK), 0, BLOCK, 0};
 }
 
 struct file file_made(const char *path) {
@@ -90,19 +90,17 @@ void close_file(struct file *file) {
     free(file->bytes);
 }
 
-/* Where so many bytes, at most a block, are appended. */
-static uint8_t *room_for(struct file *file, size_t count) {
-    if (file->room - file->count < count) {
-        if (file->descriptor < 0) {
-            file->room = file->room == 0 ? BLOCK : 2 * file->room;
-            file->bytes = memory_for(file->bytes, file->room);
-        } else {
-            finish(file);
-        }
+/* Makes room for so many bytes, at most a block. */
+static void make_room(struct file *file, size_t count) {
+    if (file->room - file->count >= count) {
+        return;
     }
-    uint8_t *room = file->bytes + file->count;
-    file->count += count;
-    return room;
+    if (file->descriptor < 0) {
+        file->room = file->room == 0 ? BLOCK : 2 * file->room;
+        file->bytes = memory_for(file->bytes, file->room);
+    } else {
+        finish(file);
+    }
 }
 
 static uint64_t length_of(struct file *file) {
@@ -140,37 +138,42 @@ void begin_file(struct file *file, unsigned pass) {
     if (file->descriptor >= 0 && ftruncate(file->descriptor, 0) != 0) {
         refuse(8, "a file can't be cut");
     }
-    uint8_t *to = room_for(file, HEADER);
-    memcpy(to, "AGT1", 4);
-    put_big_endian(to + 4, pass, 2);
+    make_room(file, HEADER);
+    memcpy(file->bytes, "AGT2", 4);
+    put_big_endian(file->bytes + 4, pass, 2);
+    file->count = HEADER;
 }
 
-/* Begins the frame of a node whose values have so many bytes, and puts the length behind them: where the values stand. */
-static uint8_t *put_frame(struct file *file, unsigned production, size_t bytes) {
-    uint8_t *to = room_for(file, LEAST_BODY + bytes + LENGTH);
-    *to++ = IS_NODE;
-    to = put_big_endian(to, production, 2);
-    put_big_endian(to + bytes, LEAST_BODY + bytes, LENGTH);
-    return to;
+void begin_record(struct file *file, unsigned production) {
+    make_room(file, MOST_RECORD);
+    file->record = file->count;
+    file->bytes[file->count] = IS_NODE;
+    put_big_endian(file->bytes + file->count + 1, production, 2);
+    file->count += LEAST_BODY;
 }
 
-void put_bare(struct file *file, unsigned production) {
-    put_frame(file, production, 0);
+void put_number(struct file *file, int64_t number) {
+    file->bytes[file->count] = IS_NUMBER;
+    put_big_endian(file->bytes + file->count + 1, (uint64_t)number, 8);
+    file->count += NUMBER;
 }
 
-void put_numbers(struct file *file, unsigned production, const int64_t *numbers, size_t count) {
-    uint8_t *to = put_frame(file, production, NUMBER * count);
-    for (size_t i = 0; i < count; i++) {
-        *to++ = IS_NUMBER;
-        to = put_big_endian(to, (uint64_t)numbers[i], 8);
-    }
-}
-
-void put_text(struct file *file, unsigned production, const struct text *text) {
-    uint8_t *to = put_frame(file, production, TEXT + text->length);
+void put_text(struct file *file, const struct text *text) {
+    uint8_t *to = file->bytes + file->count;
     *to++ = IS_TEXT;
     to = put_big_endian(to, text->length, 4);
     memcpy(to, text->bytes, text->length);
+    file->count += TEXT + text->length;
+}
+
+void end_record(struct file *file) {
+    put_big_endian(file->bytes + file->count, file->count - file->record, LENGTH);
+    file->count += LENGTH;
+}
+
+void put_bare(struct file *file, unsigned production) {
+    begin_record(file, production);
+    end_record(file);
 }
 
 /* Reading */
@@ -189,7 +192,7 @@ void start_reading(struct reader *reader, struct file *file, unsigned pass) {
         damaged(reader);
     }
     read_at(file, 0, header, HEADER);
-    if (memcmp(header, "AGT1", 4) != 0) {
+    if (memcmp(header, "AGT2", 4) != 0) {
         damaged(reader);
     }
     reader->end = 4;
@@ -233,48 +236,49 @@ static const uint8_t *take_body(struct reader *reader, size_t *length) {
     return reader->bytes + reader->to;
 }
 
-/* The number of the production in a node's body. */
-static unsigned production_in(const struct reader *reader, const uint8_t *body) {
+unsigned take_record(struct reader *reader) {
+    size_t length;
+    const uint8_t *body = take_body(reader, &length);
     if (body[0] != IS_NODE) {
         damaged(reader);
     }
+    reader->value = body + LEAST_BODY;
+    reader->last = body + length;
     return (unsigned)big_endian(body + 1, 2);
 }
 
-unsigned take_numbers(struct reader *reader, int64_t *numbers, size_t count) {
-    size_t length;
-    const uint8_t *body = take_body(reader, &length);
-    const uint8_t *value = body + LEAST_BODY;
-    if (length != LEAST_BODY + NUMBER * count) {
+int64_t take_number(struct reader *reader) {
+    const uint8_t *value = reader->value;
+    if (reader->last - value < NUMBER || value[0] != IS_NUMBER) {
         damaged(reader);
     }
-    for (size_t i = 0; i < count; i++, value += NUMBER) {
-        if (value[0] != IS_NUMBER) {
-            damaged(reader);
-        }
-        numbers[i] = (int64_t)big_endian(value + 1, 8);
-    }
-    return production_in(reader, body);
+    reader->value += NUMBER;
+    return (int64_t)big_endian(value + 1, 8);
 }
 
-unsigned take_text(struct reader *reader, struct text *text) {
-    size_t length;
-    const uint8_t *body = take_body(reader, &length);
-    const uint8_t *value = body + LEAST_BODY;
-    if (length < LEAST_BODY + TEXT || value[0] != IS_TEXT) {
+void take_text(struct reader *reader, struct text *text) {
+    const uint8_t *value = reader->value;
+    if (reader->last - value < TEXT || value[0] != IS_TEXT) {
         damaged(reader);
     }
-    text->length = big_endian(value + 1, 4);
-    if (text->length > MOST_TEXT || text->length != length - LEAST_BODY - TEXT) {
+    value += TEXT;
+    text->length = big_endian(value - 4, 4);
+    if (text->length > MOST_TEXT || text->length > (size_t)(reader->last - value)) {
         damaged(reader);
     }
     for (size_t i = 0; i < text->length; i++) {
-        text->bytes[i] = (char)value[TEXT + i];
+        text->bytes[i] = (char)value[i];
         if (text->bytes[i] < '0' || text->bytes[i] > '9') {
             damaged(reader);
         }
     }
-    return production_in(reader, body);
+    reader->value = value + text->length;
+}
+
+void end_values(const struct reader *reader) {
+    if (reader->value != reader->last) {
+        damaged(reader);
+    }
 }
 
 void end_reading(struct reader *reader) {

@@ -10,7 +10,9 @@ enum {
     MOST_NODES = 65536,
     BLOCK = 65536,
     /* the digits of a number, and its sign */
-    MOST_TEXT = 20
+    MOST_TEXT = 20,
+    /* how many bytes a record of these grammars has at most, with its length */
+    MOST_RECORD = 256
 };
 
 /* A text of these grammars: empty, or the digits of a number. */
@@ -20,22 +22,26 @@ struct text {
     char bytes[MOST_TEXT + 1];
 };
 
-/* A file: on disk, where what is appended is gathered up to a block, or in memory, where `bytes` are all of it. */
+/* A file: on disk, where what is appended is gathered up to a block, or in memory, where `bytes` are all of it. The record that
+   was begun last begins at `record` among them. */
 struct file {
     int descriptor;
     uint8_t *bytes;
     size_t count;
     size_t room;
+    size_t record;
 };
 
-/* A tree file that is read from its end: `bytes[from..to]` are those of the file before the offset `at`. */
+/* A tree file that is read from its end: `bytes[from..to]` are those of the file before the offset `at`. Of the record that was
+   taken last, which ended at the offset `end`, the values from `value` to `last` were not taken yet. */
 struct reader {
     struct file *file;
     uint64_t at;
-    /* where the frame ended that was taken last */
     uint64_t end;
     size_t from;
     size_t to;
+    const uint8_t *value;
+    const uint8_t *last;
     uint8_t bytes[BLOCK];
 };
 
@@ -56,17 +62,25 @@ void close_file(struct file *file);
 /* Makes the file a header alone, of the file of this pass. */
 void begin_file(struct file *file, unsigned pass);
 
-/* Appends the record of a node: without values, with numbers, or with a text. */
+/* Appends the record of a node: it is begun, its values are put, first its own and then the copies of its children's, and it is
+   ended. */
+void begin_record(struct file *file, unsigned production);
+void put_number(struct file *file, int64_t number);
+void put_text(struct file *file, const struct text *text);
+void end_record(struct file *file);
+
+/* Appends the record of a node without values. */
 void put_bare(struct file *file, unsigned production);
-void put_numbers(struct file *file, unsigned production, const int64_t *numbers, size_t count);
-void put_text(struct file *file, unsigned production, const struct text *text);
 
 /* Begins to read a file, which has to be that of this pass. */
 void start_reading(struct reader *reader, struct file *file, unsigned pass);
 
-/* Takes the record before those that were taken, of a node with so many numbers, or with a text; the production's number. */
-unsigned take_numbers(struct reader *reader, int64_t *numbers, size_t count);
-unsigned take_text(struct reader *reader, struct text *text);
+/* Takes the record before those that were taken, which has to be a node's: the number of its production. Then its values are
+   taken, one by one, and none may be left. */
+unsigned take_record(struct reader *reader);
+int64_t take_number(struct reader *reader);
+void take_text(struct reader *reader, struct text *text);
+void end_values(const struct reader *reader);
 
 /* Refuses the record that was taken last, and a file with records in front of it. */
 _Noreturn void damaged(const struct reader *reader);

@@ -12,11 +12,11 @@ use Rattle.ag_grammar.specs.grammars.Tree.{Tree, IsTreeOf, node_count}
 use Rattle.ag_grammar.proofs.grammars.Counting.{passes_have_all_rules}
 use Rattle.ag_grammar.proofs.grammars.Running.{run_is_the_solution}
 use Rattle.treefile.specs.Device.{WhenHonest}
-use Rattle.treefile.specs.Ending.{version_one_usable}
+use Rattle.treefile.specs.Ending.{version_two_usable}
 use Rattle.treefile.specs.Records.{IsFileOfTree}
 use Rattle.treefile.specs.Runs.{HasRun}
-use Rattle.treefile.specs.TreeFile.{header, version_one}
-use Rattle.treefile.proofs.Fitting.{fits_version_one}
+use Rattle.treefile.specs.TreeFile.{header, version_two}
+use Rattle.treefile.proofs.Fitting.{fits_version_two}
 use Rattle.treefile.proofs.OneTree.{one_file}
 use Rattle.llparse.specs.Parsing.{post}
 use Rattle.llparse.specs.Sentences.{AreFromOne, IsFirstFile}
@@ -48,9 +48,9 @@ use Rattle.aggen.proofs.Composed.{some_pass}
 use Rattle.aggen.proofs.Joined.{before_of_more, before_of_one, counts_joined, joined}
 
 -- A file of pass 0 of a tree is one whatever passes from 1 on and values are asked for.
-first_file_of : (g : Grammar) (m : Passes) (t : Tree) (v : Valuation) (content : List ℕ) → AreFromOne m → IsTreeOf g t → IsFileOfTree version_one g m 0 t v content → IsFirstFile g t content
+first_file_of : (g : Grammar) (m : Passes) (t : Tree) (v : Valuation) (content : List ℕ) → AreFromOne m → IsTreeOf g t → IsFileOfTree version_two g m 0 t v content → IsFirstFile g t content
 first_file_of g m t v content from_one tree is =
-    let plain : IsFirstFile g t (header version_one 0 ++ post t) = first_file g t (header version_one 0 ++ post t) tree refl in
+    let plain : IsFirstFile g t (header version_two 0 ++ post t) = first_file g t (header version_two 0 ++ post t) tree refl in
     subst (λ (c : List ℕ). IsFirstFile g t c) ((plain m v from_one is.texts).stands ∙ sym is.stands) plain
 
 -- the second device comes first in the passes behind the first one
@@ -64,7 +64,7 @@ turned_other B last a b e = ap (λ (l : Last). other_content l a b) e
 
 module _ (g : Grammar) (rows : List (List ℕ)) (code : Lists) (accepted : IsAccepted g) (plan : IsPlan g rows code) where
   -- a tree in a file has it as its file of pass 0, with some values
-  file_in : (content : List ℕ) (t : Tree) (is : IsTreeInFile g content t) → IsFileOfTree version_one g (passes_of rows) 0 t (texts_are_given g t).0 content
+  file_in : (content : List ℕ) (t : Tree) (is : IsTreeInFile g content t) → IsFileOfTree version_two g (passes_of rows) 0 t (texts_are_given g t).0 content
   file_in content t is = let texts = texts_are_given g t in is.file (passes_of rows) texts.0 plan.legal.positive texts.1
 
   -- what a refusal of pass 1 says of the content
@@ -90,16 +90,16 @@ module _ (g : Grammar) (rows : List (List ℕ)) (code : Lists) (accepted : IsAcc
     -- a content is the file of one tree at most
     only : (s : Tree) → IsTreeInFile g content s → s ≡ passed.tree
     only s is =
-        let fit = fits_version_one g (passes_of rows) accepted plan.legal in
-        (one_file version_one g (passes_of rows) 0 s passed.tree (texts_are_given g s).0 passed.values content version_one_usable fit.1 fit.0 is.tree passed.fits (file_in content s is) passed.from).0
+        let fit = fits_version_two g (passes_of rows) accepted plan.legal in
+        (one_file version_two g (passes_of rows) 0 s passed.tree (texts_are_given g s).0 passed.values content version_two_usable fit.1 fit.0 is.tree passed.fits (file_in content s is) passed.from).0
 
     pub are_left_of_tree : AreLeftOfTree g (passes_of rows) content a b report
     are_left_of_tree =
         let m = passes_of rows in
         let t = passed.tree in
         let some : 1 ≤ report.passes = some_pass g (passes_of rows) report.passes accepted plan.legal end in
-        let run : HasRun version_one g (passes_of rows) passed.tree passed.values 2 report.passes (last_content which b a) (other_content which b a) = all.runs passed.tree passed.values passed.fits passed.written in
-        let whole : HasRun version_one g (passes_of rows) passed.tree passed.values 1 report.passes (last_content which b a) (before_last report.passes report.last content a b) = joined version_one g (passes_of rows) plan.legal passed.tree passed.values passed.fits report.passes content (last_content which b a) (other_content which b a) passed.from passed.solved run (before_last report.passes report.last content a b) (λ le. before_of_more report.passes report.last content a b le ∙ turned_other which report.last a b last) (λ e. before_of_one report.passes report.last content a b e) in
+        let run : HasRun version_two g (passes_of rows) passed.tree passed.values 2 report.passes (last_content which b a) (other_content which b a) = all.runs passed.tree passed.values passed.fits passed.written in
+        let whole : HasRun version_two g (passes_of rows) passed.tree passed.values 1 report.passes (last_content which b a) (before_last report.passes report.last content a b) = joined version_two g (passes_of rows) plan.legal passed.tree passed.values passed.fits report.passes content (last_content which b a) (other_content which b a) passed.from passed.solved run (before_last report.passes report.last content a b) (λ le. before_of_more report.passes report.last content a b le ∙ turned_other which report.last a b last) (λ e. before_of_one report.passes report.last content a b e) in
         let sums = counts_joined g (passes_of rows) passed.tree (report.passes - 1) evals more one others passed.rules (counts.0 ∙ passed.nodes) (counts.1 ∙ passed.nodes) (all.counts passed.tree passed.values passed.fits passed.written) in
         let count : suc (report.passes - 1) ≡ report.passes = omega arith in
         record {
@@ -108,7 +108,7 @@ module _ (g : Grammar) (rows : List (List ℕ)) (code : Lists) (accepted : IsAcc
           values = whole.values;
           leaves = record {
             solution = run_is_the_solution g (passes_of rows) passed.tree passed.values whole.values report.passes accepted plan.legal end passed.fits whole.ran;
-            file = subst (λ (c : List ℕ). IsFileOfTree version_one g (passes_of rows) report.passes passed.tree whole.values c) (sym (turned_last which report.last a b last)) whole.file;
+            file = subst (λ (c : List ℕ). IsFileOfTree version_two g (passes_of rows) report.passes passed.tree whole.values c) (sym (turned_last which report.last a b last)) whole.file;
             other = λ k e. whole.other k some e;
           };
           report_is = record {

@@ -6,8 +6,8 @@ use Rattle.ag_value.specs.Well.{IsWell}
 use Rattle.treefile.specs.declared.body.Kind.TheVariants.{Token}
 use Rattle.treefile.specs.declared.reading.FrameFault.{FrameFault}
 use Rattle.treefile.specs.declared.reading.FrameFault.TheVariants.{NotATreeFile, Damaged, Device, NoMemory}
-use Rattle.treefile.specs.Ending.{Told, last_body_of, version_one_usable}
-use Rattle.treefile.specs.TreeFile.{body_of, version_one}
+use Rattle.treefile.specs.Ending.{Told, last_body_of, version_two_usable}
+use Rattle.treefile.specs.TreeFile.{body_of, version_two}
 use Rattle.treefile.proofs.Files.{damaged_at_end, last_of_file}
 use Rattle.treefile.proofs.Sizes.{body_size}
 use Rattle.aggen.specs.declared.fault.Fault.{Fault}
@@ -19,22 +19,22 @@ one_well : (value : Value) → IsWell value → All IsWell (value ∷ [])
 one_well value well zero d lt = well
 one_well value well (suc k) d lt = absurd (omega arith)
 
-pub last_of : (value : Value) → IsWell value → last_body_of version_one (file_of value) ≡ Ok (body_of Token 0 (value ∷ []))
-last_of value well = last_of_file version_one 0 [] (body_of Token 0 (value ∷ [])) version_one_usable (omega arith) (body_size version_one Token 0 (value ∷ []) (omega arith) (one_well value well))
+pub last_of : (value : Value) → IsWell value → last_body_of version_two (file_of value) ≡ Ok (body_of Token 0 (value ∷ []))
+last_of value well = last_of_file version_two 0 [] (body_of Token 0 (value ∷ [])) version_two_usable (omega arith) (body_size version_two Token 0 (value ∷ []) (omega arith) (one_well value well))
 
-pub body_told : (content body found : List ℕ) → last_body_of version_one content ≡ Ok body → last_body_of version_one content ≡ Ok found → found ≡ body
+pub body_told : (content body found : List ℕ) → last_body_of version_two content ≡ Ok body → last_body_of version_two content ≡ Ok found → found ≡ body
 body_told content body found e f = let same : Ok body ≡ Ok found = sym e ∙ f in cc
 
-pub want_told : (content body : List ℕ) (e : FrameFault) → last_body_of version_one content ≡ Ok body → Told (λ (x : List ℕ). x) (Err e) (last_body_of version_one content) → IsWant (frame_fault_of e)
+pub want_told : (content body : List ℕ) (e : FrameFault) → last_body_of version_two content ≡ Ok body → Told (λ (x : List ℕ). x) (Err e) (last_body_of version_two content) → IsWant (frame_fault_of e)
 want_told content body NotATreeFile is told = let bad : Err NotATreeFile ≡ Ok body = sym told ∙ is in absurd cc
 want_told content body (Damaged at) is told = let bad : Err (Damaged at) ≡ Ok body = sym told ∙ is in absurd cc
 want_told content body Device is told = tt
 want_told content body NoMemory is told = tt
 
 -- a fault of the last body that is B2 is at the end of the content
-pub place_told : (content : List ℕ) (e : FrameFault) → Told (λ (x : List ℕ). x) (Err e) (last_body_of version_one content) → (at : ℕ) → IsErrOf (let r : Result Value Fault = Err (frame_fault_of e) in r) (fault.Damaged at) → at ≡ length content
+pub place_told : (content : List ℕ) (e : FrameFault) → Told (λ (x : List ℕ). x) (Err e) (last_body_of version_two content) → (at : ℕ) → IsErrOf (let r : Result Value Fault = Err (frame_fault_of e) in r) (fault.Damaged at) → at ≡ length content
 place_told content NotATreeFile told at is = absurd cc
-place_told content (Damaged k) told at is = damaged_at_end version_one content at (told ∙ cc)
+place_told content (Damaged k) told at is = damaged_at_end version_two content at (told ∙ cc)
 place_told content Device told at is = absurd cc
 place_told content NoMemory told at is = absurd cc
 

@@ -12,7 +12,7 @@ use Rattle.ag_value.specs.Shown.{shown_of}
 use Rattle.ag_value.specs.Well.{IsWell}
 use Rattle.ag_value.specs.declared.value.Value.{Value}
 use Rattle.ag_value.specs.declared.value.Value.TheVariants as value
-use Rattle.treefile.specs.TreeFile.{body_of, file, version_one}
+use Rattle.treefile.specs.TreeFile.{body_of, file, version_two}
 use Rattle.treefile.specs.declared.body.Kind.TheVariants.{Token}
 use Rattle.aggen.specs.declared.fault.Fault.{Fault}
 use Rattle.aggen.specs.declared.fault.Fault.TheVariants as fault
@@ -52,7 +52,7 @@ IsReason text e = ReadsAsNone text × IsAt text e
 
 -- the tree file of version 1 and pass 0 whose one record is a token of number 0 with this value
 abbrev pub file_of : Value → List ℕ
-file_of is = file version_one 0 (body_of Token 0 (is ∷ []) ∷ [])
+file_of is = file version_two 0 (body_of Token 0 (is ∷ []) ∷ [])
 
 -- the line that tells a value
 abbrev pub line_of : Value → List ℕ

@@ -16,7 +16,7 @@ use Rattle.passrun.specs.Rounds.{last_content, other_content}
 use Rattle.roottext.specs.Roots.{IsNoText}
 use Rattle.treefile.specs.Device.{WhenHonest}
 use Rattle.treefile.specs.Records.{IsFileOfTree}
-use Rattle.treefile.specs.TreeFile.{version_one}
+use Rattle.treefile.specs.TreeFile.{version_two}
 use Rattle.aggen.specs.declared.report.Report.{Report}
 
 -- Of trees of a kind there is exactly one, and it is within the limits.
@@ -29,8 +29,8 @@ pub record IsOneTree (IsTree : Tree → Type 0) (t : Tree) : Type 0 where
 -- that meet each equation at each node, as no others do (Knuth 1968; Jazayeri and Walter 1975).
 pub record LeavesSolution (g : Grammar) (m : Passes) (passes : ℕ) (t : Tree) (v : Valuation) (now before : List ℕ) : Type 0 where
   pub solution : IsTheSolution g m t v
-  pub file : IsFileOfTree version_one g m passes t v now
-  pub other : (k : ℕ) → passes ≡ suc k → IsFileOfTree version_one g m k t v before
+  pub file : IsFileOfTree version_two g m passes t v now
+  pub other : (k : ℕ) → passes ≡ suc k → IsFileOfTree version_two g m k t v before
 
 -- A report is true of a tree and so many passes: it has the tree's nodes, each of its rules was evaluated once, and each pass read
 -- and wrote one record for each node.

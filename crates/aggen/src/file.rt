@@ -6,7 +6,7 @@ ghost use Rattle.ag_value.specs.Well.{IsWell};
 ghost use Rattle.ag_value.specs.declared.value.Value.{Value as AttributeValue};
 ghost use Rattle.treefile.specs.Device.{LeavesContent, Persists, WhenHonest};
 ghost use Rattle.treefile.specs.Ending.{last_body_of};
-ghost use Rattle.treefile.specs.TreeFile.{body_of, version_one};
+ghost use Rattle.treefile.specs.TreeFile.{body_of, version_two};
 ghost use Rattle.aggen.specs.Showing.{IsFileFault, IsWant, file_of, line_of};
 
 use crate::fault::Fault;
@@ -33,7 +33,7 @@ pub fn write_file<D: Device>(alloc: Global, device: &mut D, value: Value) -> Res
 /// no token of number 0 with exactly one value; B1, B2 and D1 as `last_body` answers them.
 pub fn read_file<D: Device>(alloc: Global, device: &mut D) -> Result<Value, Fault>
     ensures found { WhenHonest (D.is_honest device.old) (IfOk result
-        (λ value. last_body_of version_one (D.content device.old)
+        (λ value. last_body_of version_two (D.content device.old)
         ≡ Ok (body_of Kind.Token 0 (value ∷ [])))) }
     ensures well { IfOk result (λ value. IsWell value) }
     ensures read { WhenHonest (D.is_honest device.old)

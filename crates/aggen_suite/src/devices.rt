@@ -101,30 +101,30 @@ fn shown_of(alloc: Global, file: &[u8]) -> Result<String, Fail> {
 fn files_that_are_not_what_was_written(rt: HostRuntime) -> Result<(), Fail> {
     let files = [
         (b"".as_slice(), "NotATreeFile "),
-        (b"AGT1\0\0".as_slice(), "Damaged(6) "),
+        (b"AGT2\0\0".as_slice(), "Damaged(6) "),
         (
-            b"AGT1\0\0\0\0\0\x04\x01\0\0\0\x05".as_slice(),
+            b"AGT2\0\0\0\0\0\x04\x01\0\0\0\x05".as_slice(),
             "Damaged(15) ",
         ),
         (
-            b"AGT1\0\0\x01\0\x01\x04\x01\0\0\0\x05".as_slice(),
+            b"AGT2\0\0\x01\0\x01\x04\x01\0\0\0\x05".as_slice(),
             "Damaged(15) ",
         ),
-        (b"AGT1\0\0\x01\0\0\0\0\0\x03".as_slice(), "Damaged(13) "),
+        (b"AGT2\0\0\x01\0\0\0\0\0\x03".as_slice(), "Damaged(13) "),
         (
-            b"AGT1\0\0\x01\0\0\x04\x01\x04\x01\0\0\0\x07".as_slice(),
+            b"AGT2\0\0\x01\0\0\x04\x01\x04\x01\0\0\0\x07".as_slice(),
             "Damaged(17) ",
         ),
         (
-            b"AGT1\0\0\x01\0\0\x04\x09\0\0\0\x05".as_slice(),
+            b"AGT2\0\0\x01\0\0\x04\x09\0\0\0\x05".as_slice(),
             "Damaged(15) ",
         ),
         (
-            b"AGT1\0\0\x01\0\0\x04\x01\0\0\0\x05\0\0\0\x04\x01\0\0\0\x05".as_slice(),
+            b"AGT2\0\0\x01\0\0\x04\x01\0\0\0\x05\0\0\0\x04\x01\0\0\0\x05".as_slice(),
             "Damaged(24) ",
         ),
         (
-            b"AGT1\0\0\x01\0\0\x04\x02\0\0\0\x05".as_slice(),
+            b"AGT2\0\0\x01\0\0\x04\x02\0\0\0\x05".as_slice(),
             "Done error divide\n",
         ),
     ];

@@ -28,7 +28,7 @@ pub const SENTENCE: &[u8] = b"1101.01";
 
 /// The file of its tree before the first pass: nodes of the productions 7, 7, 6, 7, 4, 5, 5, 5, 3, 6,
 /// 7, 4, 5, 3, 2 and 0.
-pub const TREE: &[u8] = b"AGT1\0\0\
+pub const TREE: &[u8] = b"AGT2\0\0\
     \0\0\x07\0\0\0\x03\0\0\x07\0\0\0\x03\0\0\x06\0\0\0\x03\0\0\x07\0\0\0\x03\
     \0\0\x04\0\0\0\x03\0\0\x05\0\0\0\x03\0\0\x05\0\0\0\x03\0\0\x05\0\0\0\x03\
     \0\0\x03\0\0\0\x03\0\0\x06\0\0\0\x03\0\0\x07\0\0\0\x03\0\0\x04\0\0\0\x03\

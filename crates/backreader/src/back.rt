@@ -8,7 +8,7 @@ ghost use Rattle.backreader.specs.Place.{progress_after};
 ghost use Rattle.treefile.specs.Backward.{next_before, pass_in};
 ghost use Rattle.treefile.specs.Device.{LeavesContent, Persists, WhenHonest};
 ghost use Rattle.treefile.specs.Ending.{IsBody, Told, length_bytes};
-ghost use Rattle.treefile.specs.TreeFile.{version_one};
+ghost use Rattle.treefile.specs.TreeFile.{version_two};
 
 use crate::window::Window;
 use std::alloc::Global;
@@ -56,12 +56,12 @@ impl Back {
 
     /// A reader of the tree file that a device has, behind its last frame.
     ///
-    /// B1 NotATreeFile where there are fewer than 6 bytes or the first four are not `AGT1`. D1
+    /// B1 NotATreeFile where there are fewer than 6 bytes or the first four are not `AGT2`. D1
     /// Device where a call of the device failed. Takes memory for a buffer of 4,096 bytes.
     pub fn start<D: Device>(alloc: Global, device: &mut D) -> Result<Back, FrameFault>
         // The number of the pass, and B1, exactly as the content has them
         ensures told { WhenHonest (D.is_honest device.old) (Told (λ back. back.progress.pass) result
-            (pass_in version_one (D.content device.old))) }
+            (pass_in version_two (D.content device.old))) }
         ensures over { WhenHonest (D.is_honest device.old)
             (IfOk result (λ back. IsOver (D.content device.old) back)) }
         ensures end { WhenHonest (D.is_honest device.old)
@@ -102,14 +102,14 @@ impl Back {
         // The body, None and B2, exactly as the content has them
         ensures told { self.old.progress.fault ≡ None → WhenHonest (D.is_honest device.old)
             (Told (option_map (λ body. body.now)) result
-            (next_before version_one (D.content device.old) self.old.progress.at)) }
+            (next_before version_two (D.content device.old) self.old.progress.at)) }
         // Want of memory only where the frame has more bytes than the buffer of `start`
         ensures memory { self.old.progress.fault ≡ None → WhenHonest (D.is_honest device.old)
             (IsErrOf result FrameFault.NoMemory →
-            IsLarge (next_before version_one (D.content device.old) self.old.progress.at)) }
+            IsLarge (next_before version_two (D.content device.old) self.old.progress.at)) }
         // Whatever the device is, a body is lent that may stand in a frame and stood before
         ensures body { IfOk result (λ found. IfSome found
-            (λ body. IsBody version_one body.now)) }
+            (λ body. IsBody version_two body.now)) }
         ensures room { IfOk result (λ found. IfSome found
             (λ body. length body.now + length_bytes ≤ self.old.progress.at)) }
         // B1 is only told by `start`

@@ -8,7 +8,7 @@ ghost use Rattle.treefile.specs.Backward.{next_before};
 ghost use Rattle.treefile.specs.Device.{LeavesContent, Persists, TakesNoMemory, WhenHonest};
 ghost use Rattle.treefile.specs.Ending.{IsBytes, Told, body_before, greatest_body, header_bytes};
 ghost use Rattle.treefile.specs.Ending.{least_body, length_bytes, number_before};
-ghost use Rattle.treefile.specs.TreeFile.{version_one};
+ghost use Rattle.treefile.specs.TreeFile.{version_two};
 ghost use Rattle.treefile.specs.declared.reading.FrameFault.TheVariants.{Damaged};
 
 use std::alloc::{AllocError, Global};
@@ -37,7 +37,7 @@ pub(crate) struct Window {
     ghost ordered: { from ≤ to },
     ghost within: { to ≤ vec_len buffer },
     ghost roomy: { buffer_bytes ≤ vec_len buffer },
-    ghost narrow: { vec_len buffer ≤ greatest_body version_one + length_bytes },
+    ghost narrow: { vec_len buffer ≤ greatest_body version_two + length_bytes },
     ghost behind: { to - from + header_bytes ≤ at },
 }
 
@@ -77,10 +77,10 @@ impl Window {
         requires { WhenHonest (D.is_honest device.old)
             (StandBefore (D.content device.old) self.old.at (unread self.old)) }
         ensures told { WhenHonest (D.is_honest device.old) (Told (option_map (taken self.new)) result
-            (next_before version_one (D.content device.old) self.old.at)) }
+            (next_before version_two (D.content device.old) self.old.at)) }
         ensures memory { WhenHonest (D.is_honest device.old)
             (IsErrOf result FrameFault.NoMemory →
-            IsLarge (next_before version_one (D.content device.old) self.old.at)) }
+            IsLarge (next_before version_two (D.content device.old) self.old.at)) }
         ensures stand { WhenHonest (D.is_honest device.old)
             (StandBefore (D.content device.old) self.new.at (unread self.new)) }
         ensures moved { IfOk result (λ found. IfSome found
@@ -92,7 +92,7 @@ impl Window {
             (λ count. self.new.to + count ≤ vec_len self.new.buffer)) }
         ensures least { IfOk result (λ found. IfSome found (λ count. least_body ≤ count)) }
         ensures greatest { IfOk result (λ found. IfSome found
-            (λ count. count ≤ greatest_body version_one)) }
+            (λ count. count ≤ greatest_body version_two)) }
         ensures file { IsErrOf result FrameFault.NotATreeFile → ⊥ }
         ensures content { LeavesContent (D.is_honest device.old)
             (D.content device.old) (D.content device.new) }
@@ -133,13 +133,13 @@ impl Window {
     #[tactic(auto, using(crate::proofs::Standing::body_at_hand))]
     fn at_hand(&self) -> Option<usize>
         ensures found { (content : List ℕ) → StandBefore content self.now.at (unread self.now) →
-            IfSome result (λ count. body_before version_one content self.now.at
+            IfSome result (λ count. body_before version_two content self.now.at
             ≡ Ok (slice_range content
             (self.now.at - length_bytes - count) (self.now.at - length_bytes))) }
         ensures read { IfSome result
             (λ count. count + length_bytes ≤ self.now.to - self.now.from) }
         ensures least { IfSome result (λ count. least_body ≤ count) }
-        ensures greatest { IfSome result (λ count. count ≤ greatest_body version_one) }
+        ensures greatest { IfSome result (λ count. count ≤ greatest_body version_two) }
     {
         let count = self.to - self.from;
         if count < LENGTH {
@@ -159,18 +159,18 @@ impl Window {
             (StandBefore (D.content device.old) self.old.at (unread self.old)) }
         ensures found { WhenHonest (D.is_honest device.old)
             (IfOk result (λ found. IfSome found
-            (λ count. body_before version_one (D.content device.old) self.old.at
+            (λ count. body_before version_two (D.content device.old) self.old.at
             ≡ Ok (slice_range (D.content device.old)
             (self.old.at - length_bytes - count) (self.old.at - length_bytes))))) }
         ensures none { WhenHonest (D.is_honest device.old)
             (IfOk result (λ found. IfNone found
-            (body_before version_one (D.content device.old) self.old.at
+            (body_before version_two (D.content device.old) self.old.at
             ≡ Err (Damaged self.old.at)))) }
         ensures room { IfOk result (λ found. IfSome found
             (λ count. header_bytes + count + length_bytes ≤ self.old.at)) }
         ensures least { IfOk result (λ found. IfSome found (λ count. least_body ≤ count)) }
         ensures greatest { IfOk result (λ found. IfSome found
-            (λ count. count ≤ greatest_body version_one)) }
+            (λ count. count ≤ greatest_body version_two)) }
         ensures stand { WhenHonest (D.is_honest device.old)
             (StandBefore (D.content device.old) self.new.at (unread self.new)) }
         ensures kept { Keeps self.old self.new }
@@ -224,7 +224,7 @@ impl Window {
 
     /// Makes the buffer have so many bytes at least. Takes memory where it has fewer.
     fn grow(&mut self, count: usize) -> Result<(), AllocError>
-        requires { count ≤ greatest_body version_one + length_bytes }
+        requires { count ≤ greatest_body version_two + length_bytes }
         ensures room { OnOk result (count ≤ vec_len self.new.buffer) }
         ensures large { OnErr result (buffer_bytes < count) }
         ensures same { OnErr result (self.new.buffer.items ≡ self.old.buffer.items) }

@@ -11,7 +11,7 @@ use Rattle.ag_grammar.specs.grammars.Tree.{IsTokenText, Tree, leaf, node, Forest
 use Rattle.ag_grammar.specs.grammars.Yield.{Lexeme, yield_along, yield_of}
 use Rattle.ag_grammar.proofs.grammars.Productive.{by_trees}
 use Rattle.llparse.specs.Opened.{joined, Open, open_at, Continues, IsCutAt, IsNext, IsStack}
-use Rattle.llparse.specs.Parsing.{Task, After, Reading, Asked}
+use Rattle.llparse.specs.Parsing.{Task, Made, After, Reading, Asked}
 use Rattle.llparse.specs.declared.parser.OpenNode.{OpenNode}
 use Rattle.llparse.proofs.Steps as step
 
@@ -57,7 +57,7 @@ module _ (g : Grammar) (accepted : IsAccepted g) where
       (others.0, step.before g others.0 l ys others.1)
 
   -- a whole tree round a child of what is open
-  finish : (os : List Open) (s : ℕ) → IsStack g os s → (c : Tree) → (ws : List Lexeme) × (t : Tree) × Continues g os c ws t
+  pub finish : (os : List Open) (s : ℕ) → IsStack g os s → (c : Tree) → (ws : List Lexeme) × (t : Tree) × Continues g os c ws t
   finish [] s is c = ([], c, (refl, refl))
   finish (o ∷ os) s (q, before, get, items, is) c =
       let fs = fill o.production q get (before ++ item.Symbol s ∷ []) o.rest (items ∙ sym (append_assoc before (item.Symbol s ∷ []) o.rest)) in
@@ -70,14 +70,14 @@ module _ (g : Grammar) (accepted : IsAccepted g) where
   some_tree (o ∷ os) s (q, before, get, items, is) = symbol_tree o.production q get before o.rest s items
 
 module _ (k : Task) (accepted : IsAccepted k.grammar) where
-  pub begins_reading : (p : ℕ) (ys : List Item) (fs : List OpenNode) (i n : ℕ) (rs : List ℕ) → Reading k p ys fs i n rs → (rest : List Lexeme) × (t : Tree) × After k i rest t
-  begins_reading p ys fs i n rs r =
+  pub begins_reading : (p base : ℕ) (ys : List Item) (fs : List OpenNode) (i n : ℕ) (rs : Made) → Reading k p base ys fs i n rs → (rest : List Lexeme) × (t : Tree) × After k i rest t
+  begins_reading p base ys fs i n rs r =
       let s = r.stands in
       let own = fill k.grammar accepted p s.0 s.2 s.1 ys s.3 in
       let outer = finish k.grammar accepted r.under s.0.left s.4 (node p (joined r.done own.0)) in
       (yield_along k.grammar ys own.0 ++ outer.0, outer.1, r.sound (yield_along k.grammar ys own.0 ++ outer.0) outer.1 (own.0, outer.0, own.1, refl, outer.2))
 
-  pub begins_asked : (s : ℕ) (fs : List OpenNode) (i n : ℕ) (rs : List ℕ) (a : Asked k s fs i n rs) → (rest : List Lexeme) × (t : Tree) × After k i rest t × IsCutAt k.grammar a.under rest t
+  pub begins_asked : (s : ℕ) (fs : List OpenNode) (i n : ℕ) (rs : Made) (a : Asked k s fs i n rs) → (rest : List Lexeme) × (t : Tree) × After k i rest t × IsCutAt k.grammar a.under rest t
   begins_asked s fs i n rs a =
       let c = some_tree k.grammar accepted a.under s a.stands in
       let outer = finish k.grammar accepted a.under s a.stands c.0 in
@@ -89,9 +89,9 @@ module _ (k : Task) (accepted : IsAccepted k.grammar) where
       )
 
   -- where a leaf comes next
-  pub begins_leaf : (p c : ℕ) (ys : List Item) (fs : List OpenNode) (i n : ℕ) (rs : List ℕ) (r : Reading k p (item.Terminal (Class c) ∷ ys) fs i n rs)
+  pub begins_leaf : (p base c : ℕ) (ys : List Item) (fs : List OpenNode) (i n : ℕ) (rs : Made) (r : Reading k p base (item.Terminal (Class c) ∷ ys) fs i n rs)
       → (rest : List Lexeme) × (t : Tree) × After k i rest t × IsCutAt k.grammar (open_at p r.done ys ∷ r.under) rest t
-  begins_leaf p c ys fs i n rs r =
+  begins_leaf p base c ys fs i n rs r =
       let s = r.stands in
       let own = fill k.grammar accepted p s.0 s.2 (s.1 ++ item.Terminal (Class c) ∷ []) ys (s.3 ∙ sym (append_assoc s.1 (item.Terminal (Class c) ∷ []) ys)) in
       let outer = finish k.grammar accepted r.under s.0.left s.4 (node p (joined r.done (more (leaf c []) own.0))) in

@@ -1,6 +1,7 @@
 -- What closing a node keeps true, and what is known at the end.
 use Rattle.std.proofs.Common.{◌≡◌, ℕ, zero, suc, ◌<◌, ◌≤◌, List, [], ◌∷◌, ◌++◌, length, take, drop, refl, ap, sym, ◌∙◌, subst, append_assoc, append-nil, arith}
 use Rattle.std.proofs.lemmas.List.{length-drop, take_all}
+use Rattle.ag_value.specs.declared.value.Value.{Value}
 use Rattle.ag_grammar.specs.declared.grammar.Item.TheVariants as item
 use Rattle.ag_grammar.specs.grammars.AttributeGrammar.{Grammar}
 use Rattle.ag_grammar.specs.grammars.Tree.{Tree, node, Forest, none, more}
@@ -8,10 +9,11 @@ use Rattle.ag_grammar.specs.grammars.Yield.{Lexeme}
 use Rattle.treefile.specs.Device.{WhenHonest}
 use Rattle.llparse.specs.Ahead.{ahead_of}
 use Rattle.llparse.specs.Opened.{joined, Open, open_at, Completes, Stands}
-use Rattle.llparse.specs.Parsing.{Task, After, Shows, written, Held, Reading, Between, Whole, IsParsed, node_frame, post, posts}
+use Rattle.llparse.specs.Parsing.{Task, Made, After, Shows, kept, leaf_texts, written, Held, Reading, Between, Whole, IsParsed, node_frame, post, posts}
 use Rattle.llparse.specs.Sentences.{IsTreeWith, IsStuckAt}
 use Rattle.llparse.specs.declared.ahead.Ahead.TheVariants as ahead
 use Rattle.llparse.specs.declared.parser.OpenNode.{OpenNode}
+use Rattle.llparse.proofs.Kept.{parted, texts-joined}
 use Rattle.llparse.proofs.Sizes as size
 use Rattle.llparse.proofs.Steps as step
 
@@ -31,16 +33,16 @@ module _ (k : Task) where
   g = k.grammar
 
   -- the node around it goes on
-  pub on_close : (p : ℕ) (f : OpenNode) (fs : List OpenNode) (i n : ℕ) (rs out : List ℕ) → WhenHonest k.honest (out ≡ rs ++ node_frame p)
-      → Reading k p [] (f ∷ fs) i n rs → Between k (f ∷ fs) i n out
-  on_close p f fs i n rs out put r = go r.under r.shows r.held r.stands r.sound r.complete
+  pub on_close : (p base : ℕ) (f : OpenNode) (fs : List OpenNode) (i n : ℕ) (rs out : Made) → WhenHonest k.honest (out.bytes ≡ rs.bytes ++ node_frame p (drop base rs.texts)) → out.texts ≡ take base rs.texts
+      → Reading k p base [] (f ∷ fs) i n rs → Between k (f ∷ fs) i n out
+  on_close p base f fs i n rs out put cut r = go r.under r.shows r.begins r.held r.stands r.sound r.complete
     where
-      go : (os : List Open) → Shows g os (f ∷ fs) → Held k (open_at p r.done [] ∷ os) i n rs → Stands k.grammar (open_at p r.done []) os
+      go : (os : List Open) → Shows g os (f ∷ fs) → base ≡ length (kept os) → Held k (open_at p r.done [] ∷ os) i n rs → Stands k.grammar (open_at p r.done []) os
           → ((rest : List Lexeme) (t : Tree) → Completes k.grammar (open_at p r.done []) os rest t → After k i rest t)
           → ((rest : List Lexeme) (t : Tree) → ahead_of rest ≡ ahead_of (drop i k.words) → After k i rest t → Completes k.grammar (open_at p r.done []) os rest t)
           → Between k (f ∷ fs) i n out
-      go [] shows held stands sound complete = absurd shows
-      go (o ∷ os) shows held stands sound complete =
+      go [] shows begins held stands sound complete = absurd shows
+      go (o ∷ os) shows begins held stands sound complete =
           let d : Forest = joined o.done (more (node p r.done) none) in
           let asked = stands.4 in
           let counts = size.node_counts-joined o.done (more (node p r.done) none) in
@@ -48,43 +50,48 @@ module _ (k : Task) where
           let counted = held.counted in
           let inner = held.shallow.0 in
           let outer = held.shallow.1.0 in
-          let content : WhenHonest k.honest (out ≡ k.front ++ (written os ++ posts d)) = λ h.
-          put h ∙ ap (λ z. z ++ node_frame p) (held.content h) ∙ append_assoc k.front ((written os ++ posts o.done) ++ posts r.done) (node_frame p)
-          ∙ ap (λ z. k.front ++ z) (append_assoc (written os ++ posts o.done) (posts r.done) (node_frame p) ∙ append_assoc (written os) (posts o.done) (post (node p r.done))
+          let parts = parted rs.texts (kept (o ∷ os)) (leaf_texts r.done) base held.texts begins in
+          let own : List ℕ = node_frame p (leaf_texts r.done) in
+          let content : WhenHonest k.honest (out.bytes ≡ k.front ++ (written os ++ posts d)) = λ h.
+          put h ∙ ap (λ (z : List Value). rs.bytes ++ node_frame p z) parts.1 ∙ ap (λ z. z ++ own) (held.content h) ∙ append_assoc k.front ((written os ++ posts o.done) ++ posts r.done) own
+          ∙ ap (λ z. k.front ++ z) (append_assoc (written os ++ posts o.done) (posts r.done) own ∙ append_assoc (written os) (posts o.done) (post (node p r.done))
           ∙ ap (λ z. written os ++ (posts o.done ++ z)) (sym (append-nil (post (node p r.done)))) ∙ ap (λ z. written os ++ z) (sym (size.posts-joined o.done (more (node p r.done) none)))) in
-          let whole : Reading k o.production o.rest fs i n out = record {
+          let texts : out.texts ≡ kept os ++ leaf_texts d = cut ∙ parts.0 ∙ ap (λ z. kept os ++ z) (sym (texts-joined o.done (more (node p r.done) none) ∙ append-nil (leaf_texts o.done))) in
+          let whole : Reading k o.production f.base o.rest fs i n out = record {
             done = d;
             under = os;
-            shows = shows.2;
-            held = record { within = held.within; content = content; counted = omega arith; few = held.few; shallow = (omega arith, held.shallow.1.1) };
+            shows = shows.3;
+            begins = shows.2;
+            held = record { within = held.within; content = content; texts = texts; counted = omega arith; few = held.few; shallow = (omega arith, held.shallow.1.1) };
             stands = (asked.0, asked.1 ++ item.Symbol stands.0.left ∷ [], asked.2, asked.3 ∙ sym (append_assoc asked.1 (item.Symbol stands.0.left ∷ []) o.rest), asked.4);
             sound = λ rest t w. sound rest t ((step.close k.grammar p r.done (o ∷ os) rest t).1 ((step.child k.grammar o.production o.done o.rest os (node p r.done) rest t).1 w));
             complete = λ rest t e w. (step.child k.grammar o.production o.done o.rest os (node p r.done) rest t).0 ((step.close k.grammar p r.done (o ∷ os) rest t).0 (complete rest t e w));
           } in
-          subst (λ x. Reading k f.production x fs i n out) shows.1 (subst (λ x. Reading k x o.rest fs i n out) shows.0 whole)
+          subst (λ x. Reading k f.production f.base x fs i n out) shows.1 (subst (λ x. Reading k x f.base o.rest fs i n out) shows.0 whole)
 
   -- the last node was closed
-  pub on_root : (p i n : ℕ) (rs out : List ℕ) → WhenHonest k.honest (out ≡ rs ++ node_frame p) → Reading k p [] [] i n rs → Whole k i n out
-  on_root p i n rs out put r = go r.under r.shows r.held r.sound r.complete
+  pub on_root : (p base i n : ℕ) (rs out : Made) → WhenHonest k.honest (out.bytes ≡ rs.bytes ++ node_frame p (drop base rs.texts)) → Reading k p base [] [] i n rs → Whole k i n out.bytes
+  on_root p base i n rs out put r = go r.under r.shows r.begins r.held r.sound r.complete
     where
-      go : (os : List Open) → Shows g os [] → Held k (open_at p r.done [] ∷ os) i n rs
+      go : (os : List Open) → Shows g os [] → base ≡ length (kept os) → Held k (open_at p r.done [] ∷ os) i n rs
           → ((rest : List Lexeme) (t : Tree) → Completes k.grammar (open_at p r.done []) os rest t → After k i rest t)
           → ((rest : List Lexeme) (t : Tree) → ahead_of rest ≡ ahead_of (drop i k.words) → After k i rest t → Completes k.grammar (open_at p r.done []) os rest t)
-          → Whole k i n out
-      go [] shows held sound complete =
+          → Whole k i n out.bytes
+      go [] shows begins held sound complete =
           let counted = held.counted in
           let shallow = held.shallow.0 in
+          let own = (parted rs.texts [] (leaf_texts r.done) base held.texts begins).1 in
           record {
             tree = node p r.done;
             within = held.within;
-            content = λ h. put h ∙ ap (λ z. z ++ node_frame p) (held.content h) ∙ append_assoc k.front (posts r.done) (node_frame p);
+            content = λ h. put h ∙ ap (λ (z : List Value). rs.bytes ++ node_frame p z) own ∙ ap (λ z. z ++ node_frame p (leaf_texts r.done)) (held.content h) ∙ append_assoc k.front (posts r.done) (node_frame p (leaf_texts r.done));
             counted = omega arith;
             few = held.few;
             shallow = omega arith;
             sound = sound [] (node p r.done) ((step.close k.grammar p r.done [] [] (node p r.done)).1 (refl, refl));
             complete = λ rest t e h. (step.close k.grammar p r.done [] rest t).0 (complete rest t e h);
           }
-      go (o ∷ os) shows held sound complete = absurd shows
+      go (o ∷ os) shows begins held sound complete = absurd shows
 
   -- all words are taken
   pub on_end : (i n : ℕ) (rs : List ℕ) → length k.words ≤ i → Whole k i n rs → IsParsed k n rs

@@ -22,10 +22,11 @@ use Rattle.ag_grammar.specs.grammars.Passes.{Passes}
 use Rattle.ag_grammar.specs.grammars.Solution.{AtEachNodeOf, IsWellOn, NoRule, Solves, SolvesAll, Valuation, WellAt, children, left_passes, rest}
 use Rattle.ag_grammar.specs.grammars.Tree.{Tree, Forest, leaf, node, none, more, Fits, FitsAll, IsTokenText}
 use Rattle.treefile.specs.Orders.{postfix, postfix_all}
-use Rattle.treefile.specs.Records.{bodies_of, bodies_of_all, node_body, values_up_to}
-use Rattle.treefile.specs.TreeFile.{body_of, frame, header, version_one}
+use Rattle.treefile.specs.Records.{bodies_of, bodies_of_all, copies_of, left_synthesized, node_body, values_up_to}
+use Rattle.treefile.specs.TreeFile.{body_of, frame, header, version_two}
 use Rattle.treefile.specs.declared.body.Kind.TheVariants.{Node}
-use Rattle.llparse.specs.Parsing.{leaf_frame, post, posts}
+use Rattle.treefile.proofs.Copies.{synthesized_is}
+use Rattle.llparse.specs.Parsing.{leaf_frame, leaf_texts, post, posts}
 use Rattle.llparse.specs.Sentences.{AreFromOne, IsFirstFile}
 
 -- a token's text is a well value
@@ -52,22 +53,34 @@ module _ (g : Grammar) (m : Passes) (from_one : AreFromOne m) where
   left_from_one None = λ i x e. absurd (cc)
   left_from_one (Some q) = from_one q.left
 
-  bare : (p : ℕ) (values : ℕ → Value) → node_body version_one g m 0 p values [] ≡ body_of Node p []
-  bare p values = ap (body_of Node p) (no_values (left_passes m (slice_get g.productions p)) values (left_from_one (slice_get g.productions p)))
+  -- so the copies of children are their leaves' texts,
+  copies : (ts : Forest) (vs : ℕ → Valuation) → copies_of g m 0 ts vs ≡ leaf_texts ts
+  copies none vs = refl
+  copies (more (leaf c x) ts) vs = ap (λ z. value.Text x ∷ z) (copies ts (rest vs))
+  copies (more (node p us) ts) vs =
+      let q = slice_get g.productions p in
+      ap (λ z. z ++ copies_of g m 0 ts (rest vs)) (no_values (left_synthesized g m q) (vs 0 []) (λ i x e. left_from_one q i x (synthesized_is g m q i x e))) ∙ copies ts (rest vs)
+
+  -- and a record has nothing else
+  body : (p : ℕ) (ts : Forest) (v : Valuation) → node_body version_two g m 0 p (v []) (copies_of g m 0 ts (children v)) ≡ body_of Node p (leaf_texts ts)
+  body p ts v =
+      let q = slice_get g.productions p in
+      ap (λ z. body_of Node p (z ++ copies_of g m 0 ts (children v))) (no_values (left_passes m q) (v []) (left_from_one q)) ∙ ap (body_of Node p) (copies ts (children v))
 
   mutual
-    frames : (t : Tree) (v : Valuation) → flat_map frame (postfix LeftToRight (bodies_of version_one g m 0 t v)) ≡ post t
+    frames : (t : Tree) (v : Valuation) → flat_map frame (postfix LeftToRight (bodies_of version_two g m 0 t v)) ≡ post t
     frames (leaf c x) v = append-nil (leaf_frame c x)
     frames (node p ts) v =
-        flat_map-append frame (postfix_all LeftToRight (bodies_of_all version_one g m 0 ts (children v))) (node_body version_one g m 0 p (v []) [] ∷ [])
-        ∙ ap (λ z. z ++ (frame (node_body version_one g m 0 p (v []) []) ++ [])) (frames_all ts (children v))
-        ∙ ap (λ z. posts ts ++ z) (append-nil (frame (node_body version_one g m 0 p (v []) [])) ∙ ap frame (bare p (v [])))
+        let own = node_body version_two g m 0 p (v []) (copies_of g m 0 ts (children v)) in
+        flat_map-append frame (postfix_all LeftToRight (bodies_of_all version_two g m 0 ts (children v))) (own ∷ [])
+        ∙ ap (λ z. z ++ (frame own ++ [])) (frames_all ts (children v))
+        ∙ ap (λ z. posts ts ++ z) (append-nil (frame own) ∙ ap frame (body p ts v))
 
-    frames_all : (ts : Forest) (vs : ℕ → Valuation) → flat_map frame (postfix_all LeftToRight (bodies_of_all version_one g m 0 ts vs)) ≡ posts ts
+    frames_all : (ts : Forest) (vs : ℕ → Valuation) → flat_map frame (postfix_all LeftToRight (bodies_of_all version_two g m 0 ts vs)) ≡ posts ts
     frames_all none vs = refl
     frames_all (more t ts) vs =
-        flat_map-append frame (postfix LeftToRight (bodies_of version_one g m 0 t (vs 0))) (postfix_all LeftToRight (bodies_of_all version_one g m 0 ts (rest vs)))
-        ∙ ap (λ z. z ++ flat_map frame (postfix_all LeftToRight (bodies_of_all version_one g m 0 ts (rest vs)))) (frames t (vs 0))
+        flat_map-append frame (postfix LeftToRight (bodies_of version_two g m 0 t (vs 0))) (postfix_all LeftToRight (bodies_of_all version_two g m 0 ts (rest vs)))
+        ∙ ap (λ z. z ++ flat_map frame (postfix_all LeftToRight (bodies_of_all version_two g m 0 ts (rest vs)))) (frames t (vs 0))
         ∙ ap (λ z. post t ++ z) (frames_all ts (rest vs))
 
   mutual
@@ -90,9 +103,9 @@ module _ (g : Grammar) (m : Passes) (from_one : AreFromOne m) where
     well_all (x ∷ xs) (more t ts) vs fits texts = (well x t (vs 0) fits.0 texts.0, well_all xs ts (rest vs) fits.1 texts.1)
 
 -- header and frames are the file
-pub first_file : (g : Grammar) (t : Tree) (content : List ℕ) → Fits g (item.Symbol g.start) t → content ≡ header version_one 0 ++ post t → IsFirstFile g t content
+pub first_file : (g : Grammar) (t : Tree) (content : List ℕ) → Fits g (item.Symbol g.start) t → content ≡ header version_two 0 ++ post t → IsFirstFile g t content
 first_file g t content fits is m v from_one texts = record {
-  stands = is ∙ ap (λ z. header version_one 0 ++ z) (sym (frames g m from_one t v));
+  stands = is ∙ ap (λ z. header version_two 0 ++ z) (sym (frames g m from_one t v));
   texts = texts;
   well = well g m from_one (item.Symbol g.start) t v fits texts;
 }

@@ -10,6 +10,7 @@ pub mod FirstFile
 pub mod Firsts
 pub mod Follows
 pub mod Fronts
+pub mod Kept
 pub mod Leaves
 pub mod Literals
 pub mod Nexts

@@ -1,4 +1,4 @@
--- What a parser puts on the device: the frames of nodes and leaves.
+-- What a parser puts on the device.
 use Rattle.std.proofs.Common.{ℕ, List, [], ◌∷◌, Ok, Err, arith}
 use Rattle.std.proofs.lemmas.List.Elements.{All-cons, All-nil}
 use Rattle.ag_value.specs.declared.value.Value.{Text}
@@ -6,17 +6,14 @@ use Rattle.ag_value.specs.Well.{IsWell}
 use Rattle.treefile.specs.Beginning.{AddsFrames}
 use Rattle.treefile.specs.Ending.{IsBody}
 use Rattle.treefile.specs.Records.{token_body}
-use Rattle.treefile.specs.TreeFile.{body_of, version_one}
-use Rattle.treefile.specs.declared.body.Kind.TheVariants.{Node, Token}
+use Rattle.treefile.specs.TreeFile.{version_two}
+use Rattle.treefile.specs.declared.body.Kind.TheVariants.{Token}
 use Rattle.treefile.proofs.Beginning.{added, none_added}
 use Rattle.treefile.proofs.Records.{is_body}
 use Rattle.llparse.specs.declared.parse_fault.ParseFault.{ParseFault}
 
-pub of_node : (p : ℕ) → IsBody version_one (body_of Node p [])
-of_node p = is_body version_one Node p [] (omega arith) (All-nil IsWell)
-
-pub of_leaf : (c : ℕ) (x : List ℕ) → IsWell (Text x) → IsBody version_one (token_body c x)
-of_leaf c x well = is_body version_one Token c (Text x ∷ []) (omega arith) (All-cons IsWell (Text x) [] well (All-nil IsWell))
+pub of_leaf : (c : ℕ) (x : List ℕ) → IsWell (Text x) → IsBody version_two (token_body c x)
+of_leaf c x well = is_body version_two Token c (Text x ∷ []) (omega arith) (All-cons IsWell (Text x) [] well (All-nil IsWell))
 
 -- frames were put, and then a step refused that put nothing
 pub stopped : (old now : List ℕ) (fault : ParseFault) → AddsFrames {E = ParseFault} old now (Ok tt) → AddsFrames old now (Err fault)

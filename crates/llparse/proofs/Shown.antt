@@ -13,7 +13,7 @@ pub length-shows : (g : Grammar) (os : List Open) (fs : List OpenNode) → Shows
 length-shows g [] [] h = refl
 length-shows g [] (f ∷ fs) h = absurd h
 length-shows g (o ∷ os) [] h = absurd h
-length-shows g (o ∷ os) (f ∷ fs) h = ap suc (length-shows g os fs h.2)
+length-shows g (o ∷ os) (f ∷ fs) h = ap suc (length-shows g os fs h.3)
 
 -- the words so far and those left are all words
 pub whole : (g : Grammar) (words : List Lexeme) (i : ℕ) (t : Tree) → IsTreeWith g words t → IsTreeWith g (take i words ++ drop i words) t

@@ -1,5 +1,6 @@
 -- What a parser keeps true while it runs (this project's).
 use Rattle.std.specs.Prelude.{◌≡◌, ℕ, Bool, suc, ◌+◌, ◌-◌, ◌*◌, ◌≤◌, List, [], ◌∷◌, ◌++◌, length, take, drop, slice_get}
+use Rattle.ag_value.specs.declared.value.Value.{Value, Text}
 use Rattle.ag_grammar.specs.declared.grammar.Item.{Item}
 use Rattle.ag_grammar.specs.declared.grammar.Production.{Production}
 use Rattle.ag_grammar.specs.grammars.AttributeGrammar.{Grammar}
@@ -36,18 +37,24 @@ task_of g tokens honest front =
 abbrev pub right_side : Grammar → ℕ → List Item
 right_side g p = yields.right_side (slice_get g.productions p)
 
--- what is written of a leaf, and of a node, which has no value yet
+-- what is written of a leaf, and of a node, which has no value of its own yet, but copies of its leaves' texts
 abbrev pub leaf_frame : ℕ → List ℕ → List ℕ
 leaf_frame c x = frame (token_body c x)
 
-abbrev pub node_frame : ℕ → List ℕ
-node_frame p = frame (body_of Node p [])
+abbrev pub node_frame : ℕ → List Value → List ℕ
+node_frame p texts = frame (body_of Node p texts)
+
+-- the texts of the leaves among some trees, from left to right
+abbrev pub leaf_texts : Forest → List Value
+leaf_texts none = []
+leaf_texts (more (leaf c x) ts) = Text x ∷ leaf_texts ts
+leaf_texts (more (node p us) ts) = leaf_texts ts
 
 -- the frames of a tree from left to right, each node behind its children
 abbrev mutual
   pub post : Tree → List ℕ
   post (leaf c x) = leaf_frame c x
-  post (node p ts) = posts ts ++ node_frame p
+  post (node p ts) = posts ts ++ node_frame p (leaf_texts ts)
 
   pub posts : Forest → List ℕ
   posts none = []
@@ -57,47 +64,60 @@ abbrev mutual
 abbrev pub After : Task → ℕ → List Lexeme → Tree → Type 0
 After k i rest = IsTreeWith k.grammar (take i k.words ++ rest)
 
--- the stack has the productions of what is open, and how far each is read
+-- the texts of the leaves among the trees that are done, those of the outermost node first
+abbrev pub kept : List Open → List Value
+kept [] = []
+kept (o ∷ os) = kept os ++ leaf_texts o.done
+
+-- the stack has the productions of what is open, how far each is read, and where its texts begin
 abbrev pub Shows : Grammar → List Open → List OpenNode → Type 0
 Shows g [] [] = Unit {0}
 Shows g [] (f ∷ fs) = ⊥
 Shows g (o ∷ os) [] = ⊥
-Shows g (o ∷ os) (f ∷ fs) = (o.production ≡ f.production) × (o.rest ≡ drop f.place (right_side g f.production)) × Shows g os fs
+Shows g (o ∷ os) (f ∷ fs) = (o.production ≡ f.production) × (o.rest ≡ drop f.place (right_side g f.production)) × (f.base ≡ length (kept os)) × Shows g os fs
 
 -- the records of the trees that are done, those of the outermost node first
 abbrev pub written : List Open → List ℕ
 written [] = []
 written (o ∷ os) = written os ++ posts o.done
 
+-- what a parser has made: the bytes that the device has, and the texts that it keeps
+pub record Made : Type 0 where
+  pub bytes : List ℕ
+  pub texts : List Value
+
 -- each tree that is done is shallow enough where it stands
 abbrev pub IsShallow : ℕ → List Open → Type 0
 IsShallow depth [] = Unit {0}
 IsShallow depth (o ∷ os) = (deepest o.done + suc (length os) ≤ depth) × IsShallow depth os
 
--- what the counters and the records say of what is open
-pub record Held (k : Task) (os : List Open) (at count : ℕ) (bytes : List ℕ) : Type 0 where
+-- what the counters, the records and the texts say of what is open
+pub record Held (k : Task) (os : List Open) (at count : ℕ) (made : Made) : Type 0 where
   pub within : at ≤ length k.words
-  pub content : WhenHonest k.honest (bytes ≡ k.front ++ written os)
+  pub content : WhenHonest k.honest (made.bytes ≡ k.front ++ written os)
+  pub texts : made.texts ≡ kept os
   pub counted : count ≡ opened os
   pub few : count ≤ k.nodes
   pub shallow : IsShallow k.depth os
 
--- A node of production p is open at ys, within the nodes of the stack fs; the trees that complete it have the words
--- read so far before those that they are still to have, and these are all such trees, where what comes next is as it is.
-pub record Reading (k : Task) (p : ℕ) (ys : List Item) (fs : List OpenNode) (at count : ℕ) (bytes : List ℕ) : Type 0 where
+-- A node of production p is open at ys, within the nodes of the stack fs, and its texts are behind so many; the trees that
+-- complete it have the words read so far before those that they are still to have, and these are all such trees, where what comes
+-- next is as it is.
+pub record Reading (k : Task) (p base : ℕ) (ys : List Item) (fs : List OpenNode) (at count : ℕ) (made : Made) : Type 0 where
   pub done : Forest
   pub under : List Open
   pub shows : Shows k.grammar under fs
-  pub held : Held k (open_at p done ys ∷ under) at count bytes
+  pub begins : base ≡ length (kept under)
+  pub held : Held k (open_at p done ys ∷ under) at count made
   pub stands : Stands k.grammar (open_at p done ys) under
   pub sound : (rest : List Lexeme) (t : Tree) → Completes k.grammar (open_at p done ys) under rest t → After k at rest t
   pub complete : (rest : List Lexeme) (t : Tree) → ahead_of rest ≡ ahead_of (drop at k.words) → After k at rest t → Completes k.grammar (open_at p done ys) under rest t
 
 -- A tree of symbol s comes next, within the nodes of the stack fs.
-pub record Asked (k : Task) (s : ℕ) (fs : List OpenNode) (at count : ℕ) (bytes : List ℕ) : Type 0 where
+pub record Asked (k : Task) (s : ℕ) (fs : List OpenNode) (at count : ℕ) (made : Made) : Type 0 where
   pub under : List Open
   pub shows : Shows k.grammar under fs
-  pub held : Held k under at count bytes
+  pub held : Held k under at count made
   pub stands : IsStack k.grammar under s
   pub sound : (rest : List Lexeme) (t : Tree) → Wants k.grammar under s rest t → After k at rest t
   pub complete : (rest : List Lexeme) (t : Tree) → ahead_of rest ≡ ahead_of (drop at k.words) → After k at rest t → Wants k.grammar under s rest t
@@ -114,14 +134,14 @@ pub record Whole (k : Task) (at count : ℕ) (bytes : List ℕ) : Type 0 where
   pub complete : (rest : List Lexeme) (t : Tree) → ahead_of rest ≡ ahead_of (drop at k.words) → After k at rest t → (rest ≡ []) × (t ≡ tree)
 
 -- Where a parser is between two steps: the first node of its stack is open where the stack says, or the tree is done.
-abbrev pub Between : Task → List OpenNode → ℕ → ℕ → List ℕ → Type 0
-Between k [] at count bytes = Whole k at count bytes
-Between k (f ∷ fs) at count bytes = Reading k f.production (drop f.place (right_side k.grammar f.production)) fs at count bytes
+abbrev pub Between : Task → List OpenNode → ℕ → ℕ → Made → Type 0
+Between k [] at count made = Whole k at count made.bytes
+Between k (f ∷ fs) at count made = Reading k f.production f.base (drop f.place (right_side k.grammar f.production)) fs at count made
 
 -- The first node of the stack has an item before it, which the stack has passed.
-abbrev pub Before : Task → Item → List OpenNode → ℕ → ℕ → List ℕ → Type 0
-Before k x [] at count bytes = ⊥
-Before k x (f ∷ fs) at count bytes = Reading k f.production (x ∷ drop f.place (right_side k.grammar f.production)) fs at count bytes
+abbrev pub Before : Task → Item → List OpenNode → ℕ → ℕ → Made → Type 0
+Before k x [] at count made = ⊥
+Before k x (f ∷ fs) at count made = Reading k f.production f.base (x ∷ drop f.place (right_side k.grammar f.production)) fs at count made
 
 -- the tree of a task's words, within its limits, whose records are written
 pub record IsParsed (k : Task) (count : ℕ) (bytes : List ℕ) : Type 0 where

@@ -8,7 +8,7 @@ use Rattle.ag_grammar.specs.grammars.Tree.{Tree, IsTreeOf, depth_of, node_count}
 use Rattle.ag_grammar.specs.grammars.Yield.{Lexeme, yield_of}
 use Rattle.ag_scan.specs.declared.token.Token.{Token}
 use Rattle.treefile.specs.Records.{IsFileOfTree}
-use Rattle.treefile.specs.TreeFile.{version_one}
+use Rattle.treefile.specs.TreeFile.{version_two}
 use Rattle.llparse.specs.Ahead.{ahead_of}
 use Rattle.llparse.specs.Opened.{Open, opened, IsCutAt}
 
@@ -28,7 +28,7 @@ AreFromOne m = (s : ℕ) → Each (λ k. 1 ≤ k) (m s)
 -- The content is the file of pass 0 of a tree: of whichever passes from 1 on and whichever values, as long as these give each
 -- leaf its text.
 abbrev pub IsFirstFile : Grammar → Tree → List ℕ → Type 0
-IsFirstFile g t content = (m : Passes) (v : Valuation) → AreFromOne m → Solves NoRule g t v → IsFileOfTree version_one g m 0 t v content
+IsFirstFile g t content = (m : Passes) (v : Valuation) → AreFromOne m → Solves NoRule g t v → IsFileOfTree version_two g m 0 t v content
 
 -- the offset of the last token, 0 where there is none
 abbrev pub last_offset : List Token → ℕ

@@ -7,7 +7,7 @@ use Rattle.ag_grammar.specs.grammars.Tree.{most_depth, most_nodes}
 use Rattle.ag_scan.specs.Tokens.{FitAll}
 use Rattle.ag_scan.specs.Words.{vocabulary_of}
 use Rattle.ag_scan.specs.declared.token.Token.{Token}
-use Rattle.llparse.specs.Parsing.{Task, task_of, Asked, Between, Before, IsRefused, steps_left}
+use Rattle.llparse.specs.Parsing.{Task, task_of, Made, Asked, Between, Before, IsRefused, steps_left}
 use Rattle.llparse.specs.Sentences.{offset_at}
 use Rattle.llparse.specs.Tables.{Choices, FitsGrammar}
 use Rattle.llparse.specs.declared.parse_fault.ParseFault.{ParseFault}
@@ -15,17 +15,21 @@ use Rattle.llparse.specs.declared.parse_fault.ParseFault.TheVariants as fault
 use Rattle.llparse.specs.declared.parser.OpenNode.{OpenNode}
 use Rattle.llparse.specs.declared.parser.Parser.{Parser}
 
+-- what a parser has made, where the device has these bytes
+abbrev pub made_by : Parser → List ℕ → Made
+made_by p bytes = record { bytes = bytes; texts = p.texts.items }
+
 -- a parser is between two steps, with this innermost open node
 abbrev pub IsBetween : Task → OpenNode → Parser → List ℕ → Type 0
-IsBetween k node p bytes = Between k (node ∷ reverse p.waiting.items) p.taken p.count bytes
+IsBetween k node p bytes = Between k (node ∷ reverse p.waiting.items) p.taken p.count (made_by p bytes)
 
 -- a tree of a symbol comes next in the innermost open node
 abbrev pub Asks : Task → ℕ → OpenNode → Parser → List ℕ → Type 0
-Asks k s node p bytes = Asked k s (node ∷ reverse p.waiting.items) p.taken p.count bytes
+Asks k s node p bytes = Asked k s (node ∷ reverse p.waiting.items) p.taken p.count (made_by p bytes)
 
 -- the innermost open node has an item next, which its place is behind
 abbrev pub Faces : Task → Item → OpenNode → Parser → List ℕ → Type 0
-Faces k x node p bytes = Before k x (node ∷ reverse p.waiting.items) p.taken p.count bytes
+Faces k x node p bytes = Before k x (node ∷ reverse p.waiting.items) p.taken p.count (made_by p bytes)
 
 -- an accepted grammar that tables fit
 abbrev pub HasTables : Choices → Grammar → Type 0

@@ -16,7 +16,7 @@ use ag_scan::Token;
 use ag_value::{NoMemory, Text};
 use std::alloc::Global;
 
-/// Takes a token of the terminal that comes next, and writes nothing.
+/// Takes a token of the terminal that comes next, writes nothing and keeps no text.
 fn pass(parser: &mut Parser, tokens: &[Token], terminal: Terminal) -> Result<(), ParseFault>
     ensures waiting { OnOk result (parser.new.waiting.items ≡ parser.old.waiting.items) }
     ensures count { OnOk result (parser.old.count ≤ parser.new.count) }
@@ -80,7 +80,7 @@ fn begin(
     tokens: &[Token],
     until: usize,
 ) -> Result<Option<OpenNode>, ParseFault> {
-    let root = new_node(tables, tokens, 0, grammar.start())?;
+    let root = new_node(tables, tokens, 0, grammar.start(), 0)?;
     go_on(parser, root, grammar, tables, tokens, until)
 }
 
@@ -97,6 +97,7 @@ fn could_stand(
     let tokens = tokens_of(alloc, ahead)?;
     let mut trial = Parser {
         waiting: before.waiting.clone()?,
+        texts: Vec::new(alloc),
         taken: 0,
         count: before.count,
     };

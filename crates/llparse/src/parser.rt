@@ -1,13 +1,15 @@
 //! How far a sentence is parsed, and the steps that go on with it.
-ghost use Rattle.std.specs.Prelude.{◌≡◌, ◌≤◌, ◌<◌, ◌+◌, ◌++◌, [], ℕ, true, false};
+ghost use Rattle.std.specs.Prelude.{◌≡◌, ◌≤◌, ◌<◌, ◌+◌, ◌++◌, ◌∷◌, [], ℕ, true, false, All};
 ghost use Rattle.std.specs.Prelude.{drop, length, Some, None};
 ghost use Rattle.std.specs.Prelude.{IfErr, IfOk, IsErrOf, OnErr, OnOk};
+ghost use Rattle.ag_value.specs.Well.{IsWell};
 ghost use Rattle.ag_grammar.specs.declared.grammar.Item.TheVariants as item;
 ghost use Rattle.ag_grammar.specs.declared.grammar.Terminal.TheVariants as terminal;
 ghost use Rattle.ag_grammar.specs.grammars.AttributeGrammar.{Grammar as AGrammar};
 ghost use Rattle.ag_grammar.specs.grammars.Tree.{IsTokenText, most_depth, most_nodes};
 ghost use Rattle.treefile.specs.Beginning.{AddsFrames};
 ghost use Rattle.treefile.specs.Device.{Persists, WhenHonest};
+ghost use Rattle.treefile.specs.TreeFile.{version_two};
 ghost use Rattle.llparse.specs.Ahead.{ahead_of};
 ghost use Rattle.llparse.specs.Parsing.{leaf_frame, node_frame, right_side};
 ghost use Rattle.llparse.specs.Refusals.{IsWant};
@@ -26,11 +28,13 @@ use ag_value::{Text, Value};
 use std::alloc::Global;
 use treefile::{Device, Kind, Writer};
 
-/// An open node: its production, and how many items of its right side it is behind.
+/// An open node: its production, how many items of its right side it is behind, and how many texts
+/// of tokens a parser kept when it was opened. Those of its own tokens are behind them.
 #[derive(Clone, Copy, Debug, PartialEq, Eq)]
 pub(crate) struct OpenNode {
     pub(crate) production: u16,
     pub(crate) place: u16,
+    pub(crate) base: usize,
 }
 
 /// The item that an open node has next, which the node goes behind; none where it is at its end.
@@ -49,15 +53,18 @@ pub(crate) fn next_item(grammar: &Grammar, node: &mut OpenNode) -> Option<Item>
     Some(item)
 }
 
-/// A node of the symbol that comes next behind so many tokens, open at its beginning.
+/// A node of the symbol that comes next behind so many tokens, open at its beginning, whose texts are
+/// to come behind so many.
 #[inline(always)]
 pub(crate) fn new_node(
     tables: &Tables,
     tokens: &[Token],
     at: usize,
     symbol: u16,
+    base: usize,
 ) -> Result<OpenNode, ParseFault>
     ensures begins { IfOk result (λ node. node.place ≡ 0) }
+    ensures base { IfOk result (λ node. node.base ≡ base) }
     ensures chosen { IfOk result (λ node.
         choice_of tables.now symbol (ahead_of (drop at (words_of tokens.now)))
         ≡ Some node.production) }
@@ -69,17 +76,19 @@ pub(crate) fn new_node(
         Some(production) => Ok(OpenNode {
             production,
             place: 0,
+            base,
         }),
         None => Err(unexpected(tokens, at)),
     }
 }
 
-/// Appends the record of a leaf.
+/// Appends the record of a leaf, and keeps its text behind others.
 #[inline(always)]
 fn put_leaf<D: Device>(
     alloc: Global,
     class: u16,
     lex: &Text,
+    texts: &mut Vec<Value>,
     device: &mut D,
     writer: &mut Writer,
 ) -> Result<(), ParseFault>
@@ -88,6 +97,8 @@ fn put_leaf<D: Device>(
     requires fine { writer.old.is_broken ≡ false }
     ensures frame { OnOk result (WhenHonest (D.is_honest device.old)
         (D.content device.new ≡ D.content device.old ++ leaf_frame class lex.now)) }
+    ensures kept { OnOk result
+        (texts.new.items ≡ texts.old.items ++ Value.Text lex.now ∷ []) }
     ensures counted { OnOk result
         (writer.new ≡ record writer.old { written = writer.old.written + 1 }) }
     ensures adds { WhenHonest (D.is_honest device.old)
@@ -98,22 +109,27 @@ fn put_leaf<D: Device>(
     ensures persists { Persists (D.is_honest device.old) (D.is_honest device.new)
         (D.failures device.old) (D.failures device.new) (IsErrOf result ParseFault.Device) }
 {
-    let value = Value::Text(Text::from_str(alloc, lex.as_str())?);
-    writer.put(device, Kind::Token, class, &[value])?;
+    let values = [Value::Text(Text::from_str(alloc, lex.as_str())?)];
+    writer.put(device, Kind::Token, class, &values)?;
+    let [text] = values;
+    texts.push(text)?;
     Ok(())
 }
 
-/// Appends the record of a node.
+/// Appends the record of a node, with the texts of the tokens among its children.
 #[inline(always)]
 pub(crate) fn put_node<D: Device>(
     production: u16,
+    texts: &[Value],
     device: &mut D,
     writer: &mut Writer,
 ) -> Result<(), ParseFault>
+    requires few { length texts.now ≤ version_two.most_values }
+    requires well { All IsWell texts.now }
     requires room { writer.old.written < most_nodes }
     requires fine { writer.old.is_broken ≡ false }
     ensures frame { OnOk result (WhenHonest (D.is_honest device.old)
-        (D.content device.new ≡ D.content device.old ++ node_frame production)) }
+        (D.content device.new ≡ D.content device.old ++ node_frame production texts.now)) }
     ensures counted { OnOk result
         (writer.new ≡ record writer.old { written = writer.old.written + 1 }) }
     ensures adds { WhenHonest (D.is_honest device.old)
@@ -124,16 +140,18 @@ pub(crate) fn put_node<D: Device>(
     ensures persists { Persists (D.is_honest device.old) (D.is_honest device.new)
         (D.failures device.old) (D.failures device.new) (IsErrOf result ParseFault.Device) }
 {
-    writer.put(device, Kind::Node, production, &[])?;
+    writer.put(device, Kind::Node, production, texts)?;
     Ok(())
 }
 
 /// How far a sentence is parsed: the nodes that wait for the innermost open one, the outermost
-/// first, how many tokens are taken, and how many nodes are opened, leaves among them. It takes
-/// four bytes for a node that waits.
+/// first, the texts of the tokens among the children of open nodes, those of the innermost one
+/// last, how many tokens are taken, and how many nodes are opened, leaves among them. It takes
+/// sixteen bytes for a node that waits, and memory for the texts.
 #[derive(Drop)]
 pub(crate) struct Parser {
     pub(crate) waiting: Vec<OpenNode>,
+    pub(crate) texts: Vec<Value>,
     pub(crate) taken: usize,
     pub(crate) count: u32,
 }
@@ -142,11 +160,13 @@ impl Parser {
     /// A parser whose root alone is open, and which has taken no token.
     pub(crate) fn new(alloc: Global) -> Parser
         ensures waiting { result.waiting.items ≡ [] }
+        ensures texts { result.texts.items ≡ [] }
         ensures taken { result.taken ≡ 0 }
         ensures count { result.count ≡ 1 }
     {
         Parser {
             waiting: Vec::new(alloc),
+            texts: Vec::new(alloc),
             taken: 0,
             count: 1,
         }
@@ -168,6 +188,15 @@ impl Parser {
         Ok(())
     }
 
+    /// The texts that are kept behind so many.
+    #[inline(always)]
+    pub(crate) fn texts_from(&self, base: usize) -> &[Value]
+        requires { base ≤ length self.now.texts.items }
+        ensures { result.now ≡ drop base self.now.texts.items }
+    {
+        &self.texts[base..]
+    }
+
     /// Opens a node of the symbol that comes next in a node, which waits for it.
     #[inline(always)]
     pub(crate) fn open(
@@ -187,7 +216,7 @@ impl Parser {
             ≡ length self.old.waiting.items + self.new.count) }
         ensures calm { IsErrOf result ParseFault.Device → ⊥ }
     {
-        let node = new_node(tables, tokens, self.taken, symbol)?;
+        let node = new_node(tables, tokens, self.taken, symbol, self.texts.len())?;
         self.has_room()?;
         self.waiting.push(outer)?;
         self.count += 1;
@@ -211,7 +240,7 @@ impl Parser {
         Ok(())
     }
 
-    /// Takes a token of a class, and appends its record.
+    /// Takes a token of a class, appends its record and keeps its text.
     #[inline(always)]
     fn take_class<D: Device>(
         &mut self,
@@ -244,7 +273,7 @@ impl Parser {
     {
         let lex = expect(tokens, self.taken, Terminal::Class(class))?;
         self.has_room()?;
-        put_leaf(alloc, class, lex, device, writer)?;
+        put_leaf(alloc, class, lex, &mut self.texts, device, writer)?;
         self.count += 1;
         self.taken += 1;
         Ok(())

@@ -7,7 +7,7 @@ ghost use Rattle.ag_scan.specs.Tokens.{FitAll};
 ghost use Rattle.ag_scan.specs.Words.{vocabulary_of};
 ghost use Rattle.treefile.specs.Beginning.{AddsFrames, BeginsFile};
 ghost use Rattle.treefile.specs.Device.{Persists, WhenHonest};
-ghost use Rattle.treefile.specs.TreeFile.{header, version_one};
+ghost use Rattle.treefile.specs.TreeFile.{header, version_two};
 ghost use Rattle.treefile.specs.Writing.{Progress};
 ghost use Rattle.llparse.specs.Parsing.{task_of, IsParsed, IsRefused};
 ghost use Rattle.llparse.specs.Sentences.{offset_at, words_of, IsFirstFile, IsTreeWith};
@@ -50,7 +50,7 @@ fn run<D: Device>(
         (D.failures device.old) (D.failures device.new) (IsErrOf result ParseFault.Device) }
 {
     let mut parser = Parser::new(alloc);
-    let mut node = new_node(tables, tokens, 0, grammar.start())?;
+    let mut node = new_node(tables, tokens, 0, grammar.start(), 0)?;
     loop {
         match next_item(grammar, &mut node) {
             Some(Item::Terminal(terminal)) => {
@@ -58,7 +58,9 @@ fn run<D: Device>(
             }
             Some(Item::Symbol(symbol)) => node = parser.open(tables, tokens, node, symbol)?,
             None => {
-                put_node(node.production, device, writer)?;
+                let texts = parser.texts_from(node.base);
+                put_node(node.production, texts, device, writer)?;
+                parser.texts.truncate(node.base);
                 let Some(outer) = parser.waiting.pop() else {
                     break;
                 };
@@ -74,11 +76,12 @@ fn run<D: Device>(
 
 /// Writes the file of pass 0 of the one tree of a sentence's tokens, as it goes, and gives its
 /// number of stored nodes: one frame for each node, behind those of its children, which go from
-/// left to right, and for each token of a class; a literal has none.
+/// left to right, and for each token of a class; a literal has none. The record of a node has the
+/// texts of the tokens of a class among its children.
 ///
 /// Asks for tables of the grammar, tokens that fit it, and a writer that was just begun on the
-/// device with pass 0. Takes memory for a stack of four bytes an open node but the innermost one,
-/// for the text of one token and for one frame.
+/// device with pass 0. Takes memory for a stack of sixteen bytes an open node but the innermost
+/// one, for the texts of the tokens of a class among the children of open nodes, and for one frame.
 ///
 /// P1 Unexpected where no tree has these tokens; P2 TooDeep and P3 TooManyNodes where each that has
 /// them is beyond the limit, and each that begins with some of them and goes on with the look-ahead
@@ -97,7 +100,7 @@ pub fn parse<D: Device>(
     requires tokens { FitAll (vocabulary_of grammar.now) tokens.now }
     requires begun { writer.old ≡ record { written = 0; is_broken = false } }
     requires header { WhenHonest (D.is_honest device.old)
-        (D.content device.old ≡ header version_one 0) }
+        (D.content device.old ≡ header version_two 0) }
 
     // an answer: there is one tree, it is within the limits, and its file is written
     ensures tree { IfOk result (λ _. (t : Tree)

@@ -48,9 +48,9 @@ impl fmt::Display for StuckMessage<'_> {
 /// Why what a rule takes is not there in time.
 #[derive(Clone, Copy, Debug, PartialEq, Eq)]
 enum Reason {
-    /// It is at a child that is visited later.
+    /// It is at a child that is visited later, and waits too.
     Later,
-    /// It is at the same child, and known only behind the child's visit.
+    /// It is at the same child, and waits too: it is known only behind the child's visit.
     Within,
     /// It waits for something itself.
     Waiting,
@@ -152,7 +152,7 @@ fn tell_example<W: fmt::Write>(
     tell_delay(f, text, &example.even)?;
     write!(
         f,
-        ". Carry such a value up in one pass and down again in a later one, or give each direction attributes of its own"
+        ". Give each direction attributes of its own, and let no value wait for itself"
     )
 }
 

@@ -14,14 +14,14 @@ use treefile::{Device, HEADER_BYTES};
 
 /// What is told at the front of a file that begins as no tree file.
 const NO_TREE_FILE: &str =
-    "a tree file begins with `AGT1` and the number of a pass, and this one doesn't";
+    "a tree file begins with `AGT2` and the number of a pass, and this one doesn't";
 
 /// What is told at the number of a pass that is not 0.
 const ANOTHER_PASS: &str = "the number of the pass should be 0 here, and it is another";
 
 /// What is told behind R1, P2 and P3 of a tree file of pass 0: what ends at the offset, what should,
-/// and which file it is, as `: found a NAME with 0 bytes of values, where only a NAME with one text
-/// can end, .., in the file x.tree`.
+/// and which file it is, as `: found a NAME with 0 bytes of values, where only a NAME with the text
+/// that its node has can end, .., in the file x.tree`.
 #[derive(Drop)]
 pub struct TreeMessage<'a> {
     fault: RunFault,
@@ -105,9 +105,18 @@ impl<'a> TreeMessage<'a> {
     fn tell_wanted<W: fmt::Write>(&self, f: &mut fmt::Formatter<W>, item: Item) -> fmt::Result {
         self.tell_item(f, item)?;
         match item {
+            Item::Symbol(number) if self.has_tokens(number) => {
+                write!(f, " with the texts of its tokens")
+            }
             Item::Symbol(_) => write!(f, " without values"),
-            Item::Terminal(_) => write!(f, " with one text"),
+            Item::Terminal(_) => write!(f, " with the text that its node has"),
         }
+    }
+
+    /// Whether some node of a symbol has tokens below it, so that its record has their texts.
+    fn has_tokens(&self, symbol: u16) -> bool {
+        self.grammar.productions().iter().any(|production| production.left == symbol
+            && awaits_token(production.items.as_slice()))
     }
 
     /// What stands at a place: a node of a symbol, or a token of a class. A literal has no record.
@@ -124,6 +133,13 @@ impl<'a> TreeMessage<'a> {
             Item::Terminal(Terminal::Literal(_)) => Ok(()),
         }
     }
+}
+
+/// Whether a token stands among the items of a right side.
+fn awaits_token(items: &[Item]) -> bool {
+    items
+        .iter()
+        .any(|item| matches!(item, Item::Terminal(Terminal::Class(_))))
 }
 
 impl fmt::Display for TreeMessage<'_> {

@@ -36,7 +36,7 @@ fn told(alloc: Global, call: u64) -> Result<String, Fail> {
 
 #[test]
 fn a_device_that_fails_at_each_record(rt: HostRuntime) -> Result<(), Fail> {
-    for (call, wanted) in [(3, "Err(Device) 6"), (4, "Err(Device) 22"), (5, "Ok(2) 29")] {
+    for (call, wanted) in [(3, "Err(Device) 6"), (4, "Err(Device) 22"), (5, "Ok(2) 38")] {
         assert_eq!(rt; told(rt.alloc(), call)?.as_str(), wanted);
     }
     Ok(())

@@ -38,9 +38,9 @@ both_ways_certified = record {
   some = ((0, 0), (0, refl));
   single = single;
   odd = strikes_all RightToLeft 2 2
-      (record { production = production_back; rule = copy_rule (attribute 2 1) 1 s_name 0; argument = attribute 1 0; is_production = refl; is_rule = refl; is_argument = refl; symbol = refl; attr = refl; reason = inr (inr (omega arith, omega arith, omega arith)) });
+      (record { production = production_back; rule = copy_rule (attribute 2 1) 1 s_name 0; argument = attribute 1 0; is_production = refl; is_rule = refl; is_argument = refl; symbol = refl; attr = refl; reason = inr ((omega arith, omega arith, inr (omega arith)), (1, refl)) });
   even = strikes_all LeftToRight 0 1
-      (record { production = production_r (rule_out ∷ rule_first ∷ rule_second ∷ []); rule = rule_first; argument = attribute 2 0; is_production = refl; is_rule = refl; is_argument = refl; symbol = refl; attr = refl; reason = inr (inr (omega arith, omega arith, omega arith)) });
+      (record { production = production_r (rule_out ∷ rule_first ∷ rule_second ∷ []); rule = rule_first; argument = attribute 2 0; is_production = refl; is_rule = refl; is_argument = refl; symbol = refl; attr = refl; reason = inr ((omega arith, omega arith, inr (omega arith)), (1, refl)) });
 }
 
 pub both_ways_refused : IsAlternating both_ways → ⊥

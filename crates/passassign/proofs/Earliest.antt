@@ -118,7 +118,7 @@ right_good : AreGood rightward RightToLeft (IsOpen rightward nothing_yet) [] (st
 right_good = (
   ((Inherited, refl), refl),
   (λ i. i),
-  record { production = production_r rules_right; rule = copy_rule (attribute 2 1) 1 s_name 0; argument = attribute 1 0; is_production = refl; is_rule = refl; is_argument = refl; symbol = refl; attr = refl; reason = inr (inr (omega arith, omega arith, omega arith)) },
+  record { production = production_r rules_right; rule = copy_rule (attribute 2 1) 1 s_name 0; argument = attribute 1 0; is_production = refl; is_rule = refl; is_argument = refl; symbol = refl; attr = refl; reason = inr ((omega arith, omega arith, inr (omega arith)), ((Synthesized, refl), refl)) },
   others_good rightward (zero_rule (attribute 1 1) ∷ copy_rule (attribute 2 1) 1 s_name 0 ∷ []) refl refl RightToLeft (IsOpen rightward nothing_yet) 0 2 ((Synthesized, refl), refl) ((Synthesized, refl), refl),
 )
 

@@ -125,8 +125,7 @@ module _ (all : List Dependency) (d : Direction) (states : List State) (at : ℕ
   settled : IsReason d (IsOpen g (table_passes states)) xs good.production good.rule.target.place good.argument → IsSettled states marks one
   unfolding one
   settled (inl i) = from_struck (item_at good.production good.argument.place) i argument
-  settled (inr (inl (pos, own, i))) = h.barred one among (pos, subst (λ j. 1 ≤ j) (sym own) pos, inl (own, subst (IsOpenAt states) (sym argument) (open_argument (item_at good.production good.argument.place) i)))
-  settled (inr (inr (pos, some, before))) = h.barred one among (pos, some, inr before)
+  settled (inr (ahead, i)) = h.barred one among (ahead, subst (IsOpenAt states) (sym argument) (open_argument (item_at good.production good.argument.place) i))
 
   pub finished_at : Strikes xs x.symbol x.attr
   unfolding one

@@ -10,8 +10,7 @@ use Rattle.ag_grammar.specs.declared.grammar.Item.TheVariants as item
 use Rattle.ag_grammar.specs.declared.grammar.Item.{Item}
 use Rattle.ag_grammar.specs.grammars.AttributeGrammar.{Grammar, item_at}
 use Rattle.ag_grammar.specs.declared.direction.Direction.{Direction}
-use Rattle.ag_grammar.specs.grammars.Passes.{IsBefore}
-use Rattle.passassign.specs.Certificate.{Attributes, Strikes, IsOneOf, IsReason, IsGood, AreGood}
+use Rattle.passassign.specs.Certificate.{Attributes, Strikes, IsOneOf, IsAhead, IsReason, IsGood, AreGood}
 use Rattle.passassign.specs.Dependencies.{symbol_of, table_slot}
 use Rattle.passassign.specs.Making.{IsOpen}
 use Rattle.passassign.specs.Searching.{struck_slot, is_due, IsOpenAt, IsBarred, IsStruckAt, IsOnStruck, IsReasoned, IsSettled, AreOf, IsSearch, Grows, Follows}
@@ -153,13 +152,7 @@ module _ (g : Grammar) (all : List Dependency) (d : Direction) (states : List St
 
     reason : IsReason d (IsOpen g (table_passes states)) xs p.production p.rule.target.place p.argument
     reason = elim why [
-      | inl b ↦ (
-          let pos : 1 ≤ p.rule.target.place = subst (λ j. 1 ≤ j) p.place b.0 in
-          let some : 1 ≤ p.argument.place = subst (λ j. 1 ≤ j) p.from b.1 in
-          elim b.2 [
-            | inl own ↦ inr (inl (pos, sym p.from ∙ own.0 ∙ p.place, target_state (item_at p.production p.argument.place) refl (subst (IsOpenAt states) p.at own.1)))
-            | inr before ↦ inr (inr (pos, some, subst (λ j. IsBefore d j p.argument.place) p.place (subst (IsBefore d u.place) p.from before)))
-          ])
+      | inl b ↦ inr (subst (λ j. IsAhead d j p.argument.place) p.place (subst (IsAhead d u.place) p.from b.0), target_state (item_at p.production p.argument.place) refl (subst (IsOpenAt states) p.at b.1))
       | inr h ↦ inl (struck_argument (item_at p.production p.argument.place) refl (subst (IsOnStruck xs) p.at h))
     ]
 

@@ -15,7 +15,7 @@ use Rattle.ag_grammar.specs.declared.direction.Direction.{Direction}
 use Rattle.ag_grammar.specs.declared.direction.Direction.TheVariants.{LeftToRight, RightToLeft}
 use Rattle.ag_grammar.specs.grammars.Passes.{direction_of, IsBefore, MayUse, IsLegalFor}
 use Rattle.passassign.specs.declared.stuck.Strike.{Strike}
-use Rattle.passassign.specs.Certificate.{Strikes, IsOneOf, IsReason}
+use Rattle.passassign.specs.Certificate.{Strikes, IsOneOf, IsAhead, IsReason}
 use Rattle.passassign.specs.Least.{Partial, pass_at, GivesPass, IsAttribute, IsLegalPartial}
 use Rattle.passassign.specs.Making.{IsOpen, IsPass, IsMade, start, passed}
 use Rattle.passassign.proofs.Options.{some_none, one_pass, none_of}
@@ -24,16 +24,16 @@ in_order : (d : Direction) (i j : ℕ) → (i ≡ j) ⊎ IsBefore d i j ⊎ IsBe
 in_order LeftToRight i j = cases_order i j
 in_order RightToLeft i j = elim (cases_order i j) [ inl e ↦ inl e | inr h ↦ elim h [ inl l ↦ inr (inr l) | inr l ↦ inr (inl l) ] ]
 
--- an argument may be used where it is neither at the target's own child and of its pass nor at a later one
-may_use : (k j i p : ℕ) → p ≤ k → (1 ≤ j → i ≡ j → p ≡ k → ⊥) → (1 ≤ j → 1 ≤ i → IsBefore (direction_of k) j i → ⊥) → MayUse k j i p
-may_use k zero i p le own behind = le
-may_use k (suc j) zero p le own behind = inl (refl, le)
-may_use k (suc j) (suc i) p le own behind = go (in_order (direction_of k) (suc i) (suc j))
+-- an argument may be used unless it is of the target's pass at the target's own child or at a later one
+may_use : (k j i p : ℕ) → p ≤ k → (IsAhead (direction_of k) j i → p ≡ k → ⊥) → MayUse k j i p
+may_use k zero i p le ahead = le
+may_use k (suc j) zero p le ahead = inl (refl, le)
+may_use k (suc j) (suc i) p le ahead = go (in_order (direction_of k) (suc i) (suc j))
   where
     go : (suc i ≡ suc j) ⊎ IsBefore (direction_of k) (suc i) (suc j) ⊎ IsBefore (direction_of k) (suc j) (suc i) → MayUse k (suc j) (suc i) p
-    go (inl e) = inr (inr (e, lt_of_le-ne le (own (omega arith) e)))
+    go (inl e) = inr (inr (lt_of_le-ne le (ahead (omega arith, omega arith, inl e))))
     go (inr (inl b)) = inr (inl (b, le))
-    go (inr (inr b)) = absurd (behind (omega arith) (omega arith) b)
+    go (inr (inr b)) = inr (inr (lt_of_le-ne le (ahead (omega arith, omega arith, inr b))))
 
 -- a token's attribute has pass 0
 token_pass : (a : ℕ) (x : Kind) → slice_get (Synthesized ∷ []) a ≡ Some x → slice_get {X = ℕ} (0 ∷ []) a ≡ Some 0
@@ -91,8 +91,7 @@ module _ (g : Grammar) (complete : Each (IsComplete g) g.productions) (normal : 
         p,
         ap (λ y. pass_at after y o.attr) e ∙ f,
         may_use k r.target.place o.place p (up_to u o.attr p f)
-            (λ pos same is. free (inr (inl (pos, same, subst (λ y. IsOneOf (IsOpen g m) y o.attr) (sym e) ((found_kind o.place, kind (Some (item.Symbol u)) e), new u o.attr (f ∙ ap Some is))))))
-            (λ pos some b. free (inr (inr (pos, some, b)))),
+            (λ ahead is. free (inr (ahead, subst (λ y. IsOneOf (IsOpen g m) y o.attr) (sym e) ((found_kind o.place, kind (Some (item.Symbol u)) e), new u o.attr (f ∙ ap Some is))))),
       )
       of_symbol u e None f =
           absurd (free (inl (subst (λ y. IsOneOf (Strikes strikes) y o.attr) (sym e) (pass.left u o.attr ((found_kind o.place, kind (Some (item.Symbol u)) e), old_none u o.attr f) f))))
@@ -103,9 +102,7 @@ module _ (g : Grammar) (complete : Each (IsComplete g) g.productions) (normal : 
       go (Some (item.Terminal (Class c))) e = (
         0,
         ap (λ y. pass_at after y o.attr) e ∙ token_pass o.attr (found_kind o.place) (kind (Some (item.Terminal (Class c))) e),
-        may_use k r.target.place o.place 0 (omega arith)
-            (λ pos same is. omega arith)
-            (λ pos some b. free (inr (inr (pos, some, b)))),
+        may_use k r.target.place o.place 0 (omega arith) (λ ahead is. omega arith),
       )
       go (Some (item.Symbol u)) e = of_symbol u e (after u o.attr) refl
 

@@ -19,8 +19,7 @@ one_more some more h (Some (item.Terminal t)) a i = i
 
 reason_more : (d : Direction) (some more : Attributes) → AreWithin some more → (xs ys : List Strike) → AreWithin (Strikes xs) (Strikes ys) → (q : Production) (j : ℕ) (o : Target) → IsReason d some xs q j o → IsReason d more ys q j o
 reason_more d some more h xs ys l q j o (inl i) = inl (one_more (Strikes xs) (Strikes ys) l (item_at q o.place) o.attr i)
-reason_more d some more h xs ys l q j o (inr (inl (pos, s, i))) = inr (inl (pos, s, one_more some more h (item_at q o.place) o.attr i))
-reason_more d some more h xs ys l q j o (inr (inr i)) = inr (inr i)
+reason_more d some more h xs ys l q j o (inr (ahead, i)) = inr (ahead, one_more some more h (item_at q o.place) o.attr i)
 
 pub good_more : (g : Grammar) (d : Direction) (some more : Attributes) → AreWithin some more → (xs ys : List Strike) → AreWithin (Strikes xs) (Strikes ys) → (x : Strike) → IsGood g d some xs x → IsGood g d more ys x
 good_more g d some more h xs ys l x i = record {

@@ -39,14 +39,10 @@ module _ (g : Grammar) (n : Partial) (legal : IsLegalPartial g n) where
   no_reason k candidate struck low high q j o p e may (inl i) =
       let h = one_at (suc k) (Strikes struck) high (item_at q o.place) o.attr p i e in
       let l = may_le k j o.place p may in omega arith
-  no_reason k candidate struck low high q zero o p e may (inr (inl (pos, s, i))) = omega arith
-  no_reason k candidate struck low high q zero o p e may (inr (inr (pos, some, b))) = omega arith
-  no_reason k candidate struck low high q (suc j) o p e (inl (z, le)) (inr (inl (pos, s, i))) = omega arith
-  no_reason k candidate struck low high q (suc j) o p e (inl (z, le)) (inr (inr (pos, some, b))) = omega arith
-  no_reason k candidate struck low high q (suc j) o p e (inr (inl (f, le))) (inr (inl (pos, s, i))) = not_itself (direction_of k) o.place (suc j) s f
-  no_reason k candidate struck low high q (suc j) o p e (inr (inl (f, le))) (inr (inr (pos, some, b))) = not_both (direction_of k) o.place (suc j) f b
-  no_reason k candidate struck low high q (suc j) o p e (inr (inr (s, lt))) (inr (inl (pos, s2, i))) = let h = one_at k candidate low (item_at q o.place) o.attr p i e in omega arith
-  no_reason k candidate struck low high q (suc j) o p e (inr (inr (s, lt))) (inr (inr (pos, some, b))) = not_itself (direction_of k) (suc j) o.place (sym s) b
+  no_reason k candidate struck low high q zero o p e may (inr ((pos, some, w), i)) = omega arith
+  no_reason k candidate struck low high q (suc j) o p e (inl (z, le)) (inr ((pos, some, w), i)) = omega arith
+  no_reason k candidate struck low high q (suc j) o p e (inr (inl (f, le))) (inr ((pos, some, w), i)) = elim w [ inl s ↦ not_itself (direction_of k) o.place (suc j) s f | inr b ↦ not_both (direction_of k) o.place (suc j) f b ]
+  no_reason k candidate struck low high q (suc j) o p e (inr (inr lt)) (inr (ahead, i)) = let h = one_at k candidate low (item_at q o.place) o.attr p i e in omega arith
 
   -- an attribute that is struck in pass k does not have it
   not_here : (k : ℕ) (candidate : Attributes) (struck : List Strike) → AtLeast k candidate → AtLeast (suc k) (Strikes struck) → (x : Strike) → candidate x.symbol x.attr → IsGood g (direction_of k) candidate struck x

@@ -32,14 +32,17 @@ IsOneOf some None a = ⊥
 IsOneOf some (Some (item.Symbol s)) a = some s a
 IsOneOf some (Some (item.Terminal t)) a = ⊥
 
--- Why an argument keeps a rule's target at place j out of a pass of this direction, whose candidates have no earlier pass
--- (after Jazayeri and Walter 1975): it is struck itself; or it is a candidate at the same child, so it is not there before
--- the pass enters that child; or it is at a child that the pass visits later.
+-- The child at place i is the one at place j, or a pass of this direction visits it later.
+abbrev pub IsAhead : Direction → (j i : ℕ) → Type 0
+IsAhead d j i = (1 ≤ j) × (1 ≤ i) × ((i ≡ j) ⊎ IsBefore d j i)
+
+-- Why an argument keeps a rule's target at place j out of a pass of this direction, whose candidates have no earlier pass: it
+-- is struck itself; or it is a candidate at the target's child or at one that the pass visits later, so it is not there
+-- before the pass enters the target's child (after Jazayeri and Walter 1975, where all that is at a later child is a reason).
 abbrev pub IsReason : Direction → Attributes → List Strike → Production → ℕ → Target → Type 0
 IsReason d candidate struck q j o =
     IsOneOf (Strikes struck) (item_at q o.place) o.attr
-    ⊎ ((1 ≤ j) × (o.place ≡ j) × IsOneOf candidate (item_at q o.place) o.attr)
-    ⊎ ((1 ≤ j) × (1 ≤ o.place) × IsBefore d j o.place)
+    ⊎ (IsAhead d j o.place × IsOneOf candidate (item_at q o.place) o.attr)
 
 -- A good strike: what it names is there, the target of its rule is its attribute, and the argument is a reason (this
 -- project's).

@@ -1,16 +1,15 @@
 -- What holds while a pass's strikes are looked for.
-use Rattle.std.specs.Prelude.{ℕ, ◌≡◌, ◌≤◌, ◌⊎◌, ◌↔◌, List, [], Option, Some, None, Bool, true, ◌&&◌, not, slice_get, count_by, length}
+use Rattle.std.specs.Prelude.{ℕ, ◌≡◌, ◌⊎◌, ◌↔◌, List, [], Option, Some, None, Bool, true, ◌&&◌, not, slice_get, count_by, length}
 use Rattle.ag_grammar.specs.Lists.{Has}
 use Rattle.ag_grammar.specs.grammars.Accepted.{IsAccepted}
 use Rattle.ag_grammar.specs.grammars.AttributeGrammar.{Grammar}
 use Rattle.ag_grammar.specs.declared.direction.Direction.{Direction}
-use Rattle.ag_grammar.specs.grammars.Passes.{IsBefore}
 use Rattle.passassign.specs.declared.dependency.Dependency.{Dependency}
 use Rattle.passassign.specs.declared.search.Struck.{Struck}
 use Rattle.passassign.specs.declared.stuck.Strike.{Strike}
 use Rattle.passassign.specs.declared.table.State.{State}
 use Rattle.passassign.specs.declared.table.State.TheVariants.{Open}
-use Rattle.passassign.specs.Certificate.{AreGood}
+use Rattle.passassign.specs.Certificate.{AreGood, IsAhead}
 use Rattle.passassign.specs.Dependencies.{AreDependencies}
 use Rattle.passassign.specs.Making.{IsOpen, AreFinished}
 use Rattle.passassign.specs.Tables.{slot_of, state_at, is_open, is_marked, table_passes, IsTable}
@@ -28,10 +27,10 @@ abbrev pub IsOpenAt : List State → Option ℕ → Type 0
 IsOpenAt states None = ⊥
 IsOpenAt states (Some k) = state_at states k ≡ Open
 
--- An argument keeps a dependency's target out of a pass, whatever is struck: it is at the target's own child and has no pass
--- yet, or it is at a child that is visited later.
+-- An argument keeps a dependency's target out of a pass, whatever is struck: it has no pass yet, and is at the target's own
+-- child or at one that is visited later.
 abbrev pub IsBarred : Direction → List State → Dependency → Type 0
-IsBarred d states u = (1 ≤ u.place) × (1 ≤ u.from) × (((u.from ≡ u.place) × IsOpenAt states u.argument) ⊎ IsBefore d u.place u.from)
+IsBarred d states u = IsAhead d u.place u.from × IsOpenAt states u.argument
 
 -- what a slot has is struck
 abbrev pub IsStruckAt : List Strike → ℕ → Type 0

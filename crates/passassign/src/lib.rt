@@ -12,4 +12,5 @@ mod table;
 
 pub use assigning::{AssignFault, assign};
 pub use assignment::Assignment;
+pub use search::is_ahead;
 pub use stuck::{Strike, Stuck};

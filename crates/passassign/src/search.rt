@@ -2,6 +2,7 @@
 
 ghost use Rattle.std.specs.Prelude.{ℕ, ◌≡◌, ◌↔◌, [], false, IfOk, IsTrue, OnOk, length};
 ghost use Rattle.ag_grammar.specs.Lists.{Has};
+ghost use Rattle.passassign.specs.Certificate.{IsAhead};
 ghost use Rattle.passassign.specs.Dependencies.{AreAccepted, AreDependencies, AreRows, row_at};
 ghost use Rattle.passassign.specs.Searching.{is_due, IsOpenAt, IsBarred, GoesOn};
 ghost use Rattle.passassign.specs.Searching.{IsSearched, IsFinished, ArePlaced};
@@ -87,18 +88,23 @@ fn is_without_pass(states: &[State], slot: Option<usize>) -> bool
     }
 }
 
-/// A dependency keeps its target out of a pass, whatever is struck: the argument is at a child that
-/// is visited later, or is an attribute of the target's own child that has no pass yet.
+/// Whether the child at a second place is the one at the first, or a pass in a direction visits it
+/// later: what the pass gives there, a rule for the first one may not use. Place 0 is no child.
+pub fn is_ahead(direction: Direction, first: u16, second: u16) -> bool
+    ensures { IsTrue result ↔ IsAhead direction first second }
+{
+    if first == 0 || second == 0 {
+        return false;
+    }
+    second == first || direction.is_before(first, second)
+}
+
+/// A dependency keeps its target out of a pass, whatever is struck: the argument has no pass yet,
+/// and is at the target's own child or at one that is visited later.
 fn is_barred(direction: Direction, states: &[State], one: Dependency) -> bool
     ensures { IsTrue result ↔ IsBarred direction states.now one }
 {
-    if one.place == 0 || one.from == 0 {
-        return false;
-    }
-    if one.from == one.place {
-        return is_without_pass(states, one.argument);
-    }
-    direction.is_before(one.place, one.from)
+    is_ahead(direction, one.place, one.from) && is_without_pass(states, one.argument)
 }
 
 /// Strikes the target of a dependency that keeps it out of a pass.

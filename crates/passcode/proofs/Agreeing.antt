@@ -1,5 +1,5 @@
 -- A list with rising keys that has what belongs into it keeps the rules of agreement and the order.
-use Rattle.std.proofs.Common.{ℕ, zero, suc, ◌≡◌, ◌+◌, ◌<◌, ◌≤◌, ◌↔◌, List, [], ◌∷◌, Option, Some, None, slice_get, get_or, length, inl, inr, refl, ap, ◌∙◌, sym, subst, arith}
+use Rattle.std.proofs.Common.{ℕ, zero, suc, ◌≡◌, ◌+◌, ◌<◌, ◌≤◌, ◌⊎◌, ◌↔◌, List, [], ◌∷◌, Option, Some, None, slice_get, get_or, length, inl, inr, refl, ap, ◌∙◌, sym, subst, arith}
 use Rattle.std.proofs.lemmas.Bool.{cases_eq, cases_lt}
 use Rattle.std.proofs.lemmas.Option.{slice_get_within, slice_get-get_or}
 use Rattle.ag_grammar.specs.Lists.{Has}
@@ -17,7 +17,7 @@ use Rattle.passcode.specs.declared.instr.Instr.TheVariants as instr
 use Rattle.passcode.specs.declared.table.Given.{Given}
 use Rattle.passcode.specs.Agreement.{StandsOnceIf, Precedes, StandsBefore, HasPlace, IsChild, giving, instruction_of, IsGiving, IsRuleAt, VisitsPlaces, GivesTargets, IsAtHand, HasArguments, Ends}
 use Rattle.ag_grammar.specs.grammars.Accepted.{most_stored}
-use Rattle.passcode.specs.Listing.{rank, key_of, first_key, giving_key, go_key, AreRising, IsMadeOf, IsPart, IsGenerated}
+use Rattle.passcode.specs.Listing.{rank, key_of, giving_key, go_key, AreRising, IsMadeOf, IsPart, IsGenerated}
 use Rattle.passcode.specs.Order.{IsInOrder}
 use Rattle.passcode.specs.Tables.{IsPlanned, IsTable}
 use Rattle.ag_grammar.specs.grammars.AttributeGrammar.{places_of}
@@ -45,15 +45,16 @@ module _ (d : Direction) (xs : List Instr) (rising : AreRising d 340 xs) where
     ]
   ]
 
--- what a rule may use of the right side has lower keys than the rule's own instruction
-pub reach : (k j i p : ℕ) → i ≤ most_stored → 1 ≤ i → MayUse k j i p → (p ≤ k) × (first_key (direction_of k) i < giving_key (direction_of k) j) × (p ≡ k → go_key (direction_of k) i < giving_key (direction_of k) j)
-reach k zero i p few one le = let r = rank_few (direction_of k) i few in (le, omega arith, λ e. omega arith)
+-- What a rule may use of the right side is of an earlier pass, or of the same one: then the `Go` of its place has a lower key than
+-- the rule's own instruction.
+pub reach : (k j i p : ℕ) → i ≤ most_stored → 1 ≤ i → MayUse k j i p → (p < k) ⊎ ((p ≡ k) × (go_key (direction_of k) i < giving_key (direction_of k) j))
+reach k zero i p few one le = let r = rank_few (direction_of k) i few in elim (cases_lt p k) [ inl less ↦ inl less | inr ge ↦ inr (omega arith, omega arith) ]
 reach k (suc j) i p few one (inl u) = absurd (let z = u.0 in omega arith)
-reach k (suc j) i p few one (inr (inl u)) = let r = rank_before (direction_of k) i (suc j) few u.0 in (u.1, omega arith, λ e. omega arith)
-reach k (suc j) i p few one (inr (inr u)) =
-    let less = u.1 in
-    let same : first_key (direction_of k) i ≡ first_key (direction_of k) (suc j) = ap (first_key (direction_of k)) u.0 in
-    (omega arith, omega arith, λ e. absurd (omega arith))
+reach k (suc j) i p few one (inr (inl u)) =
+    let r = rank_before (direction_of k) i (suc j) few u.0 in
+    let le = u.1 in
+    elim (cases_lt p k) [ inl less ↦ inl less | inr ge ↦ inr (omega arith, omega arith) ]
+reach k (suc j) i p few one (inr (inr less)) = inl less
 
 -- what has a pass stands somewhere, and what has one of the passes made over a tree is no token
 pub has_item : (m : Passes) (q : Production) (o : Target) (p : ℕ) → HasPass m q o p → (x : Item) × (item_at q o.place ≡ Some x) × (slice_get (item_passes m (Some x)) o.attr ≡ Some p)
@@ -142,16 +143,13 @@ module _ (m : Passes) (q : Production) (planned : IsPlanned m q) (k : ℕ) (pass
           let found = has_item m q o allowed.0 allowed.1 in
           let place : HasPlace q o.place = (found.0, (one, found.1)) in
           let own_key : key_of d (instruction_of u r) ≡ giving_key d u.target.place + u.target.attr = key in
-          let near = reach k u.target.place o.place allowed.0 (few m q planned o.place place) one allowed.2 in
-          let most = near.0 in
-          let got : first_key d o.place < giving_key d u.target.place = near.1 in
-          elim (cases_eq allowed.0 k) [
-            | inl same ↦ (
-                let gone : go_key d o.place < giving_key d u.target.place = near.2 same in
-                let here : HasPass m q o k = subst (HasPass m q o) same allowed.1 in
+          elim (reach k u.target.place o.place allowed.0 (few m q planned o.place place) one allowed.2) [
+            | inl less ↦ inr (inl (allowed.0, allowed.1, less))
+            | inr same ↦ (
+                let gone : go_key d o.place < giving_key d u.target.place = same.1 in
+                let here : HasPass m q o k = subst (HasPass m q o) same.0 allowed.1 in
                 let child = has_symbol m q o k pass here in
                 inr (inr (here, stands_before n (instr.Go o.place) (instruction_of u r) at (child.0, (one, child.1)) (omega arith))))
-            | inr other ↦ inr (inl (allowed.0, allowed.1, omega arith, stands_before n (instr.Get o.place) (instruction_of u r) at place (omega arith)))
           ]
 
   ends : Ends xs

@@ -1,23 +1,20 @@
 -- The entries of a layout.
-use Rattle.std.specs.Borrow.{Bor}
-use Rattle.std.specs.Option.{option_copied}
-use Rattle.std.specs.Prelude.{IfSome, MatchOption}
-use Rattle.std.proofs.Common.{ℕ, zero, suc, ◌≡◌, ◌+◌, ◌<◌, ◌≤◌, List, [], ◌∷◌, Option, Some, None, map, slice_get, get_or, length, refl, ap, ◌∙◌, subst, sym, arith}
+use Rattle.std.proofs.Common.{ℕ, zero, suc, ◌≡◌, ◌+◌, ◌<◌, List, [], ◌∷◌, Option, Some, None, map, slice_get, get_or, length, refl, ap, ◌∙◌, subst, sym, arith}
 use Rattle.std.proofs.lemmas.List.{length-map}
 use Rattle.std.proofs.lemmas.Option.{slice_get-get_or, slice_get_within}
 use Rattle.ag_grammar.specs.declared.grammar.Item.{Item}
+use Rattle.ag_grammar.specs.declared.grammar.Item.TheVariants as item
 use Rattle.ag_grammar.specs.declared.grammar.Production.{Production}
 use Rattle.ag_grammar.specs.declared.grammar.Rule.{Rule}
 use Rattle.ag_grammar.specs.declared.grammar.Target.{Target}
-use Rattle.ag_grammar.specs.grammars.AttributeGrammar.{IsProduction, places_of}
+use Rattle.ag_grammar.specs.grammars.AttributeGrammar.{IsProduction, item_at, stored_items}
 use Rattle.planchecker.specs.Settings.{Setting}
 use Rattle.passrun.specs.declared.laying.PlaceRow.{PlaceRow}
 use Rattle.passrun.specs.declared.laying.ProductionRow.{ProductionRow}
 use Rattle.passrun.specs.declared.laying.RuleSlots.{RuleSlots}
 use Rattle.passrun.specs.Layouts.{AreSlotsOf, IsLayout, IsRowOf}
-use Rattle.passrun.specs.Laid.{layout_of, place_row_by, production_row, rows_from, rule_slots}
-use Rattle.passrun.specs.Putting.{item_width}
-use Rattle.passrun.specs.Slots.{slot}
+use Rattle.passrun.specs.Laid.{layout_of, place_rows, production_row, rows_behind, rows_from, rule_slots}
+use Rattle.passrun.specs.Slots.{argument_slot, copied_before, copied_width, copy_start, known_width, own_width}
 
 mapped : {A B : Type 0} (f : A → B) (xs : List A) (k : ℕ) (x : A) → slice_get xs k ≡ Some x → slice_get (map f xs) k ≡ Some (f x)
 mapped f [] k x e = let bad : ⊥ = cc in absurd bad
@@ -36,6 +33,8 @@ row_from c p (r ∷ qs) (suc i) q e = let n : suc p + i ≡ p + suc i = omega ar
 is_row : (c : Setting) (p : ℕ) (q : Production) → IsRowOf c p q (production_row c p q)
 is_row c p q = record {
   list = refl;
+  width = refl;
+  passes = refl;
   places = refl;
   slots = λ r u num. (
     rule_slots c q u,
@@ -43,9 +42,9 @@ is_row c p q = record {
     record {
       target = refl;
       args = record {
-        equally_long = sym (length-map u.args (λ (o : Target). slot c q o.place o.attr));
+        equally_long = sym (length-map u.args (λ (o : Target). argument_slot c q o.place o.attr));
         each = λ i o n at at'.
-            let e : Some n ≡ Some (slot c q o.place o.attr) = sym at' ∙ mapped (λ (o : Target). slot c q o.place o.attr) u.args i o at in
+            let e : Some n ≡ Some (argument_slot c q o.place o.attr) = sym at' ∙ mapped (λ (o : Target). argument_slot c q o.place o.attr) u.args i o at in
             cc;
       };
     },
@@ -94,19 +93,35 @@ slots_found c p r q u row xs slots is num same at =
     let one : s.0 ≡ slots = cc in
     subst (AreSlotsOf c q u) one s.2
 
--- what stands at the places of a row has the widths of their rows
-pub widths_are : (c : Setting) (q : Production) (rows : List PlaceRow) → rows ≡ map (place_row_by c.passes c.write) (places_of q) → (j : ℕ) → IfSome (slice_get rows j) (λ r. r.width ≡ item_width c r.item)
-widths_are c q rows is j = subst (λ (rows : List PlaceRow). IfSome (slice_get rows j) (λ r. r.width ≡ item_width c r.item)) (sym is) (go (places_of q) j)
+-- what stands at a place, and where its copies begin
+row_behind : (c : Setting) (start : ℕ) (xs : List Item) (b : ℕ) (x : Item) → slice_get xs b ≡ Some x → slice_get (rows_behind c start xs) b ≡ Some (record { item = x; start = start + copied_before c xs b; width = copied_width c x; known = known_width c x })
+row_behind c start [] b x at = let bad : ⊥ = cc in absurd bad
+row_behind c start (y ∷ xs) zero x at =
+    let same : y ≡ x = cc in
+    let n : start ≡ start + 0 = omega arith in
+    ap (λ y. at_start y start) same ∙ ap (at_start x) n
   where
-    go : (xs : List Item) (j : ℕ) → IfSome (slice_get (map (place_row_by c.passes c.write) xs) j) (λ r. r.width ≡ item_width c r.item)
-    go [] j = tt
-    go (x ∷ xs) zero = refl
-    go (x ∷ xs) (suc j) = go xs j
+    at_start : Item → ℕ → Option PlaceRow
+    at_start y n = Some (record { item = y; start = n; width = copied_width c y; known = known_width c y })
+row_behind c start (y ∷ xs) (suc b) x at =
+    let n : start + copied_width c y + copied_before c xs b ≡ start + (copied_width c y + copied_before c xs b) = omega arith in
+    row_behind c (start + copied_width c y) xs b x at ∙ ap at_start n
+  where
+    at_start : ℕ → Option PlaceRow
+    at_start n = Some (record { item = x; start = n; width = copied_width c x; known = known_width c x })
 
--- and so has what is copied of it
-pub copied_width : (c : Setting) (q : Production) (rows : List PlaceRow) → rows ≡ map (place_row_by c.passes c.write) (places_of q) → (j : ℕ) (Q : Bor PlaceRow → Type 0) (r : Option (Bor PlaceRow)) → MatchOption r (length rows ≤ j) (λ x. (j < length rows) × Q x)
-    → IfSome r (λ x. x.now ≡ get_or rows j x.now) → IfSome (option_copied r) (λ r. r.width ≡ item_width c r.item)
-copied_width c q rows is j Q None told at = tt
-copied_width c q rows is j Q (Some x) told at =
-    let e : slice_get rows j ≡ Some x.now = slice_get-get_or rows j x.now told.0 ∙ ap Some (sym at) in
-    subst (λ (r : Option PlaceRow). IfSome r (λ r. r.width ≡ item_width c r.item)) e (widths_are c q rows is j)
+pub place_found : (c : Setting) (q : Production) (b : ℕ) (x : Item) → slice_get (stored_items q.items) b ≡ Some x → slice_get (place_rows c q) (suc b) ≡ Some (record { item = x; start = copy_start c q (suc b); width = copied_width c x; known = known_width c x })
+place_found c q b x at = row_behind c (own_width c q) (stored_items q.items) b x at
+
+-- a row that was found at the place of a child is its row
+pub place_is : (c : Setting) (q : Production) (j : ℕ) (row : PlaceRow) (x : Item) → 0 < j → Some row ≡ slice_get (place_rows c q) j → item_at q j ≡ Some x → (row.item ≡ x) × (row.start ≡ copy_start c q j) × (row.width ≡ copied_width c x) × (row.known ≡ known_width c x)
+place_is c q zero row x some found at = absurd (omega arith)
+place_is c q (suc b) row x some found at =
+    let e : Some row ≡ Some (record { item = x; start = copy_start c q (suc b); width = copied_width c x; known = known_width c x }) = found ∙ place_found c q b x at in
+    let r : row ≡ record { item = x; start = copy_start c q (suc b); width = copied_width c x; known = known_width c x } = cc in
+    (ap (λ r. r.item) r, ap (λ r. r.start) r, ap (λ r. r.width) r, ap (λ r. r.known) r)
+
+-- and there is one
+pub place_there : (c : Setting) (q : Production) (j : ℕ) (x : Item) → item_at q j ≡ Some x → (answer : Option PlaceRow) → answer ≡ slice_get (place_rows c q) j → answer ≡ None → ⊥
+place_there c q zero x at answer found none = let e : ◌≡◌ {A = Option PlaceRow} None (Some (record { item = item.Symbol q.left; start = 0; width = 0; known = 0 })) = sym none ∙ found in let bad : ⊥ = cc in bad
+place_there c q (suc b) x at answer found none = let e : ◌≡◌ {A = Option PlaceRow} None (Some (record { item = x; start = copy_start c q (suc b); width = copied_width c x; known = known_width c x })) = sym none ∙ found ∙ place_found c q b x at in let bad : ⊥ = cc in bad

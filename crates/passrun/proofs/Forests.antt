@@ -16,7 +16,7 @@ use Rattle.ag_grammar.specs.grammars.Tree.{Tree, Forest, none, more, Fits, FitsA
 use Rattle.ag_grammar.specs.grammars.Counts.{pass_rule_count, rules_of_pass, totals}
 use Rattle.treefile.specs.Orders.{prefix, prefix_all, postfix, postfix_all}
 use Rattle.treefile.specs.Records.{bodies_of, bodies_of_all}
-use Rattle.treefile.specs.TreeFile.{version_one}
+use Rattle.treefile.specs.TreeFile.{version_two}
 use Rattle.planchecker.specs.Settings.{Setting, place}
 use Rattle.passrun.specs.Places.{Table, visited, Roots}
 
@@ -43,13 +43,13 @@ abbrev pub add_values : Direction → Forest → (ℕ → Valuation) → Valuati
 add_values LeftToRight ts ws w = snoc_values ts ws w
 add_values RightToLeft ts ws w = cons_values w ws
 
-prefix_snoc : (g : Grammar) (m : Passes) (k : ℕ) (ts : Forest) (ws : ℕ → Valuation) (t : Tree) (w : Valuation) → prefix_all LeftToRight (bodies_of_all version_one g m k (snoc ts t) (snoc_values ts ws w)) ≡ prefix_all LeftToRight (bodies_of_all version_one g m k ts ws) ++ prefix LeftToRight (bodies_of version_one g m k t w)
-prefix_snoc g m k none ws t w = append-nil (prefix LeftToRight (bodies_of version_one g m k t w))
-prefix_snoc g m k (more s ts) ws t w = ap (λ xs. prefix LeftToRight (bodies_of version_one g m k s (ws 0)) ++ xs) (prefix_snoc g m k ts (rest ws) t w) ∙ sym (append_assoc (prefix LeftToRight (bodies_of version_one g m k s (ws 0))) (prefix_all LeftToRight (bodies_of_all version_one g m k ts (rest ws))) (prefix LeftToRight (bodies_of version_one g m k t w)))
+prefix_snoc : (g : Grammar) (m : Passes) (k : ℕ) (ts : Forest) (ws : ℕ → Valuation) (t : Tree) (w : Valuation) → prefix_all LeftToRight (bodies_of_all version_two g m k (snoc ts t) (snoc_values ts ws w)) ≡ prefix_all LeftToRight (bodies_of_all version_two g m k ts ws) ++ prefix LeftToRight (bodies_of version_two g m k t w)
+prefix_snoc g m k none ws t w = append-nil (prefix LeftToRight (bodies_of version_two g m k t w))
+prefix_snoc g m k (more s ts) ws t w = ap (λ xs. prefix LeftToRight (bodies_of version_two g m k s (ws 0)) ++ xs) (prefix_snoc g m k ts (rest ws) t w) ∙ sym (append_assoc (prefix LeftToRight (bodies_of version_two g m k s (ws 0))) (prefix_all LeftToRight (bodies_of_all version_two g m k ts (rest ws))) (prefix LeftToRight (bodies_of version_two g m k t w)))
 
-postfix_snoc : (g : Grammar) (m : Passes) (k : ℕ) (ts : Forest) (ws : ℕ → Valuation) (t : Tree) (w : Valuation) → postfix_all LeftToRight (bodies_of_all version_one g m k (snoc ts t) (snoc_values ts ws w)) ≡ postfix_all LeftToRight (bodies_of_all version_one g m k ts ws) ++ postfix LeftToRight (bodies_of version_one g m k t w)
-postfix_snoc g m k none ws t w = append-nil (postfix LeftToRight (bodies_of version_one g m k t w))
-postfix_snoc g m k (more s ts) ws t w = ap (λ xs. postfix LeftToRight (bodies_of version_one g m k s (ws 0)) ++ xs) (postfix_snoc g m k ts (rest ws) t w) ∙ sym (append_assoc (postfix LeftToRight (bodies_of version_one g m k s (ws 0))) (postfix_all LeftToRight (bodies_of_all version_one g m k ts (rest ws))) (postfix LeftToRight (bodies_of version_one g m k t w)))
+postfix_snoc : (g : Grammar) (m : Passes) (k : ℕ) (ts : Forest) (ws : ℕ → Valuation) (t : Tree) (w : Valuation) → postfix_all LeftToRight (bodies_of_all version_two g m k (snoc ts t) (snoc_values ts ws w)) ≡ postfix_all LeftToRight (bodies_of_all version_two g m k ts ws) ++ postfix LeftToRight (bodies_of version_two g m k t w)
+postfix_snoc g m k none ws t w = append-nil (postfix LeftToRight (bodies_of version_two g m k t w))
+postfix_snoc g m k (more s ts) ws t w = ap (λ xs. postfix LeftToRight (bodies_of version_two g m k s (ws 0)) ++ xs) (postfix_snoc g m k ts (rest ws) t w) ∙ sym (append_assoc (postfix LeftToRight (bodies_of version_two g m k s (ws 0))) (postfix_all LeftToRight (bodies_of_all version_two g m k ts (rest ws))) (postfix LeftToRight (bodies_of version_two g m k t w)))
 
 fits_snoc : (g : Grammar) (xs : List Item) (ts : Forest) (x : Item) (t : Tree) → FitsAll g xs ts → Fits g x t → FitsAll g (xs ++ x ∷ []) (snoc ts t)
 fits_snoc g [] none x t f h = (h, tt)
@@ -79,11 +79,11 @@ drop_less [] i d h = absurd (omega arith)
 drop_less (x ∷ xs) zero d h = refl
 drop_less (x ∷ xs) (suc i) d h = drop_less xs i d (omega arith)
 
-pub prefix_add : (d : Direction) (g : Grammar) (m : Passes) (k : ℕ) (ts : Forest) (ws : ℕ → Valuation) (t : Tree) (w : Valuation) → prefix_all d (bodies_of_all version_one g m k (add_tree d ts t) (add_values d ts ws w)) ≡ prefix_all d (bodies_of_all version_one g m k ts ws) ++ prefix d (bodies_of version_one g m k t w)
+pub prefix_add : (d : Direction) (g : Grammar) (m : Passes) (k : ℕ) (ts : Forest) (ws : ℕ → Valuation) (t : Tree) (w : Valuation) → prefix_all d (bodies_of_all version_two g m k (add_tree d ts t) (add_values d ts ws w)) ≡ prefix_all d (bodies_of_all version_two g m k ts ws) ++ prefix d (bodies_of version_two g m k t w)
 prefix_add LeftToRight g m k ts ws t w = prefix_snoc g m k ts ws t w
 prefix_add RightToLeft g m k ts ws t w = refl
 
-pub postfix_add : (d : Direction) (g : Grammar) (m : Passes) (k : ℕ) (ts : Forest) (ws : ℕ → Valuation) (t : Tree) (w : Valuation) → postfix_all d (bodies_of_all version_one g m k (add_tree d ts t) (add_values d ts ws w)) ≡ postfix_all d (bodies_of_all version_one g m k ts ws) ++ postfix d (bodies_of version_one g m k t w)
+pub postfix_add : (d : Direction) (g : Grammar) (m : Passes) (k : ℕ) (ts : Forest) (ws : ℕ → Valuation) (t : Tree) (w : Valuation) → postfix_all d (bodies_of_all version_two g m k (add_tree d ts t) (add_values d ts ws w)) ≡ postfix_all d (bodies_of_all version_two g m k ts ws) ++ postfix d (bodies_of version_two g m k t w)
 postfix_add LeftToRight g m k ts ws t w = postfix_snoc g m k ts ws t w
 postfix_add RightToLeft g m k ts ws t w = refl
 

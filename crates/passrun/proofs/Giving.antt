@@ -8,7 +8,7 @@ use Rattle.ag_grammar.specs.declared.direction.Direction.{Direction}
 use Rattle.ag_grammar.specs.declared.direction.Direction.TheVariants.{LeftToRight, RightToLeft}
 use Rattle.ag_grammar.specs.Lists.{Has}
 use Rattle.ag_grammar.specs.expressions.Evaluation.{value_of}
-use Rattle.ag_grammar.specs.grammars.AttributeGrammar.{IsProduction, IsArgument, HasKind, symbol_kinds, Synthesized, given_kind}
+use Rattle.ag_grammar.specs.grammars.AttributeGrammar.{IsProduction, IsArgument, HasKind, stored_items, symbol_kinds, Synthesized, given_kind}
 use Rattle.ag_grammar.specs.grammars.Passes.{HasPass}
 use Rattle.ag_grammar.specs.grammars.Solution.{Valuation, Holds, Lends}
 use Rattle.ag_grammar.specs.grammars.Tree.{Forest}
@@ -18,7 +18,8 @@ use Rattle.planchecker.specs.Sound.{IsSound}
 use Rattle.passrun.specs.declared.open_node.OpenNode.{OpenNode}
 use Rattle.passrun.specs.Change.{set}
 use Rattle.passrun.specs.Passing.{Tapes, Keeps, Visited, IsHeld, AreHeld, Stays, met}
-use Rattle.passrun.specs.Places.{Table, leftmost}
+use Rattle.passrun.specs.Places.{Table, copies, in_children, leftmost}
+use Rattle.passrun.proofs.Copies.{copies_set}
 use Rattle.passrun.proofs.Tables.{set_here, set_other, set_target}
 use Rattle.passrun.proofs.Given.{target_kind, one_rule, no_argument}
 
@@ -48,7 +49,7 @@ module _ (c : Setting) (sound : IsSound c) where
         within = stays.within;
         follows = follows;
         entered = entered;
-        visits = subst (λ p. Visited c q i level ts ws (met c p f old) new) (sym same) stays.visits;
+        visits = subst (λ cs. Visited c q i level ts ws (met c y.production f cs old) new) (sym (copies_set c q e j a v sound.next passed_here)) (subst (λ p. Visited c q i level ts ws (met c p f (copies c c.read (stored_items q.items) (in_children e)) old) new) (sym same) stays.visits);
         roots = λ b m l. stays.roots b m l ∙ sym (set_other e j a v (suc (leftmost (way c) (arity q) i + b)) m (λ z. not_open b l placed z.0));
         held = held;
         counted = let z = stays.counted in omega arith;
@@ -56,6 +57,9 @@ module _ (c : Setting) (sound : IsSound c) where
     where
       there : IsProduction c.grammar y.production q
       there = subst (λ p. IsProduction c.grammar p q) (sym same) stays.there
+
+      passed_here : HasPass c.passes q (record { place = j; attr = a }) c.write
+      passed_here = subst (λ t. HasPass c.passes q t c.write) g.target g.passed
 
       not_open : (b : ℕ) → b < i → IsOpenPlace c q i j → suc (leftmost (way c) (arity q) i + b) ≡ j → ⊥
       not_open b l o z = elim o [ inl w ↦ omega arith | inr w ↦ seen_differs (way c) (arity q) i b l w.1 (z ∙ w.0) ]

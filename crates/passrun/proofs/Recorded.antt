@@ -1,22 +1,31 @@
 -- What is read from the body of a record.
 use Rattle.std.specs.List.{flat_map}
-use Rattle.std.specs.Prelude.{OnOk}
-use Rattle.std.proofs.Common.{ℕ, zero, suc, ◌≡◌, ◌-◌, ◌<◌, ◌≤◌, Bool, true, false, nat_le, if◌then◌else◌, List, [], ◌∷◌, ◌++◌, ◌||◌, Some, slice_get, length, take, drop, get_or, Result, Ok, Err, refl, ap, ◌∙◌, sym, arith, append_assoc, append-nil, pos}
+use Rattle.std.specs.Prelude.{IfOk, OnOk}
+use Rattle.std.proofs.Common.{ℕ, zero, suc, ◌≡◌, ◌+◌, ◌-◌, ◌<◌, ◌≤◌, Bool, true, false, nat_le, if◌then◌else◌, List, [], ◌∷◌, ◌++◌, ◌||◌, All, Some, slice_get, length, take, drop, get_or, Result, Ok, Err, refl, ap, ◌∙◌, sym, subst, arith, append_assoc, append-nil, length-append, length-drop, length-take, pos}
 use Rattle.std.proofs.lemmas.Bool.{le-leb, leb-true, lt-leb}
 use Rattle.std.proofs.lemmas.Grind.{flat_map-append}
 use Rattle.std.proofs.lemmas.List.{take_all}
+use Rattle.std.proofs.lemmas.Option.{slice_get-get_or, slice_get_within}
+use Rattle.std.proofs.lemmas.List.Elements.{All-append, All-drop, All-head, All-nil, All-tail, All-take}
 use Rattle.ag_value.specs.declared.value.Value.{Value, Num}
 use Rattle.ag_value.specs.Spelling.{spelling_of}
 use Rattle.ag_value.specs.Well.{IsWell, is_item}
 use Rattle.ag_value.proofs.Layers.{weight-Num, depth-Num, fault-Num, item-Num}
+use Rattle.ag_grammar.specs.declared.grammar.Item.{Item}
+use Rattle.ag_grammar.specs.declared.grammar.Item.TheVariants as item
 use Rattle.ag_grammar.specs.declared.grammar.Production.{Production}
-use Rattle.ag_grammar.specs.grammars.AttributeGrammar.{IsProduction}
+use Rattle.ag_grammar.specs.declared.grammar.Terminal.TheVariants.{Literal, Class}
+use Rattle.ag_grammar.specs.grammars.AttributeGrammar.{IsProduction, stored_items}
 use Rattle.ag_grammar.specs.grammars.Solution.{left_passes}
 use Rattle.treefile.specs.declared.body.Kind.TheVariants.{Node}
+use Rattle.treefile.specs.Listed.{copied_count, copies_count, count_up_to}
 use Rattle.treefile.specs.Records.{values_up_to}
+use Rattle.treefile.proofs.Values.{count_of_values, values_well}
 use Rattle.treefile.specs.TreeFile.{body_from}
 use Rattle.planchecker.specs.Settings.{Setting}
-use Rattle.passrun.specs.Reading.{one_value, IsTaken, IsUntaken, IsRow, IsNoRow, IsNodeRead, IsNoNode}
+use Rattle.passrun.specs.declared.record.RecordFault.{RecordFault}
+use Rattle.passrun.specs.Places.{Table, copied_passes, copies, row_passes}
+use Rattle.passrun.specs.Reading.{AllWell, AreTaken, AreUntaken, IsNodeBody, IsNodeRead, IsNoNode, IsNoRow, IsTaken, IsUntaken, one_value}
 
 -- 0 is well
 pub zero_well : IsWell (Num (pos 0))
@@ -60,30 +69,126 @@ abbrev pub cons : Value → (ℕ → Value) → ℕ → Value
 cons v f zero = v
 cons v f (suc a) = f a
 
-pub row_none : (read write : ℕ) (old new : List Value) → new ≡ old → IsRow read write [] [] old new
-row_none read write old new is = record { values = λ a. Num (pos 0); well = λ a. zero_well; row = is ∙ sym (append-nil old); spelled = refl }
+cons_well : (v : Value) (f : ℕ → Value) → IsWell v → ((a : ℕ) → IsWell (f a)) → (a : ℕ) → IsWell (cons v f a)
+cons_well v f h g zero = h
+cons_well v f h g (suc a) = g a
 
-pub row_more : (read write p : ℕ) (ps bytes rest : List ℕ) (old mid new : List Value) → IsTaken read write p bytes rest old mid → IsRow read write ps rest mid new → IsRow read write (p ∷ ps) bytes old new
-row_more read write p ps bytes rest old mid new one more =
+-- the spellings of some values, and of others behind them, before bytes
+spelled_on : (vs ws : List Value) (bytes : List ℕ) → flat_map spelling_of (vs ++ ws) ++ bytes ≡ flat_map spelling_of vs ++ (flat_map spelling_of ws ++ bytes)
+spelled_on vs ws bytes = ap (λ (zs : List ℕ). zs ++ bytes) (flat_map-append spelling_of vs ws) ∙ append_assoc (flat_map spelling_of vs) (flat_map spelling_of ws) bytes
+
+pub none_taken : (read write : ℕ) (bytes : List ℕ) (old new : List Value) → new ≡ old → AreTaken read write [] bytes bytes old new
+none_taken read write bytes old new is = record { values = λ a. Num (pos 0); well = λ a. zero_well; row = is ∙ sym (append-nil old); spelled = refl; only = λ h others well is. sym is }
+
+pub more_taken : (read write p : ℕ) (ps bytes rest left : List ℕ) (old mid new : List Value) → IsTaken read write p bytes rest old mid → AreTaken read write ps rest left mid new → AreTaken read write (p ∷ ps) bytes left old new
+more_taken read write p ps bytes rest left old mid new one more =
     let v = one.value in
     let f = more.values in
     record {
       values = cons v f;
-      well = wells v f one.well more.well;
+      well = cons_well v f one.well more.well;
       row = more.row ∙ ap (λ xs. xs ++ values_up_to write ps f) one.row ∙ append_assoc old (one_value write p v) (values_up_to write ps f);
-      spelled = one.spelled ∙ ap (λ xs. flat_map spelling_of (one_value read p v) ++ xs) more.spelled ∙ sym (flat_map-append spelling_of (one_value read p v) (values_up_to read ps f));
+      spelled = one.spelled ∙ ap (λ (xs : List ℕ). flat_map spelling_of (one_value read p v) ++ xs) more.spelled ∙ sym (spelled_on (one_value read p v) (values_up_to read ps f) left);
+      only = λ h others well is.
+          let behind = flat_map spelling_of (values_up_to read ps (λ a. h (suc a))) ++ others in
+          let first = one.only (h 0) behind (well 0) (is ∙ spelled_on (one_value read p (h 0)) (values_up_to read ps (λ a. h (suc a))) others) in
+          more.only (λ a. h (suc a)) others (λ a. well (suc a)) (sym first);
     }
-  where
-    wells : (v : Value) (f : ℕ → Value) → IsWell v → ((a : ℕ) → IsWell (f a)) → (a : ℕ) → IsWell (cons v f a)
-    wells v f h g zero = h
-    wells v f h g (suc a) = g a
 
-pub no_row_here : (read p : ℕ) (ps bytes : List ℕ) → IsUntaken read p bytes → IsNoRow read (p ∷ ps) bytes
-no_row_here read p ps bytes nothing h well is = nothing (h 0) (flat_map spelling_of (values_up_to read ps (λ a. h (suc a)))) (well 0) (is ∙ flat_map-append spelling_of (one_value read p (h 0)) (values_up_to read ps (λ a. h (suc a))))
+pub first_untaken : (read p : ℕ) (ps bytes : List ℕ) → IsUntaken read p bytes → AreUntaken read (p ∷ ps) bytes
+first_untaken read p ps bytes nothing h others well is = nothing (h 0) (flat_map spelling_of (values_up_to read ps (λ a. h (suc a))) ++ others) (well 0) (is ∙ spelled_on (one_value read p (h 0)) (values_up_to read ps (λ a. h (suc a))) others)
 
-pub no_row_more : (read write p : ℕ) (ps bytes rest : List ℕ) (old mid : List Value) → IsTaken read write p bytes rest old mid → IsNoRow read ps rest → IsNoRow read (p ∷ ps) bytes
-no_row_more read write p ps bytes rest old mid one nothing h well is =
-    nothing (λ a. h (suc a)) (λ a. well (suc a)) (sym (one.only (h 0) (flat_map spelling_of (values_up_to read ps (λ a. h (suc a)))) (well 0) (is ∙ flat_map-append spelling_of (one_value read p (h 0)) (values_up_to read ps (λ a. h (suc a))))))
+pub others_untaken : (read write p : ℕ) (ps bytes rest : List ℕ) (old mid : List Value) → IsTaken read write p bytes rest old mid → AreUntaken read ps rest → AreUntaken read (p ∷ ps) bytes
+others_untaken read write p ps bytes rest old mid one nothing h others well is =
+    let behind = flat_map spelling_of (values_up_to read ps (λ a. h (suc a))) ++ others in
+    nothing (λ a. h (suc a)) others (λ a. well (suc a)) (sym (one.only (h 0) behind (well 0) (is ∙ spelled_on (one_value read p (h 0)) (values_up_to read ps (λ a. h (suc a))) others)))
+
+-- the text of a token is taken as the value of one attribute of pass 0
+pub text_taken : (read write : ℕ) (bytes rest : List ℕ) (old new : List Value) → IsTaken read write 0 bytes rest old new → AreTaken read write (0 ∷ []) bytes rest old new
+text_taken read write bytes rest old new one = more_taken read write 0 [] bytes rest rest old new new one (none_taken read write rest new new refl)
+
+pub text_untaken : (read : ℕ) (bytes : List ℕ) → IsUntaken read 0 bytes → AreUntaken read (0 ∷ []) bytes
+text_untaken read bytes nothing = first_untaken read 0 [] bytes nothing
+
+-- the values at items, those of one more in front
+abbrev pub first_row : (ℕ → Value) → Table → Table
+first_row f e zero = f
+first_row f e (suc j) = e j
+
+first_well : (f : ℕ → Value) (e : Table) → ((a : ℕ) → IsWell (f a)) → AllWell e → AllWell (first_row f e)
+first_well f e g h zero a = g a
+first_well f e g h (suc j) a = h j a
+
+-- The values of attributes of some passes and of others behind them: a valuation of the latter,
+abbrev behind_of : List ℕ → (ℕ → Value) → ℕ → Value
+behind_of [] g = g
+behind_of (p ∷ ps) g = behind_of ps (λ a. g (suc a))
+
+behind_well : (ps : List ℕ) (g : ℕ → Value) → ((a : ℕ) → IsWell (g a)) → (a : ℕ) → IsWell (behind_of ps g a)
+behind_well [] g h a = h a
+behind_well (p ∷ ps) g h a = behind_well ps (λ a. g (suc a)) (λ a. h (suc a)) a
+
+values_parted : (k : ℕ) (ps qs : List ℕ) (g : ℕ → Value) → values_up_to k (ps ++ qs) g ≡ values_up_to k ps g ++ values_up_to k qs (behind_of ps g)
+values_parted k [] qs g = refl
+values_parted k (p ∷ ps) qs g = ap (λ vs. one_value k p (g 0) ++ vs) (values_parted k ps qs (λ a. g (suc a))) ∙ sym (append_assoc (one_value k p (g 0)) (values_up_to k ps (λ a. g (suc a))) (values_up_to k qs (behind_of ps (λ a. g (suc a)))))
+
+-- and one of both.
+abbrev joined : List ℕ → (ℕ → Value) → (ℕ → Value) → ℕ → Value
+joined [] f g = g
+joined (p ∷ ps) f g = cons (f 0) (joined ps (λ a. f (suc a)) g)
+
+joined_well : (ps : List ℕ) (f g : ℕ → Value) → ((a : ℕ) → IsWell (f a)) → ((a : ℕ) → IsWell (g a)) → (a : ℕ) → IsWell (joined ps f g a)
+joined_well [] f g h i a = i a
+joined_well (p ∷ ps) f g h i a = cons_well (f 0) (joined ps (λ a. f (suc a)) g) (h 0) (joined_well ps (λ a. f (suc a)) g (λ a. h (suc a)) i) a
+
+values_joined : (k : ℕ) (ps qs : List ℕ) (f g : ℕ → Value) → values_up_to k (ps ++ qs) (joined ps f g) ≡ values_up_to k ps f ++ values_up_to k qs g
+values_joined k [] qs f g = refl
+values_joined k (p ∷ ps) qs f g = ap (λ vs. one_value k p (f 0) ++ vs) (values_joined k ps qs (λ a. f (suc a)) g) ∙ sym (append_assoc (one_value k p (f 0)) (values_up_to k ps (λ a. f (suc a))) (values_up_to k qs g))
+
+-- What is copied of the items of a right side, as a table; literals have no place,
+abbrev table_of : Setting → List Item → (ℕ → Value) → Table
+table_of c [] g = λ j. g
+table_of c (item.Symbol s ∷ xs) g = first_row g (table_of c xs (behind_of (copied_passes c (item.Symbol s)) g))
+table_of c (item.Terminal (Class d) ∷ xs) g = first_row g (table_of c xs (behind_of (0 ∷ []) g))
+table_of c (item.Terminal (Literal l) ∷ xs) g = table_of c xs g
+
+table_well : (c : Setting) (xs : List Item) (g : ℕ → Value) → ((a : ℕ) → IsWell (g a)) → AllWell (table_of c xs g)
+table_well c [] g h = λ j. h
+table_well c (item.Symbol s ∷ xs) g h = first_well g (table_of c xs (behind_of (copied_passes c (item.Symbol s)) g)) h (table_well c xs (behind_of (copied_passes c (item.Symbol s)) g) (behind_well (copied_passes c (item.Symbol s)) g h))
+table_well c (item.Terminal (Class d) ∷ xs) g h = first_well g (table_of c xs (behind_of (0 ∷ []) g)) h (table_well c xs (behind_of (0 ∷ []) g) (behind_well (0 ∷ []) g h))
+table_well c (item.Terminal (Literal l) ∷ xs) g h = table_well c xs g h
+
+abbrev item_passes_of : Setting → List Item → List ℕ
+item_passes_of c xs = flat_map (copied_passes c) xs
+
+copies_parted : (c : Setting) (k : ℕ) (xs : List Item) (g : ℕ → Value) → values_up_to k (item_passes_of c xs) g ≡ copies c k (stored_items xs) (table_of c xs g)
+copies_parted c k [] g = refl
+copies_parted c k (item.Symbol s ∷ xs) g =
+    let ps = copied_passes c (item.Symbol s) in
+    values_parted k ps (item_passes_of c xs) g ∙ ap (λ vs. values_up_to k ps g ++ vs) (copies_parted c k xs (behind_of ps g))
+copies_parted c k (item.Terminal (Class d) ∷ xs) g = values_parted k (0 ∷ []) (item_passes_of c xs) g ∙ ap (λ vs. values_up_to k (0 ∷ []) g ++ vs) (copies_parted c k xs (behind_of (0 ∷ []) g))
+copies_parted c k (item.Terminal (Literal l) ∷ xs) g = copies_parted c k xs g
+
+-- and back.
+abbrev listed : Setting → List Item → Table → ℕ → Value
+listed c [] e = e 0
+listed c (item.Symbol s ∷ xs) e = joined (copied_passes c (item.Symbol s)) (e 0) (listed c xs (λ j. e (suc j)))
+listed c (item.Terminal (Class d) ∷ xs) e = joined (0 ∷ []) (e 0) (listed c xs (λ j. e (suc j)))
+listed c (item.Terminal (Literal l) ∷ xs) e = listed c xs e
+
+listed_well : (c : Setting) (xs : List Item) (e : Table) → AllWell e → (a : ℕ) → IsWell (listed c xs e a)
+listed_well c [] e h = h 0
+listed_well c (item.Symbol s ∷ xs) e h = joined_well (copied_passes c (item.Symbol s)) (e 0) (listed c xs (λ j. e (suc j))) (h 0) (listed_well c xs (λ j. e (suc j)) (λ j. h (suc j)))
+listed_well c (item.Terminal (Class d) ∷ xs) e h = joined_well (0 ∷ []) (e 0) (listed c xs (λ j. e (suc j))) (h 0) (listed_well c xs (λ j. e (suc j)) (λ j. h (suc j)))
+listed_well c (item.Terminal (Literal l) ∷ xs) e h = listed_well c xs e h
+
+copies_listed : (c : Setting) (k : ℕ) (xs : List Item) (e : Table) → values_up_to k (item_passes_of c xs) (listed c xs e) ≡ copies c k (stored_items xs) e
+copies_listed c k [] e = refl
+copies_listed c k (item.Symbol s ∷ xs) e =
+    let ps = copied_passes c (item.Symbol s) in
+    values_joined k ps (item_passes_of c xs) (e 0) (listed c xs (λ j. e (suc j))) ∙ ap (λ vs. values_up_to k ps (e 0) ++ vs) (copies_listed c k xs (λ j. e (suc j)))
+copies_listed c k (item.Terminal (Class d) ∷ xs) e = values_joined k (0 ∷ []) (item_passes_of c xs) (e 0) (listed c xs (λ j. e (suc j))) ∙ ap (λ vs. values_up_to k (0 ∷ []) (e 0) ++ vs) (copies_listed c k xs (λ j. e (suc j)))
+copies_listed c k (item.Terminal (Literal l) ∷ xs) e = copies_listed c k xs e
 
 -- values that are well up to a pass, and others in the place of later ones
 pub mended : (k : ℕ) (ps : List ℕ) (f : ℕ → Value) → ((a p : ℕ) → slice_get ps a ≡ Some p → p ≤ k → IsWell (f a)) → (h : ℕ → Value) × ((a : ℕ) → IsWell (h a)) × (values_up_to k ps f ≡ values_up_to k ps h)
@@ -105,32 +210,160 @@ mended k (p ∷ ps) f well = go (nat_le p k) refl (mended k ps (λ a. f (suc a))
 passes_left : (c : Setting) (s p : ℕ) (q : Production) → IsProduction c.grammar p q → q.left ≡ s → left_passes c.passes (slice_get c.grammar.productions p) ≡ c.passes s
 passes_left c s p q there left = ap (left_passes c.passes) there ∙ ap c.passes left
 
-pub node_read : (c : Setting) (s p : ℕ) (q : Production) (body spellings : List ℕ) (old new : List Value) → IsProduction c.grammar p q → q.left ≡ s → body ≡ body_from Node p spellings → IsRow c.read c.write (c.passes s) spellings old new → IsNodeRead c s p body old new
-node_read c s p q body spellings old new there left is r =
+-- a row that was taken is that of a node, with its own values and the copies
+pub node_read : (c : Setting) (s p : ℕ) (body spellings : List ℕ) (old new : List Value) → (b : IsNodeBody c.grammar s p spellings body) → AreTaken c.read c.write (row_passes c b.production) spellings [] old new → IsNodeRead c s p body old new
+node_read c s p body spellings old new b taken =
+    let q = b.production in
+    let g = taken.values in
+    let own = c.passes q.left in
+    let rest = behind_of own g in
+    let parted : (k : ℕ) → values_up_to k (row_passes c q) g ≡ values_up_to k own g ++ copies c k (stored_items q.items) (table_of c q.items rest) =
+    λ k. values_parted k own (item_passes_of c q.items) g ∙ ap (λ vs. values_up_to k own g ++ vs) (copies_parted c k q.items rest) in
     record {
       production = q;
-      there = there;
-      left = left;
-      values = r.values;
-      well = r.well;
-      row = r.row;
-      same = is ∙ ap (body_from Node p) (r.spelled ∙ ap (λ ps. flat_map spelling_of (values_up_to c.read ps r.values)) (sym (passes_left c s p q there left)));
+      there = b.there;
+      left = b.left;
+      values = g;
+      well = taken.well;
+      table = table_of c q.items rest;
+      table_well = table_well c q.items rest (behind_well own g taken.well);
+      row = taken.row ∙ ap (λ vs. old ++ vs) (parted c.write ∙ ap (λ s. values_up_to c.write (c.passes s) g ++ copies c c.write (stored_items q.items) (table_of c q.items rest)) b.left);
+      same = b.same ∙ ap (body_from Node p) (taken.spelled ∙ append-nil (flat_map spelling_of (values_up_to c.read (row_passes c q) g)) ∙ ap (flat_map spelling_of) (parted c.read
+          ∙ ap (λ ps. values_up_to c.read ps g ++ copies c c.read (stored_items q.items) (table_of c q.items rest)) (ap c.passes b.left ∙ sym (passes_left c s p q b.there b.left))));
     }
 
--- where a body that is a node's record has this number and these spellings
-pub no_node : (c : Setting) (s : ℕ) (body : List ℕ) → ((p : ℕ) (q : Production) (spellings : List ℕ) → IsProduction c.grammar p q → q.left ≡ s → body ≡ body_from Node p spellings → IsNoRow c.read (c.passes s) spellings) → IsNoNode c s body
-no_node c s body nothing p q h there left well is =
-    nothing p q (flat_map spelling_of (values_up_to c.read (left_passes c.passes (slice_get c.grammar.productions p)) h)) there left is h well (ap (λ ps. flat_map spelling_of (values_up_to c.read ps h)) (passes_left c s p q there left))
+-- and where none can be taken, the body is that of no node
+pub no_node_read : (c : Setting) (s p : ℕ) (body spellings : List ℕ) → length c.grammar.productions ≤ 65536 → (b : IsNodeBody c.grammar s p spellings body) → IsNoRow c.read (row_passes c b.production) spellings → IsNoNode c s body
+no_node_read c s p body spellings few b nothing r w h e there left well table_well is =
+    let q = b.production in
+    let own = c.passes q.left in
+    let within = slice_get_within c.grammar.productions r w there in
+    let one = b.only r (flat_map spelling_of (values_up_to c.read (left_passes c.passes (slice_get c.grammar.productions r)) h ++ copies c c.read (stored_items w.items) e)) (omega arith) is in
+    let found : Some w ≡ Some q = sym there ∙ ap (slice_get c.grammar.productions) (sym one.0) ∙ b.there in
+    let wq : w ≡ q = cc in
+    let f = joined own h (listed c q.items e) in
+    nothing f (joined_well own h (listed c q.items e) well (listed_well c q.items e table_well))
+    (one.1 ∙ ap (flat_map spelling_of) (ap (λ ps. values_up_to c.read ps h ++ copies c c.read (stored_items w.items) e) (passes_left c s r w there left ∙ ap c.passes (sym b.left)) ∙ ap (λ (w : Production). values_up_to c.read own h ++ copies c c.read (stored_items w.items) e) wq)
+    ∙ ap (flat_map spelling_of) (ap (λ vs. values_up_to c.read own h ++ vs) (sym (copies_listed c c.read q.items e)) ∙ sym (values_joined c.read own (item_passes_of c q.items) h (listed c q.items e))))
+
+-- nothing is left behind a row
+pub no_row_left : (read write : ℕ) (ps bytes rest : List ℕ) (old new : List Value) → AreTaken read write ps bytes rest old new → (length rest ≡ 0 → ⊥) → IsNoRow read ps bytes
+no_row_left read write ps bytes rest old new taken some h well is = some (ap length (sym (taken.only h [] well (is ∙ sym (append-nil (flat_map spelling_of (values_up_to read ps h)))))))
+
+pub no_row_taken : (read : ℕ) (ps bytes : List ℕ) → AreUntaken read ps bytes → IsNoRow read ps bytes
+no_row_taken read ps bytes nothing h well is = nothing h [] well (is ∙ sym (append-nil (flat_map spelling_of (values_up_to read ps h))))
+
+-- A list of well values is the values of attributes, where it has as many as these have of passes so far,
+valued : (k : ℕ) (ps : List ℕ) (vs : List Value) → length vs ≡ count_up_to k ps → All IsWell vs → (f : ℕ → Value) × ((a : ℕ) → IsWell (f a)) × (values_up_to k ps f ≡ vs)
+valued k [] [] long well = ((λ a. Num (pos 0)), (λ a. zero_well), refl)
+valued k [] (v ∷ vs) long well = absurd (omega arith)
+valued k (p ∷ ps) vs long well = go (nat_le p k) refl (λ vs long well. valued k ps vs long well) vs long well
+  where
+    go : (b : Bool) → nat_le p k ≡ b → ((vs : List Value) → length vs ≡ count_up_to k ps → All IsWell vs → (f : ℕ → Value) × ((a : ℕ) → IsWell (f a)) × (values_up_to k ps f ≡ vs))
+        → (vs : List Value) → length vs ≡ (if b then 1 else 0) + count_up_to k ps → All IsWell vs → (f : ℕ → Value) × ((a : ℕ) → IsWell (f a)) × (values_up_to k (p ∷ ps) f ≡ vs)
+    go true z on [] long well = absurd (omega arith)
+    go true z on (v ∷ vs) long well =
+        let r = on vs (omega arith) (All-tail IsWell v vs well) in
+        (cons v r.0, cons_well v r.0 (All-head IsWell v vs well) r.1, ap (λ b. (if b then v ∷ [] else []) ++ values_up_to k ps r.0) z ∙ ap (λ xs. v ∷ xs) r.2)
+    go false z on vs long well =
+        let r = on vs (omega arith) well in
+        (cons (Num (pos 0)) r.0, cons_well (Num (pos 0)) r.0 zero_well r.1, ap (λ b. (if b then Num (pos 0) ∷ [] else []) ++ values_up_to k ps r.0) z ∙ r.2)
+
+-- and copies, where it has as many as some items have.
+pub count_copied : (c : Setting) (k : ℕ) (x : Item) → copied_count c.grammar c.passes k x ≡ count_up_to k (copied_passes c x)
+count_copied c k (item.Symbol s) = refl
+count_copied c k (item.Terminal (Class d)) = let one : ◌≡◌ {A = ℕ} (if nat_le 0 k then 1 else 0) 1 = ap (λ b. if b then 1 else 0) (le-leb 0 k (omega arith)) in omega arith
+count_copied c k (item.Terminal (Literal l)) = refl
+
+pub tabled : (c : Setting) (k : ℕ) (xs : List Item) (vs : List Value) → length vs ≡ copies_count c.grammar c.passes k xs → All IsWell vs → (e : Table) × AllWell e × (copies c k xs e ≡ vs)
+tabled c k [] [] long well = ((λ j a. Num (pos 0)), (λ j a. zero_well), refl)
+tabled c k [] (v ∷ vs) long well = absurd (omega arith)
+tabled c k (x ∷ xs) vs long well =
+    let n = copied_count c.grammar c.passes k x in
+    let m = count_copied c k x in
+    let l = length-take n vs in
+    let d = length-drop n vs in
+    let first = valued k (copied_passes c x) (take n vs) (omega arith) (All-take IsWell n vs well) in
+    let on = tabled c k xs (drop n vs) (omega arith) (All-drop IsWell n vs well) in
+    (first_row first.0 on.0, first_well first.0 on.0 first.1 on.1, ap (λ ws. ws ++ copies c k xs on.0) first.2 ∙ ap (λ ws. take n vs ++ ws) on.2 ∙ take_drop n vs)
+  where
+    take_drop : (n : ℕ) (vs : List Value) → take n vs ++ drop n vs ≡ vs
+    take_drop zero vs = refl
+    take_drop (suc n) [] = refl
+    take_drop (suc n) (v ∷ vs) = ap (λ ws. v ∷ ws) (take_drop n vs)
+
+-- The copies of a table are as many as some items have, and well.
+pub copies_counted : (c : Setting) (k : ℕ) (xs : List Item) (e : Table) → length (copies c k xs e) ≡ copies_count c.grammar c.passes k xs
+copies_counted c k [] e = refl
+copies_counted c k (x ∷ xs) e =
+    let f = values_up_to k (copied_passes c x) (e 0) in
+    let l = length-append f (copies c k xs (λ j. e (suc j))) in
+    let a = count_of_values k (copied_passes c x) (e 0) in
+    let n = count_copied c k x in
+    let b = copies_counted c k xs (λ j. e (suc j)) in
+    omega arith
+
+pub copies_well : (c : Setting) (k : ℕ) (xs : List Item) (e : Table) → AllWell e → All IsWell (copies c k xs e)
+copies_well c k [] e well = All-nil IsWell
+copies_well c k (x ∷ xs) e well = All-append IsWell (values_up_to k (copied_passes c x) (e 0)) (copies c k xs (λ j. e (suc j))) (values_well k (copied_passes c x) (e 0) (λ a p is le. well 0 a)) (copies_well c k xs (λ j. e (suc j)) (λ j. well (suc j)))
+
+-- a fault is the same whatever is missing
+pub same_err : {A B : Type 0} (e f : RecordFault) → ◌≡◌ {A = Result A RecordFault} (Err e) (Err f) → ◌≡◌ {A = Result B RecordFault} (Err e) (Err f)
+same_err e f is = let same : e ≡ f = cc in ap (λ (e : RecordFault). Err e) same
+
+pub nothing_taken : (read write : ℕ) (ps bytes : List ℕ) (old : List Value) → ps ≡ [] → AreTaken read write ps bytes bytes old old
+nothing_taken read write ps bytes old is = subst (λ (ps : List ℕ). AreTaken read write ps bytes bytes old old) (sym is) (none_taken read write bytes old old refl)
 
 pub on_ok : {A F : Type 0} {P Q : Type 0} (r : Result A F) → (P → Q) → OnOk r P → OnOk r Q
 on_ok (Ok a) f h = f h
 on_ok (Err e) f h = h
 
-pub row_empty : (read write : ℕ) (ps bytes : List ℕ) (old : List Value) → length ps < 1 → length bytes ≡ 0 → IsRow read write ps bytes old old
-row_empty read write [] [] old a b = row_none read write old old refl
-row_empty read write [] (x ∷ bytes) old a b = absurd (omega arith)
-row_empty read write (x ∷ ps) bytes old a b = absurd (omega arith)
+pub if_ok : {A F : Type 0} {P Q : A → Type 0} (r : Result A F) → ((a : A) → P a → Q a) → IfOk r P → IfOk r Q
+if_ok (Ok a) f h = f a h
+if_ok (Err e) f h = h
 
-pub row_front : (ps : List ℕ) → 1 ≤ length ps → get_or ps 0 0 ∷ take (length ps - 1) (drop 1 ps) ≡ ps
-row_front [] h = absurd (omega arith)
-row_front (p ∷ ps) h = ap (λ xs. p ∷ xs) (let n : suc (length ps) - 1 ≡ length ps = omega arith in ap (λ n. take n ps) n ∙ take_all (length ps) ps (omega arith))
+pub front_is : {X : Type 0} (xs : List X) (d : X) → 1 ≤ length xs → get_or xs 0 d ∷ take (length xs - 1) (drop 1 xs) ≡ xs
+front_is [] d h = absurd (omega arith)
+front_is (x ∷ xs) d h = ap (λ ys. x ∷ ys) (let n : suc (length xs) - 1 ≡ length xs = omega arith in ap (λ n. take n xs) n ∙ take_all (length xs) xs (omega arith))
+
+pub empty_is : {X : Type 0} (xs : List X) → length xs < 1 → xs ≡ []
+empty_is [] h = refl
+empty_is (x ∷ xs) h = absurd (omega arith)
+
+-- the passes of the items from one on, where those of the ones before it stand in front
+pub passes_more : (f : Item → List ℕ) (front whole : List ℕ) (xs : List Item) (i : ℕ) (d : Item) → i < length xs → front ++ flat_map f (drop i xs) ≡ whole → (front ++ f (get_or xs i d)) ++ flat_map f (drop (i + 1) xs) ≡ whole
+passes_more f front whole xs i d less is = append_assoc front (f (get_or xs i d)) (flat_map f (drop (i + 1) xs)) ∙ ap (λ (ps : List ℕ). front ++ ps) (step xs i less) ∙ is
+  where
+    step : (xs : List Item) (i : ℕ) → i < length xs → f (get_or xs i d) ++ flat_map f (drop (i + 1) xs) ≡ flat_map f (drop i xs)
+    step [] i less = absurd (omega arith)
+    step (x ∷ xs) zero less = refl
+    step (x ∷ xs) (suc i) less = let n : suc i + 1 ≡ suc (i + 1) = omega arith in ap (λ n. f (get_or (x ∷ xs) (suc i) d) ++ flat_map f (drop n (x ∷ xs))) n ∙ step xs i (omega arith)
+
+pub passes_whole : (f : Item → List ℕ) (front whole : List ℕ) (xs : List Item) (i : ℕ) → length xs ≤ i → front ++ flat_map f (drop i xs) ≡ whole → front ≡ whole
+passes_whole f front whole xs i past is = sym (append-nil front) ∙ ap (λ (ys : List Item). front ++ flat_map f ys) (sym (drop_past xs i past)) ∙ is
+  where
+    drop_past : (xs : List Item) (i : ℕ) → length xs ≤ i → drop i xs ≡ []
+    drop_past [] zero past = refl
+    drop_past [] (suc i) past = refl
+    drop_past (x ∷ xs) zero past = absurd (omega arith)
+    drop_past (x ∷ xs) (suc i) past = drop_past xs i (omega arith)
+
+-- a production that is found by its number is the one of this number
+pub production_is : (qs lent : List Production) (n : ℕ) (q found d : Production) → lent ≡ qs → found ≡ get_or lent n d → slice_get qs n ≡ Some q → found ≡ q
+production_is qs lent n q found d same is there =
+    let less = slice_get_within qs n q there in
+    let long = ap length same in
+    let both : Some found ≡ Some q = ap Some is ∙ sym (slice_get-get_or lent n d (omega arith)) ∙ ap (λ (ps : List Production). slice_get ps n) same ∙ there in
+    cc
+
+-- the passes from one on are that one and those behind it, and behind the last there are none
+pub passes_from : (ps : List ℕ) (i d : ℕ) → i < length ps → get_or ps i d ∷ drop (i + 1) ps ≡ drop i ps
+passes_from [] i d less = absurd (omega arith)
+passes_from (p ∷ ps) zero d less = refl
+passes_from (p ∷ ps) (suc i) d less = let n : suc i + 1 ≡ suc (i + 1) = omega arith in ap (λ n. get_or (p ∷ ps) (suc i) d ∷ drop n (p ∷ ps)) n ∙ passes_from ps i d (omega arith)
+
+pub no_passes_from : (ps : List ℕ) (i : ℕ) → length ps ≤ i → drop i ps ≡ []
+no_passes_from [] zero past = refl
+no_passes_from [] (suc i) past = refl
+no_passes_from (p ∷ ps) zero past = absurd (omega arith)
+no_passes_from (p ∷ ps) (suc i) past = no_passes_from ps i (omega arith)

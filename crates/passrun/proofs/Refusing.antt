@@ -1,60 +1,109 @@
 -- Why a refusal is true.
 use Rattle.std.specs.Option.{option_map}
-use Rattle.std.proofs.Common.{ℕ, suc, ◌≡◌, ◌+◌, ◌-◌, Bool, true, List, [], ◌∷◌, Option, Some, None, Ok, Err, is_some, Bor, slice_get, length, drop, reverse, refl, sym, subst, arith}
+use Rattle.std.specs.Prelude.{IsTrue}
+use Rattle.std.proofs.Common.{ℕ, suc, ◌≡◌, ◌+◌, ◌-◌, Bool, true, List, [], ◌∷◌, ◌++◌, Option, Some, None, Ok, Err, is_some, Bor, slice_get, length, drop, reverse, refl, ap, ◌∙◌, sym, subst, arith}
 use Rattle.std.proofs.lemmas.List.{length-reverse}
 use Rattle.ag_grammar.specs.declared.grammar.Item.{Item}
 use Rattle.ag_grammar.specs.declared.grammar.Item.TheVariants as item
-use Rattle.ag_grammar.specs.grammars.AttributeGrammar.{item_at}
+use Rattle.ag_grammar.specs.declared.grammar.Terminal.TheVariants.{Literal, Class}
+use Rattle.ag_grammar.specs.grammars.AttributeGrammar.{stored_items}
+use Rattle.ag_value.specs.declared.value.Value.{Value, Text}
 use Rattle.treefile.specs.declared.reading.FrameFault.{FrameFault}
 use Rattle.treefile.specs.declared.reading.FrameFault.TheVariants as frame_fault
 use Rattle.treefile.specs.Backward.{next_before, pass_in}
 use Rattle.treefile.specs.Device.{WhenHonest}
 use Rattle.treefile.specs.Ending.{Told}
-use Rattle.treefile.specs.TreeFile.{version_one}
-use Rattle.treefile.specs.Awaited.{Breaks}
+use Rattle.treefile.specs.TreeFile.{version_two}
+use Rattle.treefile.specs.Awaited.{Breaks, ToCome}
+use Rattle.treefile.specs.Records.{values_up_to}
 use Rattle.treefile.proofs.Backward.{damage_is_there, never_no_file}
 use Rattle.backreader.specs.Place.{Place}
 use Rattle.passcode.specs.declared.instr.Instr.TheVariants as instr
 use Rattle.planchecker.specs.Settings.{Setting, list_at}
 use Rattle.planchecker.specs.Sound.{IsSound}
+use Rattle.passrun.specs.declared.laying.PlaceRow.{PlaceRow}
 use Rattle.passrun.specs.declared.machine.Machine.{Machine}
 use Rattle.passrun.specs.declared.open_node.OpenNode.{OpenNode}
 use Rattle.passrun.specs.declared.run_fault.RunFault.{RunFault}
-use Rattle.passrun.specs.Ahead.{IsRunFault, ahead, asked}
+use Rattle.passrun.specs.Ahead.{IsRunFault}
 use Rattle.passrun.specs.Damage.{AreRecords, ComesTo, IsDamaged, IsReadable}
 use Rattle.passrun.specs.Ends.{RunsBetween}
 use Rattle.passrun.specs.Faults.{run_fault_of_frame}
-use Rattle.passrun.specs.Fetching.{IsUnfetched}
+use Rattle.passrun.specs.Fetching.{HasFetched, IsUnfetched}
+use Rattle.passrun.specs.Places.{copied_passes, copies}
+use Rattle.passrun.specs.Reading.{Agrees, IsRead, read_values}
 use Rattle.passrun.specs.Running.{RunsFrom}
-use Rattle.passrun.proofs.Ahead.{get_ahead, unfetched}
+use Rattle.passrun.proofs.Ahead.{disagreed, unfetched}
 use Rattle.passrun.proofs.Damage.{broken, unstarted}
-use Rattle.passrun.proofs.Facts.{got_item}
-use Rattle.passrun.proofs.Turning.{Answers}
+use Rattle.passrun.proofs.Steps.{get_first}
+use Rattle.passrun.proofs.Turning.{Answers, begins_so, got_place}
 
 -- a body was lent
 pub some_lent : (found : Option (Bor (List ℕ))) → is_some found ≡ true → (body : List ℕ) × (option_map (λ (b : Bor (List ℕ)). b.now) found ≡ Some body)
 some_lent (Some body) e = (body.now, refl)
 some_lent None e = absurd cc
 
+-- where the record of a child is fetched, that child is the first to come, with the copy of its values
+record FirstCome (c : Setting) (content : List ℕ) (m : Machine) (x : OpenNode) (j : ℕ) (row : PlaceRow) : Type 0 where
+  values : ℕ → Value
+  left : ToCome
+  readable : IsReadable c content
+  here : ComesTo c content m.back.progress.at ((suc (length m.waiting.items + 1), (row.item, Some (values_up_to c.read (copied_passes c row.item) values))) ∷ left)
+  count : m.back.progress.records ≡ length here.bodies
+  found : (more : List Value) → (rest : List Value) × (drop (x.base + row.start) (m.values.items ++ more) ≡ values_up_to c.write (copied_passes c row.item) values ++ rest)
+
+abbrev in_front : ℕ → Item → List Value → ToCome → ToCome
+in_front n x copy left = (n, (x, Some copy)) ∷ left
+
+-- what was read stands behind the other values
+pub read_row : (c : Setting) (x : Item) (p : ℕ) (body : List ℕ) (old new : List Value) → IsRead c x p body old new → (row : List Value) × (new ≡ old ++ row)
+read_row c (item.Symbol s) p body old new h = (values_up_to c.write (c.passes s) h.values ++ copies c c.write (stored_items h.production.items) h.table, h.row)
+read_row c (item.Terminal (Class d)) p body old new h = (Text h.1.text ∷ [], h.1.row)
+read_row c (item.Terminal (Literal l)) p body old new h = elim h [ ]
+
 module _ (c : Setting) (sound : IsSound c) where
-  pub get_refused : (honest : Bool) (content : List ℕ) (m : Machine) (x : OpenNode) (j n : ℕ) (x' : Item) (f : RunFault) → RunsFrom c honest content m (Some x) → slice_get (list_at c x.production) x.at ≡ Some (instr.Get j) → Answers c x j (Some x') → n ≡ length m.waiting.items + 1
-      → WhenHonest honest (IsUnfetched c x' n content m.back f) → WhenHonest honest (IsRunFault c content f)
-  get_refused honest content m x j n x' f (to_honest, to, meter, r) at is count h w =
+  -- what is to come first where the record of a child is fetched
+  first_come : (honest : Bool) (content : List ℕ) (m : Machine) (x : OpenNode) (j : ℕ) (row : PlaceRow) → RunsFrom c honest content m (Some x) → slice_get (list_at c x.production) x.at ≡ Some (instr.Get j) → Answers c x j (Some row) → honest ≡ true → FirstCome c content m x j row
+  first_come honest content m x j row (to_honest, to, meter, r) at is w =
       let xs = reverse m.waiting.items in
-      let i = got_item c sound m.root x xs m.values.items r.running.tapes (meter - m.begun) j at r.running.passing in
-      let stands : item_at i.production j ≡ Some x' = sym (is i.production i.there) in
+      let i = got_place c sound honest content m x j row (to_honest, to, meter, r) at is in
+      let first = get_first c sound m.root x xs m.values.items r.running.tapes (meter - m.begun) r.running.todo j i.production row.item at i.there i.stands r.running.passing in
       let l = length-reverse m.waiting.items in
-      let levels : n ≡ suc (length xs) = omega arith in
-      let todo = asked i.production (suc (suc (length xs))) (drop (x.at + 1) (list_at c x.production)) (ahead c xs) in
-      let here : ComesTo c content m.back.progress.at ((suc (suc (length xs)), (x', None)) ∷ todo) = record {
-        bodies = r.running.tapes.read;
-        read = r.running.read w;
-        records = subst (AreRecords c r.running.tapes.read) (get_ahead c sound x xs j i.production x' at i.there stands) r.running.ahead;
-      } in
-      unfetched c sound x' (suc (length xs)) content m.back todo f (r.running.readable w) here r.running.records (subst (λ n. IsUnfetched c x' n content m.back f) levels (h w))
+      let level : suc (suc (length xs)) ≡ suc (length m.waiting.items + 1) = omega arith in
+      record {
+        values = first.0;
+        left = first.1;
+        readable = r.running.readable w;
+        here = record {
+          bodies = r.running.tapes.read;
+          read = r.running.read w;
+          records = subst (AreRecords c r.running.tapes.read) (first.2 ∙ ap (λ n. in_front n row.item (values_up_to c.read (copied_passes c row.item) first.0) first.1) level) r.running.ahead;
+        };
+        count = r.running.records;
+        found = λ more. let z = first.3 more in (z.0, ap (λ n. drop (x.base + n) (m.values.items ++ more)) i.start ∙ z.1);
+      }
+
+  pub get_refused : (honest : Bool) (content : List ℕ) (m : Machine) (x : OpenNode) (j n : ℕ) (row : PlaceRow) (f : RunFault) → RunsFrom c honest content m (Some x) → slice_get (list_at c x.production) x.at ≡ Some (instr.Get j) → Answers c x j (Some row) → n ≡ length m.waiting.items + 1
+      → WhenHonest honest (IsUnfetched c row.item n content m.back f) → WhenHonest honest (IsRunFault c content f)
+  get_refused honest content m x j n row f runs at is count h w =
+      let z = first_come honest content m x j row runs at is w in
+      unfetched c sound row.item (Some (values_up_to c.read (copied_passes c row.item) z.values)) (length m.waiting.items + 1) content m.back z.left f z.readable z.here z.count (subst (λ n. IsUnfetched c row.item n content m.back f) count (h w))
+
+  -- the record of a child does not agree with its copy
+  pub get_differs : (honest : Bool) (content : List ℕ) (m : Machine) (x : OpenNode) (j p n : ℕ) (row : PlaceRow) (back : Place) (read ours theirs : List Value) (from start : ℕ) (answer : Bool) → RunsFrom c honest content m (Some x) → slice_get (list_at c x.production) x.at ≡ Some (instr.Get j) → Answers c x j (Some row)
+      → HasFetched c row.item p n honest content m.back back m.values.items read → Agrees c row.item ours theirs answer → (IsTrue answer → ⊥) → ours ≡ drop from read → theirs ≡ drop start read → from ≡ x.base + row.start → start ≡ length m.values.items
+      → WhenHonest honest (IsDamaged c content m.back.progress.at)
+  get_differs honest content m x j p n row back read ours theirs from start answer runs at is h agrees not_true ours_are theirs_are from_is start_is w =
+      let z = first_come honest content m x j row runs at is w in
+      let back_row = begins_so c row.item p h.body m.values.items read h.taken in
+      let more = read_row c row.item p h.body m.values.items read h.taken in
+      let found = z.found more.0 in
+      let front = ours_are ∙ ap (λ n. drop n read) from_is ∙ ap (drop (x.base + row.start)) more.1 ∙ found.1 in
+      let other = agrees z.values (read_values c row.item p h.body m.values.items read h.taken) found.0 back_row.0 front (theirs_are ∙ ap (λ n. drop n read) start_is ∙ back_row.1) in
+      disagreed c sound row.item p (suc (length m.waiting.items + 1)) content h.body m.back.progress.at z.left m.values.items read h.taken z.values (λ same. not_true (other.1 same)) z.readable z.here (h.found w)
 
   -- the content does not begin as a tree file
-  pub not_started : (content : List ℕ) (view : Place → ℕ) (f : FrameFault) → Told view (Err f) (pass_in version_one content) → IsRunFault c content (run_fault_of_frame f)
+  pub not_started : (content : List ℕ) (view : Place → ℕ) (f : FrameFault) → Told view (Err f) (pass_in version_two content) → IsRunFault c content (run_fault_of_frame f)
   not_started content view frame_fault.NotATreeFile told = (unstarted c sound content frame_fault.NotATreeFile told).1
   not_started content view (frame_fault.Damaged at) told = absurd (let z = (unstarted c sound content (frame_fault.Damaged at) told).0 in cc)
   not_started content view frame_fault.Device told = tt
@@ -63,21 +112,21 @@ module _ (c : Setting) (sound : IsSound c) where
   pub root_unfetched : (start : ℕ) (content : List ℕ) (place : Place) (f : RunFault) → start ≡ c.grammar.start → IsReadable c content → place.progress.at ≡ length content → place.progress.records ≡ 0 → IsUnfetched c (item.Symbol start) 0 content place f → IsRunFault c content f
   root_unfetched start content place f is readable end fresh h =
       let here : ComesTo c content place.progress.at ((1, (item.Symbol c.grammar.start, None)) ∷ []) = record { bodies = []; read = sym end; records = refl } in
-      unfetched c sound (item.Symbol c.grammar.start) 0 content place [] f readable here fresh (subst (λ s. IsUnfetched c (item.Symbol s) 0 content place f) is h)
+      unfetched c sound (item.Symbol c.grammar.start) None 0 content place [] f readable here fresh (subst (λ s. IsUnfetched c (item.Symbol s) 0 content place f) is h)
 
   -- nothing is to come, and something is there
-  pub left_over : (content : List ℕ) (at : ℕ) (body : List ℕ) → IsReadable c content → ComesTo c content at [] → next_before version_one content at ≡ Ok (Some body) → IsDamaged c content at
-  left_over content at body readable here found = broken c sound content at readable ([], here, subst (Breaks version_one c.grammar c.passes c.read []) (sym found) tt)
+  pub left_over : (content : List ℕ) (at : ℕ) (body : List ℕ) → IsReadable c content → ComesTo c content at [] → next_before version_two content at ≡ Ok (Some body) → IsDamaged c content at
+  left_over content at body readable here found = broken c sound content at readable ([], here, subst (Breaks version_two c.grammar c.passes c.read []) (sym found) tt)
 
-  pub end_refused : (content : List ℕ) (at : ℕ) (view : Option (Bor (List ℕ)) → Option (List ℕ)) (f : FrameFault) → IsReadable c content → ComesTo c content at [] → Told view (Err f) (next_before version_one content at) → IsRunFault c content (run_fault_of_frame f)
-  end_refused content at view frame_fault.NotATreeFile readable here told = absurd (never_no_file version_one content at told)
-  end_refused content at view (frame_fault.Damaged b) readable here told = subst (IsDamaged c content) (sym (damage_is_there version_one content at b told)) (broken c sound content at readable ([], here, subst (Breaks version_one c.grammar c.passes c.read []) (sym told) tt))
+  pub end_refused : (content : List ℕ) (at : ℕ) (view : Option (Bor (List ℕ)) → Option (List ℕ)) (f : FrameFault) → IsReadable c content → ComesTo c content at [] → Told view (Err f) (next_before version_two content at) → IsRunFault c content (run_fault_of_frame f)
+  end_refused content at view frame_fault.NotATreeFile readable here told = absurd (never_no_file version_two content at told)
+  end_refused content at view (frame_fault.Damaged b) readable here told = subst (IsDamaged c content) (sym (damage_is_there version_two content at b told)) (broken c sound content at readable ([], here, subst (Breaks version_two c.grammar c.passes c.read []) (sym told) tt))
   end_refused content at view frame_fault.Device readable here told = tt
   end_refused content at view frame_fault.NoMemory readable here told = tt
 
   -- all that a tree has was read
   pub end_come : (honest : Bool) (content : List ℕ) (to_honest : Bool) (to : List ℕ) (m : Machine) → RunsBetween c honest content to_honest to m None → WhenHonest honest (IsReadable c content × ComesTo c content m.back.progress.at [])
-  end_come honest content to_honest to m (meter, r) w = (r.running.readable w, record { bodies = r.running.tapes.read; read = r.running.read w; records = r.running.ahead })
+  end_come honest content to_honest to m (meter, r) w = (r.running.readable w, record { bodies = r.running.tapes.read; read = r.running.read w; records = subst (AreRecords c r.running.tapes.read) r.running.passing.nothing r.running.ahead })
 
   pub end_unbroken : (honest : Bool) (content : List ℕ) (to_honest : Bool) (to : List ℕ) (m : Machine) → RunsBetween c honest content to_honest to m None → m.back.progress.fault ≡ None
   end_unbroken honest content to_honest to m (meter, r) = r.running.unbroken

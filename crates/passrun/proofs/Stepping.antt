@@ -12,7 +12,7 @@ use Rattle.passcode.specs.Rows.{Lists}
 use Rattle.planchecker.specs.Settings.{Setting, setting_of}
 use Rattle.treefile.specs.Device.{HasRisen, Persists, WhenHonest}
 use Rattle.treefile.specs.Runs.{RunsPass, RunsPasses}
-use Rattle.treefile.specs.TreeFile.{version_one}
+use Rattle.treefile.specs.TreeFile.{version_two}
 use Rattle.treefile.proofs.Run.{goes_on_run, starts_run}
 use Rattle.passrun.specs.declared.ends.Passed.{Passed}
 use Rattle.passrun.specs.declared.last.Last.{Last}
@@ -64,7 +64,7 @@ counts_start g m k start t u tree file = record {
   written = omega arith;
 }
 
-counts_go_on : (g : Grammar) (m : Passes) (k count evals more : ℕ) (start now before : List ℕ) (sum passed : Passed) → RunsPasses version_one g m k (k + count) start now before → CountsPasses g m k count start evals sum → CountsPass g m (k + count) now passed.nodes more → passed.read ≡ passed.nodes → passed.written ≡ passed.nodes → CountsPasses g m k (suc count) start (evals + more) (one_more sum passed)
+counts_go_on : (g : Grammar) (m : Passes) (k count evals more : ℕ) (start now before : List ℕ) (sum passed : Passed) → RunsPasses version_two g m k (k + count) start now before → CountsPasses g m k count start evals sum → CountsPass g m (k + count) now passed.nodes more → passed.read ≡ passed.nodes → passed.written ≡ passed.nodes → CountsPasses g m k (suc count) start (evals + more) (one_more sum passed)
 counts_go_on g m k count evals more start now before sum passed runs counts told read written t u tree file =
     let run = runs t u tree file in
     let old = counts t u tree file in
@@ -87,7 +87,7 @@ pub all_starts : (g : Grammar) (m : Passes) (k n : ℕ) (a b : List ℕ) (evals 
 all_starts g m k n a b evals same fresh =
     let none : 0 ≡ k - k = omega arith in
     let whole : HasRunAll g m k k a A a b 0 (record { nodes = 0; read = 0; written = 0 }) = record {
-      runs = starts_run version_one g m k a b;
+      runs = starts_run version_two g m k a b;
       counts = subst (λ n. CountsPasses g m k n a 0 (record { nodes = 0; read = 0; written = 0 })) none (counts_start g m k a);
       held = λ less. absurd (omega arith);
       fresh = λ e. refl;
@@ -98,18 +98,18 @@ all_starts g m k n a b evals same fresh =
 -- behind `last` passes one more ran, pass n, from the device with the last file to the other
 module _ (g : Grammar) (plan : List (List ℕ) × Lists) (k last n : ℕ) (start a b a_new b_new : List ℕ) (which : Last) (evals more : ℕ) (sum passed : Passed) (accepted : IsAccepted g) (legal : IsLegal g (passes_of plan.0)) (le : k ≤ last) (is : n ≡ suc last) (before : HasRunAll g (passes_of plan.0) k last start which a b evals sum)
     (step : IsPassedOn (setting_of g plan n) which a b a_new b_new passed.nodes more) (read : passed.read ≡ passed.nodes) (written : passed.written ≡ passed.nodes) where
-  told : RunsPass version_one g (passes_of plan.0) last (last_content which a b) (other_content which a_new b_new) × CountsPass g (passes_of plan.0) last (last_content which a b) passed.nodes more
+  told : RunsPass version_two g (passes_of plan.0) last (last_content which a b) (other_content which a_new b_new) × CountsPass g (passes_of plan.0) last (last_content which a b) passed.nodes more
   told =
       let here : n - 1 ≡ last = omega arith in
-      subst (λ j. RunsPass version_one g (passes_of plan.0) j (last_content which a b) (other_content which a_new b_new) × CountsPass g (passes_of plan.0) j (last_content which a b) passed.nodes more) here
+      subst (λ j. RunsPass version_two g (passes_of plan.0) j (last_content which a b) (other_content which a_new b_new) × CountsPass g (passes_of plan.0) j (last_content which a b) passed.nodes more) here
       (passes_are_told g plan n (last_content which a b) (other_content which a_new b_new) passed.nodes more accepted legal (omega arith) step.passed)
 
-  runs_on : RunsPasses version_one g (passes_of plan.0) k (suc last) start (last_content (other_last which) a_new b_new) (other_content (other_last which) a_new b_new)
+  runs_on : RunsPasses version_two g (passes_of plan.0) k (suc last) start (last_content (other_last which) a_new b_new) (other_content (other_last which) a_new b_new)
   runs_on =
-      let runs : RunsPasses version_one g (passes_of plan.0) k (suc last) start (other_content which a_new b_new) (last_content which a b) = goes_on_run version_one g (passes_of plan.0) k last start (last_content which a b) (other_content which a b) (other_content which a_new b_new) legal le before.runs told.0 in
+      let runs : RunsPasses version_two g (passes_of plan.0) k (suc last) start (other_content which a_new b_new) (last_content which a b) = goes_on_run version_two g (passes_of plan.0) k last start (last_content which a b) (other_content which a b) (other_content which a_new b_new) legal le before.runs told.0 in
       let back : last_content which a b ≡ other_content (other_last which) a_new b_new = sym step.kept ∙ sym (turned_other which a_new b_new) in
-      subst (RunsPasses version_one g (passes_of plan.0) k (suc last) start (last_content (other_last which) a_new b_new)) back
-      (subst (λ (c : List ℕ). RunsPasses version_one g (passes_of plan.0) k (suc last) start c (last_content which a b)) (sym (turned_last which a_new b_new)) runs)
+      subst (RunsPasses version_two g (passes_of plan.0) k (suc last) start (last_content (other_last which) a_new b_new)) back
+      (subst (λ (c : List ℕ). RunsPasses version_two g (passes_of plan.0) k (suc last) start c (last_content which a b)) (sym (turned_last which a_new b_new)) runs)
 
   counts_on : CountsPasses g (passes_of plan.0) k (suc last - k) start (evals + more) (one_more sum passed)
   counts_on =
@@ -117,7 +117,7 @@ module _ (g : Grammar) (plan : List (List ℕ) × Lists) (k last n : ℕ) (start
       let there : suc (last - k) ≡ suc last - k = omega arith in
       subst (λ n. CountsPasses g (passes_of plan.0) k n start (evals + more) (one_more sum passed)) there
       (counts_go_on g (passes_of plan.0) k (last - k) evals more start (last_content which a b) (other_content which a b) sum passed
-      (subst (λ n. RunsPasses version_one g (passes_of plan.0) k n start (last_content which a b) (other_content which a b)) (sym here) before.runs) before.counts
+      (subst (λ n. RunsPasses version_two g (passes_of plan.0) k n start (last_content which a b) (other_content which a b)) (sym here) before.runs) before.counts
       (subst (λ n. CountsPass g (passes_of plan.0) n (last_content which a b) passed.nodes more) (sym here) told.1) read written)
 
   held_on : k < suc last → HoldsTree g (passes_of plan.0) k start
@@ -144,7 +144,7 @@ pub all_refused : (g : Grammar) (plan : List (List ℕ) × Lists) (first last n 
 all_refused g plan first last n start a b which evals sum is positive le h f fault = elim (cases_lt (first - 1) last) [
   | inl some ↦ (
       let here : last ≡ n - 1 = omega arith in
-      refused_back g plan first n start (last_content which a b) (other_content which a b) (subst (λ j. RunsPasses version_one g (passes_of plan.0) (first - 1) j start (last_content which a b) (other_content which a b)) here h.runs) (h.held some) f fault)
+      refused_back g plan first n start (last_content which a b) (other_content which a b) (subst (λ j. RunsPasses version_two g (passes_of plan.0) (first - 1) j start (last_content which a b) (other_content which a b)) here h.runs) (h.held some) f fault)
   | inr none ↦ (
       let same : last ≡ first - 1 = omega arith in
       let here : n ≡ first = omega arith in

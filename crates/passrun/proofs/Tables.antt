@@ -8,9 +8,8 @@ use Rattle.ag_grammar.specs.grammars.AttributeGrammar.{Grammar}
 use Rattle.ag_grammar.specs.grammars.Passes.{Passes}
 use Rattle.ag_grammar.specs.grammars.Solution.{left_passes}
 use Rattle.treefile.specs.declared.body.Kind.TheVariants.{Node}
-use Rattle.treefile.specs.Records.{values_up_to}
-use Rattle.treefile.specs.TreeFile.{body_of}
-use Rattle.passrun.specs.Reading.{own_body}
+use Rattle.treefile.specs.Records.{values_up_to, node_body}
+use Rattle.treefile.specs.TreeFile.{body_of, version_two}
 use Rattle.passrun.specs.Places.{Table}
 use Rattle.passrun.specs.Change.{set, with_row}
 
@@ -75,8 +74,8 @@ in_row P k (x ∷ ps) f h zero p at le = let e : x ≡ p = cc in (value_has P x 
 in_row P k (x ∷ ps) f h (suc a) p at le = in_row P k ps (λ a. f (suc a)) (value_has P x k (f 0) (values_up_to k ps (λ a. f (suc a))) h).1 a p at le
 
 -- the same values of the passes so far make the same record
-pub body_same : (k : ℕ) (g : Grammar) (m : Passes) (p s : ℕ) (f h : ℕ → Value) → left_passes m (slice_get g.productions p) ≡ m s → ((a n : ℕ) → slice_get (m s) a ≡ Some n → n ≤ k → f a ≡ h a) → own_body g m k p f ≡ own_body g m k p h
-body_same k g m p s f h is same = ap (body_of Node p) (same_values k (left_passes m (slice_get g.productions p)) f h (λ a n at le. same a n (subst (λ ps. slice_get ps a ≡ Some n) is at) le))
+pub body_same : (k : ℕ) (g : Grammar) (m : Passes) (p s : ℕ) (f h : ℕ → Value) (cs : List Value) → left_passes m (slice_get g.productions p) ≡ m s → ((a n : ℕ) → slice_get (m s) a ≡ Some n → n ≤ k → f a ≡ h a) → node_body version_two g m k p f cs ≡ node_body version_two g m k p h cs
+body_same k g m p s f h cs is same = ap (λ vs. body_of Node p (vs ++ cs)) (same_values k (left_passes m (slice_get g.productions p)) f h (λ a n at le. same a n (subst (λ ps. slice_get ps a ≡ Some n) is at) le))
 
 -- the row of a token
 pub text_row : (k : ℕ) (text : List ℕ) → values_up_to k (0 ∷ []) (λ a. Text text) ≡ Text text ∷ []

@@ -1,46 +1,67 @@
 -- Where it shows that files by binary fractions are damaged, worked out.
-use Rattle.std.proofs.Common.{◌≡◌, ℕ, inl, inr, true, List, [], ◌∷◌, Some, None, Ok, refl, sym, subst, arith}
-use Rattle.treefile.specs.Awaited.{Breaks, root_to_come}
+use Rattle.std.proofs.Common.{◌≡◌, ℕ, inl, inr, true, pos, List, [], ◌∷◌, Some, None, Ok, slice_get, refl, ap, ◌∙◌, sym, subst, arith}
+use Rattle.std.proofs.lemmas.List.Elements.{All-nil}
+use Rattle.std.proofs.lemmas.Option.{same_Some}
+use Rattle.ag_value.specs.declared.value.Value.{Value, Num}
+use Rattle.ag_value.specs.Well.{IsWell}
+use Rattle.ag_grammar.specs.declared.grammar.Item.TheVariants as item
+use Rattle.ag_grammar.specs.declared.grammar.Production.{Production}
+use Rattle.treefile.specs.Awaited.{Breaks, IsNoRecord, IsNodeRecord, root_to_come}
 use Rattle.treefile.specs.Backward.{next_before}
 use Rattle.treefile.specs.Ending.{body_before, fits_before, is_tree_file}
-use Rattle.treefile.specs.TreeFile.{file, header, version_one}
-use Rattle.treefile.specs.Worked.{binary, binary_passes, pass_0_of_one}
-use Rattle.treefile.proofs.WorkedWay.{q_is_none}
+use Rattle.treefile.specs.TreeFile.{file, header, version_two}
+use Rattle.treefile.specs.Worked.{binary, binary_passes, copies_1_of_one, production_of}
+use Rattle.treefile.proofs.Spelled.{same_node}
+use Rattle.treefile.proofs.WorkedRecords.{binary_numbered, well_number}
 use Rattle.passrun.specs.Damage.{ShowsAt, fractions}
 
 pub empty : ShowsAt (fractions 0) [] 0
 unfolding is_tree_file
 empty = inl (refl, refl)
 
-one_begins : is_tree_file version_one pass_0_of_one ≡ true
+one_begins : is_tree_file version_two copies_1_of_one ≡ true
 unfolding is_tree_file
 one_begins = refl
 
-pub other_pass : ShowsAt (fractions 1) pass_0_of_one 4
-other_pass = inr (inl (one_begins, (λ is. let bad : ◌≡◌ {A = ℕ} 0 1 = is in omega (arith, bad)), refl))
+pub other_pass : ShowsAt (fractions 0) copies_1_of_one 4
+other_pass = inr (inl (one_begins, (λ is. let bad : ◌≡◌ {A = ℕ} 1 0 = is in omega (arith, bad)), refl))
 
-header_begins : is_tree_file version_one (header version_one 0) ≡ true
+header_begins : is_tree_file version_two (header version_two 0) ≡ true
 unfolding is_tree_file
 header_begins = refl
 
-before_header : next_before version_one (header version_one 0) 6 ≡ Ok None
+before_header : next_before version_two (header version_two 0) 6 ≡ Ok None
 unfolding next_before
 before_header = refl
 
-pub header_alone : ShowsAt (fractions 0) (header version_one 0) 6
-header_alone = inr (inr (record { begins = header_begins; number = refl }, (root_to_come binary, record { bodies = []; read = refl; records = refl }, subst (Breaks version_one binary binary_passes 0 (root_to_come binary)) (sym before_header) tt)))
+pub header_alone : ShowsAt (fractions 0) (header version_two 0) 6
+header_alone = inr (inr (record { begins = header_begins; number = refl }, (root_to_come binary, record { bodies = []; read = refl; records = refl }, subst (Breaks version_two binary binary_passes 0 (root_to_come binary)) (sym before_header) tt)))
+
+-- Q's record is none of N
+abbrev numbers : ℕ → Value
+numbers a = Num (pos 65536)
+
+q_record : IsNodeRecord version_two binary binary_passes 0 1 (0 ∷ 0 ∷ 1 ∷ []) 1 (production_of 1 []) numbers
+q_record = record { production = refl; left = refl; well = λ a n has le. well_number 65536 (omega arith); copies = []; are_copies = (refl, All-nil IsWell); stands = refl }
+
+q_is_none : IsNoRecord version_two binary binary_passes 0 (item.Symbol 0, None) (0 ∷ 0 ∷ 1 ∷ [])
+q_is_none ys is =
+    let one = same_node version_two binary binary_passes 0 0 1 is.0 1 (0 ∷ 0 ∷ 1 ∷ []) is.1 (production_of 1 []) is.2 numbers binary_numbered is.3 q_record in
+    let same : is.1 ≡ production_of 1 [] = same_Some is.1 (production_of 1 []) (sym is.3.production ∙ ap (slice_get binary.productions) one.0) in
+    let left : ◌≡◌ {A = ℕ} 0 1 = sym is.3.left ∙ ap (λ (q : Production). q.left) same in
+    omega (arith, left)
 
 -- the file of Q's record alone
 abbrev q_file : List ℕ
-q_file = file version_one 0 ((0 ∷ 0 ∷ 1 ∷ []) ∷ [])
+q_file = file version_two 0 ((0 ∷ 0 ∷ 1 ∷ []) ∷ [])
 
-q_begins : is_tree_file version_one q_file ≡ true
+q_begins : is_tree_file version_two q_file ≡ true
 unfolding is_tree_file
 q_begins = refl
 
-q_at_end : next_before version_one q_file 13 ≡ Ok (Some (0 ∷ 0 ∷ 1 ∷ []))
+q_at_end : next_before version_two q_file 13 ≡ Ok (Some (0 ∷ 0 ∷ 1 ∷ []))
 unfolding next_before body_before fits_before
 q_at_end = refl
 
-pub q_alone : ShowsAt (fractions 0) (file version_one 0 ((0 ∷ 0 ∷ 1 ∷ []) ∷ [])) 13
-q_alone = inr (inr (record { begins = q_begins; number = refl }, (root_to_come binary, record { bodies = []; read = refl; records = refl }, subst (Breaks version_one binary binary_passes 0 (root_to_come binary)) (sym q_at_end) q_is_none)))
+pub q_alone : ShowsAt (fractions 0) (file version_two 0 ((0 ∷ 0 ∷ 1 ∷ []) ∷ [])) 13
+q_alone = inr (inr (record { begins = q_begins; number = refl }, (root_to_come binary, record { bodies = []; read = refl; records = refl }, subst (Breaks version_two binary binary_passes 0 (root_to_come binary)) (sym q_at_end) q_is_none)))

@@ -24,7 +24,8 @@ use Rattle.passrun.specs.Working.{all_of, bulk, going, left_of, work}
 use Rattle.passrun.proofs.Facts.{put_stays, waits_stay}
 use Rattle.passrun.proofs.Going.{child_of}
 use Rattle.passrun.proofs.Stays.{between_stays}
-use Rattle.passrun.proofs.Steps.{next_is, stepped}
+use Rattle.passrun.specs.Nodes.{left_at, stepped}
+use Rattle.passrun.proofs.Steps.{next_is}
 use Rattle.passrun.proofs.Turning.{popped}
 
 -- no list is longer than all
@@ -58,10 +59,10 @@ one_less b n h = let e : n ≡ suc (n - 1) = omega arith in ap (λ n. b * n) e �
     mul_suc b n = omega arith
 
 module _ (c : Setting) (sound : IsSound c) where
-  pub got_less : (m : Machine) (back : Place) (values : Vec Value) (honest : Bool) (content : List ℕ) (x next : OpenNode) (j p n : ℕ) (x' : Item)
-      → slice_get (list_at c x.production) x.at ≡ Some (instr.Get j) → HasFetched c x' p n honest content m.back back m.values.items values.items → next ≡ stepped x p
+  pub got_less : (m : Machine) (back : Place) (values : Vec Value) (read : List Value) (honest : Bool) (content : List ℕ) (x next : OpenNode) (j p n : ℕ) (x' : Item)
+      → slice_get (list_at c x.production) x.at ≡ Some (instr.Get j) → HasFetched c x' p n honest content m.back back m.values.items read → next ≡ stepped x p
       → work c (record { back = back; writer = m.writer; values = values; waiting = m.waiting; root = m.root; begun = m.begun }) (Some next) < work c m (Some x)
-  got_less m back values honest content x next j p n x' at h on =
+  got_less m back values read honest content x next j p n x' at h on =
       let r = ap (λ g. g.records) h.progress in
       let few = h.few in
       let l = fewer c x (instr.Get j) at in
@@ -77,7 +78,7 @@ module _ (c : Setting) (sound : IsSound c) where
   put_less m out x next j (honest, content, to_honest, to, meter, r) at on =
       let l = fewer c x (instr.Put j) at in
       let k = ap (λ next. length (rest_of c next)) on in
-      let g = going_none c next (ap (λ next. goes_next (rest_of c next)) on ∙ put_stays c sound m.root x (reverse m.waiting.items) m.values.items r.running.tapes (meter - m.begun) j at r.running.passing) in
+      let g = going_none c next (ap (λ next. goes_next (rest_of c next)) on ∙ put_stays c sound m.root x (reverse m.waiting.items) m.values.items r.running.tapes (meter - m.begun) r.running.todo j at r.running.passing) in
       omega arith
 
   pub given_less : (m : Machine) (values : Vec Value) (x next : OpenNode) (rule : ℕ) → GivesNext c x rule → next ≡ stepped x x.child
@@ -94,24 +95,24 @@ module _ (c : Setting) (sound : IsSound c) where
       go z (inr e) = ap (λ z. goes_next (z ∷ drop (x.at + 1) (list_at c x.production))) (sym e.0)
 
   pub entered_less : (m : Machine) (waiting : Vec OpenNode) (x child : OpenNode) (j : ℕ) → RunsSomehow c m (Some x) → slice_get (list_at c x.production) x.at ≡ Some (instr.Go j)
-      → child.production ≡ x.child → child.at ≡ 0 → waiting.items ≡ m.waiting.items ++ stepped x x.child ∷ []
+      → child.production ≡ x.child → child.at ≡ 0 → waiting.items ≡ m.waiting.items ++ left_at x j ∷ []
       → work c (record { back = m.back; writer = m.writer; values = m.values; waiting = waiting; root = m.root; begun = m.begun }) (Some child) < work c m (Some x)
   entered_less m waiting x child j (honest, content, to_honest, to, meter, r) at is first pushed =
       let l = fewer c x (instr.Go j) at in
-      let stack : reverse waiting.items ≡ stepped x x.child ∷ reverse m.waiting.items = ap reverse pushed ∙ reverse-append m.waiting.items (stepped x x.child ∷ []) in
+      let stack : reverse waiting.items ≡ left_at x j ∷ reverse m.waiting.items = ap reverse pushed ∙ reverse-append m.waiting.items (left_at x j ∷ []) in
       let n = ap (left_of c) stack in
       let here : going c (Some x) ≡ bulk c = ap (λ xs. if goes_next xs then bulk c else 0) (next_is (list_at c x.production) x.at (instr.Go j) at) in
-      let h = child_of c sound x (reverse m.waiting.items) m.values.items j at (m.root, r.running.tapes, meter - m.begun, r.running.passing) in
+      let h = child_of c sound x (reverse m.waiting.items) m.values.items j at (m.root, r.running.tapes, meter - m.begun, r.running.todo, r.running.passing) in
       let rest : rest_of c child ≡ list_at c x.child = ap (λ p. drop child.at (list_at c p)) is ∙ ap (λ n. drop n (list_at c x.child)) first in
       let g = going_none c child (ap goes_next rest ∙ between_stays c h.production 0 [] (list_at c x.child) (sound.course x.child h.production h.there)) in
       let w = list_within c.code x.child c.read in
       let k = ap length rest in
       omega arith
 
-  pub ended_less : (m : Machine) (values : Vec Value) (waiting : Vec OpenNode) (x : OpenNode) (result : Option OpenNode) → RunsSomehow c m (Some x)
+  pub ended_less : (m : Machine) (values : Vec Value) (waiting : Vec OpenNode) (out : writing.Progress) (x : OpenNode) (result : Option OpenNode) → RunsSomehow c m (Some x)
       → m.waiting.items ≡ waiting.items ++ option_to_list result → (result ≡ None → length m.waiting.items ≡ 0)
-      → work c (record { back = m.back; writer = m.writer; values = values; waiting = waiting; root = m.root; begun = m.begun }) result < work c m (Some x)
-  ended_less m values waiting x result (honest, content, to_honest, to, meter, r) popped_is none =
+      → work c (record { back = m.back; writer = out; values = values; waiting = waiting; root = m.root; begun = m.begun }) result < work c m (Some x)
+  ended_less m values waiting out x result (honest, content, to_honest, to, meter, r) popped_is none =
       let stack = popped result m.waiting.items waiting.items popped_is none in
       let n = ap (left_of c) stack in
       let g = stays result stack in
@@ -119,4 +120,4 @@ module _ (c : Setting) (sound : IsSound c) where
     where
       stays : (result : Option OpenNode) → reverse m.waiting.items ≡ stack_of result waiting.items → going c result ≡ 0
       stays None e = refl
-      stays (Some y) e = going_none c y (waits_stay c sound m.root x (reverse m.waiting.items) m.values.items r.running.tapes (meter - m.begun) y (reverse waiting.items) e r.running.passing)
+      stays (Some y) e = going_none c y (waits_stay c sound m.root x (reverse m.waiting.items) m.values.items r.running.tapes (meter - m.begun) r.running.todo y (reverse waiting.items) e r.running.passing)

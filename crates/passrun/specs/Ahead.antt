@@ -1,19 +1,18 @@
--- What the open nodes are still to get, told by their lists of instructions. All of this is this project's.
-use Rattle.std.specs.Prelude.{ℕ, suc, Bool, true, false, if◌then◌else◌, List, [], ◌∷◌, Option, Some, None, length, slice_get}
-use Rattle.ag_grammar.specs.declared.grammar.Item.{Item}
+-- What the open nodes are still to get. All of this is this project's.
+use Rattle.std.specs.Prelude.{ℕ, suc, Bool, true, false, List, [], ◌∷◌, Option, Some, None, slice_get}
 use Rattle.ag_grammar.specs.declared.grammar.Production.{Production}
-use Rattle.ag_grammar.specs.grammars.AttributeGrammar.{item_at}
+use Rattle.ag_grammar.specs.grammars.AttributeGrammar.{stored_items}
 use Rattle.ag_grammar.specs.grammars.Tree.{most_depth, most_nodes}
-use Rattle.treefile.specs.TreeFile.{version_one}
-use Rattle.treefile.specs.Awaited.{HasNoTreeWithin, ToCome}
+use Rattle.treefile.specs.TreeFile.{version_two}
+use Rattle.treefile.specs.Awaited.{Child, HasNoTreeWithin, ToCome, before_others, told, unvisited}
 use Rattle.passcode.specs.declared.instr.Instr.{Instr}
 use Rattle.passcode.specs.declared.instr.Instr.TheVariants as instr
-use Rattle.planchecker.specs.Settings.{Setting, list_at}
-use Rattle.passrun.specs.declared.open_node.OpenNode.{OpenNode}
+use Rattle.planchecker.specs.Course.{Phase, Between, Got, Gone}
+use Rattle.planchecker.specs.Settings.{Setting, way}
 use Rattle.passrun.specs.declared.run_fault.RunFault.{RunFault}
 use Rattle.passrun.specs.declared.run_fault.RunFault.TheVariants as fault
 use Rattle.passrun.specs.Damage.{IsDamaged}
-use Rattle.passrun.specs.Places.{rest_of}
+use Rattle.passrun.specs.Places.{Table, copies, in_children}
 
 -- behind rules that are run the pass goes into a child: its record was read, and the pass wasn't in it yet
 abbrev pub goes_next : List Instr → Bool
@@ -25,42 +24,31 @@ goes_next (instr.Put j ∷ xs) = false
 goes_next (instr.Def a r ∷ xs) = goes_next xs
 goes_next (instr.End ∷ xs) = false
 
--- an item of a level in front of others, where there is one
-abbrev pub in_front : ℕ → Option Item → ToCome → ToCome
-in_front level None others = others
-in_front level (Some x) others = (level, (x, None)) ∷ others
+-- the children of a node, with what its record tells of them where the table has its copies
+abbrev pub children_of : Setting → Production → Table → List Child
+children_of c q e = told true c.grammar c.passes c.read (stored_items q.items) (copies c c.read (stored_items q.items) (in_children e))
 
--- the items that a list of instructions of a production is still to get, before others
-abbrev pub asked : Production → ℕ → List Instr → ToCome → ToCome
-asked q level [] others = others
-asked q level (instr.Get j ∷ xs) others = in_front level (item_at q j) (asked q level xs others)
-asked q level (instr.Set j a r ∷ xs) others = asked q level xs others
-asked q level (instr.Go j ∷ xs) others = asked q level xs others
-asked q level (instr.Put j ∷ xs) others = asked q level xs others
-asked q level (instr.Def a r ∷ xs) others = asked q level xs others
-asked q level (instr.End ∷ xs) others = others
+-- those that are still to come where n were got, at a level, before others
+abbrev pub behind : Setting → Production → Table → (n level : ℕ) → ToCome → ToCome
+behind c q e n level others = before_others (way c) level (unvisited (way c) (children_of c q e) n) others
 
-abbrev pub asked_in : Option Production → ℕ → List Instr → ToCome → ToCome
-asked_in None level xs others = others
-asked_in (Some q) level xs others = asked q level xs others
+-- all those of a node whose record was read last
+abbrev pub of_node : Setting → Option Production → Table → (level : ℕ) → ToCome → ToCome
+of_node c None e level others = others
+of_node c (Some q) e level others = behind c q e 0 level others
 
--- those of each open node, the innermost first; a node's children are one level below it
-abbrev pub ahead : Setting → List OpenNode → ToCome
-ahead c [] = []
-ahead c (x ∷ xs) = asked_in (slice_get c.grammar.productions x.production) (suc (suc (length xs))) (rest_of c x) (ahead c xs)
-
--- Before these the children of the child whose record was read, where the pass goes into it next.
-abbrev pub to_come : Setting → List OpenNode → ToCome
-to_come c [] = []
-to_come c (x ∷ xs) =
-    if goes_next (rest_of c x) then asked_in (slice_get c.grammar.productions x.child) (suc (suc (suc (length xs)))) (list_at c x.child) (ahead c (x ∷ xs)) else ahead c (x ∷ xs)
+-- What is to come at an open node: its children that were not got; before these those of the child whose record was read last.
+abbrev pub coming : Setting → Production → Phase → (i child : ℕ) → Table → Table → (level : ℕ) → ToCome → ToCome
+coming c q Between i child e of_child level others = behind c q e i level others
+coming c q Got i child e of_child level others = of_node c (slice_get c.grammar.productions child) of_child (suc level) (behind c q e (suc i) level others)
+coming c q Gone i child e of_child level others = behind c q e (suc i) level others
 
 -- R1: the content is the file of no tree, and it shows at the offset. P2 and P3: it is that of none within the limits. The other
 -- refusals say nothing of it.
 abbrev pub IsRunFault : Setting → List ℕ → RunFault → Type 0
 IsRunFault c content (fault.Damaged at) = IsDamaged c content at
-IsRunFault c content fault.TooDeep = HasNoTreeWithin most_depth most_nodes version_one c.grammar c.passes c.read content
-IsRunFault c content fault.TooManyNodes = HasNoTreeWithin most_depth most_nodes version_one c.grammar c.passes c.read content
+IsRunFault c content fault.TooDeep = HasNoTreeWithin most_depth most_nodes version_two c.grammar c.passes c.read content
+IsRunFault c content fault.TooManyNodes = HasNoTreeWithin most_depth most_nodes version_two c.grammar c.passes c.read content
 IsRunFault c content fault.Device = Unit {0}
 IsRunFault c content fault.NoMemory = Unit {0}
 

@@ -11,7 +11,7 @@ set e j a v i b = cond (nat_eq i j && nat_eq b a) v (e i b)
 abbrev pub with_row : Table → ℕ → (ℕ → Value) → Table
 with_row e j f i = cond (nat_eq i j) f (e i)
 
--- the table of a node none of whose children is known
-abbrev pub alone : (ℕ → Value) → Table
-alone f zero = f
-alone f (suc j) = f
+-- the table of a node with its own values and those of its children
+abbrev pub over : (ℕ → Value) → Table → Table
+over f s zero = f
+over f s (suc j) = s (suc j)

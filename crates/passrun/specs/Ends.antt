@@ -5,10 +5,6 @@ use Rattle.passrun.specs.declared.machine.Machine.{Machine}
 use Rattle.passrun.specs.declared.open_node.OpenNode.{OpenNode}
 use Rattle.passrun.specs.Running.{Runs}
 
--- a node of a production whose record was read, and that nothing was done in yet
-abbrev pub first_node : ℕ → OpenNode
-first_node p = record { production = p; child = 0; at = 0; base = 0 }
-
 -- a machine runs between two devices, whatever the meter is
 abbrev pub RunsBetween : Setting → Bool → List ℕ → Bool → List ℕ → Machine → Option OpenNode → Type 0
 RunsBetween c honest content to_honest to m next = (meter : ℕ) × Runs c honest content to_honest to meter m next

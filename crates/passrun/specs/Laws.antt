@@ -13,7 +13,7 @@ use Rattle.planchecker.specs.Plans.{IsPlan}
 use Rattle.planchecker.specs.Settings.{Setting, setting_of}
 use Rattle.treefile.specs.Records.{IsFileOfTree}
 use Rattle.treefile.specs.Runs.{RunsPass}
-use Rattle.treefile.specs.TreeFile.{version_one}
+use Rattle.treefile.specs.TreeFile.{version_two}
 use Rattle.passrun.specs.declared.ends.Passed.{Passed}
 use Rattle.passrun.specs.declared.job.Job.{Job}
 use Rattle.passrun.specs.declared.last.Last.{Last}
@@ -34,25 +34,25 @@ ShowsOnce = (c : Setting) (content : List ℕ) (at there : ℕ) → IsAccepted c
 
 -- Pass k + 1 counted so over whichever tree has the content as its file of pass k.
 abbrev pub CountsPass : Grammar → Passes → ℕ → (from : List ℕ) → (count evals : ℕ) → Type 0
-CountsPass g m k from count evals = (t : Tree) (u : Valuation) → IsTreeOf g t → IsFileOfTree version_one g m k t u from → (count ≡ node_count t) × (evals ≡ rules_of_pass m (suc k) g t)
+CountsPass g m k from count evals = (t : Tree) (u : Valuation) → IsTreeOf g t → IsFileOfTree version_two g m k t u from → (count ≡ node_count t) × (evals ≡ rules_of_pass m (suc k) g t)
 
 -- What a pass tells of some tree is so of whichever tree has the file that it read: there is only one.
 abbrev pub PassesAreTold : Type 0
 PassesAreTold =
     (g : Grammar) (plan : List (List ℕ) × Lists) (k : ℕ) (from to : List ℕ) (count evals : ℕ) → IsAccepted g → IsLegal g (passes_of plan.0) → 1 ≤ k
-    → IsPassed (setting_of g plan k) from to count evals → RunsPass version_one g (passes_of plan.0) (k - 1) from to × CountsPass g (passes_of plan.0) (k - 1) from count evals
+    → IsPassed (setting_of g plan k) from to count evals → RunsPass version_two g (passes_of plan.0) (k - 1) from to × CountsPass g (passes_of plan.0) (k - 1) from count evals
 
 -- All passes from the first one on evaluate the rules of the tree, each once.
 abbrev pub AllRulesAreRun : Type 0
 AllRulesAreRun =
     (g : Grammar) (m : Passes) (last : ℕ) (start : List ℕ) (which : Last) (a b : List ℕ) (evals : ℕ) (sum : Passed) → IsAccepted g → IsLegal g m → IsLastPass last m
-    → HasRunAll g m 0 last start which a b evals sum → (t : Tree) (u : Valuation) → IsTreeOf g t → IsFileOfTree version_one g m 0 t u start → evals ≡ rules_of g t
+    → HasRunAll g m 0 last start which a b evals sum → (t : Tree) (u : Valuation) → IsTreeOf g t → IsFileOfTree version_two g m 0 t u start → evals ≡ rules_of g t
 
 -- The values that they leave meet all equations, and no others do.
 abbrev pub ValuesAreTheSolution : Type 0
 ValuesAreTheSolution =
     (g : Grammar) (m : Passes) (last : ℕ) (start : List ℕ) (which : Last) (a b : List ℕ) (evals : ℕ) (sum : Passed) → IsAccepted g → IsLegal g m → IsLastPass last m
-    → (h : HasRunAll g m 0 last start which a b evals sum) (t : Tree) (u : Valuation) (tree : IsTreeOf g t) (file : IsFileOfTree version_one g m 0 t u start) → IsTheSolution g m t (h.runs t u tree file).values
+    → (h : HasRunAll g m 0 last start which a b evals sum) (t : Tree) (u : Valuation) (tree : IsTreeOf g t) (file : IsFileOfTree version_two g m 0 t u start) → IsTheSolution g m t (h.runs t u tree file).values
 
 -- The greatest number of the rows of an assignment is its last pass.
 abbrev pub GreatestIsLast : Type 0

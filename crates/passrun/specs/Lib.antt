@@ -13,6 +13,7 @@ pub mod Layouts
 pub mod Jobs
 pub mod Working
 pub mod Ends
+pub mod Nodes
 pub mod Damage
 pub mod Ahead
 pub mod Laid

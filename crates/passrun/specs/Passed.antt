@@ -7,15 +7,15 @@ use Rattle.ag_value.specs.Well.{IsWell}
 use Rattle.ag_grammar.specs.grammars.Solution.{Valuation, Solves, OfPass}
 use Rattle.ag_grammar.specs.grammars.Tree.{Tree, IsTreeOf, IsWithinLimits, node_count, most_depth, most_nodes}
 use Rattle.ag_grammar.specs.grammars.Counts.{rules_of_pass}
+use Rattle.treefile.specs.Awaited.{ToCome}
 use Rattle.treefile.specs.Backward.{ReadsTo}
 use Rattle.treefile.specs.Device.{WhenHonest}
 use Rattle.treefile.specs.Records.{IsFileOfTree}
-use Rattle.treefile.specs.TreeFile.{frame, header, version_one}
+use Rattle.treefile.specs.TreeFile.{frame, header, version_two}
 use Rattle.treefile.specs.Writing as writing
 use Rattle.backreader.specs.Place.{IsOver, Place}
 use Rattle.planchecker.specs.Settings.{Setting}
 use Rattle.passrun.specs.declared.open_node.OpenNode.{OpenNode}
-use Rattle.passrun.specs.Ahead.{to_come}
 use Rattle.passrun.specs.Damage.{AreRecords, IsReadable}
 use Rattle.passrun.specs.Passing.{Passing, Tapes}
 
@@ -26,26 +26,27 @@ pub record IsPassed (c : Setting) (content to : List ℕ) (count evals : ℕ) : 
   pub tree : Tree
   pub values : Valuation
   pub fits : IsTreeOf c.grammar tree
-  pub from : IsFileOfTree version_one c.grammar c.passes c.read tree values content
-  pub written : IsFileOfTree version_one c.grammar c.passes c.write tree values to
+  pub from : IsFileOfTree version_two c.grammar c.passes c.read tree values content
+  pub written : IsFileOfTree version_two c.grammar c.passes c.write tree values to
   pub solved : Solves (OfPass c.passes c.write) c.grammar tree values
   pub limits : IsWithinLimits most_depth most_nodes tree
   pub nodes : count ≡ node_count tree
   pub rules : evals ≡ rules_of_pass c.passes c.write c.grammar tree
 
 -- A pass runs between two devices: what it has read and put is what the reader and the writer have. What was read are records of
--- the grammar at their places, and these open nodes tell what is still to come.
+-- the grammar at their places, and of the open nodes these trees are still to come.
 pub record IsRunning (c : Setting) (root : ℕ) (honest : Bool) (content : List ℕ) (to_honest : Bool) (to : List ℕ) (place : Place) (out : writing.Progress) (values : List Value) (stack : List OpenNode) (evals : ℕ) : Type 0 where
   pub tapes : Tapes
-  pub passing : Passing c root stack values tapes evals
+  pub todo : ToCome
+  pub passing : Passing c root stack values tapes evals todo
   pub over : WhenHonest honest (IsOver content place)
-  pub read : WhenHonest honest (ReadsTo version_one content (length content) tapes.read place.progress.at)
+  pub read : WhenHonest honest (ReadsTo version_two content (length content) tapes.read place.progress.at)
   pub records : place.progress.records ≡ length tapes.read
   pub few : length tapes.read ≤ most_nodes
-  pub put : WhenHonest to_honest (to ≡ header version_one c.write ++ flat_map frame tapes.put)
+  pub put : WhenHonest to_honest (to ≡ header version_two c.write ++ flat_map frame tapes.put)
   pub written : out.written ≡ length tapes.put
   pub unbroken : place.progress.fault ≡ None
   pub whole : out.is_broken ≡ false
   pub well : All IsWell values
   pub readable : WhenHonest honest (IsReadable c content)
-  pub ahead : AreRecords c tapes.read (to_come c stack)
+  pub ahead : AreRecords c tapes.read todo

@@ -9,7 +9,7 @@ use Rattle.ag_grammar.specs.grammars.Tree.{Tree, IsTreeOf, IsWithinLimits, most_
 use Rattle.treefile.specs.Beginning.{LeavesBeginning}
 use Rattle.treefile.specs.Records.{IsFileOfTree}
 use Rattle.treefile.specs.Runs.{RunsPasses}
-use Rattle.treefile.specs.TreeFile.{version_one}
+use Rattle.treefile.specs.TreeFile.{version_two}
 use Rattle.planchecker.specs.Settings.{Setting}
 use Rattle.passrun.specs.declared.ends.Passed.{Passed}
 use Rattle.passrun.specs.declared.last.Last.{Last}
@@ -51,7 +51,7 @@ pub record HasCounted (g : Grammar) (m : Passes) (t : Tree) (k count evals : ℕ
 
 -- they counted so over whichever tree has the start as its file of pass k
 abbrev pub CountsPasses : Grammar → Passes → (k count : ℕ) → (start : List ℕ) → (evals : ℕ) → Passed → Type 0
-CountsPasses g m k count start evals sum = (t : Tree) (u : Valuation) → IsTreeOf g t → IsFileOfTree version_one g m k t u start → HasCounted g m t k count evals sum
+CountsPasses g m k count start evals sum = (t : Tree) (u : Valuation) → IsTreeOf g t → IsFileOfTree version_two g m k t u start → HasCounted g m t k count evals sum
 
 -- A content is the file of pass k of a tree of the grammar within the limits, with some values.
 pub record HoldsTree (g : Grammar) (m : Passes) (k : ℕ) (content : List ℕ) : Type 0 where
@@ -59,13 +59,13 @@ pub record HoldsTree (g : Grammar) (m : Passes) (k : ℕ) (content : List ℕ) :
   pub values : Valuation
   pub is_tree : IsTreeOf g tree
   pub within : IsWithinLimits most_depth most_nodes tree
-  pub file : IsFileOfTree version_one g m k tree values content
+  pub file : IsFileOfTree version_two g m k tree values content
 
 -- All passes behind pass k ran, up to the last one. They left two contents: that of the device that has the last file, and that of
 -- the other. They counted so. Where one ran, the start is the file of a tree within the limits; where none did, it is the last file, and
 -- still on the first device, and nothing was counted.
 pub record HasRunAll (g : Grammar) (m : Passes) (k last : ℕ) (start : List ℕ) (which : Last) (a b : List ℕ) (evals : ℕ) (sum : Passed) : Type 0 where
-  pub runs : RunsPasses version_one g m k last start (last_content which a b) (other_content which a b)
+  pub runs : RunsPasses version_two g m k last start (last_content which a b) (other_content which a b)
   pub counts : CountsPasses g m k (last - k) start evals sum
   pub held : k < last → HoldsTree g m k start
   pub fresh : last ≡ k → last_content which a b ≡ start
@@ -78,5 +78,5 @@ pub record LeavesRound (g : Grammar) (m : Passes) (k : ℕ) (start a b : List �
   pub which : Last
   pub before : List ℕ
   pub far : k ≤ done
-  pub runs : RunsPasses version_one g m k done start (last_content which a b) before
+  pub runs : RunsPasses version_two g m k done start (last_content which a b) before
   pub left : LeavesBeginning (done + 1) before (other_content which a b)

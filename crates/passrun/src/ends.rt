@@ -4,26 +4,27 @@ ghost use Rattle.std.specs.Prelude.{◌≡◌, ◌⊎◌, ◌-◌, ◌^◌, ◌�
 ghost use Rattle.std.specs.Prelude.{OnErr, OnOk};
 ghost use Rattle.ag_grammar.specs.grammars.Tree.{most_nodes};
 ghost use Rattle.passrun.specs.Ahead.{IsRunFault};
-ghost use Rattle.passrun.specs.Ends.{RunsBetween, first_node};
+ghost use Rattle.passrun.specs.Ends.{RunsBetween};
+ghost use Rattle.passrun.specs.Nodes.{first_at};
 ghost use Rattle.passrun.specs.Jobs.{CanRun, setting};
 ghost use Rattle.passrun.specs.Passed.{IsPassed};
 ghost use Rattle.passrun.specs.Putting.{LeavesFrames};
 ghost use Rattle.passrun.specs.Running.{Runs};
 ghost use Rattle.treefile.specs.Beginning.{LeavesBeginning};
 ghost use Rattle.treefile.specs.Device.{HasRisen, LeavesContent, Persists, WhenHonest};
-ghost use Rattle.treefile.specs.TreeFile.{header, version_one};
+ghost use Rattle.treefile.specs.TreeFile.{header, version_two};
 
 use crate::fetching::fetch;
 use crate::job::Job;
 use crate::machine::Machine;
 use crate::open_node::OpenNode;
-use crate::putting::put_row;
+use crate::putting::put_record;
 use crate::run_fault::RunFault;
 use ag_eval::Meter;
 use ag_grammar::Item;
 use backreader::Back;
 use std::alloc::Global;
-use treefile::{Device, Writer};
+use treefile::{Device, Kind, Writer};
 
 /// The offset in bytes of the number of the pass in a header.
 const PASS_OFFSET: u64 = 4;
@@ -51,9 +52,9 @@ pub(crate) fn begin<D: Device, E: Device>(
     requires meter { meter.now ≤ 2 ^ 63 }
     ensures runs { IfOk result (λ m. Runs (setting job.now)
         (D.is_honest from.new) (D.content from.new)
-        (E.is_honest to.new) (E.content to.new) meter.now m (Some (first_node m.root))) }
+        (E.is_honest to.new) (E.content to.new) meter.now m (Some (first_at m.root 0))) }
     ensures header { OnOk result (WhenHonest (E.is_honest to.old)
-        (E.content to.new ≡ header version_one (setting job.now).write)) }
+        (E.content to.new ≡ header version_two (setting job.now).write)) }
     // what the second device had, or a beginning of the file
     ensures left { OnErr result (WhenHonest (E.is_honest to.old)
         (LeavesBeginning (setting job.now).write (E.content to.old) (E.content to.new))) }
@@ -122,10 +123,8 @@ pub(crate) fn finish<D: Device, E: Device>(
         HasRisen (D.failures from.old) (D.failures from.new)
         ⊎ HasRisen (E.failures to.old) (E.failures to.new) }
 {
-    let start = Item::Symbol(job.grammar.start());
     let values = machine.values.as_slice();
-    let row = job.place_of(start);
-    put_row(row, machine.root, values, &mut machine.writer, to)?;
+    put_record(Kind::Node, machine.root, values, &mut machine.writer, to)?;
     let end = machine.back.end();
     if machine.back.back(from)?.is_some() {
         return Err(RunFault::Damaged(end));

@@ -3,7 +3,7 @@
 ghost use Rattle.std.specs.Prelude.{◌≡◌, ◌≤◌, None, IfErr, IfOk, IsErrOf};
 ghost use Rattle.backreader.specs.Place.{IsOver};
 ghost use Rattle.passrun.specs.Fetching.{HasFetched, IsUnfetched};
-ghost use Rattle.passrun.specs.Jobs.{setting};
+ghost use Rattle.passrun.specs.Jobs.{CanRun, setting};
 ghost use Rattle.treefile.specs.Device.{LeavesContent, Persists, WhenHonest};
 
 use crate::job::Job;
@@ -28,7 +28,7 @@ pub(crate) fn fetch<D: Device>(
     values: &mut Vec<Value>,
     from: &mut D,
 ) -> Result<u16, RunFault>
-    requires pass { 1 ≤ job.now.pass }
+    requires job { CanRun job.now }
     requires over { WhenHonest (D.is_honest from.old) (IsOver (D.content from.old) back.old) }
     requires unbroken { back.old.progress.fault ≡ None }
     ensures fetched { IfOk result (λ p. HasFetched (setting job.now) item p open_count
@@ -51,7 +51,7 @@ pub(crate) fn fetch<D: Device>(
     let Some(body) = back.back(from)? else {
         return Err(RunFault::Damaged(end));
     };
-    match read_record(alloc, job.grammar, job.plan, job.pass, item, body, values) {
+    match read_record(alloc, job, item, body, values) {
         Ok(number) => Ok(number),
         Err(RecordFault::Damaged) => Err(RunFault::Damaged(end)),
         Err(RecordFault::NoMemory) => Err(RunFault::NoMemory),

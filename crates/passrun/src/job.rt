@@ -1,18 +1,18 @@
 //! What a pass works by, and what it asks of it at each instruction.
 
-ghost use Rattle.std.specs.Prelude.{◌≡◌, ◌<◌, ◌≤◌, ◌+◌, ◌-◌, ◌^◌, IfSome, Some, length, slice_get};
-ghost use Rattle.std.specs.Option.{option_map};
+ghost use Rattle.std.specs.Prelude.{◌≡◌, ◌<◌, ◌≤◌, ◌+◌, ◌-◌, ◌^◌, Some, length, slice_get};
 ghost use Rattle.ag_grammar.specs.declared.grammar.Production.{Production};
-ghost use Rattle.ag_grammar.specs.grammars.AttributeGrammar.{item_at, IsProduction};
+ghost use Rattle.ag_grammar.specs.grammars.AttributeGrammar.{IsProduction};
 ghost use Rattle.passrun.specs.Jobs.{CanRun, setting};
 ghost use Rattle.passrun.specs.Layouts.{IsRowOf};
-ghost use Rattle.passrun.specs.Putting.{item_width};
+ghost use Rattle.passrun.specs.Laid.{place_rows};
+ghost use Rattle.passrun.specs.Places.{copied_passes};
+ghost use Rattle.passrun.specs.Slots.{stored_width};
 ghost use Rattle.planchecker.specs.Settings.{list_at};
-ghost use Rattle.treefile.specs.Listed.{count_up_to};
 
 use crate::laying::{Layout, PlaceRow, ProductionRow};
 use crate::open_node::OpenNode;
-use crate::rows::width;
+use crate::rows::copied_passes;
 use ag_grammar::{Grammar, Item};
 use passcode::Instr;
 use planchecker::Plan;
@@ -71,37 +71,31 @@ impl Job<'_> {
         unreachable!()
     }
 
-    /// What stands at a place of a production, with the width of its row.
+    /// What stands at a place of a production, with the copies of its values.
     pub(crate) fn place(&self, production: u16, place: u16) -> Option<PlaceRow>
         requires job { CanRun self.now }
         requires there { production < length self.now.grammar.now.productions }
-        ensures item { (q : Production) → IsProduction self.now.grammar.now production q →
-            option_map (λ r. r.item) result ≡ item_at q place }
-        ensures width { IfSome result (λ r. r.width ≡ item_width (setting self.now) r.item) }
+        ensures { (q : Production) → IsProduction self.now.grammar.now production q →
+            result ≡ slice_get (place_rows (setting self.now) q) place }
     {
         let row = self.row(production);
         row.places.as_slice().get(place as usize).copied()
     }
 
     /// How many values the row of a node of a production has.
-    pub(crate) fn own_width(&self, production: u16) -> usize
+    pub(crate) fn width(&self, production: u16) -> usize
         requires job { CanRun self.now }
         requires there { production < length self.now.grammar.now.productions }
         ensures { (q : Production) → IsProduction self.now.grammar.now production q →
-            result ≡ count_up_to (setting self.now).write ((setting self.now).passes q.left) }
+            result ≡ stored_width (setting self.now) q }
     {
-        self.row(production).places.as_slice()[0].width as usize
+        self.row(production).width as usize
     }
 
-    /// An item with the width of its row.
-    pub(crate) fn place_of(&self, item: Item) -> PlaceRow
-        requires { CanRun self.now }
-        ensures item { result.item ≡ item }
-        ensures width { result.width ≡ item_width (setting self.now) item }
+    /// The passes of the values at an item that have copies.
+    pub(crate) fn copied_passes(&self, item: Item) -> &[u16]
+        ensures { result.now ≡ copied_passes (setting self.now) item }
     {
-        PlaceRow {
-            item,
-            width: width(self.plan, self.pass, item) as u16,
-        }
+        copied_passes(self.grammar, self.plan, item)
     }
 }

@@ -1,7 +1,7 @@
-//! What a pass asks of each production: its instructions, what stands at its places, and the slots
-//! of its rules.
+//! What a pass asks of each production: its instructions, how many values its nodes have, what stands
+//! at its places, and the slots of its rules.
 
-ghost use Rattle.std.specs.Prelude.{ℕ, ◌≡◌, ◌+◌, ◌-◌, ◌≤◌, ◌<◌, [], IfOk, get_or, length, map};
+ghost use Rattle.std.specs.Prelude.{◌≡◌, ◌+◌, ◌-◌, ◌≤◌, ◌<◌, [], IfOk, length, map};
 ghost use Rattle.std.specs.Prelude.{slice_index_or};
 ghost use Rattle.ag_grammar.specs.Lists.{Each};
 ghost use Rattle.ag_grammar.specs.declared.grammar.Target.{Target as TheTarget};
@@ -9,14 +9,15 @@ ghost use Rattle.ag_grammar.specs.grammars.Accepted.{IsAccepted, most_stored};
 ghost use Rattle.ag_grammar.specs.grammars.AttributeGrammar.{Grammar as Plain, places_of};
 ghost use Rattle.passassign.specs.Rows.{passes_of};
 ghost use Rattle.passcode.specs.Rows.{row_of};
-ghost use Rattle.passrun.specs.Laid.{AreWithin, layout_of, place_row_by, production_row};
-ghost use Rattle.passrun.specs.Laid.{production_slots, rule_slots_by, slot_by};
-ghost use Rattle.passrun.specs.Starts.{AreSmall, AreSmallNumbers, AreStartsFor};
+ghost use Rattle.passrun.specs.Laid.{AreWithin, argument_slot_by, layout_of, place_rows};
+ghost use Rattle.passrun.specs.Laid.{production_row, rule_slots_by, start_in, target_slot_by};
+ghost use Rattle.passrun.specs.Slots.{stored_width};
+ghost use Rattle.passrun.specs.Starts.{AreLow, AreSmall, most_width};
 ghost use Rattle.planchecker.specs.Plans.{IsPlan};
 ghost use Rattle.planchecker.specs.Settings.{list_at, setting_of};
 
-use crate::rows::{rank_of, width};
-use ag_grammar::{Direction, Grammar, Item, Production, Rule, Target};
+use crate::rows::{copied_width, known_width, passes_at, rank_of, row_length, row_passes};
+use ag_grammar::{Grammar, Item, Production, Rule, Target};
 use ag_value::{Items, NoMemory};
 use passcode::Instr;
 use planchecker::Plan;
@@ -32,11 +33,16 @@ pub(crate) struct RuleSlots {
     pub(crate) args: Items<u16>,
 }
 
-/// What stands at a place of a production, and how many values its row has.
+/// What stands at a place of a production, and the copies of its values in the row of a node.
 #[derive(Clone, Copy, Debug)]
 pub(crate) struct PlaceRow {
     pub(crate) item: Item,
+    /// Where they begin.
+    pub(crate) start: u16,
+    /// How many there are.
     pub(crate) width: u16,
+    /// How many of them an earlier pass gave.
+    pub(crate) known: u16,
 }
 
 /// What a pass asks of a production at each node of it.
@@ -44,6 +50,10 @@ pub(crate) struct PlaceRow {
 pub(crate) struct ProductionRow {
     /// The instructions of the pass for it, none where it has none.
     pub(crate) list: Items<Instr>,
+    /// How many values the row of a node has: its own, and the copies of its children's.
+    pub(crate) width: u16,
+    /// The passes of these, and of those that only later passes give.
+    pub(crate) passes: Items<u16>,
     /// What stands at its places, from that of the left side on.
     pub(crate) places: Items<PlaceRow>,
     /// Where the values of its rules stand, by the rule's number.
@@ -56,70 +66,90 @@ pub(crate) struct Layout {
     pub(crate) productions: Items<ProductionRow>,
 }
 
-/// So many numbers, all 0.
-fn zeros(alloc: Global, count: usize) -> Result<Vec<u16>, NoMemory>
-    ensures len { IfOk result (λ numbers. length numbers.items ≡ count) }
-    ensures zero { IfOk result (λ numbers. (j : ℕ) → get_or numbers.items j 0 ≡ 0) }
-{
-    let mut numbers = Vec::new(alloc);
-    for _ in 0..count {
-        numbers.push(0)?;
-    }
-    Ok(numbers)
-}
-
-/// Where the rows of the places begin.
-fn row_starts(alloc: Global, plan: &Plan, k: u16, places: &[Item]) -> Result<Vec<u16>, NoMemory>
+/// What stands at the places of a production, and how many values the row of a node has.
+fn rows_of_places(
+    alloc: Global,
+    grammar: &Grammar,
+    plan: &Plan,
+    k: u16,
+    production: &Production,
+) -> Result<(Items<PlaceRow>, u16), NoMemory>
+    requires first { 1 ≤ k }
     requires small { AreSmall (passes_of plan.now.0) }
-    requires some { 1 ≤ length places.now }
-    requires few { length places.now ≤ most_stored + 1 }
-    ensures len { IfOk result (λ starts. length starts.items ≡ length places.now) }
-    ensures small { IfOk result (λ starts. AreSmallNumbers starts.items) }
-    ensures starts { IfOk result (λ starts. AreStartsFor plan.now k places.now starts.items) }
+    requires few { length (places_of production.now) ≤ most_stored + 1 }
+    ensures rows { IfOk result (λ found. found.0
+        ≡ place_rows (setting_of grammar.now plan.now k) production.now) }
+    ensures width { IfOk result (λ found. found.1
+        ≡ stored_width (setting_of grammar.now plan.now k) production.now) }
+    ensures room { IfOk result (λ found. found.1 ≤ most_width) }
 {
-    let direction = Direction::of_pass(k);
-    let children = places.len() - 1;
-    let mut starts = zeros(alloc, places.len())?;
-    let mut next = width(plan, k, places[0]) as u16;
-    for turn in 0..children {
-        let place = direction.nth(children, turn) + 1;
-        starts[place] = next;
-        next += width(plan, k, places[place]) as u16;
+    let places = production.places(alloc)?;
+    let mut rows = Vec::new(alloc);
+    let left = Item::Symbol(production.left);
+    rows.push(PlaceRow {
+        item: left,
+        start: 0,
+        width: 0,
+        known: 0,
+    })?;
+    let mut start = row_length(passes_at(plan, production.left), k) as u16;
+    for item in &places.as_slice()[1..] {
+        let width = copied_width(grammar, plan, k, *item) as u16;
+        rows.push(PlaceRow {
+            item: *item,
+            start,
+            width,
+            known: known_width(grammar, plan, k, *item) as u16,
+        })?;
+        start += width;
     }
-    Ok(starts)
+    Ok((Items::from_vec(rows), start))
 }
 
-/// Where the value of an attribute at a place stands.
-fn slot(plan: &Plan, k: u16, places: &[Item], starts: &[u16], attribute: Target) -> u16
+/// Where the value of an argument stands.
+#[tactic(auto, using(crate::proofs::Found::item_found, crate::proofs::Found::start_found))]
+fn argument_slot(plan: &Plan, k: u16, places: &[PlaceRow], argument: Target) -> u16
     requires small { AreSmall (passes_of plan.now.0) }
-    requires len { length starts.now ≡ length places.now }
-    requires starts { AreSmallNumbers starts.now }
-    requires place { attribute.place < length places.now }
-    ensures { result ≡ slot_by (passes_of plan.now.0) k places.now starts.now attribute }
+    requires starts { start_in places.now argument.place ≤ most_width }
+    requires place { argument.place < length places.now }
+    ensures { result ≡ argument_slot_by (passes_of plan.now.0) k places.now argument }
 {
-    let place = attribute.place as usize;
-    starts[place] + rank_of(plan, k, places[place], attribute.attr)
+    let row = places[argument.place as usize];
+    row.start + rank_of(plan, k, row.item, argument.attr)
 }
 
-/// Where the values of attributes at places stand.
-fn slots_of(
+/// Where the value of a target goes, where the row of a node has so many values.
+#[tactic(auto, using(crate::proofs::Found::item_found))]
+fn target_slot(plan: &Plan, k: u16, width: u16, places: &[PlaceRow], target: Target) -> u16
+    requires small { AreSmall (passes_of plan.now.0) }
+    requires width { width ≤ most_width }
+    requires place { target.place < length places.now }
+    ensures { result ≡ target_slot_by (passes_of plan.now.0) k width places.now target }
+{
+    let rank = rank_of(plan, k, places[target.place as usize].item, target.attr);
+    if target.place == 0 {
+        return rank;
+    }
+    width + rank
+}
+
+/// Where the values of a rule's arguments stand.
+fn argument_slots(
     alloc: Global,
     plan: &Plan,
     k: u16,
-    places: &[Item],
-    starts: &[u16],
-    attributes: &[Target],
+    places: &[PlaceRow],
+    arguments: &[Target],
 ) -> Result<Items<u16>, NoMemory>
     requires small { AreSmall (passes_of plan.now.0) }
-    requires len { length starts.now ≡ length places.now }
-    requires starts { AreSmallNumbers starts.now }
-    requires within { Each (λ (o : TheTarget). o.place < length places.now) attributes.now }
+    requires starts { AreLow places.now }
+    requires within { Each (λ (o : TheTarget). o.place < length places.now) arguments.now }
     ensures { IfOk result (λ slots. slots
-        ≡ map (slot_by (passes_of plan.now.0) k places.now starts.now) attributes.now) }
+        ≡ map (argument_slot_by (passes_of plan.now.0) k places.now) arguments.now) }
 {
     let mut slots = Vec::new(alloc);
-    for attribute in attributes {
-        slots.push(slot(plan, k, places, starts, *attribute))?;
+    for argument in arguments {
+        slots.push(argument_slot(plan, k, places, *argument))?;
     }
     Ok(Items::from_vec(slots))
 }
@@ -129,43 +159,24 @@ fn slots_of_rules(
     alloc: Global,
     plan: &Plan,
     k: u16,
-    places: &[Item],
-    starts: &[u16],
+    width: u16,
+    places: &[PlaceRow],
     rules: &[Rule],
 ) -> Result<Items<RuleSlots>, NoMemory>
     requires small { AreSmall (passes_of plan.now.0) }
-    requires len { length starts.now ≡ length places.now }
-    requires starts { AreSmallNumbers starts.now }
+    requires width { width ≤ most_width }
+    requires starts { AreLow places.now }
     requires within { AreWithin (length places.now) rules.now }
     ensures { IfOk result (λ slots. slots
-        ≡ map (rule_slots_by (passes_of plan.now.0) k places.now starts.now) rules.now) }
+        ≡ map (rule_slots_by (passes_of plan.now.0) k width places.now) rules.now) }
 {
     let mut slots = Vec::new(alloc);
     for rule in rules {
-        let target = slot(plan, k, places, starts, rule.target);
-        let args = slots_of(alloc, plan, k, places, starts, rule.args.as_slice())?;
+        let target = target_slot(plan, k, width, places, rule.target);
+        let args = argument_slots(alloc, plan, k, places, rule.args.as_slice())?;
         slots.push(RuleSlots { target, args })?;
     }
     Ok(Items::from_vec(slots))
-}
-
-/// What stands at each of some places, with the widths of their rows.
-fn place_rows(
-    alloc: Global,
-    plan: &Plan,
-    k: u16,
-    places: &[Item],
-) -> Result<Items<PlaceRow>, NoMemory>
-    requires { AreSmall (passes_of plan.now.0) }
-    ensures { IfOk result (λ rows. rows
-        ≡ map (place_row_by (passes_of plan.now.0) k) places.now) }
-{
-    let mut rows = Vec::new(alloc);
-    for item in places {
-        let width = width(plan, k, *item) as u16;
-        rows.push(PlaceRow { item: *item, width })?;
-    }
-    Ok(Items::from_vec(rows))
 }
 
 /// The list of a pass among those of a production, none where there is none.
@@ -195,6 +206,7 @@ fn list_of(plan: &Plan, k: u16, production: usize) -> &[Instr]
 /// What a pass asks of a production of this number.
 fn row_of_production(
     alloc: Global,
+    grammar: &Grammar,
     plan: &Plan,
     k: u16,
     number: usize,
@@ -204,22 +216,24 @@ fn row_of_production(
     requires small { AreSmall (passes_of plan.now.0) }
     requires few { length (places_of production.now) ≤ most_stored + 1 }
     requires within { AreWithin (length (places_of production.now)) production.now.rules }
-    ensures { IfOk result (λ row. (g : Plain) → row
-        ≡ production_row (setting_of g plan.now k) number production.now) }
+    ensures { IfOk result (λ row. row
+        ≡ production_row (setting_of grammar.now plan.now k) number production.now) }
 {
-    let places = production.places(alloc)?;
-    let starts = row_starts(alloc, plan, k, places.as_slice())?;
+    let passes = row_passes(alloc, grammar, plan, production)?;
+    let (places, width) = rows_of_places(alloc, grammar, plan, k, production)?;
     let rules = slots_of_rules(
         alloc,
         plan,
         k,
+        width,
         places.as_slice(),
-        starts.as_slice(),
         production.rules.as_slice(),
     )?;
     Ok(ProductionRow {
         list: Items::from_vec(list_of(plan, k, number).to_vec(alloc)?),
-        places: place_rows(alloc, plan, k, places.as_slice())?,
+        width,
+        passes,
+        places,
         rules,
     })
 }
@@ -242,7 +256,7 @@ pub(crate) fn lay_out(
 {
     let mut rows = Vec::new(alloc);
     for (number, production) in grammar.productions().iter().enumerate() {
-        rows.push(row_of_production(alloc, plan, k, number, production)?)?;
+        rows.push(row_of_production(alloc, grammar, plan, k, number, production)?)?;
     }
     Ok(Layout {
         productions: Items::from_vec(rows),

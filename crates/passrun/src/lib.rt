@@ -5,6 +5,7 @@
 //! the one in which the pass is, and of their children that were read.
 #![tactic(auto)]
 
+mod copying;
 mod display;
 mod ends;
 mod evaluating;

@@ -6,6 +6,7 @@ ghost use Rattle.passcode.specs.declared.instr.Instr.TheVariants as instr;
 ghost use Rattle.passrun.specs.Passing.{IsPassing, GoesOn};
 ghost use Rattle.passrun.specs.Ahead.{IsRunFault, IsWant};
 ghost use Rattle.passrun.specs.Jobs.{CanRun, setting};
+ghost use Rattle.passrun.specs.Nodes.{left_at};
 ghost use Rattle.passrun.specs.Putting.{AddsFrames, LeavesFrames};
 ghost use Rattle.passrun.specs.Running.{GivesNext, Runs, RunsAt, RunsFrom, RunsSomehow, Turns};
 ghost use Rattle.passrun.specs.Running.{TurnsAt, TurnsFrom, TurnsTo};
@@ -13,18 +14,20 @@ ghost use Rattle.passrun.specs.Working.{work};
 ghost use Rattle.planchecker.specs.Settings.{list_at};
 ghost use Rattle.treefile.specs.Device.{HasRisen, LeavesContent, Persists, WhenHonest};
 
+use crate::copying::{alone, behind, hand_over, is_as_told, keep_row};
 use crate::evaluating::evaluate;
 use crate::fetching::fetch;
 use crate::job::Job;
 use crate::open_node::OpenNode;
-use crate::putting::put_row;
+use crate::putting::put_record;
 use crate::run_fault::RunFault;
 use ag_eval::Meter;
+use ag_grammar::Item;
 use ag_value::{NoMemory, Value};
 use backreader::Back;
 use passcode::Instr;
 use std::alloc::Global;
-use treefile::{Device, Writer};
+use treefile::{Device, Kind, Writer};
 
 /// A pass in the middle of its run: how far it has read and written, the values of all open nodes,
 /// those that wait for the innermost one, the number in the root's record, and where the meter
@@ -39,8 +42,8 @@ pub(crate) struct Machine {
     pub(crate) begun: u64,
 }
 
-/// Goes into the child whose record was read last: its node is the innermost one now, and the other
-/// waits.
+/// Goes into the child whose record was read last, which stands at a place: its node is the innermost
+/// one now, and the other waits.
 pub(crate) fn go(
     job: &Job<'_>,
     node: OpenNode,
@@ -58,26 +61,12 @@ pub(crate) fn go(
         (node ∷ reverse waiting.old.items) values.now
         (child ∷ reverse waiting.new.items) values.now) }
     ensures child { IfOk result (λ child. (child.production ≡ node.child) × (child.at ≡ 0)) }
-    ensures pushed { OnOk result (waiting.new.items ≡ waiting.old.items ++ record {
-      production = node.production;
-      child = node.child;
-      at = node.at + 1;
-      base = node.base;
-    } ∷ []) }
+    ensures pushed { OnOk result (waiting.new.items
+        ≡ waiting.old.items ++ left_at node place ∷ []) }
 {
-    let width = job.own_width(node.child);
-    waiting.push(OpenNode {
-        production: node.production,
-        child: node.child,
-        at: node.at + 1,
-        base: node.base,
-    })?;
-    Ok(OpenNode {
-        production: node.child,
-        child: 0,
-        at: 0,
-        base: values.len() - width,
-    })
+    let width = job.width(node.child);
+    waiting.push(node.left_at(place))?;
+    Ok(OpenNode::begun(node.child, values.len() - width))
 }
 
 impl Machine {
@@ -115,6 +104,8 @@ impl Machine {
             unreachable!();
         };
         let open_count = self.waiting.len() + 1;
+        let end = self.back.end();
+        let start = self.values.len();
         let number = fetch(
             alloc,
             job,
@@ -124,10 +115,16 @@ impl Machine {
             &mut self.values,
             from,
         )?;
+        let copied = node.base + row.start as usize;
+        if !is_as_told(job, row, self.values.as_slice(), copied, start) {
+            return Err(RunFault::Damaged(end));
+        }
+        keep_row(row.item, &mut self.values, start);
         Ok(node.stepped(number))
     }
 
-    /// Puts the record of the child at a place.
+    /// Puts the record of the token at a place, whose text stands among the copies. That of a node was
+    /// put when the pass left it.
     #[inline(always)]
     pub(crate) fn put<E: Device>(
         &mut self,
@@ -159,8 +156,12 @@ impl Machine {
         let Some(row) = job.place(node.production, place) else {
             unreachable!();
         };
-        let values = self.values.as_slice();
-        put_row(row, node.child, values, &mut self.writer, to)?;
+        let Item::Terminal(_) = row.item else {
+            return Ok(node.stepped(node.child));
+        };
+        let text = node.base + row.start as usize;
+        let values = alone(self.values.as_slice(), text);
+        put_record(Kind::Token, node.child, values, &mut self.writer, to)?;
         Ok(node.stepped(node.child))
     }
 
@@ -230,21 +231,45 @@ impl Machine {
         Ok(child)
     }
 
-    /// Ends a node: the one that waited for it goes on, if there is one.
+    /// Ends a node: the one that waited for it goes on, if there is one. Then the node's record is put,
+    /// and the values of its synthesized attributes stand among the copies of the other.
     #[inline(always)]
-    pub(crate) fn end(&mut self, job: &Job<'_>, node: OpenNode) -> Option<OpenNode>
+    pub(crate) fn end<E: Device>(
+        &mut self,
+        job: &Job<'_>,
+        node: OpenNode,
+        to: &mut E,
+    ) -> Result<Option<OpenNode>, RunFault>
         requires job { CanRun job.now }
         requires runs { RunsSomehow (setting job.now) self.old (Some node) }
         requires next { slice_get (list_at (setting job.now) node.production) node.at
             ≡ Some instr.End }
-        ensures runs { Turns (setting job.now) self.old self.new (Some node) result }
-        ensures less { work (setting job.now) self.new result
-            < work (setting job.now) self.old (Some node) }
+        ensures runs { IfOk result (λ next. TurnsTo (setting job.now)
+            (E.is_honest to.old) (E.is_honest to.new)
+            (E.content to.old) (E.content to.new) self.old self.new (Some node) next) }
+        ensures added { OnOk result (AddsFrames (E.is_honest to.old)
+            (E.content to.old) (E.content to.new)) }
+        ensures left { IfErr result (LeavesFrames (E.is_honest to.old)
+            (E.content to.old) (E.content to.new)) }
+        ensures want { IfErr result IsWant }
+        ensures less { IfOk result (λ next.
+            work (setting job.now) self.new next
+            < work (setting job.now) self.old (Some node)) }
         ensures begun { self.new.begun ≡ self.old.begun }
+        ensures persists { Persists (E.is_honest to.old) (E.is_honest to.new)
+            (E.failures to.old) (E.failures to.new) (IsErrOf result RunFault.Device) }
     {
-        let width = job.own_width(node.production);
-        self.values.truncate(node.base + width);
-        self.waiting.pop()
+        let Some(outer) = self.waiting.pop() else {
+            return Ok(None);
+        };
+        let values = behind(self.values.as_slice(), node.base);
+        put_record(Kind::Node, node.production, values, &mut self.writer, to)?;
+        let Some(row) = job.place(outer.production, outer.place) else {
+            unreachable!();
+        };
+        let copied = outer.base + row.start as usize;
+        hand_over(&mut self.values, node.base, copied, row.width as usize);
+        Ok(Some(outer))
     }
 
     /// Follows the next instruction of the innermost open node. The node that goes on next, none
@@ -296,7 +321,7 @@ impl Machine {
             Instr::Def { attr: _, rule } => Ok(Some(self.give(alloc, job, node, rule, meter)?)),
             Instr::Go(place) => Ok(Some(self.enter(job, node, place)?)),
             Instr::Put(place) => Ok(Some(self.put(job, node, place, to)?)),
-            Instr::End => Ok(self.end(job, node)),
+            Instr::End => self.end(job, node, to),
         }
     }
 }

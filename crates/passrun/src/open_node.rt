@@ -1,6 +1,7 @@
 //! A node in which a pass runs.
 
 ghost use Rattle.std.specs.Prelude.{◌≡◌, ◌+◌, ◌<◌, ◌^◌};
+ghost use Rattle.passrun.specs.Nodes.{first_at, left_at, stepped};
 
 /// An open node: one whose record was read, and whose list of instructions is not yet followed to
 /// its end.
@@ -10,6 +11,8 @@ pub(crate) struct OpenNode {
     pub(crate) production: u16,
     /// The number in the record of the child that was read last, 0 where none was.
     pub(crate) child: u16,
+    /// The place of the child in which the pass is, or was last; 0 where it was in none.
+    pub(crate) place: u16,
     /// The index in its list of instructions of the next one.
     pub(crate) at: usize,
     /// Where its own row begins among the values of all open nodes.
@@ -19,13 +22,21 @@ pub(crate) struct OpenNode {
 impl OpenNode {
     /// A node of a production whose record was read, and that nothing was done in yet.
     pub(crate) fn first(production: u16) -> OpenNode
-        ensures { result ≡ record { production = production; child = 0; at = 0; base = 0 } }
+        ensures { result ≡ first_at production 0 }
+    {
+        OpenNode::begun(production, 0)
+    }
+
+    /// The same, where its row begins at an index.
+    pub(crate) fn begun(production: u16, base: usize) -> OpenNode
+        ensures { result ≡ first_at production base }
     {
         OpenNode {
             production,
             child: 0,
+            place: 0,
             at: 0,
-            base: 0,
+            base,
         }
     }
 
@@ -33,16 +44,26 @@ impl OpenNode {
     /// this number.
     pub(crate) fn stepped(self, child: u16) -> OpenNode
         requires { self.at + 1 < 2 ^ 64 }
-        ensures { result ≡ record {
-          production = self.production;
-          child = child;
-          at = self.at + 1;
-          base = self.base;
-        } }
+        ensures { result ≡ stepped self child }
     {
         OpenNode {
             production: self.production,
             child,
+            place: self.place,
+            at: self.at + 1,
+            base: self.base,
+        }
+    }
+
+    /// The node behind its next instruction, which leads into the child at a place.
+    pub(crate) fn left_at(self, place: u16) -> OpenNode
+        requires { self.at + 1 < 2 ^ 64 }
+        ensures { result ≡ left_at self place }
+    {
+        OpenNode {
+            production: self.production,
+            child: self.child,
+            place,
             at: self.at + 1,
             base: self.base,
         }

@@ -13,7 +13,7 @@ ghost use Rattle.planchecker.specs.Plans.{IsPlan};
 ghost use Rattle.treefile.specs.Beginning.{LeavesBeginning};
 ghost use Rattle.treefile.specs.Device.{HasRisen, LeavesContent, Persists, WhenHonest};
 ghost use Rattle.treefile.specs.Runs.{RunsPass};
-ghost use Rattle.treefile.specs.TreeFile.{version_one};
+ghost use Rattle.treefile.specs.TreeFile.{version_two};
 
 use crate::ends::{Passed, begin, finish};
 use crate::job::Job;
@@ -103,7 +103,7 @@ pub fn run_pass<D: Device, E: Device>(
         (E.content to.new) p.nodes (meter.new - meter.old)))) }
     // of whichever tree and values the file is: there is only one tree
     ensures told { WhenHonest (D.is_honest from.old) (WhenHonest (E.is_honest to.old)
-        (IfOk result (λ p. RunsPass version_one grammar.now (passes_of plan.now.0) (pass - 1)
+        (IfOk result (λ p. RunsPass version_two grammar.now (passes_of plan.now.0) (pass - 1)
         (D.content from.old) (E.content to.new)
         × CountsPass grammar.now (passes_of plan.now.0) (pass - 1) (D.content from.old)
         p.nodes (meter.new - meter.old)))) }

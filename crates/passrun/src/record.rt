@@ -1,16 +1,19 @@
 //! Reading the body of a record: the values of a node, or the text of a token.
 
-ghost use Rattle.std.specs.Prelude.{◌≡◌, ◌≤◌, ◌-◌, IfOk, IsErrOf, OnOk};
-ghost use Rattle.passrun.specs.Reading.{IsTaken, IsUntaken, IsRow, IsNoRow, IsNodeRead, IsNoNode};
+ghost use Rattle.std.specs.Prelude.{◌≡◌, ◌≤◌, ◌-◌, [], IfOk, IfSome, IsErrOf, None, OnOk, length};
+ghost use Rattle.passrun.specs.Jobs.{CanRun, setting};
+ghost use Rattle.passrun.specs.Reading.{AreTaken, AreUntaken, IsNoRow, IsNodeBody};
+ghost use Rattle.passrun.specs.Reading.{IsTaken, IsUntaken, IsNodeRead, IsNoNode};
 ghost use Rattle.passrun.specs.Reading.{IsTokenRead, IsNoToken, IsRead, IsNoRecord};
 ghost use Rattle.passrun.specs.declared.record.RecordFault.TheVariants as record_fault;
 ghost use Rattle.passrun.specs.Faults.{record_fault_of};
-ghost use Rattle.planchecker.specs.Settings.{setting_of};
+ghost use Rattle.planchecker.specs.Settings.{Setting, setting_of};
 
-use crate::rows::passes_at;
+use crate::job::Job;
+use crate::rows::row_passes;
 use ag_grammar::limits::MOST_TOKEN_BYTES;
 use ag_grammar::{Grammar, Item, Terminal};
-use ag_value::{Value, ValueFault, decode};
+use ag_value::{NoMemory, Value, ValueFault, decode};
 use planchecker::Plan;
 use std::alloc::{AllocError, AllocFailed, Global};
 use treefile::{Kind, split_body};
@@ -39,6 +42,14 @@ impl From<AllocError> for RecordFault {
     ghost from_gives = { λ _ e. e ≡ record_fault.NoMemory };
 
     fn from(_error: AllocError) -> RecordFault {
+        RecordFault::NoMemory
+    }
+}
+
+impl From<NoMemory> for RecordFault {
+    ghost from_gives = { λ _ e. e ≡ record_fault.NoMemory };
+
+    fn from(_error: NoMemory) -> RecordFault {
         RecordFault::NoMemory
     }
 }
@@ -78,10 +89,30 @@ fn take_value<'b>(
     Ok(bytes)
 }
 
-/// Appends the row of a node whose attributes have these passes: what the bytes spell, and numbers
-/// in the places of the values that pass k is to give.
-#[tactic(auto, using(crate::proofs::Recorded::row_none, crate::proofs::Recorded::row_more, crate::proofs::Recorded::no_row_here, crate::proofs::Recorded::no_row_more))]
-fn read_row(
+/// Takes the values of attributes with these passes from the front of the bytes: numbers stand in the
+/// places of those that pass k is to give. The bytes behind them.
+fn take_values<'b>(
+    alloc: Global,
+    passes: &[u16],
+    k: u16,
+    bytes: &'b [u8],
+    values: &mut Vec<Value>,
+) -> Result<&'b [u8], RecordFault>
+    requires { 1 ≤ k }
+    ensures taken { IfOk result (λ rest. AreTaken (k - 1) k passes.now bytes.now rest.now
+        values.old.items values.new.items) }
+    ensures untaken { IsErrOf result RecordFault.Damaged
+        → AreUntaken (k - 1) passes.now bytes.now }
+{
+    let mut rest = bytes;
+    for pass in passes {
+        rest = take_value(alloc, *pass, k, rest, values)?;
+    }
+    Ok(rest)
+}
+
+/// Takes the row of a node whose values have these passes: no bytes may be left behind it.
+fn take_row(
     alloc: Global,
     passes: &[u16],
     k: u16,
@@ -89,33 +120,47 @@ fn read_row(
     values: &mut Vec<Value>,
 ) -> Result<(), RecordFault>
     requires { 1 ≤ k }
-    ensures row { OnOk result
-        (IsRow (k - 1) k passes.now bytes.now values.old.items values.new.items) }
+    ensures taken { OnOk result (AreTaken (k - 1) k passes.now bytes.now []
+        values.old.items values.new.items) }
     ensures none { IsErrOf result RecordFault.Damaged → IsNoRow (k - 1) passes.now bytes.now }
 {
-    match passes {
-        [] => {
-            if !bytes.is_empty() {
-                return Err(RecordFault::Damaged);
-            }
-            Ok(())
-        }
-        [pass, others @ ..] => {
-            let rest = take_value(alloc, *pass, k, bytes, values)?;
-            read_row(alloc, others, k, rest, values)
-        }
+    let rest = take_values(alloc, passes, k, bytes, values)?;
+    if !rest.is_empty() {
+        return Err(RecordFault::Damaged);
     }
+    Ok(())
 }
 
-/// Reads the body of a node of a symbol from the file of pass k - 1: its row goes to the values, in
-/// which the values of pass k, which are still to come, are numbers. Gives the number of the node's
-/// production.
+/// The number of the production of a symbol's node in a body, and the spellings behind it; none where
+/// the body is that of no node of the symbol.
+#[inline(always)]
+fn node_in<'b>(grammar: &Grammar, symbol: u16, body: &'b [u8]) -> Option<(u16, &'b [u8])>
+    ensures some { IfSome result (λ found.
+        IsNodeBody grammar.now symbol found.0 found.1.now body.now) }
+    ensures none { result ≡ None → (c : Setting) → c.grammar ≡ grammar.now
+        → IsNoNode c symbol body.now }
+    ensures few { length grammar.now.productions ≤ 65536 }
+{
+    let productions = grammar.productions();
+    let Some((Kind::Node, number, spellings)) = split_body(body) else {
+        return None;
+    };
+    let production = productions.get(number as usize)?;
+    if production.left != symbol {
+        return None;
+    }
+    Some((number, spellings))
+}
+
+/// Reads the body of a node of a symbol from the file of pass k - 1: its row goes to the values, its
+/// own first and then the copies of its children's; those of pass k, which are still to come, are
+/// numbers. Gives the number of the node's production.
 ///
 /// Damaged where the body is no record of a node of the symbol in the file of that pass: of a
-/// production of it, with as many well values as it has attributes of passes before k, and with no
-/// bytes behind them. NoMemory where a growth was refused. After a refusal the values have a
-/// beginning of a row more, or none. Takes memory for what is read.
-#[tactic(auto, using(crate::proofs::Recorded::node_read, crate::proofs::Recorded::no_node))]
+/// production of it, with as many well values as it has attributes of passes before k and its
+/// children have in copies, and with no bytes behind them. NoMemory where a growth was refused. After
+/// a refusal the values have a beginning of a row more, or none. Takes memory for what is read, and
+/// for the passes of the production's values.
 pub fn read_node(
     alloc: Global,
     grammar: &Grammar,
@@ -131,16 +176,34 @@ pub fn read_node(
     ensures none { IsErrOf result RecordFault.Damaged →
         IsNoNode (setting_of grammar.now plan.now k) symbol body.now }
 {
-    let Some((Kind::Node, number, spellings)) = split_body(body) else {
+    let Some((number, spellings)) = node_in(grammar, symbol, body) else {
         return Err(RecordFault::Damaged);
     };
-    let Some(production) = grammar.productions().get(number as usize) else {
+    let production = &grammar.productions()[number as usize];
+    let passes = row_passes(alloc, grammar, plan, production)?;
+    take_row(alloc, passes.as_slice(), k, spellings, values)?;
+    Ok(number)
+}
+
+/// The same in a pass, which has laid out the passes of each production's values.
+#[inline(always)]
+fn read_laid_node(
+    alloc: Global,
+    job: &Job<'_>,
+    symbol: u16,
+    body: &[u8],
+    values: &mut Vec<Value>,
+) -> Result<u16, RecordFault>
+    requires { CanRun job.now }
+    ensures read { IfOk result (λ p. IsNodeRead (setting job.now) symbol p
+        body.now values.old.items values.new.items) }
+    ensures none { IsErrOf result RecordFault.Damaged → IsNoNode (setting job.now) symbol body.now }
+{
+    let Some((number, spellings)) = node_in(job.grammar, symbol, body) else {
         return Err(RecordFault::Damaged);
     };
-    if production.left != symbol {
-        return Err(RecordFault::Damaged);
-    }
-    read_row(alloc, passes_at(plan, symbol), k, spellings, values)?;
+    let row = job.row(number);
+    take_row(alloc, row.passes.as_slice(), job.pass, spellings, values)?;
     Ok(number)
 }
 
@@ -176,21 +239,18 @@ fn read_token(
 #[inline(always)]
 pub(crate) fn read_record(
     alloc: Global,
-    grammar: &Grammar,
-    plan: &Plan,
-    k: u16,
+    job: &Job<'_>,
     item: Item,
     body: &[u8],
     values: &mut Vec<Value>,
 ) -> Result<u16, RecordFault>
-    requires { 1 ≤ k }
-    ensures read { IfOk result (λ p. IsRead (setting_of grammar.now plan.now k) item p
+    requires { CanRun job.now }
+    ensures read { IfOk result (λ p. IsRead (setting job.now) item p
         body.now values.old.items values.new.items) }
-    ensures none { IsErrOf result RecordFault.Damaged →
-        IsNoRecord (setting_of grammar.now plan.now k) item body.now }
+    ensures none { IsErrOf result RecordFault.Damaged → IsNoRecord (setting job.now) item body.now }
 {
     match item {
-        Item::Symbol(symbol) => read_node(alloc, grammar, plan, k, symbol, body, values),
+        Item::Symbol(symbol) => read_laid_node(alloc, job, symbol, body, values),
         Item::Terminal(Terminal::Class(class)) => {
             read_token(alloc, class, body, values)?;
             Ok(class)

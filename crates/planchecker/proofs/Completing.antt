@@ -214,16 +214,13 @@ module _ (m : Passes) (q : Production) (planned : IsPlanned m q) (k : ℕ) (pass
                 let found = has_item m q o allowed.0 allowed.1 in
                 let place : HasPlace q o.place = (found.0, (one, found.1)) in
                 let own : key_of d i ≡ giving_key d j + a = key in
-                let near = reach k j o.place allowed.0 (few m q planned o.place place) one allowed.2 in
-                let low = near.0 in
-                let got : first_key d o.place < giving_key d j = near.1 in
-                elim (cases_eq allowed.0 k) [
-                  | inl same ↦ (
-                      let gone : first_key d o.place + 17 < giving_key d j = near.2 same in
-                      let mine : HasPass m q o k = subst (HasPass m q o) same allowed.1 in
+                elim (reach k j o.place allowed.0 (few m q planned o.place place) one allowed.2) [
+                  | inl less ↦ inr (inl (allowed.0, allowed.1, less))
+                  | inr same ↦ (
+                      let gone : first_key d o.place + 17 < giving_key d j = same.1 in
+                      let mine : HasPass m q o k = subst (HasPass m q o) same.0 allowed.1 in
                       let child = has_symbol m q o k pass mine in
                       inr (inr (mine, front n t i at here (instr.Go o.place) (child.0, (one, child.1)) (omega arith))))
-                  | inr other ↦ inr (inl (allowed.0, allowed.1, omega arith, front n t i at here (instr.Get o.place) place (omega arith)))
                 ]
 
         own_rule : (i : Instr) (here : slice_get zs t ≡ Some i) (j a r : ℕ) → i ≡ giving j a r → IsOfRule m q k j a r → IsOwnRule m q k ws n j a r

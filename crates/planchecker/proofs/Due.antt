@@ -22,7 +22,7 @@ SameFront n xs ys = (i : Instr) → StandsBefore xs n i ↔ StandsBefore ys n i
 
 hand_same : (m : Passes) (q : Production) (k : ℕ) (xs ys : List Instr) (n : ℕ) → SameFront n xs ys → (o : Target) → IsAtHand m q k xs n o → IsAtHand m q k ys n o
 hand_same m q k xs ys n same o (inl z) = inl z
-hand_same m q k xs ys n same o (inr (inl h)) = inr (inl (h.0, h.1, h.2, (same (instr.Get o.place)).0 h.3))
+hand_same m q k xs ys n same o (inr (inl h)) = inr (inl h)
 hand_same m q k xs ys n same o (inr (inr h)) = inr (inr (h.0, (same (instr.Go o.place)).0 h.1))
 
 own_same : (m : Passes) (q : Production) (k : ℕ) (xs ys : List Instr) (n j a r : ℕ) → SameFront n xs ys → IsOwnRule m q k xs n j a r → IsOwnRule m q k ys n j a r

@@ -24,16 +24,10 @@ use Rattle.passcode.proofs.Counting.{lists_evaluate_rules}
 use Rattle.passcode.proofs.Members.{set_is}
 use Rattle.planchecker.specs.Following.{IsDue, IsOwnRule}
 use Rattle.planchecker.proofs.Due.{is_due}
-use Rattle.planchecker.specs.Course.{Phase, Between, Got, Gone, after_get, got, AreDone, Follows, Gives, IsAtHand, IsFinal}
+use Rattle.planchecker.specs.Course.{Phase, Between, Got, Gone, after_get, got, went, AreDone, Follows, Gives, IsAtHand}
 use Rattle.planchecker.specs.Settings.{Setting, arity, place, way}
 use Rattle.planchecker.proofs.Fronts.{Always, StandUpTo, stand_more, stand_on, stand_past, stands_here, stays_before, stood}
 use Rattle.planchecker.proofs.Turns.{earlier, one_turn, place_of, turn_of}
-
--- in how many children the pass has run
-abbrev pub went : Phase → ℕ → ℕ
-went Between i = i
-went Got i = i
-went Gone i = suc i
 
 -- a node in a phase has a child there
 abbrev IsOpen : Production → (j most : ℕ) → Phase → ℕ → Type 0
@@ -46,7 +40,7 @@ may_use_most : (k j i p : ℕ) → MayUse k j i p → p ≤ k
 may_use_most k zero i p h = h
 may_use_most k (suc j) i p (inl h) = h.1
 may_use_most k (suc j) i p (inr (inl h)) = h.1
-may_use_most k (suc j) i p (inr (inr h)) = let less = h.1 in omega arith
+may_use_most k (suc j) i p (inr (inr less)) = omega arith
 
 own_instruction : (j a r : ℕ) (u : Rule) → u.target ≡ record { place = j; attr = a } → instruction_of u r ≡ giving j a r
 own_instruction j a r u e = ap (λ (o : Target). giving o.place o.attr r) e
@@ -65,25 +59,6 @@ number_of (suc j) a r (suc p) b s e = cc
 -- what gives no value is no rule's instruction
 no_rule : (x : Instr) (u : Rule) (r : ℕ) → is_giving x ≡ false → x ≡ instruction_of u r → ⊥
 no_rule x u r none e = let bad : true ≡ false = sym (giving_gives u.target.place u.target.attr r) ∙ ap is_giving (sym e) ∙ none in cc
-
-module _ (c : Setting) (q : Production) where
-  final_own : (ph : Phase) (i j p : ℕ) → j ≡ 0 → IsFinal c q ph i j p
-  final_own Between i j p e = inl e
-  final_own Got i j p e = inl (inl e)
-  final_own Gone i j p e = inl e
-
-  final_met : (ph : Phase) (i b j p : ℕ) → j ≡ place (way c) (arity q) b → b < got ph i → p < c.write → IsFinal c q ph i j p
-  final_met Between i b j p e less low = inr (b, less, e)
-  final_met Got i b j p e less low = elim (cases_lt b i) [
-    | inl before ↦ inl (inr (b, before, e))
-    | inr past ↦ (let same : b ≡ i = omega arith in inr (e ∙ ap (place (way c) (arity q)) same, low))
-  ]
-  final_met Gone i b j p e less low = inr (b, less, e)
-
-  final_gone : (ph : Phase) (i b j p : ℕ) → j ≡ place (way c) (arity q) b → b < went ph i → IsFinal c q ph i j p
-  final_gone Between i b j p e less = inr (b, less, e)
-  final_gone Got i b j p e less = inl (inr (b, less, e))
-  final_gone Gone i b j p e less = inr (b, less, e)
 
 module _ (c : Setting) (q : Production) (planned : IsPlanned c.passes q) (few : length q.rules ≤ 65536) (xs : List Instr) (list : IsListFor c.passes q c.write xs) where
   -- the place of a turn
@@ -132,19 +107,14 @@ module _ (c : Setting) (q : Production) (planned : IsPlanned c.passes q) (few : 
   hand : (n : ℕ) (ph : Phase) (i : ℕ) (done : List ℕ) (rest : List Instr) → Come n ph i done rest → (r : ℕ) (u : Rule) → IsRuleAt q r u → HasPass c.passes q u.target c.write → (o : Target) → IsArgument u o → agreement.IsAtHand c.passes q c.write xs n o → IsAtHand c q ph i o
   hand n ph i done rest come r u at passed o arg (inl own) =
       let p = planned.allowed u o c.write (r, at) arg passed in
-      (p.0, p.1, may_use_most c.write u.target.place o.place p.0 p.2, final_own c q ph i o.place p.0 own)
-  hand n ph i done rest come r u at passed o arg (inr (inl h)) =
-      let s = h.3 in
-      let low = h.2 in
-      let turn = turn_of (way c) q o.place (due s.0 (instr.Get o.place) s.2).ready.0 in
-      let less = (come.met turn.0 turn.1 tt).0 (subst (λ j. StandsBefore xs n (instr.Get j)) turn.2 s) in
-      (h.0, h.1, omega arith, final_met c q ph i turn.0 o.place h.0 turn.2 less low)
+      (p.0, p.1, may_use_most c.write u.target.place o.place p.0 p.2, inr (inl own))
+  hand n ph i done rest come r u at passed o arg (inr (inl h)) = let low = h.2 in (h.0, h.1, omega arith, inl low)
   hand n ph i done rest come r u at passed o arg (inr (inr h)) =
       let s = h.1 in
       let child = (due s.0 (instr.Go o.place) s.2).ready.0 in
       let turn = turn_of (way c) q o.place (item.Symbol child.0, child.1) in
       let less = (come.gone turn.0 turn.1 (subst (IsChild q) turn.2 child)).0 (subst (λ j. StandsBefore xs n (instr.Go j)) turn.2 s) in
-      (c.write, h.0, omega arith, final_gone c q ph i turn.0 o.place c.write turn.2 less)
+      (c.write, h.0, omega arith, inr (inr (turn.0, less, turn.2)))
 
   module _ (n : ℕ) (ph : Phase) (i : ℕ) (done : List ℕ) (x : Instr) (rest : List Instr) (come : Come n ph i done (x ∷ rest)) where
     is : slice_get xs n ≡ Some x

@@ -1,5 +1,5 @@
 -- How a list of instructions is followed at a node, one instruction after the other. All of this is this project's; what a rule
--- may use when is after Jazayeri and Walter 1975.
+-- may use of its own pass, and when, is after Jazayeri and Walter 1975.
 use Rattle.std.specs.Prelude.{ℕ, suc, ◌≡◌, ◌<◌, ◌≤◌, ◌⊎◌, List, [], ◌∷◌, Some, slice_get, length}
 use Rattle.ag_grammar.specs.Lists.{Has}
 use Rattle.ag_grammar.specs.declared.grammar.Item.{Item}
@@ -32,16 +32,20 @@ got Between i = i
 got Got i = suc i
 got Gone i = suc i
 
+-- in how many children the pass has run
+abbrev pub went : Phase → ℕ → ℕ
+went Between i = i
+went Got i = i
+went Gone i = suc i
+
 -- a place is that of the left side, or of a child that was visited
 abbrev pub IsKnown : Setting → Production → ℕ → ℕ → Type 0
 IsKnown c q i j = (j ≡ 0) ⊎ IsSeen (way c) (arity q) i j
 
--- A value of pass p at a place is there, and no instruction for a child changes it any more: at a child that was got and in which
--- the pass has not run, what an earlier pass left.
+-- A value of pass p at a place is there, and no instruction for a child changes it any more: what an earlier pass left always, and
+-- what the pass gives at the left side and at the children in which it has run.
 abbrev pub IsFinal : Setting → Production → Phase → ℕ → ℕ → ℕ → Type 0
-IsFinal c q Between i j p = IsKnown c q i j
-IsFinal c q Got i j p = IsKnown c q i j ⊎ ((j ≡ place (way c) (arity q) i) × (p < c.write))
-IsFinal c q Gone i j p = IsKnown c q (suc i) j
+IsFinal c q ph i j p = (p < c.write) ⊎ IsKnown c q (went ph i) j
 
 -- An attribute at a place is at hand: it is of no later pass, and its value is final.
 abbrev pub IsAtHand : Setting → Production → Phase → ℕ → Target → Type 0

@@ -161,7 +161,7 @@ impl At<'_> {
             return false;
         };
         if used < self.pass {
-            return self.is_behind(Instr::Get(argument.place));
+            return true;
         }
         used == self.pass && self.is_behind(Instr::Go(argument.place))
     }

@@ -1,14 +1,15 @@
 -- The root's record in the last file, and the value of `out` in it.
-use Rattle.std.proofs.Common.{ℕ, ◌≡◌, ◌+◌, ◌-◌, ◌<◌, ◌≤◌, inl, inr, List, [], Some, slice_get, get_or, length, map, Result, Ok, Err, refl, ap, sym, subst, ◌∙◌, arith, length-append}
+use Rattle.std.proofs.Common.{ℕ, ◌≡◌, ◌+◌, ◌-◌, ◌<◌, ◌≤◌, inl, inr, List, [], None, Some, slice_get, get_or, length, map, true, Result, Ok, Err, refl, ap, sym, subst, ◌∙◌, arith, length-append}
 use Rattle.std.proofs.lemmas.Bool.{cases_lt}
 use Rattle.std.proofs.lemmas.List.{get_or_past, length-map}
 use Rattle.std.proofs.lemmas.Option.{slice_get-get_or, slice_get_within}
 use Rattle.ag_value.specs.declared.value.Value.{Value, Text}
+use Rattle.ag_grammar.specs.declared.grammar.Item.TheVariants as item
 use Rattle.ag_grammar.specs.Lists.{Each}
 use Rattle.ag_grammar.specs.grammars.Accepted.{IsAccepted, IsOut, out_name}
-use Rattle.ag_grammar.specs.grammars.AttributeGrammar.{Grammar, Inherited, Synthesized, symbol_kinds}
+use Rattle.ag_grammar.specs.grammars.AttributeGrammar.{Grammar, Inherited, Synthesized, stored_items, symbol_kinds}
 use Rattle.ag_grammar.specs.grammars.Passes.{IsLegal, Passes}
-use Rattle.ag_grammar.specs.grammars.Solution.{IsTranslation, Valuation, WellAt, left_passes}
+use Rattle.ag_grammar.specs.grammars.Solution.{IsTranslation, Valuation, WellAt, children, left_passes}
 use Rattle.ag_grammar.specs.grammars.Tree.{IsTreeOf, Tree, leaf, node}
 use Rattle.passassign.specs.Rows.{AreAtMost, IsGreatest, passes_of}
 use Rattle.passcode.specs.Rows.{Lists}
@@ -16,16 +17,19 @@ use Rattle.passcode.proofs.Shaped.{greatest_most}
 use Rattle.planchecker.specs.Plans.{IsPlan}
 use Rattle.planchecker.specs.Settings.{Setting, setting_of}
 use Rattle.passrun.specs.Reading.{IsNoNode, IsNodeRead}
-use Rattle.passrun.proofs.Recorded.{mended}
+use Rattle.passrun.specs.Places.{copies}
+use Rattle.passrun.proofs.Ahead.{no_record}
+use Rattle.passrun.proofs.Recorded.{copies_counted, copies_well}
+use Rattle.passrun.proofs.Slots.{get_left}
 use Rattle.treefile.specs.Awaited.{IsNodeRecord}
-use Rattle.treefile.specs.Ending.{Told, last_body_of, version_one_usable}
-use Rattle.treefile.specs.Records.{IsFileOfTree, node_body, values_up_to}
-use Rattle.treefile.specs.TreeFile.{body_of, version_one}
-use Rattle.treefile.specs.declared.body.Kind.TheVariants.{Node}
+use Rattle.treefile.specs.Ending.{Told, last_body_of, version_two_usable}
+use Rattle.treefile.specs.Records.{IsFileOfTree, copies_of, node_body, values_up_to}
+use Rattle.treefile.proofs.Copies.{are_copies}
+use Rattle.treefile.specs.TreeFile.{version_two}
 use Rattle.treefile.specs.declared.reading.FrameFault.{FrameFault}
 use Rattle.treefile.specs.declared.reading.FrameFault.TheVariants as frame_fault
 use Rattle.treefile.proofs.Files.{damaged_at_end}
-use Rattle.treefile.proofs.Fitting.{fits_version_one}
+use Rattle.treefile.proofs.Fitting.{fits_version_two}
 use Rattle.treefile.proofs.Root.{root_is_last, values_are_whole}
 use Rattle.treefile.proofs.Spelled.{same_node}
 use Rattle.roottext.specs.declared.fault.OutFault.{OutFault}
@@ -70,11 +74,20 @@ started c s p body old new start empty read = subst (λ xs. IsNodeRead c c.gramm
 pub out_in_row : (g : Grammar) (rows : List (List ℕ)) (code : Lists) (last a p : ℕ) (body : List ℕ) (new : List Value) → IsPlan g rows code → IsGreatest last rows → IsOut g a → (read : IsNodeRead (setting_of g (rows, code) (last + 1)) g.start p body [] new) → slice_get new a ≡ Some (read.values a)
 out_in_row g rows code last a p body new plan greatest out read =
     let pass = out_pass g (passes_of rows) a plan.legal out in
+    let own = values_up_to (last + 1) (passes_of rows g.start) read.values in
+    let copied = copies (setting_of g (rows, code) (last + 1)) (last + 1) (stored_items read.production.items) read.table in
     ap (λ xs. slice_get xs a) read.row
-    ∙ values_are_whole (last + 1) (passes_of rows g.start) read.values a pass.0 (λ i n is. let le = at_most rows last g.start greatest.most i n is in omega arith) pass.1
+    ∙ get_left own copied a (read.values a) (values_are_whole (last + 1) (passes_of rows g.start) read.values a pass.0 (λ i n is. let le = at_most rows last g.start greatest.most i n is in omega arith) pass.1)
 
 pub out_within : (g : Grammar) (rows : List (List ℕ)) (code : Lists) (last a p : ℕ) (body : List ℕ) (new : List Value) → IsPlan g rows code → IsGreatest last rows → IsOut g a → IsNodeRead (setting_of g (rows, code) (last + 1)) g.start p body [] new → a < length new
 out_within g rows code last a p body new plan greatest out read = slice_get_within new a (read.values a) (out_in_row g rows code last a p body new plan greatest out read)
+
+-- what was read is a record of the pass before
+record_of : (g : Grammar) (rows : List (List ℕ)) (code : Lists) (last p : ℕ) (body : List ℕ) (new : List Value) → (read : IsNodeRead (setting_of g (rows, code) (last + 1)) g.start p body [] new) → IsNodeRecord version_two g (passes_of rows) (last + 1 - 1) g.start body p read.production read.values
+record_of g rows code last p body new read =
+    let c = setting_of g (rows, code) (last + 1) in
+    let xs = stored_items read.production.items in
+    record { production = read.there; left = read.left; well = λ i n e le. read.well i; copies = copies c (last + 1 - 1) xs read.table; are_copies = (copies_counted c (last + 1 - 1) xs read.table, copies_well c (last + 1 - 1) xs read.table read.table_well); stands = read.same }
 
 -- what was read is the root's record, with the value at the number of `out`
 pub root_read : (g : Grammar) (rows : List (List ℕ)) (code : Lists) (last a p : ℕ) (body : List ℕ) (new : List Value) (x : Value) → IsPlan g rows code → IsGreatest last rows → IsOut g a → IsNodeRead (setting_of g (rows, code) (last + 1)) g.start p body [] new → x ≡ get_or new a x → IsRootRecord g rows body x
@@ -90,7 +103,7 @@ root_read g rows code last a p body new x plan greatest out read is =
       number = p;
       production = read.production;
       values = read.values;
-      node = record { production = read.there; left = read.left; well = λ i n e le. read.well i; copies = []; are_copies = refl; stands = read.same ∙ ap (λ k. node_body version_one g (passes_of rows) k p read.values []) back };
+      node = subst (λ k. IsNodeRecord version_two g (passes_of rows) k g.start body p read.production read.values) back (record_of g rows code last p body new read);
       attribute = a;
       out = out;
       value = same ∙ sym is;
@@ -102,29 +115,26 @@ no_root g rows code last body greatest nothing x root =
     let m = passes_of rows in
     let n = root.number in
     let same : root.last ≡ last + 1 - 1 = one_greatest rows root.last last root.greatest greatest ∙ omega arith in
-    let it : IsNodeRecord version_one g m (last + 1 - 1) g.start body n root.production root.values = subst (λ k. IsNodeRecord version_one g m k g.start body n root.production root.values) same root.node in
-    let good = mended (last + 1 - 1) (m g.start) root.values it.well in
-    let passes : left_passes m (slice_get g.productions n) ≡ m g.start = ap (left_passes m) it.production ∙ ap m it.left in
-    nothing n root.production good.0 it.production it.left good.1
-    (it.stands ∙ ap (body_of Node n) (ap (λ ps. values_up_to (last + 1 - 1) ps root.values) passes ∙ good.2 ∙ ap (λ ps. values_up_to (last + 1 - 1) ps good.0) (sym passes)))
+    let it : IsNodeRecord version_two g m (last + 1 - 1) g.start body n root.production root.values = subst (λ k. IsNodeRecord version_two g m k g.start body n root.production root.values) same root.node in
+    no_record (setting_of g (rows, code) (last + 1)) (item.Symbol g.start) body None nothing _ (n, root.production, root.values, it, refl, tt)
 
 -- The last record of a tree's file is the root's.
-root_of_tree : (g : Grammar) (rows : List (List ℕ)) (code : Lists) (last : ℕ) (t : Tree) (v : Valuation) (content : List ℕ) → IsAccepted g → IsPlan g rows code → IsTreeOf g t → IsFileOfTree version_one g (passes_of rows) last t v content
-    → (body : List ℕ) × (p : ℕ) × (q : _) × (last_body_of version_one content ≡ Ok body) × IsNodeRecord version_one g (passes_of rows) last g.start body p q (v [])
+root_of_tree : (g : Grammar) (rows : List (List ℕ)) (code : Lists) (last : ℕ) (t : Tree) (v : Valuation) (content : List ℕ) → IsAccepted g → IsPlan g rows code → IsTreeOf g t → IsFileOfTree version_two g (passes_of rows) last t v content
+    → (body : List ℕ) × (p : ℕ) × (q : _) × (last_body_of version_two content ≡ Ok body) × IsNodeRecord version_two g (passes_of rows) last g.start body p q (v [])
 root_of_tree g rows code last (leaf c x) v content accepted plan fits is = absurd fits
 root_of_tree g rows code last (node p ts) v content accepted plan fits is =
     let m = passes_of rows in
-    let usable = fits_version_one g m accepted plan.legal in
+    let usable = fits_version_two g m accepted plan.legal in
     let passes : left_passes m (slice_get g.productions p) ≡ m g.start = ap (left_passes m) fits.1 ∙ ap m fits.2 in (
-      node_body version_one g m last p (v []) [],
+      node_body version_two g m last p (v []) (copies_of g m last ts (children v)),
       p,
       fits.0,
-      root_is_last version_one g m last p ts v content version_one_usable usable.1 fits is,
-      record { production = fits.1; left = fits.2; well = subst (λ ps. WellAt (λ n. n ≤ last) ps (v []) (v [])) passes is.well.0; copies = []; are_copies = refl; stands = refl },
+      root_is_last version_two g m last p ts v content version_two_usable usable.1 fits is,
+      record { production = fits.1; left = fits.2; well = subst (λ ps. WellAt (λ n. n ≤ last) ps (v []) (v [])) passes is.well.0; copies = copies_of g m last ts (children v); are_copies = are_copies g m last true (stored_items fits.0.items) ts (children v) fits.3 is.texts.1 is.well.1; stands = refl },
     )
 
 -- the value that a content ends with is the translation of the tree whose file it is
-found_is_translation : (g : Grammar) (rows : List (List ℕ)) (code : Lists) (last : ℕ) (t : Tree) (v : Valuation) (content : List ℕ) (x : Value) → IsAccepted g → IsPlan g rows code → IsGreatest last rows → IsTreeOf g t → IsFileOfTree version_one g (passes_of rows) last t v content → EndsWithRoot g rows content x → IsTranslation g v x
+found_is_translation : (g : Grammar) (rows : List (List ℕ)) (code : Lists) (last : ℕ) (t : Tree) (v : Valuation) (content : List ℕ) (x : Value) → IsAccepted g → IsPlan g rows code → IsGreatest last rows → IsTreeOf g t → IsFileOfTree version_two g (passes_of rows) last t v content → EndsWithRoot g rows content x → IsTranslation g v x
 found_is_translation g rows code last t v content x accepted plan greatest fits is found =
     let m = passes_of rows in
     let tree = root_of_tree g rows code last t v content accepted plan fits is in
@@ -132,14 +142,14 @@ found_is_translation g rows code last t v content x accepted plan greatest fits 
     let ok : Ok found.body ≡ Ok tree.0 = sym found.last ∙ tree.3 in
     let bodies : found.body ≡ tree.0 = cc in
     let lasts = one_greatest rows root.last last root.greatest greatest in
-    let mine : IsNodeRecord version_one g m last g.start tree.0 root.number root.production root.values = subst (λ k. IsNodeRecord version_one g m k g.start tree.0 root.number root.production root.values) lasts (subst (λ b. IsNodeRecord version_one g m root.last g.start b root.number root.production root.values) bodies root.node) in
-    let one = same_node version_one g m last g.start g.start root.number tree.1 tree.0 root.production tree.2 root.values (v []) (fits_version_one g m accepted plan.legal).0 mine tree.4 in
+    let mine : IsNodeRecord version_two g m last g.start tree.0 root.number root.production root.values = subst (λ k. IsNodeRecord version_two g m k g.start tree.0 root.number root.production root.values) lasts (subst (λ b. IsNodeRecord version_two g m root.last g.start b root.number root.production root.values) bodies root.node) in
+    let one = same_node version_two g m last g.start g.start root.number tree.1 tree.0 root.production tree.2 root.values (v []) (fits_version_two g m accepted plan.legal).0 mine tree.4 in
     let pass = out_pass g m root.attribute plan.legal root.out in
     let few = at_most rows last g.start greatest.most root.attribute pass.0 pass.1 in
     (root.attribute, root.out, sym (one.1 root.attribute pass.0 pass.1 few) ∙ root.value)
 
 -- a tree's file ends with the root's record
-tree_is_found : (g : Grammar) (rows : List (List ℕ)) (code : Lists) (last : ℕ) (t : Tree) (v : Valuation) (content : List ℕ) → IsAccepted g → IsPlan g rows code → IsGreatest last rows → IsTreeOf g t → IsFileOfTree version_one g (passes_of rows) last t v content → (x : Value) × EndsWithRoot g rows content x
+tree_is_found : (g : Grammar) (rows : List (List ℕ)) (code : Lists) (last : ℕ) (t : Tree) (v : Valuation) (content : List ℕ) → IsAccepted g → IsPlan g rows code → IsGreatest last rows → IsTreeOf g t → IsFileOfTree version_two g (passes_of rows) last t v content → (x : Value) × EndsWithRoot g rows content x
 tree_is_found g rows code last t v content accepted plan greatest fits is =
     let tree = root_of_tree g rows code last t v content accepted plan fits is in
     let out = some_out g accepted in (
@@ -162,10 +172,10 @@ found_tells_root g rows code content (Err out_fault.Device) accepted plan found 
 found_tells_root g rows code content (Err out_fault.NoMemory) accepted plan found last greatest t v fits is = tt
 
 -- Where a content gives no body, this is what is found of it,
-pub body_refused : {A : Type 0} (g : Grammar) (rows : List (List ℕ)) (content : List ℕ) (view : A → List ℕ) (e : FrameFault) → Told view (Err e) (last_body_of version_one content) → FindsValue g rows content (Err e)
+pub body_refused : {A : Type 0} (g : Grammar) (rows : List (List ℕ)) (content : List ℕ) (view : A → List ℕ) (e : FrameFault) → Told view (Err e) (last_body_of version_two content) → FindsValue g rows content (Err e)
 body_refused g rows content view frame_fault.NotATreeFile told = told
 body_refused g rows content view (frame_fault.Damaged place) told = record {
-  end = damaged_at_end version_one content place told;
+  end = damaged_at_end version_two content place told;
   begins = λ other. let both : Err (frame_fault.Damaged place) ≡ Err frame_fault.NotATreeFile = sym told ∙ other in cc;
   none = λ x found. let both : Ok found.body ≡ Err (frame_fault.Damaged place) = sym found.last ∙ told in cc;
 }
@@ -173,7 +183,7 @@ body_refused g rows content view frame_fault.Device told = tt
 body_refused g rows content view frame_fault.NoMemory told = tt
 
 -- and where its last body is not the root's record.
-pub no_root_at_end : (g : Grammar) (rows : List (List ℕ)) (content body : List ℕ) (place : ℕ) → place ≡ length content → last_body_of version_one content ≡ Ok body → ((x : Value) → IsRootRecord g rows body x → ⊥) → EndsWithNoRoot g rows content place
+pub no_root_at_end : (g : Grammar) (rows : List (List ℕ)) (content body : List ℕ) (place : ℕ) → place ≡ length content → last_body_of version_two content ≡ Ok body → ((x : Value) → IsRootRecord g rows body x → ⊥) → EndsWithNoRoot g rows content place
 no_root_at_end g rows content body place end last nothing = record {
   end = end;
   begins = λ other. let both : Ok body ≡ Err frame_fault.NotATreeFile = sym last ∙ other in cc;

@@ -10,7 +10,7 @@ use Rattle.passassign.specs.Rows.{IsGreatest, passes_of}
 use Rattle.treefile.specs.Awaited.{IsNodeRecord}
 use Rattle.treefile.specs.Ending.{last_body_of}
 use Rattle.treefile.specs.Records.{IsFileOfTree}
-use Rattle.treefile.specs.TreeFile.{version_one}
+use Rattle.treefile.specs.TreeFile.{version_two}
 use Rattle.treefile.specs.declared.reading.FrameFault.{FrameFault}
 use Rattle.treefile.specs.declared.reading.FrameFault.TheVariants as frame_fault
 use Rattle.roottext.specs.declared.fault.OutFault.{OutFault}
@@ -24,7 +24,7 @@ pub record IsRootRecord (g : Grammar) (rows : List (List ℕ)) (body : List ℕ)
   pub number : ℕ
   pub production : Production
   pub values : ℕ → Value
-  pub node : IsNodeRecord version_one g (passes_of rows) last g.start body number production values
+  pub node : IsNodeRecord version_two g (passes_of rows) last g.start body number production values
   pub attribute : ℕ
   pub out : IsOut g attribute
   pub value : values attribute ≡ x
@@ -32,20 +32,20 @@ pub record IsRootRecord (g : Grammar) (rows : List (List ℕ)) (body : List ℕ)
 -- the last body of a content is the root's record, and has this value for `out`
 pub record EndsWithRoot (g : Grammar) (rows : List (List ℕ)) (content : List ℕ) (x : Value) : Type 0 where
   pub body : List ℕ
-  pub last : last_body_of version_one content ≡ Ok body
+  pub last : last_body_of version_two content ≡ Ok body
   pub root : IsRootRecord g rows body x
 
 -- A content that begins as a tree file has no root's record at its end, which is the place that is told.
 pub record EndsWithNoRoot (g : Grammar) (rows : List (List ℕ)) (content : List ℕ) (place : ℕ) : Type 0 where
   pub end : place ≡ length content
-  pub begins : last_body_of version_one content ≢ Err frame_fault.NotATreeFile
+  pub begins : last_body_of version_two content ≢ Err frame_fault.NotATreeFile
   pub none : (x : Value) → EndsWithRoot g rows content x → ⊥
 
 -- What is found at the end of a content: the value of the root's `out`, B1 where it begins as no tree file, and B2 where it does but
 -- has no root's record there. A failed device and want of memory say nothing.
 abbrev pub FindsValue : Grammar → List (List ℕ) → List ℕ → Result Value FrameFault → Type 0
 FindsValue g rows content (Ok x) = EndsWithRoot g rows content x
-FindsValue g rows content (Err frame_fault.NotATreeFile) = last_body_of version_one content ≡ Err frame_fault.NotATreeFile
+FindsValue g rows content (Err frame_fault.NotATreeFile) = last_body_of version_two content ≡ Err frame_fault.NotATreeFile
 FindsValue g rows content (Err (frame_fault.Damaged place)) = EndsWithNoRoot g rows content place
 FindsValue g rows content (Err frame_fault.Device) = Unit {0}
 FindsValue g rows content (Err frame_fault.NoMemory) = Unit {0}
@@ -75,4 +75,4 @@ IsRootText g v (Err out_fault.NoMemory) = Unit {0}
 
 -- so it is for each tree and values whose file of the last pass the content is
 abbrev pub TellsRoot : Grammar → List (List ℕ) → List ℕ → Result (List ℕ) OutFault → Type 0
-TellsRoot g rows content result = (last : ℕ) → IsGreatest last rows → (t : Tree) (v : Valuation) → IsTreeOf g t → IsFileOfTree version_one g (passes_of rows) last t v content → IsRootText g v result
+TellsRoot g rows content result = (last : ℕ) → IsGreatest last rows → (t : Tree) (v : Valuation) → IsTreeOf g t → IsFileOfTree version_two g (passes_of rows) last t v content → IsRootText g v result

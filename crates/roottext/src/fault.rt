@@ -11,7 +11,7 @@ use treefile::FrameFault;
 pub enum OutFault {
     /// O1: the translation is this value, which is no text.
     NoText(Value),
-    /// B1: there are fewer than 6 bytes, or the first four are not `AGT1`.
+    /// B1: there are fewer than 6 bytes, or the first four are not `AGT2`.
     NotATreeFile,
     /// B2: no record of the root, with a value for each attribute, ends at this offset in bytes,
     /// which is the end of the file.

@@ -101,10 +101,10 @@ fn last_value<D: Device>(
 /// that a device has. It is the last record of the file, and no other is read.
 ///
 /// O1 NoText with the value where it is no text, as a number, a list, a table or an error. B1
-/// NotATreeFile where there are fewer than 6 bytes or the first four are not `AGT1`. Else B2
+/// NotATreeFile where there are fewer than 6 bytes or the first four are not `AGT2`. Else B2
 /// Damaged, with the number of bytes as its offset, where no frame ends there, or where its body is
-/// not the record of a production of the start symbol with a well value for each attribute and
-/// nothing behind these. D1 Device where a call of the device failed. NoMemory where a growth was
+/// not the record of a production of the start symbol with a well value for each attribute, behind
+/// these the copies of its children's, and nothing more. D1 Device where a call of the device failed. NoMemory where a growth was
 /// refused.
 ///
 /// The number of the pass in the header is not looked at. Takes memory for the record and for its

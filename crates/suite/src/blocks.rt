@@ -53,7 +53,7 @@ fn device_of(bytes: Vec<u8>) -> CountingDevice {
 
 /// The file of pass 0 of a name of so many letters and `if`, in the grammar `S = NAME "if"`.
 fn file_of_name(alloc: Global, letters: u32) -> Result<Vec<u8>, AllocError> {
-    let mut bytes = Vec::from_slice(alloc, b"AGT1\0\0\x01\0\0\x01")?;
+    let mut bytes = Vec::from_slice(alloc, b"AGT2\0\0\x01\0\0\x01")?;
     bytes.extend_from_slice(&letters.to_be_bytes())?;
     bytes.resize(bytes.len().saturating_add(letters as usize), b'a')?;
     bytes.extend_from_slice(&letters.saturating_add(8).to_be_bytes())?;
@@ -63,7 +63,7 @@ fn file_of_name(alloc: Global, letters: u32) -> Result<Vec<u8>, AllocError> {
 
 /// A file of pass 0 with bodies of these lengths: all bytes of a body are its number in the file.
 fn file_of_lengths(alloc: Global, lengths: &[u32]) -> Result<Vec<u8>, AllocError> {
-    let mut bytes = Vec::from_slice(alloc, b"AGT1\0\0")?;
+    let mut bytes = Vec::from_slice(alloc, b"AGT2\0\0")?;
     for (number, length) in lengths.iter().enumerate() {
         let end = bytes.len().saturating_add(*length as usize);
         bytes.resize(end, (number % 256) as u8)?;
@@ -191,7 +191,6 @@ fn bodies_of_many_lengths(rt: HostRuntime) -> Result<(), Fail> {
         &[4091, 4092, 3],
         &[4093, 4092, 4093],
         &[65_543, 8000, 12_000],
-        &[3, 16_777_219],
         &[3, 16_777_220],
     ];
     for lengths in rows {
@@ -204,7 +203,7 @@ fn bodies_of_many_lengths(rt: HostRuntime) -> Result<(), Fail> {
     assert_eq!(rt;
         lines.as_str(),
         "4092 4092 3 Ok(None)\n3 4092 4091 Ok(None)\n4093 4092 4093 Ok(None)\n\
-         12000 8000 65543 Ok(None)\n16777219 3 Ok(None)\nErr(Damaged(16777237))\n"
+         12000 8000 65543 Ok(None)\n16777220 3 Ok(None)\n"
     );
     Ok(())
 }
@@ -214,10 +213,10 @@ fn one_read_for_a_block(rt: HostRuntime) -> Result<(), Fail> {
     let alloc = rt.alloc();
     let mut lines = String::new(alloc);
     for frames in [0, 1, 584, 585, 586, 1170, 1171, 65_536] {
-        let bytes = file_of_frames(alloc, b"AGT1\0\0", frames)?;
+        let bytes = file_of_frames(alloc, b"AGT2\0\0", frames)?;
         tell_frames(alloc, device_of(bytes), &mut lines)?;
     }
-    let odd = file_of_frames(alloc, b"AGT1\0\0\x07", 2000)?;
+    let odd = file_of_frames(alloc, b"AGT2\0\0\x07", 2000)?;
     tell_frames(alloc, device_of(odd), &mut lines)?;
     assert_eq!(rt;
         lines.as_str(),

@@ -3,7 +3,7 @@
 ghost use Rattle.std.specs.Prelude.{◌≡◌, [], false, IfOk, length, map};
 ghost use Rattle.treefile.specs.Backward.{ReadsBack};
 ghost use Rattle.treefile.specs.Device.{WhenHonest};
-ghost use Rattle.treefile.specs.TreeFile.{version_one};
+ghost use Rattle.treefile.specs.TreeFile.{version_two};
 
 use backreader::Back;
 use std::alloc::{AllocError, Global};
@@ -30,7 +30,7 @@ impl Device for LyingDevice {
     }
 
     fn read_at(&mut self, _at: u64, out: &mut [u8]) -> Result<(), DeviceFault> {
-        for (byte, letter) in out.iter_mut().zip(*b"AGT1") {
+        for (byte, letter) in out.iter_mut().zip(*b"AGT2") {
             *byte = letter;
         }
         Ok(())
@@ -44,7 +44,7 @@ impl Device for LyingDevice {
 /// The bodies of a tree file, from the last to the first.
 fn bodies_back<D: Device>(alloc: Global, device: &mut D) -> Result<Vec<Vec<u8>>, Fail>
     ensures { WhenHonest (D.is_honest device.old)
-        (IfOk result (λ found. ReadsBack version_one (D.content device.old)
+        (IfOk result (λ found. ReadsBack version_two (D.content device.old)
         (length (D.content device.old)) (map (λ body. body.items) found.items))) }
 {
     let mut back = Back::start(alloc, device)?;

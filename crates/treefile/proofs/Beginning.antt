@@ -7,22 +7,22 @@ use Rattle.std.proofs.lemmas.List.Elements.{All-append, All-cons, All-nil}
 use Rattle.treefile.specs.Beginning.{AddsFrames, BeginsFile, LeavesBeginning}
 use Rattle.treefile.specs.Device.{AppendsFront}
 use Rattle.treefile.specs.Ending.{IsBody}
-use Rattle.treefile.specs.TreeFile.{file, frame, header, version_one}
+use Rattle.treefile.specs.TreeFile.{file, frame, header, version_two}
 use Rattle.treefile.specs.declared.writing.WriteFault.{WriteFault}
 use Rattle.treefile.specs.declared.writing.WriteFault.TheVariants as write_fault
 
 -- no body, and one
-no_body : All (IsBody version_one) []
-no_body = All-nil (IsBody version_one)
+no_body : All (IsBody version_two) []
+no_body = All-nil (IsBody version_two)
 
-one_body : (body : List ℕ) → IsBody version_one body → All (IsBody version_one) (body ∷ [])
-one_body body sound = All-cons (IsBody version_one) body [] sound no_body
+one_body : (body : List ℕ) → IsBody version_two body → All (IsBody version_two) (body ∷ [])
+one_body body sound = All-cons (IsBody version_two) body [] sound no_body
 
 -- a beginning of the header, and frames behind all of it
-header_begins : (pass : ℕ) (content : List ℕ) → AppendsFront (header version_one pass) [] content → BeginsFile pass content
-header_begins pass content put = record { bodies = []; sound = no_body; front = (put.0, put.1 ∙ ap (take put.0) (sym (append-nil (header version_one pass)))) }
+header_begins : (pass : ℕ) (content : List ℕ) → AppendsFront (header version_two pass) [] content → BeginsFile pass content
+header_begins pass content put = record { bodies = []; sound = no_body; front = (put.0, put.1 ∙ ap (take put.0) (sym (append-nil (header version_two pass)))) }
 
-pub not_begun : (pass : ℕ) (old now : List ℕ) (f : WriteFault) → (f ≡ write_fault.Device → (now ≡ old) ⊎ AppendsFront (header version_one pass) [] now) → (f ≡ write_fault.NoMemory → now ≡ []) → LeavesBeginning pass old now
+pub not_begun : (pass : ℕ) (old now : List ℕ) (f : WriteFault) → (f ≡ write_fault.Device → (now ≡ old) ⊎ AppendsFront (header version_two pass) [] now) → (f ≡ write_fault.NoMemory → now ≡ []) → LeavesBeginning pass old now
 not_begun pass old now write_fault.Device failed want = elim (failed refl) [ inl same ↦ inl same | inr front ↦ inr (header_begins pass now front) ]
 not_begun pass old now write_fault.NoMemory failed want = inr (header_begins pass now (0, want refl))
 
@@ -36,7 +36,7 @@ module _ (E : Type 0) where
   pub added : (old between now : List ℕ) (r : Result (Unit {0}) E) → AddsFrames {E = E} old between (Ok tt) → AddsFrames between now r → AddsFrames old now r
   added old between now (Ok u) first next = (
     first.0 ++ next.0,
-    All-append (IsBody version_one) first.0 next.0 first.1 next.1,
+    All-append (IsBody version_two) first.0 next.0 first.1 next.1,
     next.2 ∙ ap (λ (xs : List ℕ). xs ++ flat_map frame next.0) first.2 ∙ append_assoc old (flat_map frame first.0) (flat_map frame next.0) ∙ ap (λ (xs : List ℕ). old ++ xs) (sym (flat_map-append frame first.0 next.0)),
   )
   added old between now (Err fault) first next =
@@ -44,31 +44,31 @@ module _ (E : Type 0) where
       let behind = flat_map frame next.0 in
       let n = next.2.0 in (
         first.0 ++ next.0,
-        All-append (IsBody version_one) first.0 next.0 first.1 next.1,
+        All-append (IsBody version_two) first.0 next.0 first.1 next.1,
         (length before + n, next.2.1 ∙ ap (λ (xs : List ℕ). xs ++ take n behind) first.2 ∙ append_assoc old before (take n behind) ∙ ap (λ (xs : List ℕ). old ++ xs) (sym (take-append-add before behind n) ∙ ap (take (length before + n)) (sym (flat_map-append frame first.0 next.0)))),
       )
 
   -- a frame was put, or not
-  pub one_added : (old now body : List ℕ) → IsBody version_one body → now ≡ old ++ frame body → AddsFrames {E = E} old now (Ok tt)
+  pub one_added : (old now body : List ℕ) → IsBody version_two body → now ≡ old ++ frame body → AddsFrames {E = E} old now (Ok tt)
   one_added old now body sound is = (body ∷ [], one_body body sound, is ∙ ap (λ (xs : List ℕ). old ++ xs) (sym (append-nil (frame body))))
 
-  pub one_refused : (old now body : List ℕ) (f : WriteFault) (fault : E) → IsBody version_one body → (f ≡ write_fault.Device → AppendsFront (frame body) old now) → (f ≡ write_fault.NoMemory → now ≡ old) → AddsFrames old now (Err fault)
+  pub one_refused : (old now body : List ℕ) (f : WriteFault) (fault : E) → IsBody version_two body → (f ≡ write_fault.Device → AppendsFront (frame body) old now) → (f ≡ write_fault.NoMemory → now ≡ old) → AddsFrames old now (Err fault)
   one_refused old now body write_fault.Device fault sound front same =
       let put = front refl in
       (body ∷ [], one_body body sound, (put.0, put.1 ∙ ap (λ (xs : List ℕ). old ++ take put.0 xs) (sym (append-nil (frame body)))))
   one_refused old now body write_fault.NoMemory fault sound front same = ([], no_body, (0, same refl ∙ sym (append-nil old)))
 
   -- frames were put behind a header
-  pub frames_begin : (pass : ℕ) (old content : List ℕ) (r : Result (Unit {0}) E) → old ≡ header version_one pass → AddsFrames old content r → BeginsFile pass content
+  pub frames_begin : (pass : ℕ) (old content : List ℕ) (r : Result (Unit {0}) E) → old ≡ header version_two pass → AddsFrames old content r → BeginsFile pass content
   frames_begin pass old content (Ok u) is put = record {
     bodies = put.0;
     sound = put.1;
     front =
-        let whole : content ≡ file version_one pass put.0 = put.2 ∙ ap (λ (xs : List ℕ). xs ++ flat_map frame put.0) is in
-        (length (file version_one pass put.0), whole ∙ sym (take-length (file version_one pass put.0)));
+        let whole : content ≡ file version_two pass put.0 = put.2 ∙ ap (λ (xs : List ℕ). xs ++ flat_map frame put.0) is in
+        (length (file version_two pass put.0), whole ∙ sym (take-length (file version_two pass put.0)));
   }
   frames_begin pass old content (Err fault) is put =
-      let head = header version_one pass in
+      let head = header version_two pass in
       record {
         bodies = put.0;
         sound = put.1;

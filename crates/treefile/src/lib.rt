@@ -18,7 +18,7 @@ pub use device::{Device, DeviceFault};
 pub use file::{FileDevice, FileFault};
 pub use fuse::FuseDevice;
 pub use laws::{files_are_read_back, frames_are_read, headers_are_told, last_is_read, records_fit};
-pub use layout::{HEADER_BYTES, LEAST_BODY, LENGTH_BYTES};
+pub use layout::{HEADER_BYTES, LEAST_BODY, LENGTH_BYTES, MOST_VALUES};
 pub use memory::MemDevice;
 pub use reading::{FrameFault, fits_before, last_body, pass_in};
 pub use tree_laws::{

@@ -9,7 +9,7 @@ ghost use Rattle.treefile.specs.Ending.{IsBytes, Told, body_before, fits_before,
 ghost use Rattle.treefile.specs.Ending.{header_bytes, last_body_of, least_body};
 ghost use Rattle.treefile.specs.Ending.{length_bytes, number_before};
 ghost use Rattle.treefile.specs.Faults.{frame_fault_of};
-ghost use Rattle.treefile.specs.TreeFile.{version_one};
+ghost use Rattle.treefile.specs.TreeFile.{version_two};
 ghost use Rattle.treefile.specs.declared.reading.FrameFault.TheVariants as frame_fault;
 
 use crate::device::{Device, DeviceFault};
@@ -19,7 +19,7 @@ use std::alloc::{AllocError, Global};
 /// Why a tree file gave no body.
 #[derive(Clone, Copy, Debug, PartialEq, Eq)]
 pub enum FrameFault {
-    /// B1: there are fewer than 6 bytes, or the first four are not `AGT1`.
+    /// B1: there are fewer than 6 bytes, or the first four are not `AGT2`.
     NotATreeFile,
     /// B2: no frame ends at this offset in bytes, where one should.
     Damaged(u64),
@@ -51,14 +51,14 @@ impl From<AllocError> for FrameFault {
 /// The number of the pass in the header of a tree file, which a device with so many bytes may have.
 /// Takes no memory.
 ///
-/// B1 NotATreeFile where there are fewer than 6 bytes or the first four are not `AGT1`. D1 Device
+/// B1 NotATreeFile where there are fewer than 6 bytes or the first four are not `AGT2`. D1 Device
 /// where the call of the device failed.
 #[tactic(auto, unfolding(crate::specs::Ending::is_tree_file))]
 pub fn pass_in<D: Device>(device: &mut D, end: u64) -> Result<u16, FrameFault>
     requires { WhenHonest (D.is_honest device.old) (end ≡ length (D.content device.old)) }
     // The number, and B1, exactly as the content has them
     ensures told { WhenHonest (D.is_honest device.old)
-        (Told (λ pass. pass) result (pass_in version_one (D.content device.old))) }
+        (Told (λ pass. pass) result (pass_in version_two (D.content device.old))) }
     ensures bytes { WhenHonest (D.is_honest device.old)
         (OnOk result (IsBytes (take header_bytes (D.content device.old)))) }
     ensures room { OnOk result (header_bytes ≤ end) }
@@ -82,7 +82,7 @@ pub fn pass_in<D: Device>(device: &mut D, end: u64) -> Result<u16, FrameFault>
 
 /// Whether bytes begin as those of a tree file.
 fn has_magic(bytes: &[u8]) -> bool
-    ensures found { result ≡ starts_with nat_eq bytes.now version_one.magic }
+    ensures found { result ≡ starts_with nat_eq bytes.now version_two.magic }
     ensures bytes { IsBytes bytes.now }
 {
     bytes.starts_with(&MAGIC)
@@ -108,9 +108,9 @@ fn number_before<D: Device>(device: &mut D, at: u64) -> Result<u32, DeviceFault>
 #[tactic(auto, unfolding(crate::specs::Ending::fits_before))]
 pub fn fits_before(at: u64, length: u64) -> bool
     requires { length < 2 ^ 32 }
-    ensures exact { result ≡ fits_before version_one at length }
+    ensures exact { result ≡ fits_before version_two at length }
     ensures least { IsTrue result → least_body ≤ length }
-    ensures greatest { IsTrue result → length ≤ greatest_body version_one }
+    ensures greatest { IsTrue result → length ≤ greatest_body version_two }
     ensures room { IsTrue result → header_bytes + length + length_bytes ≤ at }
 {
     LEAST_BODY <= length && length <= GREATEST_BODY && HEADER_BYTES + length + LENGTH_BYTES <= at
@@ -146,7 +146,7 @@ fn bytes_at<D: Device>(
 fn body_before<D: Device>(alloc: Global, device: &mut D, at: u64) -> Result<Vec<u8>, FrameFault>
     requires { WhenHonest (D.is_honest device.old) (at ≤ length (D.content device.old)) }
     ensures told { WhenHonest (D.is_honest device.old)
-        (Told (λ body. body.items) result (body_before version_one (D.content device.old) at)) }
+        (Told (λ body. body.items) result (body_before version_two (D.content device.old) at)) }
     ensures content { LeavesContent (D.is_honest device.old)
         (D.content device.old) (D.content device.new) }
     ensures persists { Persists (D.is_honest device.old) (D.is_honest device.new)
@@ -165,16 +165,16 @@ fn body_before<D: Device>(alloc: Global, device: &mut D, at: u64) -> Result<Vec<
 /// The body of the last frame of the tree file that a device has: the one that ends where the
 /// device does.
 ///
-/// B1 NotATreeFile where there are fewer than 6 bytes or the first four are not `AGT1`. Else B2
+/// B1 NotATreeFile where there are fewer than 6 bytes or the first four are not `AGT2`. Else B2
 /// Damaged, with the number of bytes as its offset, where fewer than 4 bytes stand behind the
-/// header, or where the number in the last four is below 3, above 16,777,219 or more than what
+/// header, or where the number in the last four is below 3, above 285,212,675 or more than what
 /// stands between the header and those four. D1 Device where a call of the device failed. Takes
 /// memory for the body.
 #[tactic(auto, unfolding(crate::specs::Ending::last_body_of))]
 pub fn last_body<D: Device>(alloc: Global, device: &mut D) -> Result<Vec<u8>, FrameFault>
     // The body, B1 and B2, exactly as the content has it
     ensures told { WhenHonest (D.is_honest device.old)
-        (Told (λ body. body.items) result (last_body_of version_one (D.content device.old))) }
+        (Told (λ body. body.items) result (last_body_of version_two (D.content device.old))) }
     ensures content { LeavesContent (D.is_honest device.old)
         (D.content device.old) (D.content device.new) }
     // D1 only where the number of failures rose

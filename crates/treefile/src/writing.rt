@@ -1,14 +1,14 @@
 //! Writing a tree file: its header, and then the frame of one record after another.
 
 ghost use Rattle.std.specs.Prelude.{◌≡◌, ◌++◌, ◌∷◌, ◌+◌, ◌-◌, ◌<◌, ◌≤◌, ◌^◌, ◌⊎◌, [], length};
-ghost use Rattle.std.specs.Prelude.{true, false, All, IfOk, IsErrOf, Ok, OnOk};
+ghost use Rattle.std.specs.Prelude.{true, false, All, IfOk, IfSome, IsErrOf, Ok, OnOk};
 ghost use Rattle.std.specs.List.{flat_map};
 ghost use Rattle.ag_value.specs.Spelling.{spelling_of};
 ghost use Rattle.ag_value.specs.Well.{IsWell};
 ghost use Rattle.treefile.specs.Device.{AppendsFront, LeavesContent, Persists, WhenHonest};
 ghost use Rattle.treefile.specs.Ending.{IsBody};
 ghost use Rattle.treefile.specs.Faults.{write_fault_of};
-ghost use Rattle.treefile.specs.TreeFile.{body_of, frame, header, version_one};
+ghost use Rattle.treefile.specs.TreeFile.{body_of, frame, header, version_two};
 ghost use Rattle.treefile.specs.declared.writing.WriteFault.TheVariants as write_fault;
 
 use crate::body::Kind;
@@ -80,12 +80,12 @@ impl Writer {
     pub fn begin<D: Device>(alloc: Global, device: &mut D, pass: u16) -> Result<Writer, WriteFault>
         ensures header { OnOk result
             (WhenHonest (D.is_honest device.old)
-            (D.content device.new ≡ header version_one pass)) }
+            (D.content device.new ≡ header version_two pass)) }
         ensures fresh { IfOk result (λ writer. writer ≡ record { written = 0; is_broken = false }) }
         // D1: what the device had, or a beginning of the header
         ensures device { IsErrOf result WriteFault.Device → WhenHonest (D.is_honest device.old)
             ((D.content device.new ≡ D.content device.old)
-            ⊎ AppendsFront (header version_one pass) [] (D.content device.new)) }
+            ⊎ AppendsFront (header version_two pass) [] (D.content device.new)) }
         ensures memory { IsErrOf result WriteFault.NoMemory →
             WhenHonest (D.is_honest device.old) (D.content device.new ≡ []) }
         ensures persists { Persists (D.is_honest device.old) (D.is_honest device.new)
@@ -101,9 +101,9 @@ impl Writer {
     }
 
     /// Appends the frame of a record by one call of the device. Takes memory for the frame, where
-    /// there are several values, or one that is no number.
+    /// there are more than two values, or one that is no number.
     ///
-    /// Asks for at most 16 values, each of them well, and for fewer than u64::MAX frames put
+    /// Asks for at most 272 values, each of them well, and for fewer than u64::MAX frames put
     /// before.
     ///
     /// D1 Device where the device failed: it has a beginning of the frame more, and the writer is
@@ -117,7 +117,7 @@ impl Writer {
         number: u16,
         values: &[Value],
     ) -> Result<(), WriteFault>
-        requires few { length values.now ≤ version_one.most_values }
+        requires few { length values.now ≤ version_two.most_values }
         requires well { All IsWell values.now }
         requires room { self.old.written < 2 ^ 64 - 1 }
         ensures frame { OnOk result
@@ -157,6 +157,10 @@ impl Writer {
             let answer = device.append(&number_frame(kind, number, *only));
             return self.settle(answer);
         }
+        if let Some(frame) = pair_frame(kind, number, values) {
+            let answer = device.append(&frame);
+            return self.settle(answer);
+        }
         fill_frame(&mut self.buffer, kind, number, values)?;
         let answer = device.append(self.buffer.as_slice());
         self.settle(answer)
@@ -165,11 +169,11 @@ impl Writer {
     /// Appends the frame of a body as it stands, by one call of the device. Takes memory for the
     /// frame.
     ///
-    /// Asks for a body of 3 to 16,777,219 bytes, and for fewer than u64::MAX frames put before.
+    /// Asks for a body of 3 to 285,212,675 bytes, and for fewer than u64::MAX frames put before.
     ///
     /// Refuses as `put` does.
     pub fn put_body<D: Device>(&mut self, device: &mut D, body: &[u8]) -> Result<(), WriteFault>
-        requires body { IsBody version_one body.now }
+        requires body { IsBody version_two body.now }
         requires room { self.old.written < 2 ^ 64 - 1 }
         ensures frame { OnOk result (WhenHonest (D.is_honest device.old)
             (D.content device.new ≡ D.content device.old ++ frame body.now)) }
@@ -254,6 +258,34 @@ fn number_frame(kind: Kind, number: u16, only: i64) -> [u8; 16]
     [kind, high, low, tag, a, b, c, d, e, f, g, h, 0, 0, 0, 12]
 }
 
+/// The frame of a record whose two values are numbers, none where others stand there.
+#[inline(always)]
+fn pair_frame(kind: Kind, number: u16, values: &[Value]) -> Option<[u8; 25]>
+    ensures { IfSome result (λ it. it ≡ frame (body_of kind number values.now)) }
+{
+    match values {
+        [Value::Num(first), Value::Num(second)] => {
+            Some(frame_of_pair(kind, number, *first, *second))
+        }
+        _ => None,
+    }
+}
+
+/// The frame of a record with these two numbers.
+#[tactic(auto, using(ag_value::proofs::Layers::spellings))]
+#[inline(always)]
+fn frame_of_pair(kind: Kind, number: u16, first: i64, second: i64) -> [u8; 25]
+    ensures { result ≡ frame (body_of kind number (Value.Num first ∷ Value.Num second ∷ [])) }
+{
+    let kind = kind.byte();
+    let [high, low] = number.to_be_bytes();
+    let [tag, a, b, c, d, e, f, g, h] = number_spelling(first);
+    let [other, i, j, k, l, m, n, o, p] = number_spelling(second);
+    [
+        kind, high, low, tag, a, b, c, d, e, f, g, h, other, i, j, k, l, m, n, o, p, 0, 0, 0, 21,
+    ]
+}
+
 /// The spelling of a number.
 #[tactic(auto, using(ag_value::proofs::Layers::spellings))]
 fn number_spelling(n: i64) -> [u8; 9]
@@ -270,7 +302,7 @@ fn fill_frame(
     number: u16,
     values: &[Value],
 ) -> Result<(), NoMemory>
-    requires few { length values.now ≤ version_one.most_values }
+    requires few { length values.now ≤ version_two.most_values }
     requires well { All IsWell values.now }
     ensures { OnOk result (buffer.new.items ≡ frame (body_of kind number values.now)) }
 {
@@ -281,7 +313,7 @@ fn fill_frame(
 
 /// Makes a buffer that has a body have its frame.
 fn close_frame(buffer: &mut Vec<u8>) -> Result<(), AllocError>
-    requires { IsBody version_one buffer.old.items }
+    requires { IsBody version_two buffer.old.items }
     ensures { OnOk result (buffer.new.items ≡ frame buffer.old.items) }
 {
     let length = buffer.len() as u32;

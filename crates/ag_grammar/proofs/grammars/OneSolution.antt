@@ -24,7 +24,7 @@ Visited k (suc j) i = IsBefore (direction_of k) i (suc j)
 
 pub may_le : (k j i p : ℕ) → MayUse k j i p → p ≤ k
 may_le k zero i p u = u
-may_le k (suc j) i p u = elim u [ inl a ↦ a.1 | inr b ↦ elim b [ inl c ↦ c.1 | inr d ↦ let h = d.1 in omega arith ] ]
+may_le k (suc j) i p u = elim u [ inl a ↦ a.1 | inr b ↦ elim b [ inl c ↦ c.1 | inr d ↦ omega arith ] ]
 
 split : (p k : ℕ) → p ≤ k → (p < k) ⊎ (p ≡ k)
 split p k h = grind arith
@@ -44,7 +44,7 @@ module _ (g : Grammar) (m : Passes) (k : ℕ) (q : Production) (v w : Valuation)
   argument : (j i a p : ℕ) → MayUse k j i p → slice_get (item_passes m (item_at q i)) a ≡ Some p → slice_get (item_kinds g (item_at q i)) a ≡ Some (found_kind i) → ((i : ℕ) → Visited k j (suc i) → SameAt (λ p. p ≤ k) (item_passes m (item_at q (suc i))) (at v (suc i)) (at w (suc i))) → at v i a ≡ at w i a
   argument j zero a p u h n vis = given a p h (may_le k j 0 p u) n
   argument zero (suc i) a p u h n vis = vis i tt a p h u
-  argument (suc j) (suc i) a p u h n vis = elim u [ inl x ↦ absurd (let e = x.0 in omega arith) | inr y ↦ elim y [ inl x ↦ vis i x.0 a p h x.1 | inr x ↦ old (suc i) a p h x.1 ] ]
+  argument (suc j) (suc i) a p u h n vis = elim u [ inl x ↦ absurd (let e = x.0 in omega arith) | inr y ↦ elim y [ inl x ↦ vis i x.0 a p h x.1 | inr x ↦ old (suc i) a p h x ] ]
 
   -- what a rule gives at a place is the same
   by_rule : (j a : ℕ) → slice_get (item_passes m (item_at q j)) a ≡ Some k → slice_get (item_kinds g (item_at q j)) a ≡ Some (given_kind j) → ((i : ℕ) → Visited k j (suc i) → SameAt (λ p. p ≤ k) (item_passes m (item_at q (suc i))) (at v (suc i)) (at w (suc i))) → at v j a ≡ at w j a

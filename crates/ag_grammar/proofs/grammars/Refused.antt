@@ -1,6 +1,6 @@
 -- What the definitions refuse of the sample grammars.
 use Rattle.ag_grammar.proofs.grammars.OneSolution.{counterpart}
-use Rattle.std.proofs.Common.{ℕ, zero, suc, sym, ◌≡◌, inl, inr, List, [], ◌∷◌, Some, refl, ap, subst, arith}
+use Rattle.std.proofs.Common.{ℕ, zero, suc, sym, ◌≡◌, inl, inr, ◌≤◌, List, [], ◌∷◌, Option, Some, slice_get, refl, ap, subst, ◌∙◌, arith}
 use Rattle.ag_grammar.specs.Lists.{Each}
 use Rattle.ag_grammar.specs.declared.grammar.Item.TheVariants as item
 use Rattle.ag_grammar.specs.declared.grammar.Item.{Item}
@@ -10,7 +10,7 @@ use Rattle.ag_grammar.specs.grammars.AttributeGrammar.{Inherited, symbol_kinds, 
 use Rattle.ag_grammar.specs.grammars.Accepted.{IsNormal, IsProductive, IsReached, at_start, within}
 use Rattle.ag_grammar.specs.grammars.Tree.{Tree, Forest, node, none, more, Fits, FitsAll, IsTreeOf}
 use Rattle.ag_grammar.specs.grammars.Passes.{Passes, Direction, LeftToRight, RightToLeft, MayUse, IsBefore, direction_of, IsLegal}
-use Rattle.ag_grammar.specs.grammars.Sample.{both_ways, production_back, copy_rule, s_name, symbol_a, sample, production_r, production_a, production_t, attribute, rule_out, rule_first, rule_second, rule_inherited, later_passes, endless, with_unreached}
+use Rattle.ag_grammar.specs.grammars.Sample.{both_ways, production_back, copy_rule, s_name, symbol_a, sample, production_r, production_a, production_t, attribute, rule_out, rule_first, rule_second, rule_s, rule_inherited, later_passes, endless, with_unreached}
 use Rattle.ag_grammar.proofs.grammars.Members.{both, only}
 use Rattle.ag_grammar.proofs.grammars.Children.{child, tree_ind}
 use Rattle.ag_grammar.proofs.grammars.Productive.{by_trees}
@@ -26,7 +26,8 @@ child_missing f =
 pub not_legal : IsLegal sample later_passes → ⊥
 not_legal l =
     let u = l.allowed 0 (production_r (rule_out ∷ rule_first ∷ rule_second ∷ [])) refl rule_first (attribute 2 0) 2 (1, refl) (0, refl) refl in
-    elim u.2 [ inl x ↦ (let e = x.0 in omega arith) | inr y ↦ elim y [ inl x ↦ (let e = x.0 in omega arith) | inr x ↦ (let e = x.0 in omega arith) ] ]
+    let second : 2 ≡ u.0 = let e : ◌≡◌ {A = Option ℕ} (Some 2) (Some u.0) = u.1 in cc in
+    elim u.2 [ inl x ↦ (let e = x.0 in omega arith) | inr y ↦ elim y [ inl x ↦ (let e = x.0 in omega arith) | inr x ↦ omega arith ] ]
 
 endless_items : (p : ℕ) (q : Production) → IsProduction endless p q → q.items ≡ item.Symbol 0 ∷ []
 endless_items zero q e = cc
@@ -62,11 +63,19 @@ unreached s (within p q i r h) e = on_no_right_side p q i h.0 (item.Symbol s) h.
 pub not_reached : IsReached with_unreached 2 → ⊥
 not_reached h = unreached 2 h refl
 
--- what a rule at one child uses of the other comes from a child that is visited before it
-from_child : (k j i p : ℕ) → MayUse k (suc j) (suc i) p → (i ≡ j → ⊥) → IsBefore (direction_of k) (suc i) (suc j)
-from_child k j i p (inl x) other = absurd (omega (arith, x.0))
-from_child k j i p (inr (inl x)) other = x.0
-from_child k j i p (inr (inr x)) other = absurd (other (omega (arith, x.0)))
+-- what a rule at one child uses of the other, and no earlier pass left, comes from a child that is visited before it
+from_child : (k j i p : ℕ) → MayUse k (suc j) (suc i) p → k ≤ p → IsBefore (direction_of k) (suc i) (suc j)
+from_child k j i p (inl x) late = absurd (omega (arith, x.0))
+from_child k j i p (inr (inl x)) late = x.0
+from_child k j i p (inr (inr x)) late = absurd (omega arith)
+
+-- `s` of an A is of no earlier pass than its `i`, on which it rests
+late_s : (m : Passes) (i s : ℕ) → IsLegal both_ways m → slice_get (m 1) 1 ≡ Some i → slice_get (m 1) 0 ≡ Some s → i ≤ s
+late_s m i s legal of_i of_s =
+    let one = legal.allowed 1 production_a refl rule_s (attribute 0 1) s (0, refl) (0, refl) of_s in
+    let same : one.0 ≡ i = let e : Some one.0 ≡ Some i = sym one.1 ∙ of_i in cc in
+    let le = one.2 in
+    omega arith
 
 -- no direction visits each of two children before the other
 not_both : (d : Direction) → IsBefore d 2 1 → IsBefore d 1 2 → ⊥
@@ -78,4 +87,4 @@ none_legal m legal =
     let i = counterpart (symbol_kinds (Some symbol_a)) (m 1) 1 Inherited (sym (legal.whole 1)) refl in
     let first = legal.allowed 0 (production_r (rule_out ∷ rule_first ∷ rule_second ∷ [])) refl rule_first (attribute 2 0) i.0 (1, refl) (0, refl) i.1 in
     let back = legal.allowed 2 production_back refl (copy_rule (attribute 2 1) 1 s_name 0) (attribute 1 0) i.0 (2, refl) (0, refl) i.1 in
-    not_both (direction_of i.0) (from_child i.0 0 1 first.0 first.2 (λ e. omega arith)) (from_child i.0 1 0 back.0 back.2 (λ e. omega arith))
+    not_both (direction_of i.0) (from_child i.0 0 1 first.0 first.2 (late_s m i.0 first.0 legal i.1 first.1)) (from_child i.0 1 0 back.0 back.2 (late_s m i.0 back.0 legal i.1 back.1))

@@ -54,11 +54,11 @@ direction_name RightToLeft = codes "right-to-left"
 
 -- What a rule whose target is of pass k and stands at place j may use: an attribute of pass p at place i. On the left side
 -- what is computed by the end of the pass. On the right side what is there before the pass enters the child: of the left
--- side and of the children before it what is computed by then, of the child itself what an earlier pass left, and of the
--- children after it nothing (after Jazayeri and Walter 1975).
+-- side and of the children before it what is computed by then, and of each child what an earlier pass left (after Jazayeri
+-- and Walter 1975, where children that come later are not at hand: that they are is this project's).
 abbrev pub MayUse : (k j i p : ℕ) → Type 0
 MayUse k zero i p = p ≤ k
-MayUse k (suc j) i p = ((i ≡ 0) × (p ≤ k)) ⊎ (IsBefore (direction_of k) i (suc j) × (p ≤ k)) ⊎ ((i ≡ suc j) × (p < k))
+MayUse k (suc j) i p = ((i ≡ 0) × (p ≤ k)) ⊎ (IsBefore (direction_of k) i (suc j) × (p ≤ k)) ⊎ (p < k)
 
 -- The arguments of a production's rules are such as their targets' passes may use, where a relation tells which attribute at
 -- a place has which pass. It may give some attributes no pass: then those with a pass rest on those with a pass alone.

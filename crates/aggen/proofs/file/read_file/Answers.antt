@@ -1,18 +1,18 @@
 use Rattle.std.proofs.Common.{ap, ◌∙◌}
 use Rattle.std.proofs.lemmas.Result.{err_from_is_err_and}
 use Rattle.treefile.specs.Ending.{last_body_of}
-use Rattle.treefile.specs.TreeFile.{version_one}
+use Rattle.treefile.specs.TreeFile.{version_two}
 use Rattle.aggen.proofs.Reading.{body_told, last_of, place_told, value_told, want_told}
 use Rattle.aggen.proofs.file.read_file.Goals as goal
 
 pub returns-in_err-body-clause-read : goal.returns-in_err-body-clause-read
 returns-in_err-body-clause-read g c = λ honest value well is.
     let p = err_from_is_err_and c.from_residual.result c.from_residual.ensures.1 in
-    rw (p.1, p.2) (want_told _ _ c.in_err-body.field-0.0 (ap (last_body_of version_one) is ∙ last_of value well) (c.in_err-body.ensures.told honest))
+    rw (p.1, p.2) (want_told _ _ c.in_err-body.field-0.0 (ap (last_body_of version_two) is ∙ last_of value well) (c.in_err-body.ensures.told honest))
 
 pub returns-clause-read : goal.returns-clause-read
 returns-clause-read g c = λ honest value well is.
-    let body = body_told _ _ _ (ap (last_body_of version_one) is ∙ last_of value well) (c.in_ok-body.ensures.told honest) in
+    let body = body_told _ _ _ (ap (last_body_of version_two) is ∙ last_of value well) (c.in_ok-body.ensures.told honest) in
     value_told value c.value_in.result (c.value_in.ensures.read value well (c.as_slice.ensures.value ∙ body))
 
 pub returns-in_err-body-clause-place : goal.returns-in_err-body-clause-place

@@ -2,7 +2,7 @@ use Rattle.std.proofs.Common.{◌≡◌, ℕ, List, Bool, Result, Ok, Err}
 use Rattle.std.specs.Prelude.{IfErr}
 use Rattle.treefile.specs.Beginning.{AddsFrames, BeginsFile}
 use Rattle.treefile.specs.Device.{WhenHonest}
-use Rattle.treefile.specs.TreeFile.{header, version_one}
+use Rattle.treefile.specs.TreeFile.{header, version_two}
 use Rattle.treefile.proofs.Beginning.{frames_begin}
 use Rattle.llparse.specs.Sentences.{words_of}
 use Rattle.llparse.specs.declared.parse_fault.ParseFault.{ParseFault}
@@ -11,7 +11,7 @@ use Rattle.llparse.proofs.Steps.{one_parse}
 use Rattle.llparse.proofs.parsing.parse.Goals as goal
 
 -- what a refusal leaves behind the header
-left_of : (honest : Bool) (old new : List ℕ) (r : Result ℕ ParseFault) → WhenHonest honest (old ≡ header version_one 0) → IfErr r (λ fault. WhenHonest honest (AddsFrames old new (Err fault))) → IfErr r (λ fault. WhenHonest honest (BeginsFile 0 new))
+left_of : (honest : Bool) (old new : List ℕ) (r : Result ℕ ParseFault) → WhenHonest honest (old ≡ header version_two 0) → IfErr r (λ fault. WhenHonest honest (AddsFrames old new (Err fault))) → IfErr r (λ fault. WhenHonest honest (BeginsFile 0 new))
 left_of honest old new (Ok count) begun adds = tt
 left_of honest old new (Err fault) begun adds = λ h. frames_begin ParseFault 0 old new (Err fault) (begun h) (adds h)
 

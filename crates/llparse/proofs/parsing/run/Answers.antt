@@ -1,6 +1,9 @@
-use Rattle.std.proofs.Common.{◌≡◌, length, Ok, Err, refl, ap, ◌∙◌, subst, arith}
+use Rattle.std.proofs.Common.{◌≡◌, ◌≤◌, List, length, All, Ok, Err, refl, ap, sym, ◌∙◌, subst, arith}
 use Rattle.std.proofs.lemmas.Result.{err_from_is_err_and}
+use Rattle.ag_value.specs.Well.{IsWell}
+use Rattle.ag_value.specs.declared.value.Value.{Value}
 use Rattle.ag_grammar.specs.declared.grammar.Item.TheVariants as item
+use Rattle.treefile.specs.TreeFile.{version_two}
 use Rattle.treefile.specs.Writing.{Progress}
 use Rattle.treefile.proofs.Beginning.{added, none_added}
 use Rattle.llparse.specs.Parsing.{task_of, Between}
@@ -29,7 +32,7 @@ loop-terminal-init g c =
     let none_written = ap (λ (w : Progress). w.written) c.requires.begun in
     let counted = made.count in
     record {
-      stands = turn.begun k c.args.tables.now c.requires.tables c.start.result c.start.ensures.value c.in_ok-node.node c.new-parser.result (omega arith) (omega arith) made.waiting made.taken made.count c.in_ok-node.ensures.begins c.in_ok-node.ensures.chosen;
+      stands = turn.begun k c.args.tables.now c.requires.tables c.start.result c.start.ensures.value c.in_ok-node.node c.new-parser.result (omega arith) (omega arith) made.waiting made.texts made.taken made.count c.in_ok-node.ensures.begins c.in_ok-node.ensures.base c.in_ok-node.ensures.chosen;
       written = omega arith;
       fine = ap (λ (w : Progress). w.is_broken) c.requires.begun;
       frames = λ h. none_added ParseFault k.front (Ok tt);
@@ -94,17 +97,34 @@ loop-terminal-preserved-in-Some-Symbol g c =
     }
 
 -- at a node's end
+pub texts_from-texts-requires : goal.texts_from-texts-requires
+texts_from-texts-requires g c =
+    let k = task_of c.args.grammar.now c.args.tokens.now (g.D.Device.is_honest c.args.device.now) (g.D.Device.content c.args.device.now) in
+    (turn.own_few k c.loop-terminal.node c.next_item.new.node c.loop-terminal.parser (g.D.Device.content c.loop-terminal.device) c.in-None.ensures c.loop-terminal.invariant.stands c.start.ensures.accepted).0
+
+pub put_node-requires-clause-few : goal.put_node-requires-clause-few
+put_node-requires-clause-few g c =
+    let k = task_of c.args.grammar.now c.args.tokens.now (g.D.Device.is_honest c.args.device.now) (g.D.Device.content c.args.device.now) in
+    let few = (turn.own_few k c.loop-terminal.node c.next_item.new.node c.loop-terminal.parser (g.D.Device.content c.loop-terminal.device) c.in-None.ensures c.loop-terminal.invariant.stands c.start.ensures.accepted).1 in
+    subst (λ (texts : List Value). length texts ≤ version_two.most_values) (sym c.texts_from-texts.ensures) (omega (arith, few))
+
+pub put_node-requires-clause-well : goal.put_node-requires-clause-well
+put_node-requires-clause-well g c =
+    let k = task_of c.args.grammar.now c.args.tokens.now (g.D.Device.is_honest c.args.device.now) (g.D.Device.content c.args.device.now) in
+    let few = turn.own_few k c.loop-terminal.node c.next_item.new.node c.loop-terminal.parser (g.D.Device.content c.loop-terminal.device) c.in-None.ensures c.loop-terminal.invariant.stands c.start.ensures.accepted in
+    subst (λ (texts : List Value). All IsWell texts) (sym c.texts_from-texts.ensures) few.2
+
 pub loop-terminal-preserved : goal.loop-terminal-preserved
 loop-terminal-preserved g c =
     let k = task_of c.args.grammar.now c.args.tokens.now (g.D.Device.is_honest c.args.device.now) (g.D.Device.content c.args.device.now) in
     let inv = c.loop-terminal.invariant in
     let put = c.in_ok-put_node-in-None.ensures in
-    let closed = turn.ended k c.loop-terminal.node c.next_item.new.node c.loop-terminal.parser (g.D.Device.content c.loop-terminal.device) (g.D.Device.content c.put_node.new.device) c.in-None.ensures (λ h. put.frame (inv.persists.honest ∙ h)) inv.stands in
+    let closed = turn.ended k c.loop-terminal.node c.next_item.new.node c.loop-terminal.parser (g.D.Device.content c.loop-terminal.device) c.in-None.ensures inv.stands (g.D.Device.content c.put_node.new.device) c.texts_from-texts.result.now c.truncate.new.self.items c.texts_from-texts.ensures c.truncate.ensures.items (λ h. put.frame (inv.persists.honest ∙ h)) in
     let written = inv.written in
     let more = ap (λ (w : Progress). w.written) put.counted in
     let sizes = c.in-Some.ensures.len in
     record {
-      stands = subst (λ fs. Between k fs c.loop-terminal.parser.taken c.loop-terminal.parser.count (g.D.Device.content c.put_node.new.device)) (on_top c.pop.new.self.items c.loop-terminal.parser.waiting.items c.in-Some.outer c.in-Some.ensures.items) closed;
+      stands = subst (λ fs. Between k fs c.loop-terminal.parser.taken c.loop-terminal.parser.count (record { bytes = g.D.Device.content c.put_node.new.device; texts = c.truncate.new.self.items })) (on_top c.pop.new.self.items c.loop-terminal.parser.waiting.items c.in-Some.outer c.in-Some.ensures.items) closed;
       written = omega arith;
       fine = ap (λ (w : Progress). w.is_broken) put.counted ∙ inv.fine;
       frames = λ h. added ParseFault k.front (g.D.Device.content c.loop-terminal.device) (g.D.Device.content c.put_node.new.device) (Ok tt) (inv.frames h) (put.adds (inv.persists.honest ∙ h));
@@ -117,19 +137,19 @@ returns-then-parser-tokens-clause-refused g c =
     let k = task_of c.args.grammar.now c.args.tokens.now (g.D.Device.is_honest c.args.device.now) (g.D.Device.content c.args.device.now) in
     let inv = c.loop-terminal.invariant in
     let put = c.in_ok-put_node-in-None.ensures in
-    let closed = turn.ended k c.loop-terminal.node c.next_item.new.node c.loop-terminal.parser (g.D.Device.content c.loop-terminal.device) (g.D.Device.content c.put_node.new.device) c.in-None.ensures (λ h. put.frame (inv.persists.honest ∙ h)) inv.stands in
+    let closed = turn.ended k c.loop-terminal.node c.next_item.new.node c.loop-terminal.parser (g.D.Device.content c.loop-terminal.device) c.in-None.ensures inv.stands (g.D.Device.content c.put_node.new.device) c.texts_from-texts.result.now c.truncate.new.self.items c.texts_from-texts.ensures c.truncate.ensures.items (λ h. put.frame (inv.persists.honest ∙ h)) in
     let none_waits : length c.loop-terminal.parser.waiting.items ≡ 0 = omega (arith, c.in_default.ensures.cases) in
     stuck k.grammar c.args.tokens.now k.honest k.front c.loop-terminal.parser.taken c.unexpected.result c.unexpected.ensures
-    (turn.some_left k.grammar c.args.tokens.now k.honest k.front c.loop-terminal.parser (g.D.Device.content c.put_node.new.device) none_waits closed c.if-parser-tokens.true)
+    (turn.some_left k.grammar c.args.tokens.now k.honest k.front c.loop-terminal.parser (g.D.Device.content c.put_node.new.device) c.truncate.new.self.items none_waits closed c.if-parser-tokens.true)
 
 pub returns-clause-parsed : goal.returns-clause-parsed
 returns-clause-parsed g c =
     let k = task_of c.args.grammar.now c.args.tokens.now (g.D.Device.is_honest c.args.device.now) (g.D.Device.content c.args.device.now) in
     let inv = c.loop-terminal.invariant in
     let put = c.in_ok-put_node-in-None.ensures in
-    let closed = turn.ended k c.loop-terminal.node c.next_item.new.node c.loop-terminal.parser (g.D.Device.content c.loop-terminal.device) (g.D.Device.content c.put_node.new.device) c.in-None.ensures (λ h. put.frame (inv.persists.honest ∙ h)) inv.stands in
+    let closed = turn.ended k c.loop-terminal.node c.next_item.new.node c.loop-terminal.parser (g.D.Device.content c.loop-terminal.device) c.in-None.ensures inv.stands (g.D.Device.content c.put_node.new.device) c.texts_from-texts.result.now c.truncate.new.self.items c.texts_from-texts.ensures c.truncate.ensures.items (λ h. put.frame (inv.persists.honest ∙ h)) in
     let none_waits : length c.loop-terminal.parser.waiting.items ≡ 0 = omega (arith, c.in_default.ensures.cases) in
-    turn.all_taken k.grammar c.args.tokens.now k.honest k.front c.loop-terminal.parser (g.D.Device.content c.put_node.new.device) none_waits closed c.if-parser-tokens.false
+    turn.all_taken k.grammar c.args.tokens.now k.honest k.front c.loop-terminal.parser (g.D.Device.content c.put_node.new.device) c.truncate.new.self.items none_waits closed c.if-parser-tokens.false
 
 -- what a refusal leaves: what was put so far, or that and a beginning of a frame
 pub returns-in_err-take-in-Some-Terminal-clause-left : goal.returns-in_err-take-in-Some-Terminal-clause-left

@@ -1,16 +1,12 @@
 use Rattle.std.specs.Option.{option_map}
-use Rattle.std.proofs.Common.{◌≡◌, List, Option, Ok, None, Bor, ℕ, ap, sym, subst, ◌∙◌, arith}
+use Rattle.std.proofs.Common.{◌≡◌, List, Option, Ok, None, Bor, ℕ, ap, length, sym, subst, ◌∙◌, arith}
 use Rattle.std.proofs.lemmas.Result.{err_from_is_err_and}
-use Rattle.ag_grammar.specs.declared.grammar.Item.{Item}
-use Rattle.ag_grammar.specs.declared.grammar.Item.TheVariants as item
 use Rattle.treefile.specs.Backward.{next_before}
-use Rattle.treefile.specs.TreeFile.{version_one}
+use Rattle.treefile.specs.TreeFile.{version_two}
 use Rattle.passrun.specs.Damage.{IsDamaged}
 use Rattle.passrun.specs.Jobs.{setting}
-use Rattle.passrun.specs.Putting.{HasPutLast, item_width}
 use Rattle.passrun.proofs.Refusing.{end_come, end_refused, end_unbroken, left_over, some_lent}
-use Rattle.passrun.proofs.Facts.{few_values}
-use Rattle.passrun.proofs.Ending.{as_many, none_lent, passed, reader_kept, ready_of, start_put, start_row}
+use Rattle.passrun.proofs.Ending.{as_many, none_lent, passed, reader_kept, ready_of}
 use Rattle.std.proofs.Common.{Err}
 use Rattle.treefile.proofs.Beginning.{added, none_added}
 use Rattle.passrun.specs.declared.run_fault.RunFault.{RunFault}
@@ -21,39 +17,25 @@ use Rattle.passrun.proofs.ends.finish.Goals as goal
 abbrev body_of : Option (Bor (List ℕ)) → Option (List ℕ)
 body_of = option_map (λ (body : Bor (List ℕ)). body.now)
 
-pub put_row-requires-clause-wide : goal.put_row-requires-clause-wide
-put_row-requires-clause-wide g c =
-    let job = setting c.args.job.now in
-    let r = ready_of job c.requires.job.sound (g.D.Device.is_honest c.args.from.now) (g.D.Device.content c.args.from.now) (g.E.Device.is_honest c.args.to.now) (g.E.Device.content c.args.to.now) c.args.machine.now c.requires.runs in
-    let wide = start_row job c.requires.job.sound c.args.machine.now c.start.result c.as_slice-values.result.now c.start.ensures.value c.as_slice-values.ensures.value r.0 in
-    let width = c.place_of-row.ensures.width in
-    omega arith
-
-pub put_row-requires-clause-few : goal.put_row-requires-clause-few
-put_row-requires-clause-few g c =
-    let few = few_values (setting c.args.job.now) c.requires.job.sound (item.Symbol c.start.result) in
-    let width = c.place_of-row.ensures.width in
-    omega arith
-
-pub put_row-requires-clause-room : goal.put_row-requires-clause-room
-put_row-requires-clause-room g c =
+pub put_record-requires-clause-few : goal.put_record-requires-clause-few
+put_record-requires-clause-few g c =
     let r = ready_of (setting c.args.job.now) c.requires.job.sound (g.D.Device.is_honest c.args.from.now) (g.D.Device.content c.args.from.now) (g.E.Device.is_honest c.args.to.now) (g.E.Device.content c.args.to.now) c.args.machine.now c.requires.runs in
-    r.3
+    let few = r.0 in
+    let n = ap length c.as_slice-values.ensures.value in
+    omega arith
+
+pub put_record-requires-clause-room : goal.put_record-requires-clause-room
+put_record-requires-clause-room g c =
+    let r = ready_of (setting c.args.job.now) c.requires.job.sound (g.D.Device.is_honest c.args.from.now) (g.D.Device.content c.args.from.now) (g.E.Device.is_honest c.args.to.now) (g.E.Device.content c.args.to.now) c.args.machine.now c.requires.runs in
+    r.2
 
 pub returns-clause-passed : goal.returns-clause-passed
 returns-clause-passed g c = λ meter r is to_is.
     let job = setting c.args.job.now in
-    let start = item.Symbol c.start.result in
-    let row = c.place_of-row.result in
-    let honest = g.E.Device.is_honest c.args.to.now in
-    let to = g.E.Device.content c.args.to.now in
-    let to' = g.E.Device.content c.put_row.new.to in
-    let values = c.as_slice-values.result.now in
-    let wide = subst (λ (width : ℕ). HasPutLast row.item width c.args.machine.now.root values honest to to' c.args.machine.now.writer c.put_row.new.writer) c.place_of-row.ensures.width c.in_ok-put_row.ensures.put in
-    let there = subst (λ (x : Item). HasPutLast x (item_width job start) c.args.machine.now.root values honest to to' c.args.machine.now.writer c.put_row.new.writer) c.place_of-row.ensures.item wide in
-    let put = start_put job c.requires.job.sound c.args.machine.now c.start.result values honest to to' c.put_row.new.writer c.start.ensures.value c.as_slice-values.ensures.value there in
-    let end : next_before version_one (g.D.Device.content c.args.from.now) c.args.machine.now.back.progress.at ≡ Ok None = c.in_ok-back.ensures.told r.running.unbroken is ∙ ap Ok (none_lent c.in_ok-back.field-0 (sym c.is_some.ensures ∙ c.if-is_some.false)) in
-    passed job c.requires.job.sound (g.D.Device.is_honest c.args.from.now) (g.D.Device.content c.args.from.now) (g.E.Device.is_honest c.args.to.now) (g.E.Device.content c.args.to.now) (g.E.Device.content c.put_row.new.to) c.args.machine.now c.put_row.new.writer meter c.records.result r is to_is put end (c.records.ensures ∙ ap (λ p. p.records) (reader_kept _ _ c.args.machine.now.back c.back.follows.lender-at-none c.back.result c.in_ok-back.field-0 c.back.follows.holds-at-none c.in_ok-back.was (sym c.is_some.ensures ∙ c.if-is_some.false)))
+    let to' = g.E.Device.content c.put_record.new.to in
+    let end : next_before version_two (g.D.Device.content c.args.from.now) c.args.machine.now.back.progress.at ≡ Ok None = c.in_ok-back.ensures.told r.running.unbroken is ∙ ap Ok (none_lent c.in_ok-back.field-0 (sym c.is_some.ensures ∙ c.if-is_some.false)) in
+    passed job c.requires.job.sound (g.D.Device.is_honest c.args.from.now) (g.D.Device.content c.args.from.now) (g.E.Device.is_honest c.args.to.now) (g.E.Device.content c.args.to.now) to' c.args.machine.now c.put_record.new.writer c.as_slice-values.result.now meter c.records.result r is to_is c.as_slice-values.ensures.value c.in_ok-put_record.ensures.put end
+    (c.records.ensures ∙ ap (λ p. p.records) (reader_kept _ _ c.args.machine.now.back c.back.follows.lender-at-none c.back.result c.in_ok-back.field-0 c.back.follows.holds-at-none c.in_ok-back.was (sym c.is_some.ensures ∙ c.if-is_some.false)))
 
 pub returns-clause-counts : goal.returns-clause-counts
 returns-clause-counts g c =
@@ -61,7 +43,7 @@ returns-clause-counts g c =
     let a = n.0 in
     let p = c.back.follows.lender-at-none.progress.records in
     let same : p ≡ c.args.machine.now.back.progress.records = ap (λ p. p.records) (reader_kept _ _ c.args.machine.now.back c.back.follows.lender-at-none c.back.result c.in_ok-back.field-0 c.back.follows.holds-at-none c.in_ok-back.was (sym c.is_some.ensures ∙ c.if-is_some.false)) in
-    let w = ap (λ w. w.written) c.in_ok-put_row.ensures.put.counted in
+    let w = ap (λ w. w.written) c.in_ok-put_record.ensures.put.counted in
     (c.records-2.ensures ∙ sym c.records.ensures, omega arith)
 
 pub returns-clause-few : goal.returns-clause-few
@@ -100,11 +82,11 @@ returns-then-is_some-clause-refused g c = λ is.
 pub returns-in_err-back-clause-left : goal.returns-in_err-back-clause-left
 returns-in_err-back-clause-left g c =
     let p = err_from_is_err_and c.from_residual-in_err-back.result c.from_residual-in_err-back.ensures.1 in
-    let to = g.E.Device.content c.put_row.new.to in
-    rw p.1 (λ h. added RunFault (g.E.Device.content c.args.to.now) to to (Err p.0) (c.in_ok-put_row.ensures.added h) (none_added RunFault to (Err p.0)))
+    let to = g.E.Device.content c.put_record.new.to in
+    rw p.1 (λ h. added RunFault (g.E.Device.content c.args.to.now) to to (Err p.0) (c.in_ok-put_record.ensures.added h) (none_added RunFault to (Err p.0)))
 
 pub returns-then-is_some-clause-left : goal.returns-then-is_some-clause-left
 returns-then-is_some-clause-left g c = λ h.
-    let to = g.E.Device.content c.put_row.new.to in
+    let to = g.E.Device.content c.put_record.new.to in
     let fault = run_fault.Damaged c.end-end.result in
-    added RunFault (g.E.Device.content c.args.to.now) to to (Err fault) (c.in_ok-put_row.ensures.added h) (none_added RunFault to (Err fault))
+    added RunFault (g.E.Device.content c.args.to.now) to to (Err fault) (c.in_ok-put_record.ensures.added h) (none_added RunFault to (Err fault))

@@ -1,20 +1,34 @@
-use Rattle.std.proofs.Common.{◌≡◌, List, map, ap, ◌∙◌}
-use Rattle.ag_grammar.specs.declared.grammar.Item.{Item}
+use Rattle.std.proofs.Common.{◌≡◌, ℕ, List, ap, ◌∙◌, length, sym, subst}
+use Rattle.ag_grammar.specs.declared.grammar.Rule.{Rule}
 use Rattle.ag_grammar.specs.grammars.AttributeGrammar.{places_of}
-use Rattle.passassign.specs.Rows.{passes_of}
 use Rattle.planchecker.specs.Settings.{list_at, setting_of}
-use Rattle.passrun.specs.Laid.{place_row_by, production_slots}
-use Rattle.passrun.proofs.Slotted.{production_same}
+use Rattle.passrun.specs.declared.laying.PlaceRow.{PlaceRow}
+use Rattle.passrun.specs.Laid.{AreWithin, production_slots, rule_slots_by}
+use Rattle.passrun.specs.Starts.{AreLow}
+use Rattle.passassign.specs.Rows.{passes_of}
+use Rattle.std.proofs.Common.{map}
+use Rattle.passrun.proofs.Slotted.{row_is, rows_long, rows_low, slots_same}
 use Rattle.passrun.proofs.laying.row_of_production.Goals as goal
 
+pub slots_of_rules-requires-clause-starts : goal.slots_of_rules-requires-clause-starts
+slots_of_rules-requires-clause-starts c =
+    let job = setting_of c.args.grammar.now c.args.plan.now c.args.k in
+    subst (λ (rows : List PlaceRow). AreLow rows) (sym (c.as_slice.ensures ∙ c.in_ok-places.ensures.rows)) (rows_low job c.args.production.now c.requires.small c.requires.few)
+
+pub slots_of_rules-requires-clause-within : goal.slots_of_rules-requires-clause-within
+slots_of_rules-requires-clause-within c =
+    let job = setting_of c.args.grammar.now c.args.plan.now c.args.k in
+    let long = ap length (c.as_slice.ensures ∙ c.in_ok-places.ensures.rows) ∙ rows_long job c.args.production.now in
+    subst (λ (n : ℕ). AreWithin n c.as_slice-2.result.now) (sym long) (subst (λ (rules : List Rule). AreWithin (length (places_of c.args.production.now)) rules) (sym c.as_slice-2.ensures) c.requires.within)
+
 pub returns : goal.returns
-returns c = λ g.
-    let c' = setting_of g c.args.plan.now c.args.k in
+returns c =
+    let job = setting_of c.args.grammar.now c.args.plan.now c.args.k in
     let q = c.args.production.now in
-    let row_by = place_row_by (passes_of c.args.plan.now.0) c.args.k in
-    let list : c.from_vec.result ≡ list_at c' c.args.number = c.from_vec.ensures ∙ c.in_ok-to_vec.ensures.items_if_clones_equal (λ x y e. e) ∙ c.list_of.ensures g in
-    let places : c.in_ok-place_rows.field-0 ≡ map row_by (places_of q) = c.in_ok-place_rows.ensures ∙ ap (λ (xs : List Item). map row_by xs) (c.as_slice-5.ensures.value ∙ c.in_ok-places.ensures) in
-    let rules : c.in_ok-rules.rules ≡ production_slots c' q =
-    production_same c.args.plan.now c.args.k q c.in_ok-places.places.items c.in_ok-starts.starts.items c.in_ok-rules.rules c.in_ok-places.ensures
-    (rw c.as_slice.ensures.value at c.in_ok-starts.ensures.starts) c.requires.within (rw (c.as_slice-2.ensures.value, c.as_slice-3.ensures.value, c.as_slice-4.ensures) at c.in_ok-rules.ensures) g in
-    cc
+    let list : c.from_vec.result ≡ list_at job c.args.number = c.from_vec.ensures ∙ c.in_ok-to_vec.ensures.items_if_clones_equal (λ x y e. e) ∙ c.list_of.ensures c.args.grammar.now in
+    let width = c.in_ok-places.ensures.width in
+    let places = c.in_ok-places.ensures.rows in
+    let by : c.in_ok-rules.rules ≡ map (rule_slots_by (passes_of c.args.plan.now.0) c.args.k c.in_ok-places.width c.in_ok-places.places) q.rules =
+    c.in_ok-rules.ensures ∙ ap (λ (rows : List PlaceRow). map (rule_slots_by (passes_of c.args.plan.now.0) c.args.k c.in_ok-places.width rows) c.as_slice-2.result.now) c.as_slice.ensures ∙ ap (map (rule_slots_by (passes_of c.args.plan.now.0) c.args.k c.in_ok-places.width c.in_ok-places.places)) c.as_slice-2.ensures in
+    let rules : c.in_ok-rules.rules ≡ production_slots job q = slots_same job q c.in_ok-places.places c.in_ok-places.width c.in_ok-rules.rules places width c.requires.within by in
+    row_is job c.args.number q c.from_vec.result c.in_ok-places.width c.in_ok-passes.passes c.in_ok-places.places c.in_ok-rules.rules list width (c.in_ok-passes.ensures c.args.k) places rules

@@ -8,7 +8,7 @@ use Rattle.passrun.specs.declared.ends.Passed.{Passed}
 use Rattle.passrun.specs.Laws.{CountsPass}
 use Rattle.passrun.specs.Passed.{IsPassed}
 use Rattle.treefile.specs.Runs.{RunsPass}
-use Rattle.treefile.specs.TreeFile.{version_one}
+use Rattle.treefile.specs.TreeFile.{version_two}
 use Rattle.passrun.proofs.Able.{plans_can_run}
 use Rattle.passrun.proofs.Entries.{laid}
 use Rattle.passrun.proofs.Telling.{passes_are_told}
@@ -30,4 +30,4 @@ returns-clause-told g c = λ honest to_honest.
     let evals = c.run_job.new.meter - c.args.meter.now in
     let told = λ (p : Passed) (passed : IsPassed (setting_of grammar plan pass) from to p.nodes evals). passes_are_told grammar plan pass from to p.nodes evals c.lay_out.ensures.accepted c.requires.plan.legal c.requires.first passed in
     IfOk-weaker c.run_job.result (λ (p : Passed). IsPassed (setting_of grammar plan pass) from to p.nodes evals)
-    (λ (p : Passed). RunsPass version_one grammar (passes_of plan.0) (pass - 1) from to × CountsPass grammar (passes_of plan.0) (pass - 1) from p.nodes evals) told (c.run_job.ensures.passed honest to_honest)
+    (λ (p : Passed). RunsPass version_two grammar (passes_of plan.0) (pass - 1) from to × CountsPass grammar (passes_of plan.0) (pass - 1) from p.nodes evals) told (c.run_job.ensures.passed honest to_honest)

@@ -2,7 +2,7 @@ use Rattle.std.proofs.Common.{ℕ, List, sym, suc, ◌≡◌, ◌+◌, ◌-◌, 
 use Rattle.std.proofs.lemmas.Result.{err_from_is_err_and}
 use Rattle.passassign.specs.Rows.{passes_of}
 use Rattle.treefile.specs.Runs.{RunsPasses}
-use Rattle.treefile.specs.TreeFile.{version_one}
+use Rattle.treefile.specs.TreeFile.{version_two}
 use Rattle.passrun.specs.Rounds.{HasRunAll, other_content}
 use Rattle.passrun.proofs.Stepping.{all_goes_on, all_refused, all_starts, greatest_most, persists_on, persists_still}
 use Rattle.passrun.proofs.passes.run_all.Goals as goal
@@ -93,6 +93,6 @@ returns-in_err-passed-clause-left g c =
       which = last;
       before = other_content last a b;
       far = old.low;
-      runs = subst (λ (now : List ℕ). RunsPasses version_one c.args.grammar.now (passes_of c.args.plan.now.0) (c.args.first - 1) c.loop-done.done (g.D.Device.content c.args.a.now) now (other_content last a b)) (sym (kept is too)) (old.runs ha hb).runs;
+      runs = subst (λ (now : List ℕ). RunsPasses version_two c.args.grammar.now (passes_of c.args.plan.now.0) (c.args.first - 1) c.loop-done.done (g.D.Device.content c.args.a.now) now (other_content last a b)) (sym (kept is too)) (old.runs ha hb).runs;
       left = left is too;
     })

@@ -1,9 +1,9 @@
 use Rattle.std.proofs.Common.{subst, sym}
 use Rattle.treefile.proofs.Records.{is_body}
 use Rattle.treefile.specs.Ending.{IsBody}
-use Rattle.treefile.specs.TreeFile.{version_one}
+use Rattle.treefile.specs.TreeFile.{version_two}
 use Rattle.treefile.proofs.writing.fill_frame.Goals as goal
 
 -- the record of few well values is a body
 pub close_frame-requires : goal.close_frame-requires
-close_frame-requires c = subst (IsBody version_one) (sym c.in_ok-fill_body.ensures) (is_body version_one c.args.kind c.args.number c.args.values.now c.requires.few c.requires.well)
+close_frame-requires c = subst (IsBody version_two) (sym c.in_ok-fill_body.ensures) (is_body version_two c.args.kind c.args.number c.args.values.now c.requires.few c.requires.well)

@@ -6,7 +6,7 @@ use Rattle.backreader.proofs.Standing.{told_as_well}
 use Rattle.treefile.proofs.Frames.{length_part}
 use Rattle.treefile.specs.Backward.{before_frame, next_before}
 use Rattle.treefile.specs.Ending.{Told}
-use Rattle.treefile.specs.TreeFile.{version_one}
+use Rattle.treefile.specs.TreeFile.{version_two}
 use Rattle.treefile.specs.declared.reading.FrameFault.{FrameFault}
 use Rattle.treefile.specs.declared.reading.FrameFault.TheVariants.{NoMemory}
 use Rattle.backreader.proofs.back.Back.back.Goals as goal
@@ -30,7 +30,7 @@ returns-in-Ok-None g c =
       ),
       record {
         after = tt;
-        told = λ e honest. subst (λ (k : ℕ). next_before version_one content k ≡ Ok None) at_is (rw c.in-Ok-None.field-0-is at (c.in-Ok-None.ensures.told honest));
+        told = λ e honest. subst (λ (k : ℕ). next_before version_two content k ≡ Ok None) at_is (rw c.in-Ok-None.field-0-is at (c.in-Ok-None.ensures.told honest));
         memory = search rules;
         body = search rules;
         room = search rules;
@@ -68,7 +68,7 @@ returns-in-Ok-Some g c =
       ),
       record {
         after = tt;
-        told = λ e honest. subst (λ (k : ℕ). next_before version_one content k ≡ Ok (Some body)) at_is ((rw c.in-Ok-Some.field-0-is at (c.in-Ok-Some.ensures.told honest)) ∙ ap (λ (b : List ℕ). Ok (Some b)) (sym c.taken.ensures));
+        told = λ e honest. subst (λ (k : ℕ). next_before version_two content k ≡ Ok (Some body)) at_is ((rw c.in-Ok-Some.field-0-is at (c.in-Ok-Some.ensures.told honest)) ∙ ap (λ (b : List ℕ). Ok (Some b)) (sym c.taken.ensures));
         memory = search rules;
         body = record { least = omega (arith, least, long); greatest = omega (arith, greatest, long) };
         room = omega (arith, moved, long, at_is);
@@ -104,10 +104,10 @@ returns-in-Err g c =
       ),
       record {
         after = tt;
-        told = λ e honest. subst (λ (k : ℕ). Told (option_map (λ (body : Bor (List ℕ)). body.now)) (Err fault) (next_before version_one content k)) at_is (told_as_well (option_map (taken c.next.new.self)) (option_map (λ (body : Bor (List ℕ)). body.now)) fault (next_before version_one content c.self.inside.window.at) (c.in-Err.ensures.told honest));
+        told = λ e honest. subst (λ (k : ℕ). Told (option_map (λ (body : Bor (List ℕ)). body.now)) (Err fault) (next_before version_two content k)) at_is (told_as_well (option_map (taken c.next.new.self)) (option_map (λ (body : Bor (List ℕ)). body.now)) fault (next_before version_two content c.self.inside.window.at) (c.in-Err.ensures.told honest));
         memory = λ e honest is.
             let same : fault ≡ NoMemory = cc in
-            subst (λ (k : ℕ). IsLarge (next_before version_one content k)) at_is (c.in-Err.ensures.memory honest (ap Err same));
+            subst (λ (k : ℕ). IsLarge (next_before version_two content k)) at_is (c.in-Err.ensures.memory honest (ap Err same));
         body = search rules;
         room = search rules;
         file = search rules;
