@@ -12,8 +12,9 @@ use Rattle.passassign.specs.Rows.{IsGreatest, passes_of}
 use Rattle.passcode.specs.Rows.{Lists}
 use Rattle.planchecker.specs.Plans.{IsPlan}
 use Rattle.treefile.specs.Device.{WhenHonest}
-use Rattle.llparse.proofs.Texts.{texts_are_given}
-use Rattle.llparse.specs.Sentences.{IsFirstFile}
+use Rattle.treefile.proofs.Texts.{texts_are_given}
+use Rattle.treefile.specs.FirstFile.{IsFirstFile}
+use Rattle.treefile.specs.TreeFile.{version_two}
 use Rattle.aggen.specs.Building.{IsLeastPlan}
 use Rattle.aggen.specs.Sentences.{IsTreeOfSentence}
 use Rattle.agoutput.specs.Writing.{AppendsBeginning}
@@ -54,7 +55,7 @@ some_pass g m last accepted legal is =
 
 module _ (g : Grammar) (sentence : List ℕ) (rows : List (List ℕ)) (code : Lists) (accepted : IsAccepted g) (plan : IsPlan g rows code) where
   -- all passes over the tree of a sentence leave its solution
-  pub are_left : (t : Tree) (start a b : List ℕ) (report : Report) (passed : Passed) → IsGreatest report.passes rows → IsTreeOf g t → IsFirstFile g t start → HasRunAll g (passes_of rows) 0 report.passes start report.last a b report.evals passed → report.nodes ≡ node_count t → report.read ≡ passed.read → report.written ≡ passed.written → AreLeft g (passes_of rows) t a b report
+  pub are_left : (t : Tree) (start a b : List ℕ) (report : Report) (passed : Passed) → IsGreatest report.passes rows → IsTreeOf g t → IsFirstFile version_two g t start → HasRunAll g (passes_of rows) 0 report.passes start report.last a b report.evals passed → report.nodes ≡ node_count t → report.read ≡ passed.read → report.written ≡ passed.written → AreLeft g (passes_of rows) t a b report
   are_left t start a b report passed greatest tree file all nodes read written =
       let m = passes_of rows in
       let end : IsLastPass report.passes (passes_of rows) = greatest_is_last report.passes rows greatest in
@@ -81,7 +82,7 @@ module _ (g : Grammar) (sentence : List ℕ) (rows : List (List ℕ)) (code : Li
       }
 
   -- no pass refuses a file of the tree of a sentence
-  pub never_refused : (t : Tree) (start : List ℕ) (f : RunFault) (ha hb : Bool) → IsTreeOf g t → IsWithinLimits most_depth most_nodes t → WhenHonest ha (IsFirstFile g t start) → WhenHonest ha (WhenHonest hb (IsRunFault (setting_of g (rows, code) 1) start f)) → IsFilesFault g sentence ha hb (run_fault_of f)
+  pub never_refused : (t : Tree) (start : List ℕ) (f : RunFault) (ha hb : Bool) → IsTreeOf g t → IsWithinLimits most_depth most_nodes t → WhenHonest ha (IsFirstFile version_two g t start) → WhenHonest ha (WhenHonest hb (IsRunFault (setting_of g (rows, code) 1) start f)) → IsFilesFault g sentence ha hb (run_fault_of f)
   never_refused t start (run.Damaged at) ha hb tree within file told = λ a b. let texts = texts_are_given g t in (told a b).none t texts.0 tree (file a (passes_of rows) texts.0 plan.legal.positive texts.1)
   never_refused t start run.TooDeep ha hb tree within file told = λ a b. let texts = texts_are_given g t in told a b t texts.0 tree within (file a (passes_of rows) texts.0 plan.legal.positive texts.1)
   never_refused t start run.TooManyNodes ha hb tree within file told = λ a b. let texts = texts_are_given g t in told a b t texts.0 tree within (file a (passes_of rows) texts.0 plan.legal.positive texts.1)

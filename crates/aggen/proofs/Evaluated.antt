@@ -18,10 +18,9 @@ use Rattle.treefile.specs.Runs.{HasRun}
 use Rattle.treefile.specs.TreeFile.{header, version_two}
 use Rattle.treefile.proofs.Fitting.{fits_version_two}
 use Rattle.treefile.proofs.OneTree.{one_file}
-use Rattle.llparse.specs.Parsing.{post}
-use Rattle.llparse.specs.Sentences.{AreFromOne, IsFirstFile}
-use Rattle.llparse.proofs.FirstFile.{first_file}
-use Rattle.llparse.proofs.Texts.{texts_are_given}
+use Rattle.treefile.specs.FirstFile.{AreFromOne, IsFirstFile}
+use Rattle.treefile.proofs.FirstFile.{first_file_of}
+use Rattle.treefile.proofs.Texts.{texts_are_given}
 use Rattle.passassign.specs.Rows.{IsGreatest, passes_of}
 use Rattle.passcode.specs.Rows.{Lists}
 use Rattle.planchecker.specs.Plans.{IsPlan}
@@ -46,12 +45,6 @@ use Rattle.aggen.specs.Translation.{BeginsTranslation, IsTreeInFile, before_last
 use Rattle.aggen.specs.declared.report.Report.{Report}
 use Rattle.aggen.proofs.Composed.{some_pass}
 use Rattle.aggen.proofs.Joined.{before_of_more, before_of_one, counts_joined, joined}
-
--- A file of pass 0 of a tree is one whatever passes from 1 on and values are asked for.
-first_file_of : (g : Grammar) (m : Passes) (t : Tree) (v : Valuation) (content : List ℕ) → AreFromOne m → IsTreeOf g t → IsFileOfTree version_two g m 0 t v content → IsFirstFile g t content
-first_file_of g m t v content from_one tree is =
-    let plain : IsFirstFile g t (header version_two 0 ++ post t) = first_file g t (header version_two 0 ++ post t) tree refl in
-    subst (λ (c : List ℕ). IsFirstFile g t c) ((plain m v from_one is.texts).stands ∙ sym is.stands) plain
 
 -- the second device comes first in the passes behind the first one
 turned_last : (which last : Last) (a b : List ℕ) → last ≡ other_last which → last_content last a b ≡ last_content which b a
@@ -104,7 +97,7 @@ module _ (g : Grammar) (rows : List (List ℕ)) (code : Lists) (accepted : IsAcc
         let count : suc (report.passes - 1) ≡ report.passes = omega arith in
         record {
           tree = passed.tree;
-          one = record { is_tree = record { tree = passed.fits; file = first_file_of g (passes_of rows) passed.tree passed.values content plan.legal.positive passed.fits passed.from }; only = only; within = passed.limits };
+          one = record { is_tree = record { tree = passed.fits; file = first_file_of version_two g (passes_of rows) passed.tree passed.values content plan.legal.positive passed.fits passed.from }; only = only; within = passed.limits };
           values = whole.values;
           leaves = record {
             solution = run_is_the_solution g (passes_of rows) passed.tree passed.values whole.values report.passes accepted plan.legal end passed.fits whole.ran;

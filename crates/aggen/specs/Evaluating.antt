@@ -5,11 +5,11 @@ use Rattle.ag_grammar.specs.grammars.AttributeGrammar.{Grammar}
 use Rattle.ag_grammar.specs.grammars.Passes.{Passes}
 use Rattle.ag_grammar.specs.grammars.Solution.{Valuation}
 use Rattle.ag_grammar.specs.grammars.Tree.{Tree, IsWithinLimits, most_depth, most_nodes}
-use Rattle.llparse.specs.Sentences.{AreFromOne}
+use Rattle.treefile.specs.FirstFile.{AreFromOne}
 use Rattle.passassign.specs.Rows.{IsGreatest, passes_of}
 use Rattle.passcode.specs.Rows.{Lists}
 use Rattle.planchecker.specs.Settings.{setting_of}
-use Rattle.passrun.specs.Damage.{ShowsAt}
+use Rattle.passrun.specs.Damage.{ShowsAt, source}
 use Rattle.passrun.specs.declared.run_fault.RunFault.{RunFault}
 use Rattle.passrun.specs.declared.run_fault.RunFault.TheVariants as run
 use Rattle.passrun.specs.Rounds.{last_content}
@@ -40,7 +40,7 @@ pub record LeavesFilesOfTree (g : Grammar) (rows : List (List ℕ)) (honest_tree
 -- Where pass 1 of a plan finds that a content is the file of pass 0 of no tree of the grammar. Records of pass 0 have no values of
 -- attributes, so that it makes no difference which plan it is.
 abbrev pub ShowsInFile : Grammar → List ℕ → ℕ → Type 0
-ShowsInFile g content at = (plan : List (List ℕ) × Lists) × AreFromOne (passes_of plan.0) × ShowsAt (setting_of g plan 1) content at
+ShowsInFile g content at = (plan : List (List ℕ) × Lists) × AreFromOne (passes_of plan.0) × ShowsAt (source (setting_of g plan 1)) content at
 
 -- R1: the content is the file of no tree of the grammar, and it shows at the offset. P2 and P3: of none within the limits. The others
 -- say nothing of it.

@@ -8,3 +8,4 @@ pub mod Showing
 pub mod Status
 pub mod Translating
 pub mod Translation
+pub mod Upgrading

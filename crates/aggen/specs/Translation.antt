@@ -9,7 +9,7 @@ use Rattle.ag_grammar.specs.grammars.Passes.{Passes}
 use Rattle.ag_grammar.specs.grammars.Running.{IsTheSolution}
 use Rattle.ag_grammar.specs.grammars.Solution.{AnyRule, IsTranslation, Solves, Valuation}
 use Rattle.ag_grammar.specs.grammars.Tree.{Tree, IsTreeOf, IsWithinLimits, most_depth, most_nodes, node_count}
-use Rattle.llparse.specs.Sentences.{IsFirstFile}
+use Rattle.treefile.specs.FirstFile.{IsFirstFile}
 use Rattle.agoutput.specs.Writing.{AppendsBeginning}
 use Rattle.passrun.specs.declared.last.Last.{Last}
 use Rattle.passrun.specs.Rounds.{last_content, other_content}
@@ -90,7 +90,7 @@ pub record BeginsText (old new : Option (List ℕ)) : Type 0 where
 -- A content is the file of pass 0 of a tree of the grammar.
 pub record IsTreeInFile (g : Grammar) (content : List ℕ) (t : Tree) : Type 0 where
   pub tree : IsTreeOf g t
-  pub file : IsFirstFile g t content
+  pub file : IsFirstFile version_two g t content
 
 -- Where a tree comes in a file of its own, the file of the pass before the last one is that file where one pass runs, and else on the
 -- other device.

@@ -6,10 +6,11 @@ ghost use Rattle.ag_grammar.specs.grammars.Accepted.{IsAccepted as IsAcceptedGra
 ghost use Rattle.ag_grammar.specs.grammars.Tree.{node_count, IsWithinLimits, Tree};
 ghost use Rattle.ag_grammar.specs.grammars.Tree.{most_depth, most_nodes};
 ghost use Rattle.llparse.specs.Ahead.{HasNoConflict};
-ghost use Rattle.llparse.specs.Sentences.{IsFirstFile};
 ghost use Rattle.llparse.specs.Tables.{FitsGrammar};
 ghost use Rattle.treefile.specs.Beginning.{LeavesBeginning};
 ghost use Rattle.treefile.specs.Device.{HasRisen, LeavesContent, Persists, WhenHonest};
+ghost use Rattle.treefile.specs.FirstFile.{IsFirstFile};
+ghost use Rattle.treefile.specs.TreeFile.{version_two};
 ghost use Rattle.passassign.specs.Least.{IsAlternating, IsLeast};
 ghost use Rattle.passassign.specs.Rows.{passes_of, AreFew};
 ghost use Rattle.aggen.specs.Building.{IsBuildFault, IsLeastPlan};
@@ -20,6 +21,8 @@ ghost use Rattle.aggen.specs.Sentences.{nodes_line as line_of};
 ghost use Rattle.aggen.specs.Translating.{IsRefusedSentence, IsTranslationFault};
 ghost use Rattle.aggen.specs.Translating.{TranslatesSentence};
 ghost use Rattle.aggen.specs.Translation.{BeginsText};
+ghost use Rattle.aggen.specs.Upgrading.{IsOldFileFault};
+ghost use Rattle.passrun.specs.Upgrading.{IsUpgraded};
 
 use crate::build_fault::BuildFault;
 use crate::checking::grammar_of;
@@ -35,6 +38,7 @@ use agoutput::write_text;
 use llparse::{Tables, parse, tables};
 use passassign::{AssignFault, Assignment, assign};
 use passcode::generate;
+use passrun::upgrade;
 use planchecker::{Plan, check_plan};
 use std::alloc::{AllocError, Global};
 use std::io::Write;
@@ -138,7 +142,7 @@ impl Translator {
             → IfOk result (λ count. count ≡ node_count t) }
         ensures file { (t : Tree) → IsTreeOfSentence self.now sentence.now t
             → OnOk result (WhenHonest (D.is_honest device.old)
-            (IsFirstFile self.now t (D.content device.new))) }
+            (IsFirstFile version_two self.now t (D.content device.new))) }
 
         // a refusal: what it says of the sentence is true
         ensures refused { IfErr result (λ e. IsSentenceFault self.now sentence.now e) }
@@ -262,6 +266,49 @@ impl Translator {
         let text = last_text(self.alloc, self.grammar(), plan, report.last, a, b)?;
         write_text(out, text.as_str())?;
         Ok(report)
+    }
+
+    /// Brings an old tree file over: reads the file of version 1 and pass 0 of a tree of the grammar
+    /// from `old`, and leaves on `to` the file of version 2 and pass 0 of the same tree, the one that
+    /// `parse_tree` leaves of a sentence with this tree. `mid` has then the same records from right to
+    /// left, and `old` is only read. Answers the number of stored nodes.
+    ///
+    /// R1 where the content of `old` is the file of version 1 and pass 0 of no tree of the grammar; P2
+    /// and P3 where it is that of no tree of at most 256 levels and 65,536 stored nodes; D1 where a call
+    /// of a device failed. Of a `mid` that does not give back what was written, R1 or P2 may come, with
+    /// an offset in `mid`. After a refusal `to` has what it had, or a beginning of a file.
+    pub fn upgrade<D: Device, E: Device, F: Device>(
+        &self,
+        old: &mut D,
+        mid: &mut E,
+        to: &mut F,
+    ) -> Result<u32, Fault>
+        // an answer: the one tree of the old file is brought over
+        ensures upgraded { IfOk result (λ count. WhenHonest (D.is_honest old.old)
+            (WhenHonest (E.is_honest mid.old) (IsUpgraded self.now (D.content old.old)
+            (F.is_honest to.old) (F.content to.new) count))) }
+        // a refusal: what it says of the old content is true
+        ensures refused { IfErr result (λ e. IsOldFileFault self.now
+            (D.is_honest old.old) (E.is_honest mid.old) (D.content old.old) e) }
+        // what the third device had, or a beginning of a file of pass 0
+        ensures left { OnErr result (WhenHonest (F.is_honest to.old)
+            (LeavesBeginning 0 (F.content to.old) (F.content to.new))) }
+        ensures content { LeavesContent (D.is_honest old.old)
+            (D.content old.old) (D.content old.new) }
+        ensures old_persists { Persists (D.is_honest old.old) (D.is_honest old.new)
+            (D.failures old.old) (D.failures old.new) ⊥ }
+        ensures mid_persists { Persists (E.is_honest mid.old) (E.is_honest mid.new)
+            (E.failures mid.old) (E.failures mid.new) ⊥ }
+        ensures to_persists { Persists (F.is_honest to.old) (F.is_honest to.new)
+            (F.failures to.old) (F.failures to.new) ⊥ }
+        // D1 only where the number of failures rose on one of the three
+        ensures cause { IsErrOf result Fault.Device →
+            HasRisen (D.failures old.old) (D.failures old.new)
+            ⊎ (HasRisen (E.failures mid.old) (E.failures mid.new)
+            ⊎ HasRisen (F.failures to.old) (F.failures to.new)) }
+    {
+        let nodes = upgrade(self.alloc, &self.grammar, old, mid, to)?;
+        Ok(nodes)
     }
 }
 

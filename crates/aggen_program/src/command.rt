@@ -12,14 +12,17 @@ use std::alloc::{AllocError, Global};
 const EXPRESSION: &str = "EXPR";
 
 /// The name of the one argument of `check`, `plan` and `code`, and of the first one of `run`,
-/// `parse` and `eval`.
+/// `parse`, `eval` and `upgrade`.
 const GRAMMAR: &str = "G";
 
 /// The name of the second one of `run` and `parse`.
 const SENTENCE: &str = "S";
 
-/// The name of the third one of `parse`, and of the second one of `eval`.
+/// The name of the third one of `parse` and `upgrade`, and of the second one of `eval`.
 const TREE: &str = "TREE";
+
+/// The name of the second one of `upgrade`.
+const OLD: &str = "OLD";
 
 /// The name of the option of `run`.
 const WORK: &str = "work";
@@ -44,6 +47,8 @@ pub enum Request<'a> {
     Code(&'a str),
     /// The tree file of a sentence.
     Parse(Paths<'a>),
+    /// The tree file of version 2 of the tree in one of version 1.
+    Upgrade(UpgradePaths<'a>),
 }
 
 /// The names of the files that `run` takes.
@@ -73,6 +78,17 @@ pub struct Paths<'a> {
     pub grammar: &'a str,
     /// Of the sentence's.
     pub sentence: &'a str,
+    /// Of the tree file that is made.
+    pub tree: &'a str,
+}
+
+/// The names of the files that `upgrade` takes.
+#[derive(Clone, Copy)]
+pub struct UpgradePaths<'a> {
+    /// Of the grammar's.
+    pub grammar: &'a str,
+    /// Of the tree file of version 1.
+    pub old: &'a str,
     /// Of the tree file that is made.
     pub tree: &'a str,
 }
@@ -123,6 +139,13 @@ fn request_in<'a>(matches: &ArgMatches<'a>) -> Request<'a> {
             tree: parse.get_str(TREE).unwrap_or(""),
         });
     }
+    if let Some(upgrade) = matches.subcommand_matches("upgrade") {
+        return Request::Upgrade(UpgradePaths {
+            grammar: upgrade.get_str(GRAMMAR).unwrap_or(""),
+            old: upgrade.get_str(OLD).unwrap_or(""),
+            tree: upgrade.get_str(TREE).unwrap_or(""),
+        });
+    }
     match matches.subcommand_matches("value") {
         Some(value) => Request::Value(value.get_str(EXPRESSION).unwrap_or("")),
         None => Request::Job,
@@ -169,6 +192,38 @@ fn eval_command<'a>(alloc: Global) -> Result<Command<'a>, AllocError> {
         ))
 }
 
+/// The command that makes the file of a sentence's tree.
+fn parse_command<'a>(alloc: Global) -> Result<Command<'a>, AllocError> {
+    Command::new(alloc, "parse")
+        .about("Parses a sentence, writes the file of its tree, and prints how many nodes it has")
+        .arg(file(alloc, GRAMMAR, "The name of the grammar's file"))?
+        .arg(file(alloc, SENTENCE, "The name of the sentence's file"))?
+        .arg(file(
+            alloc,
+            TREE,
+            "The name of the tree file, which is made or made anew",
+        ))
+}
+
+/// The command that brings a tree file of version 1 over.
+fn upgrade_command<'a>(alloc: Global) -> Result<Command<'a>, AllocError> {
+    Command::new(alloc, "upgrade")
+        .about(
+            "Brings a tree file of version 1 over to version 2, and prints how many nodes it has",
+        )
+        .arg(file(alloc, GRAMMAR, "The name of the grammar's file"))?
+        .arg(file(
+            alloc,
+            OLD,
+            "The name of the tree file that an earlier `parse` wrote, which begins with `AGT1`",
+        ))?
+        .arg(file(
+            alloc,
+            TREE,
+            "The name of the tree file, which is made or made anew",
+        ))
+}
+
 fn command<'a>(alloc: Global) -> Result<Command<'a>, AllocError> {
     let expression = Arg::new(alloc, EXPRESSION)
         .required(true)
@@ -186,15 +241,6 @@ fn command<'a>(alloc: Global) -> Result<Command<'a>, AllocError> {
     let code = Command::new(alloc, "code")
         .about("Prints what each pass does at a node of each production")
         .arg(file(alloc, GRAMMAR, "The name of the grammar's file"))?;
-    let parse = Command::new(alloc, "parse")
-        .about("Parses a sentence, writes the file of its tree, and prints how many nodes it has")
-        .arg(file(alloc, GRAMMAR, "The name of the grammar's file"))?
-        .arg(file(alloc, SENTENCE, "The name of the sentence's file"))?
-        .arg(file(
-            alloc,
-            TREE,
-            "The name of the tree file, which is made or made anew",
-        ))?;
     Command::new(alloc, "aggen")
         .bin_name("aggen")?
         .version("0.1.0")
@@ -208,7 +254,8 @@ fn command<'a>(alloc: Global) -> Result<Command<'a>, AllocError> {
         .subcommand(check)?
         .subcommand(plan)?
         .subcommand(code)?
-        .subcommand(parse)
+        .subcommand(parse_command(alloc)?)?
+        .subcommand(upgrade_command(alloc)?)
 }
 
 /// The option that names the folder in which the tree files of `run` stay.

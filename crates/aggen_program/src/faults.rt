@@ -1,6 +1,7 @@
 //! Telling a fault in one line on standard error: its number, and what a message says behind it.
 //! Each answers the fault that it told; where the line can't be written, the status still tells.
 
+use crate::command::UpgradePaths;
 use ag_value::show;
 use aggen::{Fault, Translator};
 use messages::{
@@ -8,7 +9,7 @@ use messages::{
     StuckMessage, TextMessage, TreeMessage, ValueMessage,
 };
 use std::alloc::Global;
-use treefile::Device;
+use treefile::{Device, FileVersion};
 
 /// Tells a fault of no text and no file.
 pub fn tell<R: Eprint>(rt: &R, fault: Fault) -> Fault {
@@ -88,10 +89,36 @@ pub fn tell_tree<R: Eprint, D: Device>(
     let _ = match &fault {
         Fault::File | Fault::Device => eprintln!(rt; "{fault}{}", PathMessage::new(path)),
         Fault::Run(run) => {
-            let message = TreeMessage::new(alloc, *run, translator.grammar(), tree, path);
+            let grammar = translator.grammar();
+            let message = TreeMessage::new(alloc, *run, FileVersion::Two, grammar, tree, path);
             eprintln!(rt; "{fault}{message}")
         }
         _ => return tell_translation(rt, alloc, fault),
+    };
+    fault
+}
+
+/// Tells a fault of bringing a file of version 1 over. A device that failed is told by its file: the old
+/// one where that fails again, as one that failed does.
+pub fn tell_old_tree<R: Eprint, D: Device>(
+    rt: &R,
+    alloc: Global,
+    fault: Fault,
+    translator: &Translator,
+    old: &mut D,
+    paths: &UpgradePaths<'_>,
+) -> Fault {
+    let _ = match &fault {
+        Fault::Device if old.len().is_err() => {
+            eprintln!(rt; "{fault}{}", PathMessage::new(paths.old))
+        }
+        Fault::Device => eprintln!(rt; "{fault}{}", PathMessage::new(paths.tree)),
+        Fault::Run(run) => {
+            let grammar = translator.grammar();
+            let message = TreeMessage::new(alloc, *run, FileVersion::One, grammar, old, paths.old);
+            eprintln!(rt; "{fault}{message}")
+        }
+        _ => rt.eprintln(&fault),
     };
     fault
 }

@@ -3,9 +3,9 @@
 //! `run G S` translates the sentence in a file by the grammar in a file, and prints the translation;
 //! `eval G TREE` does that with the tree in a tree file. With no word the program translates the job
 //! on standard input. `check G` reads and checks a grammar; `plan G` and `code G` print its passes
-//! and what they do; `parse G S TREE` parses a sentence, and writes its tree's file; `value EXPR`
-//! evaluates an expression, takes its value through a tree file in memory, and prints what it reads
-//! back.
+//! and what they do; `parse G S TREE` parses a sentence, and writes its tree's file; `upgrade G OLD
+//! TREE` brings a tree file of version 1 over; `value EXPR` evaluates an expression, takes its value
+//! through a tree file in memory, and prints what it reads back.
 #![tactic(auto)]
 
 mod command;
@@ -17,8 +17,8 @@ use aggen::{
     status,
 };
 use agoutput::write_text;
-use command::{Paths, Request, request_of};
-use faults::{tell, tell_expression, tell_file, tell_grammar, tell_sentence};
+use command::{Paths, Request, UpgradePaths, request_of};
+use faults::{tell, tell_expression, tell_file, tell_grammar, tell_old_tree, tell_sentence};
 use std::alloc::{AllocError, Global};
 use std::process::ExitCode;
 use std::rt::{Env, Files};
@@ -59,6 +59,7 @@ fn run<R: Env + Files + Input + Print + Eprint + AllocGlobal>(rt: &R) -> Result<
         Ok(Request::Plan(path)) => print_of(rt, alloc, path, Part::Plan),
         Ok(Request::Code(path)) => print_of(rt, alloc, path, Part::Code),
         Ok(Request::Parse(paths)) => parse_file(rt, alloc, &paths),
+        Ok(Request::Upgrade(paths)) => upgrade_file(rt, alloc, &paths),
         // the fault of the command line was told already
         Err(Fault::Usage) => Err(Fault::Usage),
         Err(fault) => Err(tell(rt, fault)),
@@ -149,8 +150,48 @@ fn write_tree<R: Files + Print>(
     let mut device = FileDevice::create(rt, alloc, path)?;
     let count = translator.parse_tree(sentence, &mut device)?;
     device.finish()?;
+    print_nodes(rt, alloc, count)
+}
+
+/// Prints how many nodes a tree has.
+fn print_nodes<R: Print>(rt: &R, alloc: Global, count: u32) -> Result<(), Fault> {
     let line = nodes_line(alloc, count)?;
     let mut out = io::writer(rt);
     write_text(&mut out, line.as_str())?;
     Ok(())
+}
+
+/// Makes the tree file of version 2 of the tree in a file of version 1, and prints how many nodes it
+/// has. The grammar is read first, then the old file is opened, and only then is the other one made;
+/// what stands between them is in memory. Where the two files are one, all of the old tree has been
+/// read before the new one is written.
+fn upgrade_file<R: Files + Print + Eprint>(
+    rt: &R,
+    alloc: Global,
+    paths: &UpgradePaths<'_>,
+) -> Result<(), Fault> {
+    let translator = translator_in(rt, alloc, paths.grammar)?;
+    let mut old = match FileDevice::existing(rt, alloc, paths.old) {
+        Ok(old) => old,
+        Err(fault) => return Err(tell_file(rt, Fault::from(fault), paths.old)),
+    };
+    let mut tree = match FileDevice::create(rt, alloc, paths.tree) {
+        Ok(tree) => tree,
+        Err(fault) => return Err(tell_file(rt, Fault::from(fault), paths.tree)),
+    };
+    let mut mid = MemDevice::new(alloc);
+    let count = match translator.upgrade(&mut old, &mut mid, &mut tree) {
+        Ok(count) => count,
+        Err(fault) => {
+            return Err(tell_old_tree(rt, alloc, fault, &translator, &mut old, paths));
+        }
+    };
+    match tree.finish() {
+        Ok(()) => (),
+        Err(fault) => return Err(tell_file(rt, Fault::from(fault), paths.tree)),
+    }
+    match print_nodes(rt, alloc, count) {
+        Ok(()) => Ok(()),
+        Err(fault) => Err(tell(rt, fault)),
+    }
 }

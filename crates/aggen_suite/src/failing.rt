@@ -1,7 +1,8 @@
 //! Devices of which one call fails: each call in turn, counted up until a run makes fewer. Nothing
 //! goes out where one fails, and the same translator and devices serve the next run.
 
-use crate::translators::{SENTENCE, TREE, evaluated, fractions, translated};
+use crate::endings::Ending;
+use crate::translators::{SENTENCE, TREE, evaluated, fractions, old_tree, translated};
 use aggen::Translator;
 use std::alloc::Global;
 use std::test::Fail;
@@ -23,6 +24,12 @@ enum Place {
     A,
     /// The second of these.
     B,
+    /// The device of `upgrade` that has the old tree.
+    Old,
+    /// The one between.
+    Mid,
+    /// The one that gets the tree.
+    To,
 }
 
 /// Whether the first of two runs ends with the translation: then the call that fails is the first
@@ -97,6 +104,43 @@ fn evaluates_without(
     evaluates_twice(alloc, translator, &mut tree, &mut a, &mut b)
 }
 
+/// Whether the first of two runs that bring the old tree over is whole. Else the first one has failed,
+/// and the second one is whole. The device that has the old tree keeps it.
+fn upgrades_twice(
+    translator: &Translator,
+    kept: &[u8],
+    old: &mut Fused,
+    mid: &mut Fused,
+    to: &mut Fused,
+) -> Result<bool, Fail> {
+    let first = Ending::of(translator.upgrade(old, mid, to));
+    let is_whole = to.inner().bytes() == TREE;
+    let second = Ending::of(translator.upgrade(old, mid, to));
+    if old.inner().bytes() != kept {
+        return Err(Fail::from("an old tree that has changed"));
+    }
+    match (first, second) {
+        (Ending::Done, Ending::Device) if is_whole => Ok(true),
+        (Ending::Device, Ending::Done) if to.inner().bytes() == TREE => Ok(false),
+        _ => Err(Fail::from("a run that neither fails nor is whole")),
+    }
+}
+
+/// Whether the first of two such runs is whole where these calls of the devices fail.
+fn upgrades_without(
+    alloc: Global,
+    translator: &Translator,
+    old: u64,
+    mid: u64,
+    to: u64,
+) -> Result<bool, Fail> {
+    let kept = old_tree(alloc)?;
+    let mut old = FuseDevice::new(MemDevice::from_bytes(old_tree(alloc)?), old);
+    let mut mid = fused(alloc, mid);
+    let mut to = fused(alloc, to);
+    upgrades_twice(translator, kept.as_slice(), &mut old, &mut mid, &mut to)
+}
+
 /// Whether the first of two runs is whole where a call of a device fails.
 fn is_whole_without(
     alloc: Global,
@@ -110,6 +154,9 @@ fn is_whole_without(
         Place::Tree => evaluates_without(alloc, translator, call, 0, 0),
         Place::A => evaluates_without(alloc, translator, 0, call, 0),
         Place::B => evaluates_without(alloc, translator, 0, 0, call),
+        Place::Old => upgrades_without(alloc, translator, call, 0, 0),
+        Place::Mid => upgrades_without(alloc, translator, 0, call, 0),
+        Place::To => upgrades_without(alloc, translator, 0, 0, call),
     }
 }
 
@@ -141,6 +188,14 @@ fn each_call_of_a_device_of_translate_fails(rt: HostRuntime) -> Result<(), Fail>
 #[test]
 fn each_call_of_a_device_of_evaluate_tree_fails(rt: HostRuntime) -> Result<(), Fail> {
     for place in [Place::Tree, Place::A, Place::B] {
+        assert!(rt; 1 < calls_made(rt.alloc(), place)?);
+    }
+    Ok(())
+}
+
+#[test]
+fn each_call_of_a_device_of_upgrade_fails(rt: HostRuntime) -> Result<(), Fail> {
+    for place in [Place::Old, Place::Mid, Place::To] {
         assert!(rt; 1 < calls_made(rt.alloc(), place)?);
     }
     Ok(())

@@ -2,7 +2,7 @@
 
 ghost use Rattle.std.specs.Prelude.{[], false, Some};
 
-use crate::translators::{SENTENCE, TREE, evaluated, fractions, translated};
+use crate::translators::{SENTENCE, TREE, evaluated, fractions, old_tree, translated};
 use ag_eval::Meter;
 use aggen::Translator;
 use backreader::{Arity, Back, turn};
@@ -144,9 +144,20 @@ fn passes(alloc: Global, translator: &Translator, lie: Lie) -> Result<(), Fail> 
     Ok(())
 }
 
+/// Brings an old tree over by way of devices that lie.
+fn upgrade(alloc: Global, translator: &Translator, lie: Lie) -> Result<(), Fail> {
+    let bytes = old_tree(alloc)?;
+    let mut old = liar_over(alloc, bytes.as_slice(), lie)?;
+    let mut mid = empty_liar(alloc, lie);
+    let mut to = empty_liar(alloc, lie);
+    let _count = translator.upgrade(&mut old, &mut mid, &mut to);
+    Ok(())
+}
+
 /// Whether all runs of a translator return, and nothing goes out where one is refused.
 fn return_clean(alloc: Global, translator: &Translator, lie: Lie) -> Result<bool, Fail> {
     passes(alloc, translator, lie)?;
+    upgrade(alloc, translator, lie)?;
     let translation = translation(alloc, translator, lie)?;
     let evaluation = evaluation(alloc, translator, lie)?;
     Ok(is_clean(translation.as_str()) && is_clean(evaluation.as_str()))
@@ -159,7 +170,7 @@ fn runs_return_clean(alloc: Global, lie: Lie) -> Result<bool, Fail> {
 }
 
 #[test]
-fn passes_translate_and_evaluate_tree_return(rt: HostRuntime) -> Result<(), Fail> {
+fn passes_translate_evaluate_tree_and_upgrade_return(rt: HostRuntime) -> Result<(), Fail> {
     for lie in LIES {
         assert!(rt; runs_return_clean(rt.alloc(), lie)?, "{lie:?}");
     }

@@ -34,6 +34,16 @@ pub const TREE: &[u8] = b"AGT2\0\0\
     \0\0\x03\0\0\0\x03\0\0\x06\0\0\0\x03\0\0\x07\0\0\0\x03\0\0\x04\0\0\0\x03\
     \0\0\x05\0\0\0\x03\0\0\x03\0\0\0\x03\0\0\x02\0\0\0\x03\0\0\0\0\0\0\x03";
 
+/// The same file as version 1 has it: the tree has no tokens, so that only the number of the version is
+/// another.
+pub fn old_tree(alloc: Global) -> Result<Vec<u8>, Fail> {
+    let mut bytes = TREE.to_vec(alloc)?;
+    if let Some(version) = bytes.get_mut(3) {
+        *version = b'1';
+    }
+    Ok(bytes)
+}
+
 /// The translator of binary fractions.
 pub fn fractions(alloc: Global) -> Result<Translator, Fault> {
     Ok(Translator::build(alloc, FRACTIONS.as_bytes())?)

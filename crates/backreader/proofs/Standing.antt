@@ -1,12 +1,14 @@
 -- The part of a buffer that stands in a content before an offset.
-use Rattle.std.proofs.Common.{◌≡◌, ℕ, zero, suc, ◌+◌, ◌-◌, ◌≤◌, List, [], ◌∷◌, ◌++◌, length, take, drop, slice_range, Result, Ok, Err, sym, ap, subst, ◌∙◌, arith}
+use Rattle.std.proofs.Common.{◌≡◌, ℕ, zero, suc, ◌+◌, ◌-◌, ◌≤◌, List, [], ◌∷◌, ◌++◌, length, take, drop, slice_range, Result, Ok, Err, sym, ap, subst, ◌∙◌, arith, lit<}
 use Rattle.std.proofs.lemmas.List.{drop-drop, drop-take, take-append-drop, take-take}
 use Rattle.std.proofs.lemmas.List.Folds.{drop_split}
 use lib.Seq.{take-add}
-use Rattle.backreader.specs.Place.{IsOver, Place, StandBefore}
+use Rattle.backreader.specs.Place.{IsOver, Place, StandBefore, buffer_bytes}
 use Rattle.std.specs.Int.{w32, from_be_bytes}
 use Rattle.treefile.specs.Ending.{IsBytes, Told, body_before, greatest_body, header_bytes, least_body, length_bytes, number_before}
-use Rattle.treefile.specs.TreeFile.{version_two}
+use Rattle.treefile.specs.TreeFile.{Version, version_of}
+use Rattle.treefile.specs.declared.layout.FileVersion.{FileVersion}
+use Rattle.treefile.specs.declared.layout.FileVersion.TheVariants.{One, Two}
 use Rattle.treefile.specs.declared.reading.FrameFault.{FrameFault}
 use Rattle.treefile.specs.declared.reading.FrameFault.TheVariants.{NotATreeFile, Damaged, Device, NoMemory}
 use Rattle.treefile.proofs.Frames.{bytes_part, fits, length_part, read_at}
@@ -108,10 +110,10 @@ body_stands content xs at from to n p q r s enough =
     ∙ ap (λ (k : ℕ). slice_range content k (at - 4)) begins
 
 -- the body of the frame that ends there, where its length is known
-pub body_at_hand : (content : List ℕ) (at n : ℕ) → n ≡ number_before content at → least_body ≤ n → n ≤ greatest_body version_two → header_bytes + n + length_bytes ≤ at → body_before version_two content at ≡ Ok (slice_range content (at - length_bytes - n) (at - length_bytes))
-body_at_hand content at n is least greatest room =
+pub body_at_hand : (version : Version) (content : List ℕ) (at n : ℕ) → n ≡ number_before content at → least_body ≤ n → n ≤ greatest_body version → header_bytes + n + length_bytes ≤ at → body_before version content at ≡ Ok (slice_range content (at - length_bytes - n) (at - length_bytes))
+body_at_hand version content at n is least greatest room =
     let ends : at - 4 - n + n ≡ at - 4 = omega arith in
-    read_at version_two content (slice_range content (at - 4 - n) (at - 4)) at n (sym is) (ap (slice_range content (at - 4 - n)) ends) (omega arith) (fits version_two at n least greatest room)
+    read_at version content (slice_range content (at - 4 - n) (at - 4)) at n (sym is) (ap (slice_range content (at - 4 - n)) ends) (omega arith) (fits version at n least greatest room)
 
 -- those that there are when so many before them were read
 pub read_stands : (content xs ys : List ℕ) (at from to n : ℕ) → from ≤ to → to ≤ length xs → length ys ≡ length xs → IsBytes ys → StandBefore content at (slice_range xs from to) → n ≤ from → to - from + n ≤ at → drop from ys ≡ drop from xs → slice_range ys (from - n) from ≡ slice_range content (at - (to - from + n)) (at - (to - from + n) + (from - (from - n))) → StandBefore content at (slice_range ys (from - n) to)
@@ -156,3 +158,8 @@ told_as_well view another NotATreeFile read told = told
 told_as_well view another (Damaged at) read told = told
 told_as_well view another Device read told = told
 told_as_well view another NoMemory read told = told
+
+-- a buffer is no larger than the greatest frame
+pub buffer_is_small : (version : FileVersion) → buffer_bytes ≤ greatest_body (version_of version) + length_bytes
+buffer_is_small One = lit< tt
+buffer_is_small Two = lit< tt

@@ -8,12 +8,12 @@ ghost use Rattle.backreader.specs.Place.{progress_after};
 ghost use Rattle.treefile.specs.Backward.{next_before, pass_in};
 ghost use Rattle.treefile.specs.Device.{LeavesContent, Persists, WhenHonest};
 ghost use Rattle.treefile.specs.Ending.{IsBody, Told, length_bytes};
-ghost use Rattle.treefile.specs.TreeFile.{version_two};
+ghost use Rattle.treefile.specs.TreeFile.{version_of, version_one, version_two};
 
 use crate::window::Window;
 use std::alloc::Global;
 use std::marker::Model;
-use treefile::{Device, FrameFault, pass_in};
+use treefile::{Device, FileVersion, FrameFault, pass_in};
 
 /// Reads the bodies of a tree file from the last to the first. It holds no device: each call takes
 /// the one that it was started on. It is seen as how far it has come, and the bytes before that
@@ -30,12 +30,14 @@ impl Model for Back {
     ghost use Rattle.std.specs.Prelude.{◌<◌, ◌+◌, ◌^◌};
     ghost use Rattle.backreader.specs.Place.{Place};
     ghost use Rattle.backreader.specs.Windows.{unread};
+    ghost use Rattle.treefile.specs.TreeFile.{version_of};
 
     ghost Value = { Place };
 
     ghost view = { λ b. record {
       window = unread b.window;
       progress = record {
+        version = version_of b.window.version;
         pass = b.pass;
         at = b.window.at;
         records = b.records;
@@ -66,6 +68,54 @@ impl Back {
             (IfOk result (λ back. IsOver (D.content device.old) back)) }
         ensures end { WhenHonest (D.is_honest device.old)
             (IfOk result (λ back. back.progress.at ≡ length (D.content device.old))) }
+        ensures version { IfOk result (λ back. back.progress.version ≡ version_two) }
+        ensures fresh { IfOk result (λ back. back.progress.records ≡ 0) }
+        ensures unbroken { IfOk result (λ back. back.progress.fault ≡ None) }
+        ensures content { LeavesContent (D.is_honest device.old)
+            (D.content device.old) (D.content device.new) }
+        // D1 only where the number of failures rose
+        ensures persists { Persists (D.is_honest device.old) (D.is_honest device.new)
+            (D.failures device.old) (D.failures device.new) (IsErrOf result FrameFault.Device) }
+    {
+        Back::start_version(alloc, FileVersion::Two, device)
+    }
+
+    /// The same of a tree file of version 1, whose bodies have at most 16,777,219 bytes: B1 where the
+    /// first four are not `AGT1`.
+    pub fn start_old<D: Device>(alloc: Global, device: &mut D) -> Result<Back, FrameFault>
+        // The number of the pass, and B1, exactly as the content has them
+        ensures told { WhenHonest (D.is_honest device.old) (Told (λ back. back.progress.pass) result
+            (pass_in version_one (D.content device.old))) }
+        ensures over { WhenHonest (D.is_honest device.old)
+            (IfOk result (λ back. IsOver (D.content device.old) back)) }
+        ensures end { WhenHonest (D.is_honest device.old)
+            (IfOk result (λ back. back.progress.at ≡ length (D.content device.old))) }
+        ensures version { IfOk result (λ back. back.progress.version ≡ version_one) }
+        ensures fresh { IfOk result (λ back. back.progress.records ≡ 0) }
+        ensures unbroken { IfOk result (λ back. back.progress.fault ≡ None) }
+        ensures content { LeavesContent (D.is_honest device.old)
+            (D.content device.old) (D.content device.new) }
+        // D1 only where the number of failures rose
+        ensures persists { Persists (D.is_honest device.old) (D.is_honest device.new)
+            (D.failures device.old) (D.failures device.new) (IsErrOf result FrameFault.Device) }
+    {
+        Back::start_version(alloc, FileVersion::One, device)
+    }
+
+    /// A reader of the tree file of a version that a device has, behind its last frame.
+    fn start_version<D: Device>(
+        alloc: Global,
+        version: FileVersion,
+        device: &mut D,
+    ) -> Result<Back, FrameFault>
+        // The number of the pass, and B1, exactly as the content has them
+        ensures told { WhenHonest (D.is_honest device.old) (Told (λ back. back.progress.pass) result
+            (pass_in (version_of version) (D.content device.old))) }
+        ensures over { WhenHonest (D.is_honest device.old)
+            (IfOk result (λ back. IsOver (D.content device.old) back)) }
+        ensures end { WhenHonest (D.is_honest device.old)
+            (IfOk result (λ back. back.progress.at ≡ length (D.content device.old))) }
+        ensures version { IfOk result (λ back. back.progress.version ≡ version_of version) }
         ensures fresh { IfOk result (λ back. back.progress.records ≡ 0) }
         ensures unbroken { IfOk result (λ back. back.progress.fault ≡ None) }
         ensures content { LeavesContent (D.is_honest device.old)
@@ -75,8 +125,8 @@ impl Back {
             (D.failures device.old) (D.failures device.new) (IsErrOf result FrameFault.Device) }
     {
         let end = device.len()?;
-        let pass = pass_in(device, end)?;
-        let window = Window::new(alloc, end)?;
+        let pass = pass_in(version, device, end)?;
+        let window = Window::new(alloc, version, end)?;
         Ok(Back {
             window,
             pass,
@@ -102,14 +152,14 @@ impl Back {
         // The body, None and B2, exactly as the content has them
         ensures told { self.old.progress.fault ≡ None → WhenHonest (D.is_honest device.old)
             (Told (option_map (λ body. body.now)) result
-            (next_before version_two (D.content device.old) self.old.progress.at)) }
+            (next_before self.old.progress.version (D.content device.old) self.old.progress.at)) }
         // Want of memory only where the frame has more bytes than the buffer of `start`
         ensures memory { self.old.progress.fault ≡ None → WhenHonest (D.is_honest device.old)
             (IsErrOf result FrameFault.NoMemory →
-            IsLarge (next_before version_two (D.content device.old) self.old.progress.at)) }
+            IsLarge (next_before self.old.progress.version (D.content device.old) self.old.progress.at)) }
         // Whatever the device is, a body is lent that may stand in a frame and stood before
         ensures body { IfOk result (λ found. IfSome found
-            (λ body. IsBody version_two body.now)) }
+            (λ body. IsBody self.old.progress.version body.now)) }
         ensures room { IfOk result (λ found. IfSome found
             (λ body. length body.now + length_bytes ≤ self.old.progress.at)) }
         // B1 is only told by `start`

@@ -8,12 +8,13 @@ ghost use Rattle.treefile.specs.Backward.{next_before};
 ghost use Rattle.treefile.specs.Device.{LeavesContent, Persists, TakesNoMemory, WhenHonest};
 ghost use Rattle.treefile.specs.Ending.{IsBytes, Told, body_before, greatest_body, header_bytes};
 ghost use Rattle.treefile.specs.Ending.{least_body, length_bytes, number_before};
-ghost use Rattle.treefile.specs.TreeFile.{version_two};
+ghost use Rattle.treefile.specs.TreeFile.{version_of};
 ghost use Rattle.treefile.specs.declared.reading.FrameFault.TheVariants.{Damaged};
 
 use std::alloc::{AllocError, Global};
 use treefile::{
-    Device, DeviceFault, FrameFault, HEADER_BYTES, LEAST_BODY, LENGTH_BYTES, fits_before,
+    Device, DeviceFault, FileVersion, FrameFault, HEADER_BYTES, LEAST_BODY, LENGTH_BYTES,
+    fits_before,
 };
 
 /// How many bytes a buffer has at first.
@@ -25,11 +26,12 @@ const LENGTH: usize = LENGTH_BYTES as usize;
 /// How many bytes a body has at least.
 const LEAST: usize = LEAST_BODY as usize;
 
-/// The bytes of a device that stand before an offset, as far as they were read: those of a buffer
-/// from one place to another. Before them the buffer is free, and behind them stand the bytes that
+/// The bytes of a device that stand before an offset in a file of a version, as far as they were read:
+/// those of a buffer from one place to another. Before them the buffer is free, and behind them stand the bytes that
 /// were taken last. The buffer has room for the least block, and for the greatest frame at most.
 #[derive(Drop)]
 pub(crate) struct Window {
+    version: FileVersion,
     buffer: Vec<u8>,
     from: usize,
     to: usize,
@@ -37,7 +39,7 @@ pub(crate) struct Window {
     ghost ordered: { from ≤ to },
     ghost within: { to ≤ vec_len buffer },
     ghost roomy: { buffer_bytes ≤ vec_len buffer },
-    ghost narrow: { vec_len buffer ≤ greatest_body version_two + length_bytes },
+    ghost narrow: { vec_len buffer ≤ greatest_body (version_of version) + length_bytes },
     ghost behind: { to - from + header_bytes ≤ at },
 }
 
@@ -45,14 +47,17 @@ impl Window {
     ghost use Rattle.backreader.specs.Windows.{Keeps, taken, unread};
 
     /// No bytes before an offset, in a buffer of 4,096. Takes memory for it.
-    pub(crate) fn new(alloc: Global, at: u64) -> Result<Window, AllocError>
+    #[tactic(auto, using(crate::proofs::Standing::buffer_is_small))]
+    pub(crate) fn new(alloc: Global, version: FileVersion, at: u64) -> Result<Window, AllocError>
         requires { header_bytes ≤ at }
+        ensures version { IfOk result (λ window. window.version ≡ version) }
         ensures at { IfOk result (λ window. window.at ≡ at) }
         ensures unread { IfOk result (λ window. unread window ≡ []) }
     {
         let buffer = vec![in alloc; 0; BUFFER]?;
         let to = buffer.len();
         Ok(Window {
+            version,
             buffer,
             from: to,
             to,
@@ -77,22 +82,23 @@ impl Window {
         requires { WhenHonest (D.is_honest device.old)
             (StandBefore (D.content device.old) self.old.at (unread self.old)) }
         ensures told { WhenHonest (D.is_honest device.old) (Told (option_map (taken self.new)) result
-            (next_before version_two (D.content device.old) self.old.at)) }
+            (next_before (version_of self.old.version) (D.content device.old) self.old.at)) }
         ensures memory { WhenHonest (D.is_honest device.old)
             (IsErrOf result FrameFault.NoMemory →
-            IsLarge (next_before version_two (D.content device.old) self.old.at)) }
+            IsLarge (next_before (version_of self.old.version) (D.content device.old) self.old.at)) }
         ensures stand { WhenHonest (D.is_honest device.old)
             (StandBefore (D.content device.old) self.new.at (unread self.new)) }
         ensures moved { IfOk result (λ found. IfSome found
             (λ count. self.new.at + count + length_bytes ≡ self.old.at)) }
         ensures none { IfOk result (λ found. IfNone found (self.new.at ≡ self.old.at)) }
         ensures kept { OnErr result (self.new.at ≡ self.old.at) }
+        ensures version { self.new.version ≡ self.old.version }
         ensures want { IsErrOf result FrameFault.NoMemory → unread self.new ≡ unread self.old }
         ensures within { IfOk result (λ found. IfSome found
             (λ count. self.new.to + count ≤ vec_len self.new.buffer)) }
         ensures least { IfOk result (λ found. IfSome found (λ count. least_body ≤ count)) }
         ensures greatest { IfOk result (λ found. IfSome found
-            (λ count. count ≤ greatest_body version_two)) }
+            (λ count. count ≤ greatest_body (version_of self.old.version))) }
         ensures file { IsErrOf result FrameFault.NotATreeFile → ⊥ }
         ensures content { LeavesContent (D.is_honest device.old)
             (D.content device.old) (D.content device.new) }
@@ -133,13 +139,13 @@ impl Window {
     #[tactic(auto, using(crate::proofs::Standing::body_at_hand))]
     fn at_hand(&self) -> Option<usize>
         ensures found { (content : List ℕ) → StandBefore content self.now.at (unread self.now) →
-            IfSome result (λ count. body_before version_two content self.now.at
+            IfSome result (λ count. body_before (version_of self.now.version) content self.now.at
             ≡ Ok (slice_range content
             (self.now.at - length_bytes - count) (self.now.at - length_bytes))) }
         ensures read { IfSome result
             (λ count. count + length_bytes ≤ self.now.to - self.now.from) }
         ensures least { IfSome result (λ count. least_body ≤ count) }
-        ensures greatest { IfSome result (λ count. count ≤ greatest_body version_two) }
+        ensures greatest { IfSome result (λ count. count ≤ greatest_body (version_of self.now.version)) }
     {
         let count = self.to - self.from;
         if count < LENGTH {
@@ -159,22 +165,23 @@ impl Window {
             (StandBefore (D.content device.old) self.old.at (unread self.old)) }
         ensures found { WhenHonest (D.is_honest device.old)
             (IfOk result (λ found. IfSome found
-            (λ count. body_before version_two (D.content device.old) self.old.at
+            (λ count. body_before (version_of self.old.version) (D.content device.old) self.old.at
             ≡ Ok (slice_range (D.content device.old)
             (self.old.at - length_bytes - count) (self.old.at - length_bytes))))) }
         ensures none { WhenHonest (D.is_honest device.old)
             (IfOk result (λ found. IfNone found
-            (body_before version_two (D.content device.old) self.old.at
+            (body_before (version_of self.old.version) (D.content device.old) self.old.at
             ≡ Err (Damaged self.old.at)))) }
         ensures room { IfOk result (λ found. IfSome found
             (λ count. header_bytes + count + length_bytes ≤ self.old.at)) }
         ensures least { IfOk result (λ found. IfSome found (λ count. least_body ≤ count)) }
         ensures greatest { IfOk result (λ found. IfSome found
-            (λ count. count ≤ greatest_body version_two)) }
+            (λ count. count ≤ greatest_body (version_of self.old.version))) }
         ensures stand { WhenHonest (D.is_honest device.old)
             (StandBefore (D.content device.old) self.new.at (unread self.new)) }
         ensures kept { Keeps self.old self.new }
         ensures at { self.new.at ≡ self.old.at }
+        ensures version { self.new.version ≡ self.old.version }
         ensures memory { TakesNoMemory result }
         ensures content { LeavesContent (D.is_honest device.old)
             (D.content device.old) (D.content device.new) }
@@ -186,7 +193,7 @@ impl Window {
         }
         self.load(device, LENGTH)?;
         let length = self.number();
-        if fits_before(self.at, u64::from(length)) {
+        if fits_before(self.version, self.at, u64::from(length)) {
             Ok(Some(length as usize))
         } else {
             Ok(None)
@@ -217,6 +224,7 @@ impl Window {
         ensures buffer { self.new.buffer ≡ self.old.buffer }
         ensures to { self.new.to + length + length_bytes ≡ self.old.to }
         ensures at { self.new.at + length + length_bytes ≡ self.old.at }
+        ensures version { self.new.version ≡ self.old.version }
     {
         self.to -= length + LENGTH;
         self.at -= (length + LENGTH) as u64;
@@ -224,7 +232,7 @@ impl Window {
 
     /// Makes the buffer have so many bytes at least. Takes memory where it has fewer.
     fn grow(&mut self, count: usize) -> Result<(), AllocError>
-        requires { count ≤ greatest_body version_two + length_bytes }
+        requires { count ≤ greatest_body (version_of self.old.version) + length_bytes }
         ensures room { OnOk result (count ≤ vec_len self.new.buffer) }
         ensures large { OnErr result (buffer_bytes < count) }
         ensures same { OnErr result (self.new.buffer.items ≡ self.old.buffer.items) }
@@ -232,6 +240,7 @@ impl Window {
         ensures from { self.new.from ≡ self.old.from }
         ensures to { self.new.to ≡ self.old.to }
         ensures at { self.new.at ≡ self.old.at }
+        ensures version { self.new.version ≡ self.old.version }
     {
         if self.buffer.len() < count {
             self.buffer.resize(count, 0)?;
@@ -251,6 +260,7 @@ impl Window {
             (StandBefore (D.content device.old) self.new.at (unread self.new)) }
         ensures kept { Keeps self.old self.new }
         ensures at { self.new.at ≡ self.old.at }
+        ensures version { self.new.version ≡ self.old.version }
         ensures memory { TakesNoMemory result }
         ensures content { LeavesContent (D.is_honest device.old)
             (D.content device.old) (D.content device.new) }
@@ -276,6 +286,7 @@ impl Window {
             (StandBefore (D.content device.old) self.new.at (unread self.new)) }
         ensures kept { Keeps self.old self.new }
         ensures at { self.new.at ≡ self.old.at }
+        ensures version { self.new.version ≡ self.old.version }
         ensures memory { TakesNoMemory result }
         ensures content { LeavesContent (D.is_honest device.old)
             (D.content device.old) (D.content device.new) }
@@ -299,6 +310,7 @@ impl Window {
         ensures end { self.new.to ≡ vec_len self.old.buffer }
         ensures count { self.new.to - self.new.from ≡ self.old.to - self.old.from }
         ensures at { self.new.at ≡ self.old.at }
+        ensures version { self.new.version ≡ self.old.version }
     {
         let end = self.buffer.len();
         let from = end - (self.to - self.from);

@@ -7,7 +7,8 @@ use Rattle.ag_scan.specs.declared.token.Token.{Token}
 use Rattle.treefile.specs.Device.{WhenHonest}
 use Rattle.treefile.specs.TreeFile.{header, version_two}
 use Rattle.llparse.specs.Parsing.{task_of, IsParsed, IsRefused, post}
-use Rattle.llparse.specs.Sentences.{offset_at, words_of, IsFirstFile, IsTreeWith}
+use Rattle.treefile.specs.FirstFile.{IsFirstFile}
+use Rattle.llparse.specs.Sentences.{offset_at, words_of, IsTreeWith}
 use Rattle.llparse.specs.declared.parse_fault.ParseFault.{ParseFault}
 use Rattle.llparse.specs.declared.parse_fault.ParseFault.TheVariants as fault
 use Rattle.llparse.proofs.FirstFile.{first_file}
@@ -15,10 +16,10 @@ use Rattle.llparse.proofs.Shown.{whole}
 
 module _ (g : Grammar) (tokens : List Token) (honest : Bool) (front bytes : List ℕ) (result : Result ℕ ParseFault) where
   -- its file is written behind the header
-  pub file_of : IfOk result (λ count. IsParsed (task_of g tokens honest front) count bytes) → WhenHonest honest (front ≡ header version_two 0) → (t : Tree) → IsTreeWith g (words_of tokens) t → OnOk result (WhenHonest honest (IsFirstFile g t bytes))
+  pub file_of : IfOk result (λ count. IsParsed (task_of g tokens honest front) count bytes) → WhenHonest honest (front ≡ header version_two 0) → (t : Tree) → IsTreeWith g (words_of tokens) t → OnOk result (WhenHonest honest (IsFirstFile version_two g t bytes))
   file_of parsed begun t has = go result parsed
     where
-      go : (r : Result ℕ ParseFault) → IfOk r (λ count. IsParsed (task_of g tokens honest front) count bytes) → OnOk r (WhenHonest honest (IsFirstFile g t bytes))
+      go : (r : Result ℕ ParseFault) → IfOk r (λ count. IsParsed (task_of g tokens honest front) count bytes) → OnOk r (WhenHonest honest (IsFirstFile version_two g t bytes))
       go (Ok count) p = λ h. first_file g t bytes has.tree (p.content h ∙ ap (λ z. z ++ post p.tree) (begun h) ∙ ap (λ z. header version_two 0 ++ post z) (sym (p.only t has)))
       go (Err e) p = tt
 

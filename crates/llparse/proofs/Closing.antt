@@ -9,7 +9,8 @@ use Rattle.ag_grammar.specs.grammars.Yield.{Lexeme}
 use Rattle.treefile.specs.Device.{WhenHonest}
 use Rattle.llparse.specs.Ahead.{ahead_of}
 use Rattle.llparse.specs.Opened.{joined, Open, open_at, Completes, Stands}
-use Rattle.llparse.specs.Parsing.{Task, Made, After, Shows, kept, leaf_texts, written, Held, Reading, Between, Whole, IsParsed, node_frame, post, posts}
+use Rattle.treefile.specs.FirstFile.{leaf_texts}
+use Rattle.llparse.specs.Parsing.{Task, Made, After, Shows, kept, written, Held, Reading, Between, Whole, IsParsed, node_frame, post, posts}
 use Rattle.llparse.specs.Sentences.{IsTreeWith, IsStuckAt}
 use Rattle.llparse.specs.declared.ahead.Ahead.TheVariants as ahead
 use Rattle.llparse.specs.declared.parser.OpenNode.{OpenNode}

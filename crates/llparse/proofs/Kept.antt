@@ -13,10 +13,11 @@ use Rattle.ag_grammar.specs.grammars.AttributeGrammar.{Grammar, stored_items, Is
 use Rattle.ag_grammar.specs.grammars.Tree.{Tree, leaf, node, Forest, none, more, Fits, FitsAll, IsTreeOf}
 use Rattle.ag_grammar.specs.grammars.Yield.{Lexeme}
 use Rattle.llparse.specs.Opened.{joined, Open, Continues}
-use Rattle.llparse.specs.Parsing.{Task, Made, Reading, kept, leaf_texts}
+use Rattle.treefile.specs.FirstFile.{leaf_texts}
+use Rattle.llparse.specs.Parsing.{Task, Made, Reading, kept}
 use Rattle.llparse.specs.declared.parser.OpenNode.{OpenNode}
 use Rattle.llparse.proofs.Begins.{finish}
-use Rattle.llparse.proofs.FirstFile.{text_well}
+use Rattle.treefile.proofs.FirstFile.{text_well}
 use Rattle.llparse.proofs.Steps as step
 
 pub texts-joined : (a b : Forest) → leaf_texts (joined a b) ≡ leaf_texts a ++ leaf_texts b

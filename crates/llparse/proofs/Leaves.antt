@@ -11,7 +11,8 @@ use Rattle.ag_grammar.specs.grammars.Yield.{Lexeme}
 use Rattle.treefile.specs.Device.{WhenHonest}
 use Rattle.llparse.specs.Ahead.{ahead_of}
 use Rattle.llparse.specs.Opened.{joined, open_at}
-use Rattle.llparse.specs.Parsing.{Task, Made, kept, leaf_texts, written, Reading, IsTooDeep, IsTooLarge, leaf_frame, posts}
+use Rattle.treefile.specs.FirstFile.{leaf_texts}
+use Rattle.llparse.specs.Parsing.{Task, Made, kept, written, Reading, IsTooDeep, IsTooLarge, leaf_frame, posts}
 use Rattle.llparse.specs.Sentences.{IsTreeWith, IsStuckAt}
 use Rattle.llparse.specs.declared.ahead.Ahead.TheVariants as ahead
 use Rattle.llparse.specs.declared.parser.OpenNode.{OpenNode}

@@ -24,6 +24,5 @@ pub mod Sizes
 pub mod Stacks
 pub mod Starts
 pub mod Steps
-pub mod Texts
 pub mod Turning
 pub mod Unique

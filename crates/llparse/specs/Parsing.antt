@@ -9,6 +9,7 @@ use Rattle.ag_grammar.specs.grammars.Yield.{Lexeme}
 use Rattle.ag_grammar.specs.grammars.Yield as yields
 use Rattle.ag_scan.specs.declared.token.Token.{Token}
 use Rattle.treefile.specs.Device.{WhenHonest}
+use Rattle.treefile.specs.FirstFile.{leaf_texts}
 use Rattle.treefile.specs.Records.{token_body}
 use Rattle.treefile.specs.TreeFile.{body_of, frame}
 use Rattle.treefile.specs.declared.body.Kind.TheVariants.{Node}
@@ -43,12 +44,6 @@ leaf_frame c x = frame (token_body c x)
 
 abbrev pub node_frame : ℕ → List Value → List ℕ
 node_frame p texts = frame (body_of Node p texts)
-
--- the texts of the leaves among some trees, from left to right
-abbrev pub leaf_texts : Forest → List Value
-leaf_texts none = []
-leaf_texts (more (leaf c x) ts) = Text x ∷ leaf_texts ts
-leaf_texts (more (node p us) ts) = leaf_texts ts
 
 -- the frames of a tree from left to right, each node behind its children
 abbrev mutual

@@ -1,14 +1,9 @@
 -- What parsing a sentence answers: the tree that its tokens have and the file of it, or why it has none.
 use Rattle.std.specs.Prelude.{ℕ, ◌≡◌, ◌<◌, ◌≤◌, ◌++◌, List, [], ◌∷◌, length, map, take, drop, slice_get, Some, None}
-use Rattle.ag_grammar.specs.Lists.{Each}
 use Rattle.ag_grammar.specs.grammars.AttributeGrammar.{Grammar}
-use Rattle.ag_grammar.specs.grammars.Passes.{Passes}
-use Rattle.ag_grammar.specs.grammars.Solution.{Valuation, NoRule, Solves}
 use Rattle.ag_grammar.specs.grammars.Tree.{Tree, IsTreeOf, depth_of, node_count}
 use Rattle.ag_grammar.specs.grammars.Yield.{Lexeme, yield_of}
 use Rattle.ag_scan.specs.declared.token.Token.{Token}
-use Rattle.treefile.specs.Records.{IsFileOfTree}
-use Rattle.treefile.specs.TreeFile.{version_two}
 use Rattle.llparse.specs.Ahead.{ahead_of}
 use Rattle.llparse.specs.Opened.{Open, opened, IsCutAt}
 
@@ -20,15 +15,6 @@ words_of ts = map (λ t. (t.kind, t.lex)) ts
 pub record IsTreeWith (g : Grammar) (words : List Lexeme) (t : Tree) : Type 0 where
   pub tree : IsTreeOf g t
   pub yields : yield_of g t ≡ words
-
--- each pass is at least 1, so that no attribute has a value before the first pass
-abbrev pub AreFromOne : Passes → Type 0
-AreFromOne m = (s : ℕ) → Each (λ k. 1 ≤ k) (m s)
-
--- The content is the file of pass 0 of a tree: of whichever passes from 1 on and whichever values, as long as these give each
--- leaf its text.
-abbrev pub IsFirstFile : Grammar → Tree → List ℕ → Type 0
-IsFirstFile g t content = (m : Passes) (v : Valuation) → AreFromOne m → Solves NoRule g t v → IsFileOfTree version_two g m 0 t v content
 
 -- the offset of the last token, 0 where there is none
 abbrev pub last_offset : List Token → ℕ

@@ -5,12 +5,13 @@ ghost use Rattle.ag_grammar.specs.grammars.Tree.{node_count, IsWithinLimits, Tre
 ghost use Rattle.ag_grammar.specs.grammars.Tree.{most_depth, most_nodes};
 ghost use Rattle.ag_scan.specs.Tokens.{FitAll};
 ghost use Rattle.ag_scan.specs.Words.{vocabulary_of};
+ghost use Rattle.treefile.specs.FirstFile.{IsFirstFile};
 ghost use Rattle.treefile.specs.Beginning.{AddsFrames, BeginsFile};
 ghost use Rattle.treefile.specs.Device.{Persists, WhenHonest};
 ghost use Rattle.treefile.specs.TreeFile.{header, version_two};
 ghost use Rattle.treefile.specs.Writing.{Progress};
 ghost use Rattle.llparse.specs.Parsing.{task_of, IsParsed, IsRefused};
-ghost use Rattle.llparse.specs.Sentences.{offset_at, words_of, IsFirstFile, IsTreeWith};
+ghost use Rattle.llparse.specs.Sentences.{offset_at, words_of, IsTreeWith};
 ghost use Rattle.llparse.specs.Sentences.{IsUnexpectedAt, LeavesOnlyDeeper, LeavesOnlyLarger};
 ghost use Rattle.llparse.specs.Tables.{FitsGrammar};
 
@@ -113,7 +114,7 @@ pub fn parse<D: Device>(
         → IfOk result (λ count. count ≡ node_count t) }
     ensures file { (t : Tree) → IsTreeWith grammar.now (words_of tokens.now) t
         → OnOk result (WhenHonest (D.is_honest device.old)
-        (IsFirstFile grammar.now t (D.content device.new))) }
+        (IsFirstFile version_two grammar.now t (D.content device.new))) }
     ensures written { IfOk result (λ count. writer.new
         ≡ record { written = count; is_broken = false }) }
 

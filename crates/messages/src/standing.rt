@@ -5,7 +5,7 @@ ghost use Rattle.treefile.specs.Device.{LeavesContent, Persists};
 use ag_grammar::limits::MOST_NODES;
 use ag_grammar::{Grammar, Item};
 use std::alloc::Global;
-use treefile::{Device, LENGTH_BYTES, fits_before};
+use treefile::{Device, FileVersion, LENGTH_BYTES, fits_before};
 
 /// A frame of a tree file: where it begins, the kind and the number in its body, and how many bytes
 /// the body has.
@@ -17,9 +17,9 @@ pub struct Frame {
     pub bytes: u64,
 }
 
-/// The frame that ends at an offset. None where none does, or where it can't be read. Takes no
-/// memory.
-pub fn frame_before<D: Device>(tree: &mut D, end: u64) -> Option<Frame>
+/// The frame that ends at an offset of a file of a version. None where none does, or where it can't be
+/// read. Takes no memory.
+pub fn frame_before<D: Device>(version: FileVersion, tree: &mut D, end: u64) -> Option<Frame>
     ensures content { LeavesContent (D.is_honest tree.old)
         (D.content tree.old) (D.content tree.new) }
     ensures persists { Persists (D.is_honest tree.old) (D.is_honest tree.new)
@@ -29,7 +29,7 @@ pub fn frame_before<D: Device>(tree: &mut D, end: u64) -> Option<Frame>
     tree.read_at(end.checked_sub(LENGTH_BYTES)?, &mut length)
         .ok()?;
     let bytes = u64::from(u32::from_be_bytes(length));
-    if !fits_before(end, bytes) {
+    if !fits_before(version, end, bytes) {
         return None;
     }
     let begin = end - LENGTH_BYTES - bytes;
@@ -44,10 +44,11 @@ pub fn frame_before<D: Device>(tree: &mut D, end: u64) -> Option<Frame>
     })
 }
 
-/// What a tree still awaits where all records of its file behind an offset have been read, the next
+/// What a tree still awaits where all records of its file of a version behind an offset have been read, the next
 /// one last. None where they can't be read, or for want of memory.
 pub fn awaited_at<D: Device>(
     alloc: Global,
+    version: FileVersion,
     grammar: &Grammar,
     tree: &mut D,
     at: u64,
@@ -64,7 +65,7 @@ pub fn awaited_at<D: Device>(
         if end <= at {
             break;
         }
-        let frame = frame_before(tree, end)?;
+        let frame = frame_before(version, tree, end)?;
         awaited.pop();
         if frame.kind == 0 {
             await_children(grammar, frame.number, &mut awaited)?;

@@ -10,11 +10,15 @@ use ag_grammar::{Grammar, Item, Terminal};
 use passrun::RunFault;
 use std::alloc::Global;
 use std::fmt;
-use treefile::{Device, HEADER_BYTES};
+use treefile::{Device, FileVersion, HEADER_BYTES};
 
 /// What is told at the front of a file that begins as no tree file.
 const NO_TREE_FILE: &str =
     "a tree file begins with `AGT2` and the number of a pass, and this one doesn't";
+
+/// The same where an old file is brought over.
+const NO_OLD_FILE: &str =
+    "a tree file of version 1 begins with `AGT1` and the number of a pass, and this one doesn't";
 
 /// What is told at the number of a pass that is not 0.
 const ANOTHER_PASS: &str = "the number of the pass should be 0 here, and it is another";
@@ -25,6 +29,7 @@ const ANOTHER_PASS: &str = "the number of the pass should be 0 here, and it is a
 #[derive(Drop)]
 pub struct TreeMessage<'a> {
     fault: RunFault,
+    version: FileVersion,
     grammar: &'a Grammar,
     found: Option<Frame>,
     awaited: Option<Vec<Item>>,
@@ -32,12 +37,13 @@ pub struct TreeMessage<'a> {
 }
 
 impl<'a> TreeMessage<'a> {
-    /// The message of the tree file of this name, which is read once more from its end where a
-    /// record of it is refused. Takes memory for what the tree awaits at the offset; where that is
+    /// The message of the tree file of this version and name, which is read once more from its end
+    /// where a record of it is refused. Takes memory for what the tree awaits at the offset; where that is
     /// refused, or the file can't be read, the message leaves out what it would have told.
     pub fn new<D: Device>(
         alloc: Global,
         fault: RunFault,
+        version: FileVersion,
         grammar: &'a Grammar,
         tree: &mut D,
         path: &'a str,
@@ -50,13 +56,14 @@ impl<'a> TreeMessage<'a> {
     {
         let (found, awaited) = match fault {
             RunFault::Damaged(at) if HEADER_BYTES <= at => (
-                frame_before(tree, at),
-                awaited_at(alloc, grammar, tree, at),
+                frame_before(version, tree, at),
+                awaited_at(alloc, version, grammar, tree, at),
             ),
             _ => (None, None),
         };
         TreeMessage {
             fault,
+            version,
             grammar,
             found,
             awaited,
@@ -105,12 +112,32 @@ impl<'a> TreeMessage<'a> {
     fn tell_wanted<W: fmt::Write>(&self, f: &mut fmt::Formatter<W>, item: Item) -> fmt::Result {
         self.tell_item(f, item)?;
         match item {
-            Item::Symbol(number) if self.has_tokens(number) => {
+            Item::Symbol(number) if self.version == FileVersion::Two && self.has_tokens(number) => {
                 write!(f, " with the texts of its tokens")
             }
             Item::Symbol(_) => write!(f, " without values"),
             Item::Terminal(_) => write!(f, " with the text that its node has"),
         }
+    }
+
+    /// How a tree file begins, and that this one doesn't.
+    fn tell_beginning<W: fmt::Write>(&self, f: &mut fmt::Formatter<W>) -> fmt::Result {
+        match self.version {
+            FileVersion::One => write!(f, "{NO_OLD_FILE}"),
+            FileVersion::Two => write!(f, "{NO_TREE_FILE}"),
+        }
+    }
+
+    /// What to do about a file that is no tree's.
+    fn tell_remedy<W: fmt::Write>(&self, f: &mut fmt::Formatter<W>, at: u64) -> fmt::Result {
+        write!(f, ", make the file anew with `aggen parse`")?;
+        if at == 0 && self.version == FileVersion::Two {
+            write!(
+                f,
+                ", or bring one that begins with `AGT1` over with `aggen upgrade`"
+            )?;
+        }
+        write!(f, ": ")
     }
 
     /// Whether some node of a symbol has tokens below it, so that its record has their texts.
@@ -148,11 +175,11 @@ impl fmt::Display for TreeMessage<'_> {
             RunFault::Damaged(at) => {
                 write!(f, ": ")?;
                 match at {
-                    0 => write!(f, "{NO_TREE_FILE}")?,
+                    0 => self.tell_beginning(f)?,
                     4 => write!(f, "{ANOTHER_PASS}")?,
                     _ => self.tell_standing(f, at)?,
                 }
-                write!(f, ", make the file anew with `aggen parse`: ")?;
+                self.tell_remedy(f, at)?;
             }
             RunFault::TooDeep => write!(
                 f,

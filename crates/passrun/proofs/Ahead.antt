@@ -30,13 +30,13 @@ use Rattle.planchecker.specs.Sound.{IsSound}
 use Rattle.passrun.specs.declared.run_fault.RunFault.{RunFault}
 use Rattle.passrun.specs.declared.run_fault.RunFault.TheVariants as fault
 use Rattle.passrun.specs.Ahead.{IsRunFault, behind, children_of, of_node}
-use Rattle.passrun.specs.Damage.{ComesTo, IsDamaged, IsReadable}
+use Rattle.passrun.specs.Damage.{ComesTo, IsDamaged, IsReadable, source}
 use Rattle.passrun.specs.Faults.{run_fault_of_frame}
 use Rattle.passrun.specs.Fetching.{IsMissing, IsUnfetched}
 use Rattle.passrun.specs.Places.{Table, copied_passes, copies, in_children}
 use Rattle.passrun.specs.Reading.{AgreeAt, IsNoRecord, IsRead, read_values}
 use Rattle.passrun.proofs.Copies.{told_at, told_length}
-use Rattle.passrun.proofs.Damage.{broken, way_to}
+use Rattle.passrun.proofs.Damage.{broken, tellable, way_to}
 use Rattle.passrun.proofs.Recorded.{copies_counted, copies_well, mended, tabled}
 use Rattle.passrun.proofs.Slots.{copied_is}
 use Rattle.passrun.proofs.Tables.{same_values, text_row}
@@ -135,21 +135,21 @@ module _ (c : Setting) (sound : IsSound c) where
   missing_breaks x copy level todo (Ok None) h = tt
   missing_breaks x copy level todo (Ok (Some body)) h = no_record c x body copy h
 
-  pub unfetched : (x : Item) (copy : Option (List Value)) (open_count : ℕ) (content : List ℕ) (place : Place) (todo : ToCome) (f : RunFault) → IsReadable c content → (h : ComesTo c content place.progress.at ((suc open_count, (x, copy)) ∷ todo)) → place.progress.records ≡ length h.bodies
+  pub unfetched : (x : Item) (copy : Option (List Value)) (open_count : ℕ) (content : List ℕ) (place : Place) (todo : ToCome) (f : RunFault) → IsReadable (source c) content → (h : ComesTo (source c) content place.progress.at ((suc open_count, (x, copy)) ∷ todo)) → place.progress.records ≡ length h.bodies
       → IsUnfetched c x open_count content place f → IsRunFault c content f
   unfetched x copy n content place todo (fault.Damaged at) readable h count (same, missing) =
-      subst (IsDamaged c content) (sym same) (broken c sound content place.progress.at readable ((suc n, (x, copy)) ∷ todo, h, missing_breaks x copy (suc n) todo (next_before version_two content place.progress.at) missing))
-  unfetched x copy n content place todo fault.TooDeep readable h count deep = way_is_too_long version_two c.grammar c.passes c.read content place.progress.at (length h.bodies) (suc n) most_depth most_nodes (x, copy) todo (way_to c sound content place.progress.at ((suc n, (x, copy)) ∷ todo) h) (inl (omega arith))
-  unfetched x copy n content place todo fault.TooManyNodes readable h count many = way_is_too_long version_two c.grammar c.passes c.read content place.progress.at (length h.bodies) (suc n) most_depth most_nodes (x, copy) todo (way_to c sound content place.progress.at ((suc n, (x, copy)) ∷ todo) h) (inr (omega arith))
+      subst (IsDamaged (source c) content) (sym same) (broken (source c) (tellable c sound) content place.progress.at readable ((suc n, (x, copy)) ∷ todo, h, missing_breaks x copy (suc n) todo (next_before version_two content place.progress.at) missing))
+  unfetched x copy n content place todo fault.TooDeep readable h count deep = way_is_too_long version_two c.grammar c.passes c.read content place.progress.at (length h.bodies) (suc n) most_depth most_nodes (x, copy) todo (way_to (source c) (tellable c sound) content place.progress.at ((suc n, (x, copy)) ∷ todo) h) (inl (omega arith))
+  unfetched x copy n content place todo fault.TooManyNodes readable h count many = way_is_too_long version_two c.grammar c.passes c.read content place.progress.at (length h.bodies) (suc n) most_depth most_nodes (x, copy) todo (way_to (source c) (tellable c sound) content place.progress.at ((suc n, (x, copy)) ∷ todo) h) (inr (omega arith))
   unfetched x copy n content place todo fault.Device readable h count u = tt
   unfetched x copy n content place todo fault.NoMemory readable h count u = tt
 
   -- a record that was read and does not agree breaks the way
-  pub disagreed : (x : Item) (p level : ℕ) (content body : List ℕ) (at : ℕ) (todo : ToCome) (old new : List Value) (h : IsRead c x p body old new) (f : ℕ → Value) → (AgreeAt c x f (read_values c x p body old new h) → ⊥) → IsReadable c content
-      → ComesTo c content at ((level, (x, Some (values_up_to c.read (copied_passes c x) f))) ∷ todo) → next_before version_two content at ≡ Ok (Some body) → IsDamaged c content at
+  pub disagreed : (x : Item) (p level : ℕ) (content body : List ℕ) (at : ℕ) (todo : ToCome) (old new : List Value) (h : IsRead c x p body old new) (f : ℕ → Value) → (AgreeAt c x f (read_values c x p body old new h) → ⊥) → IsReadable (source c) content
+      → ComesTo (source c) content at ((level, (x, Some (values_up_to c.read (copied_passes c x) f))) ∷ todo) → next_before version_two content at ≡ Ok (Some body) → IsDamaged (source c) content at
   disagreed x p level content body at todo old new h f apart readable here found =
       let first : ToCome = (level, (x, Some (values_up_to c.read (copied_passes c x) f))) ∷ todo in
-      broken c sound content at readable (first, here, subst (awaited.Breaks version_two c.grammar c.passes c.read first) (sym found) (differs x p body old new h f apart))
+      broken (source c) (tellable c sound) content at readable (first, here, subst (awaited.Breaks version_two c.grammar c.passes c.read first) (sym found) (differs x p body old new h f apart))
 
 -- no frame is found
 pub frame_unfetched : (c : Setting) (x : Item) (open_count : ℕ) (content : List ℕ) (place : Place) (view : Option (Bor (List ℕ)) → Option (List ℕ)) (f : FrameFault) → Told view (Err f) (next_before version_two content place.progress.at) → IsUnfetched c x open_count content place (run_fault_of_frame f)

@@ -27,7 +27,7 @@ use Rattle.planchecker.specs.Settings.{Setting}
 use Rattle.planchecker.specs.Sound.{IsSound}
 use Rattle.passrun.specs.declared.machine.Machine.{Machine}
 use Rattle.passrun.specs.declared.open_node.OpenNode.{OpenNode}
-use Rattle.passrun.specs.Damage.{IsReadable}
+use Rattle.passrun.specs.Damage.{IsReadable, source}
 use Rattle.passrun.specs.Ends.{RunsBetween}
 use Rattle.passrun.specs.Nodes.{first_at}
 use Rattle.passrun.specs.Places.{copies, stored}
@@ -58,10 +58,10 @@ reader_kept honest content old now answer found h was none = h.progress ∙ ap (
 module _ (c : Setting) (sound : IsSound c) where
   pub begun_runs : (p meter began start : ℕ) (honest honest' to_honest : Bool) (content content' to : List ℕ) (place back : Place) (out : writing.Progress) (old values : Vec Value) (waiting : Vec OpenNode)
       → old.items ≡ [] → waiting.items ≡ [] → start ≡ c.grammar.start → began ≡ meter → HasFetched c (item.Symbol start) p 0 honest content place back old.items values.items → honest' ≡ honest → LeavesContent honest content content'
-      → WhenHonest honest (IsReadable c content) → WhenHonest honest (IsOver content place) → WhenHonest honest (place.progress.at ≡ length content) → place.progress.records ≡ 0 → place.progress.fault ≡ None
+      → WhenHonest honest (IsReadable (source c) content) → WhenHonest honest (IsOver content place) → WhenHonest honest (place.progress.at ≡ length content) → place.progress.records ≡ 0 → place.progress.version ≡ version_two → place.progress.fault ≡ None
       → WhenHonest to_honest (to ≡ header version_two c.write) → out ≡ record { written = 0; is_broken = false } → meter ≤ 2 ^ 63
       → Runs c honest' content' to_honest to meter (record { back = back; writer = out; values = values; waiting = waiting; root = p; begun = began }) (Some (first_at p 0))
-  begun_runs p meter began first honest honest' to_honest content content' to place back out old values waiting none alone is_start is_meter h' same leaves readable over end fresh unbroken head begun low =
+  begun_runs p meter began first honest honest' to_honest content content' to place back out old values waiting none alone is_start is_meter h' same leaves readable over end fresh version unbroken head begun low =
       let h = subst (λ s. HasFetched c (item.Symbol s) p 0 honest content place back old.items values.items) is_start h' in
       let t = h.taken in
       let f = t.values in
@@ -98,10 +98,11 @@ module _ (c : Setting) (sound : IsSound c) where
           few = omega arith;
           put = λ z. head z ∙ sym (append-nil (header version_two c.write));
           written = ap (λ w. w.written) begun;
+          version = ap (λ g. g.version) h.progress ∙ version;
           unbroken = ap (λ g. g.fault) h.progress ∙ unbroken;
           whole = ap (λ w. w.is_broken) begun;
           well = subst (All IsWell) (sym (t.row ∙ ap (λ vs. vs ++ (own ++ kept)) none)) (All-append IsWell own kept (values_well c.write (c.passes start) f (λ a p is le. t.well a)) (copies_well c c.write (stored_items q.items) t.table t.table_well));
-          readable = λ z. let w = sym same ∙ z in subst (IsReadable c) (sym (leaves w)) (readable w);
+          readable = λ z. let w = sym same ∙ z in subst (IsReadable (source c)) (sym (leaves w)) (readable w);
           ahead = (children, is_record c (item.Symbol start) p h.body old.items values.items t None tt, sym come);
         }));
         begun = omega arith;

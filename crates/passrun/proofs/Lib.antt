@@ -33,3 +33,5 @@ pub mod Metered
 pub mod Totals
 pub mod Able
 pub mod WorkedDamage
+pub mod Brought
+pub mod Upgraded

@@ -25,7 +25,7 @@ use Rattle.treefile.specs.TreeFile.{body_from}
 use Rattle.planchecker.specs.Settings.{Setting}
 use Rattle.passrun.specs.declared.record.RecordFault.{RecordFault}
 use Rattle.passrun.specs.Places.{Table, copied_passes, copies, row_passes}
-use Rattle.passrun.specs.Reading.{AllWell, AreTaken, AreUntaken, IsNodeBody, IsNodeRead, IsNoNode, IsNoRow, IsTaken, IsUntaken, one_value}
+use Rattle.passrun.specs.Reading.{AllWell, AreTaken, AreUntaken, IsNodeBody, IsNodeRead, IsNoNode, IsNoNodeBody, IsNoRow, IsTaken, IsUntaken, one_value}
 
 -- 0 is well
 pub zero_well : IsWell (Num (pos 0))
@@ -231,6 +231,12 @@ node_read c s p body spellings old new b taken =
       same = b.same ∙ ap (body_from Node p) (taken.spelled ∙ append-nil (flat_map spelling_of (values_up_to c.read (row_passes c q) g)) ∙ ap (flat_map spelling_of) (parted c.read
           ∙ ap (λ ps. values_up_to c.read ps g ++ copies c c.read (stored_items q.items) (table_of c q.items rest)) (ap c.passes b.left ∙ sym (passes_left c s p q b.there b.left))));
     }
+
+-- what is no node's body is no node's record
+pub no_node : (c : Setting) (s : ℕ) (body : List ℕ) → length c.grammar.productions ≤ 65536 → IsNoNodeBody c.grammar s body → IsNoNode c s body
+no_node c s body few nothing p q h e there left well table_well same =
+    let within = slice_get_within c.grammar.productions p q there in
+    nothing p q (flat_map spelling_of (values_up_to c.read (left_passes c.passes (slice_get c.grammar.productions p)) h ++ copies c c.read (stored_items q.items) e)) there left (omega arith) same
 
 -- and where none can be taken, the body is that of no node
 pub no_node_read : (c : Setting) (s p : ℕ) (body spellings : List ℕ) → length c.grammar.productions ≤ 65536 → (b : IsNodeBody c.grammar s p spellings body) → IsNoRow c.read (row_passes c b.production) spellings → IsNoNode c s body

@@ -26,7 +26,7 @@ use Rattle.passrun.specs.declared.machine.Machine.{Machine}
 use Rattle.passrun.specs.declared.open_node.OpenNode.{OpenNode}
 use Rattle.passrun.specs.declared.run_fault.RunFault.{RunFault}
 use Rattle.passrun.specs.Ahead.{IsRunFault}
-use Rattle.passrun.specs.Damage.{AreRecords, ComesTo, IsDamaged, IsReadable}
+use Rattle.passrun.specs.Damage.{AreRecords, ComesTo, IsDamaged, IsReadable, source}
 use Rattle.passrun.specs.Ends.{RunsBetween}
 use Rattle.passrun.specs.Faults.{run_fault_of_frame}
 use Rattle.passrun.specs.Fetching.{HasFetched, IsUnfetched}
@@ -34,7 +34,7 @@ use Rattle.passrun.specs.Places.{copied_passes, copies}
 use Rattle.passrun.specs.Reading.{Agrees, IsRead, read_values}
 use Rattle.passrun.specs.Running.{RunsFrom}
 use Rattle.passrun.proofs.Ahead.{disagreed, unfetched}
-use Rattle.passrun.proofs.Damage.{broken, unstarted}
+use Rattle.passrun.proofs.Damage.{broken, tellable, unstarted}
 use Rattle.passrun.proofs.Steps.{get_first}
 use Rattle.passrun.proofs.Turning.{Answers, begins_so, got_place}
 
@@ -47,8 +47,8 @@ some_lent None e = absurd cc
 record FirstCome (c : Setting) (content : List ℕ) (m : Machine) (x : OpenNode) (j : ℕ) (row : PlaceRow) : Type 0 where
   values : ℕ → Value
   left : ToCome
-  readable : IsReadable c content
-  here : ComesTo c content m.back.progress.at ((suc (length m.waiting.items + 1), (row.item, Some (values_up_to c.read (copied_passes c row.item) values))) ∷ left)
+  readable : IsReadable (source c) content
+  here : ComesTo (source c) content m.back.progress.at ((suc (length m.waiting.items + 1), (row.item, Some (values_up_to c.read (copied_passes c row.item) values))) ∷ left)
   count : m.back.progress.records ≡ length here.bodies
   found : (more : List Value) → (rest : List Value) × (drop (x.base + row.start) (m.values.items ++ more) ≡ values_up_to c.write (copied_passes c row.item) values ++ rest)
 
@@ -77,7 +77,7 @@ module _ (c : Setting) (sound : IsSound c) where
         here = record {
           bodies = r.running.tapes.read;
           read = r.running.read w;
-          records = subst (AreRecords c r.running.tapes.read) (first.2 ∙ ap (λ n. in_front n row.item (values_up_to c.read (copied_passes c row.item) first.0) first.1) level) r.running.ahead;
+          records = subst (AreRecords (source c) r.running.tapes.read) (first.2 ∙ ap (λ n. in_front n row.item (values_up_to c.read (copied_passes c row.item) first.0) first.1) level) r.running.ahead;
         };
         count = r.running.records;
         found = λ more. let z = first.3 more in (z.0, ap (λ n. drop (x.base + n) (m.values.items ++ more)) i.start ∙ z.1);
@@ -92,7 +92,7 @@ module _ (c : Setting) (sound : IsSound c) where
   -- the record of a child does not agree with its copy
   pub get_differs : (honest : Bool) (content : List ℕ) (m : Machine) (x : OpenNode) (j p n : ℕ) (row : PlaceRow) (back : Place) (read ours theirs : List Value) (from start : ℕ) (answer : Bool) → RunsFrom c honest content m (Some x) → slice_get (list_at c x.production) x.at ≡ Some (instr.Get j) → Answers c x j (Some row)
       → HasFetched c row.item p n honest content m.back back m.values.items read → Agrees c row.item ours theirs answer → (IsTrue answer → ⊥) → ours ≡ drop from read → theirs ≡ drop start read → from ≡ x.base + row.start → start ≡ length m.values.items
-      → WhenHonest honest (IsDamaged c content m.back.progress.at)
+      → WhenHonest honest (IsDamaged (source c) content m.back.progress.at)
   get_differs honest content m x j p n row back read ours theirs from start answer runs at is h agrees not_true ours_are theirs_are from_is start_is w =
       let z = first_come honest content m x j row runs at is w in
       let back_row = begins_so c row.item p h.body m.values.items read h.taken in
@@ -104,29 +104,32 @@ module _ (c : Setting) (sound : IsSound c) where
 
   -- the content does not begin as a tree file
   pub not_started : (content : List ℕ) (view : Place → ℕ) (f : FrameFault) → Told view (Err f) (pass_in version_two content) → IsRunFault c content (run_fault_of_frame f)
-  not_started content view frame_fault.NotATreeFile told = (unstarted c sound content frame_fault.NotATreeFile told).1
-  not_started content view (frame_fault.Damaged at) told = absurd (let z = (unstarted c sound content (frame_fault.Damaged at) told).0 in cc)
+  not_started content view frame_fault.NotATreeFile told = (unstarted (source c) (tellable c sound) content frame_fault.NotATreeFile told).1
+  not_started content view (frame_fault.Damaged at) told = absurd (let z = (unstarted (source c) (tellable c sound) content (frame_fault.Damaged at) told).0 in cc)
   not_started content view frame_fault.Device told = tt
   not_started content view frame_fault.NoMemory told = tt
 
-  pub root_unfetched : (start : ℕ) (content : List ℕ) (place : Place) (f : RunFault) → start ≡ c.grammar.start → IsReadable c content → place.progress.at ≡ length content → place.progress.records ≡ 0 → IsUnfetched c (item.Symbol start) 0 content place f → IsRunFault c content f
+  pub root_unfetched : (start : ℕ) (content : List ℕ) (place : Place) (f : RunFault) → start ≡ c.grammar.start → IsReadable (source c) content → place.progress.at ≡ length content → place.progress.records ≡ 0 → IsUnfetched c (item.Symbol start) 0 content place f → IsRunFault c content f
   root_unfetched start content place f is readable end fresh h =
-      let here : ComesTo c content place.progress.at ((1, (item.Symbol c.grammar.start, None)) ∷ []) = record { bodies = []; read = sym end; records = refl } in
+      let here : ComesTo (source c) content place.progress.at ((1, (item.Symbol c.grammar.start, None)) ∷ []) = record { bodies = []; read = sym end; records = refl } in
       unfetched c sound (item.Symbol c.grammar.start) None 0 content place [] f readable here fresh (subst (λ s. IsUnfetched c (item.Symbol s) 0 content place f) is h)
 
   -- nothing is to come, and something is there
-  pub left_over : (content : List ℕ) (at : ℕ) (body : List ℕ) → IsReadable c content → ComesTo c content at [] → next_before version_two content at ≡ Ok (Some body) → IsDamaged c content at
-  left_over content at body readable here found = broken c sound content at readable ([], here, subst (Breaks version_two c.grammar c.passes c.read []) (sym found) tt)
+  pub left_over : (content : List ℕ) (at : ℕ) (body : List ℕ) → IsReadable (source c) content → ComesTo (source c) content at [] → next_before version_two content at ≡ Ok (Some body) → IsDamaged (source c) content at
+  left_over content at body readable here found = broken (source c) (tellable c sound) content at readable ([], here, subst (Breaks version_two c.grammar c.passes c.read []) (sym found) tt)
 
-  pub end_refused : (content : List ℕ) (at : ℕ) (view : Option (Bor (List ℕ)) → Option (List ℕ)) (f : FrameFault) → IsReadable c content → ComesTo c content at [] → Told view (Err f) (next_before version_two content at) → IsRunFault c content (run_fault_of_frame f)
+  pub end_refused : (content : List ℕ) (at : ℕ) (view : Option (Bor (List ℕ)) → Option (List ℕ)) (f : FrameFault) → IsReadable (source c) content → ComesTo (source c) content at [] → Told view (Err f) (next_before version_two content at) → IsRunFault c content (run_fault_of_frame f)
   end_refused content at view frame_fault.NotATreeFile readable here told = absurd (never_no_file version_two content at told)
-  end_refused content at view (frame_fault.Damaged b) readable here told = subst (IsDamaged c content) (sym (damage_is_there version_two content at b told)) (broken c sound content at readable ([], here, subst (Breaks version_two c.grammar c.passes c.read []) (sym told) tt))
+  end_refused content at view (frame_fault.Damaged b) readable here told = subst (IsDamaged (source c) content) (sym (damage_is_there version_two content at b told)) (broken (source c) (tellable c sound) content at readable ([], here, subst (Breaks version_two c.grammar c.passes c.read []) (sym told) tt))
   end_refused content at view frame_fault.Device readable here told = tt
   end_refused content at view frame_fault.NoMemory readable here told = tt
 
   -- all that a tree has was read
-  pub end_come : (honest : Bool) (content : List ℕ) (to_honest : Bool) (to : List ℕ) (m : Machine) → RunsBetween c honest content to_honest to m None → WhenHonest honest (IsReadable c content × ComesTo c content m.back.progress.at [])
-  end_come honest content to_honest to m (meter, r) w = (r.running.readable w, record { bodies = r.running.tapes.read; read = r.running.read w; records = subst (AreRecords c r.running.tapes.read) r.running.passing.nothing r.running.ahead })
+  pub end_come : (honest : Bool) (content : List ℕ) (to_honest : Bool) (to : List ℕ) (m : Machine) → RunsBetween c honest content to_honest to m None → WhenHonest honest (IsReadable (source c) content × ComesTo (source c) content m.back.progress.at [])
+  end_come honest content to_honest to m (meter, r) w = (r.running.readable w, record { bodies = r.running.tapes.read; read = r.running.read w; records = subst (AreRecords (source c) r.running.tapes.read) r.running.passing.nothing r.running.ahead })
+
+  pub end_version : (honest : Bool) (content : List ℕ) (to_honest : Bool) (to : List ℕ) (m : Machine) → RunsBetween c honest content to_honest to m None → m.back.progress.version ≡ version_two
+  end_version honest content to_honest to m (meter, r) = r.running.version
 
   pub end_unbroken : (honest : Bool) (content : List ℕ) (to_honest : Bool) (to : List ℕ) (m : Machine) → RunsBetween c honest content to_honest to m None → m.back.progress.fault ≡ None
   end_unbroken honest content to_honest to m (meter, r) = r.running.unbroken

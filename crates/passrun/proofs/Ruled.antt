@@ -288,6 +288,7 @@ module _ (c : Setting) (sound : IsSound c) where
         few = run.few;
         put = run.put;
         written = run.written;
+        version = run.version;
         unbroken = run.unbroken;
         whole = run.whole;
         well = subst (All IsWell) (sym written) (All-set IsWell values (x.base + slots.target) v well run.well);

@@ -25,7 +25,7 @@ use Rattle.passcode.specs.declared.instr.Instr.TheVariants as instr
 use Rattle.planchecker.specs.Settings.{Setting, list_at}
 use Rattle.planchecker.specs.Sound.{IsSound}
 use Rattle.passrun.specs.declared.open_node.OpenNode.{OpenNode}
-use Rattle.passrun.specs.Damage.{AreRecords, IsReadable}
+use Rattle.passrun.specs.Damage.{AreRecords, IsReadable, source}
 use Rattle.passrun.specs.Fetching.{HasFetched}
 use Rattle.passrun.specs.Nodes.{stepped}
 use Rattle.passrun.specs.Passed.{IsRunning}
@@ -42,7 +42,7 @@ module _ (c : Setting) (sound : IsSound c) where
   pub read_more : (root : ℕ) (honest honest' to_honest : Bool) (content content' to : List ℕ) (place place' : Place) (out : writing.Progress) (values read kept : List Value) (xs ys : List OpenNode) (evals p n : ℕ) (x : Item) (todo : ToCome)
       → (h : HasFetched c x p n honest content place place' values read) → honest' ≡ honest → LeavesContent honest content content' → All IsWell kept
       → (r : IsRunning c root honest content to_honest to place out values xs evals) → Passing c root ys kept (record { read = r.tapes.read ++ h.body ∷ []; put = r.tapes.put }) evals todo
-      → AreRecords c (r.tapes.read ++ h.body ∷ []) todo
+      → AreRecords (source c) (r.tapes.read ++ h.body ∷ []) todo
       → IsRunning c root honest' content' to_honest to place' out kept ys evals
   read_more root honest honest' to_honest content content' to place place' out values read kept xs ys evals p n x todo h same leaves well r passing on =
       let at = ap (λ g. g.at) h.progress in
@@ -60,10 +60,11 @@ module _ (c : Setting) (sound : IsSound c) where
         few = omega arith;
         put = r.put;
         written = r.written;
+        version = ap (λ g. g.version) h.progress ∙ r.version;
         unbroken = ap (λ g. g.fault) h.progress ∙ r.unbroken;
         whole = r.whole;
         well = well;
-        readable = λ z. let w = sym same ∙ z in subst (IsReadable c) (sym (leaves w)) (r.readable w);
+        readable = λ z. let w = sym same ∙ z in subst (IsReadable (source c)) (sym (leaves w)) (r.readable w);
         ahead = on;
       }
 
@@ -114,6 +115,7 @@ module _ (c : Setting) (sound : IsSound c) where
         few = r.few;
         put = put_more to_honest to_honest' to to' out out' kind number put r.tapes.put h same r.put;
         written = omega arith;
+        version = r.version;
         unbroken = r.unbroken;
         whole = ap (λ w. w.is_broken) h.counted ∙ r.whole;
         well = well;
@@ -132,7 +134,7 @@ module _ (c : Setting) (sound : IsSound c) where
   -- nothing was read, put or run
   pub gone_runs : (root : ℕ) (honest to_honest : Bool) (content to : List ℕ) (place : Place) (out : writing.Progress) (values : List Value) (xs ys : List OpenNode) (evals : ℕ) → GoesOn c xs values ys values
       → IsRunning c root honest content to_honest to place out values xs evals → IsRunning c root honest content to_honest to place out values ys evals
-  gone_runs root honest to_honest content to place out values xs ys evals goes r = record { tapes = r.tapes; todo = r.todo; passing = goes root r.tapes evals r.todo r.passing; over = r.over; read = r.read; records = r.records; few = r.few; put = r.put; written = r.written; unbroken = r.unbroken; whole = r.whole; well = r.well; readable = r.readable; ahead = r.ahead }
+  gone_runs root honest to_honest content to place out values xs ys evals goes r = record { tapes = r.tapes; todo = r.todo; passing = goes root r.tapes evals r.todo r.passing; over = r.over; read = r.read; records = r.records; few = r.few; put = r.put; written = r.written; version = r.version; unbroken = r.unbroken; whole = r.whole; well = r.well; readable = r.readable; ahead = r.ahead }
 
   pub left_node : (x : OpenNode) (xs : List OpenNode) (values : List Value) (j s : ℕ) (q : Production) → slice_get (list_at c x.production) x.at ≡ Some (instr.Put j) → IsProduction c.grammar x.production q → item_at q j ≡ Some (item.Symbol s) → GoesOn c (x ∷ xs) values (stepped x x.child ∷ xs) values
   left_node x xs values j s q at there stands root t now todo h = step_put_node c sound root x xs values t now todo j s q at there stands h

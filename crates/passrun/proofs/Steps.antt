@@ -27,7 +27,7 @@ use Rattle.planchecker.specs.Sound.{IsSound}
 use Rattle.passrun.specs.declared.open_node.OpenNode.{OpenNode}
 use Rattle.passrun.specs.Ahead.{behind, children_of, of_node}
 use Rattle.passrun.specs.Change.{over, with_row}
-use Rattle.passrun.specs.Damage.{AreRecords}
+use Rattle.passrun.specs.Damage.{AreRecords, source}
 use Rattle.passrun.specs.Nodes.{first_at, left_at, stepped}
 use Rattle.passrun.specs.Passing.{Tapes, Keeps, Took, Stays, IsReady, Opens, Awaits, Passing, below, met, put_of, root_body, root_number}
 use Rattle.passrun.specs.Places.{IsShown, Table, copied_passes, copies, in_children, stored}
@@ -90,7 +90,7 @@ HasAgreed c q x j x' values h = (f : ℕ → Value) (rest : List Value) → drop
 -- a node goes on behind a record that was read
 pub record Arrives (c : Setting) (s : ℕ) (f : ℕ → Value) (level : ℕ) (x : OpenNode) (under : List Value) (old : Tapes) (before : ℕ) (others : ToCome) (phase : Phase) (values : List Value) (t : Tapes) (body : List ℕ) (now : ℕ) (todo : ToCome) : Type 0 where
   pub next : ToCome
-  pub records : AreRecords c t.read todo → AreRecords c (t.read ++ body ∷ []) next
+  pub records : AreRecords (source c) t.read todo → AreRecords (source c) (t.read ++ body ∷ []) next
   pub opens : Opens c s f level x under old before others phase values (record { read = t.read ++ body ∷ []; put = t.put }) now next
 
 -- the copies at a place of what stands behind other values
@@ -145,7 +145,7 @@ module _ (c : Setting) (sound : IsSound c) where
       let next_todo = before_others (other (direction_of c.read)) (suc (suc level)) ys rest in
       record {
         next = next_todo;
-        records = λ here. leaves_on c.grammar c.passes c.read (other (direction_of c.read)) t.read body (suc level) (item.Symbol s', Some copy) ys (root_to_come c.grammar) rest (subst (AreRecords c t.read) first here) (is_record c (item.Symbol s') p body values new read (Some copy) (sym agree'));
+        records = λ here. leaves_on (source c) (other (direction_of c.read)) t.read body (suc level) (item.Symbol s', Some copy) ys (root_to_come c.grammar) rest (subst (AreRecords (source c) t.read) first here) (is_record c (item.Symbol s') p body values new read (Some copy) (sym agree'));
         opens = record {
           production = q;
           i = o.i;
@@ -211,7 +211,7 @@ module _ (c : Setting) (sound : IsSound c) where
       let first : todo ≡ (suc level, (x', Some copy)) ∷ rest = o.todo_is ∙ behind_next c q o.table o.i (suc level) others x' next.0 stands in
       record {
         next = rest;
-        records = λ here. leaves_on c.grammar c.passes c.read (other (direction_of c.read)) t.read body (suc level) (x', Some copy) [] (root_to_come c.grammar) rest (subst (AreRecords c t.read) first here) (is_record c x' d body values new (refl, read) (Some copy) (sym agree'));
+        records = λ here. leaves_on (source c) (other (direction_of c.read)) t.read body (suc level) (x', Some copy) [] (root_to_come c.grammar) rest (subst (AreRecords (source c) t.read) first here) (is_record c x' d body values new (refl, read) (Some copy) (sym agree'));
         opens = record {
           production = q;
           i = o.i;
@@ -256,14 +256,14 @@ module _ (c : Setting) (sound : IsSound c) where
 
   pub step_got : (root : ℕ) (x : OpenNode) (xs : List OpenNode) (values new : List Value) (t : Tapes) (now : ℕ) (todo : ToCome) (j p s' : ℕ) (q0 : Production) (body : List ℕ) (read : IsNodeRead c s' p body values new)
       → slice_get (list_at c x.production) x.at ≡ Some (instr.Get j) → IsProduction c.grammar x.production q0 → item_at q0 j ≡ Some (item.Symbol s') → suc (length xs) < most_depth → HasAgreed c q0 x j (item.Symbol s') new read.values
-      → Passing c root (x ∷ xs) values t now todo → (next : ToCome) × (AreRecords c t.read todo → AreRecords c (t.read ++ body ∷ []) next) × Passing c root (stepped x p ∷ xs) new (record { read = t.read ++ body ∷ []; put = t.put }) now next
+      → Passing c root (x ∷ xs) values t now todo → (next : ToCome) × (AreRecords (source c) t.read todo → AreRecords (source c) (t.read ++ body ∷ []) next) × Passing c root (stepped x p ∷ xs) new (record { read = t.read ++ body ∷ []; put = t.put }) now next
   step_got root x xs values new t now todo j p s' q0 body read at there0 stands0 deep agreed (s, f, under, old, before, others, waits, ph, o) =
       let on = got_in s f (suc (length xs)) x under old before others ph values new t now todo j p s' q0 body read at there0 stands0 deep agreed o in
       (on.next, on.records, (s, f, under, old, before, others, waits, Got, on.opens))
 
   pub step_leaf : (root : ℕ) (x : OpenNode) (xs : List OpenNode) (values new : List Value) (t : Tapes) (now : ℕ) (todo : ToCome) (j d : ℕ) (q0 : Production) (body : List ℕ) (read : IsTokenRead d body values new)
       → slice_get (list_at c x.production) x.at ≡ Some (instr.Get j) → IsProduction c.grammar x.production q0 → item_at q0 j ≡ Some (item.Terminal (Class d)) → suc (length xs) < most_depth → HasAgreed c q0 x j (item.Terminal (Class d)) new (λ a. Text read.text)
-      → Passing c root (x ∷ xs) values t now todo → (next : ToCome) × (AreRecords c t.read todo → AreRecords c (t.read ++ body ∷ []) next) × Passing c root (stepped x d ∷ xs) values (record { read = t.read ++ body ∷ []; put = t.put }) now next
+      → Passing c root (x ∷ xs) values t now todo → (next : ToCome) × (AreRecords (source c) t.read todo → AreRecords (source c) (t.read ++ body ∷ []) next) × Passing c root (stepped x d ∷ xs) values (record { read = t.read ++ body ∷ []; put = t.put }) now next
   step_leaf root x xs values new t now todo j d q0 body read at there0 stands0 deep agreed (s, f, under, old, before, others, waits, ph, o) =
       let on = leaf_in s f (suc (length xs)) x under old before others ph values new t now todo j d q0 body read at there0 stands0 deep agreed o in
       (on.next, on.records, (s, f, under, old, before, others, waits, Gone, on.opens))

@@ -11,7 +11,7 @@ use Rattle.planchecker.specs.Course.{Phase, Between, Got, Gone}
 use Rattle.planchecker.specs.Settings.{Setting, way}
 use Rattle.passrun.specs.declared.run_fault.RunFault.{RunFault}
 use Rattle.passrun.specs.declared.run_fault.RunFault.TheVariants as fault
-use Rattle.passrun.specs.Damage.{IsDamaged}
+use Rattle.passrun.specs.Damage.{IsDamaged, source}
 use Rattle.passrun.specs.Places.{Table, copies, in_children}
 
 -- behind rules that are run the pass goes into a child: its record was read, and the pass wasn't in it yet
@@ -46,7 +46,7 @@ coming c q Gone i child e of_child level others = behind c q e (suc i) level oth
 -- R1: the content is the file of no tree, and it shows at the offset. P2 and P3: it is that of none within the limits. The other
 -- refusals say nothing of it.
 abbrev pub IsRunFault : Setting → List ℕ → RunFault → Type 0
-IsRunFault c content (fault.Damaged at) = IsDamaged c content at
+IsRunFault c content (fault.Damaged at) = IsDamaged (source c) content at
 IsRunFault c content fault.TooDeep = HasNoTreeWithin most_depth most_nodes version_two c.grammar c.passes c.read content
 IsRunFault c content fault.TooManyNodes = HasNoTreeWithin most_depth most_nodes version_two c.grammar c.passes c.read content
 IsRunFault c content fault.Device = Unit {0}

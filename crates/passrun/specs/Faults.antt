@@ -1,6 +1,8 @@
 -- Which fault is answered where a part refuses. All of this is this project's.
 use Rattle.ag_value.specs.declared.fault.ValueFault.{ValueFault}
 use Rattle.ag_value.specs.declared.fault.ValueFault.TheVariants as value_fault
+use Rattle.backreader.specs.declared.turning.TurnFault.{TurnFault}
+use Rattle.backreader.specs.declared.turning.TurnFault.TheVariants as turn_fault
 use Rattle.treefile.specs.declared.reading.FrameFault.{FrameFault}
 use Rattle.treefile.specs.declared.reading.FrameFault.TheVariants as frame_fault
 use Rattle.treefile.specs.declared.writing.WriteFault.{WriteFault}
@@ -26,3 +28,12 @@ run_fault_of_frame frame_fault.NoMemory = run_fault.NoMemory
 abbrev pub run_fault_of_write : WriteFault → RunFault
 run_fault_of_write write_fault.Device = run_fault.Device
 run_fault_of_write write_fault.NoMemory = run_fault.NoMemory
+
+-- and where a file that was written before can't be turned round, which honest devices never show
+abbrev pub run_fault_of_turn : TurnFault → RunFault
+run_fault_of_turn turn_fault.NotATreeFile = run_fault.Damaged 0
+run_fault_of_turn (turn_fault.Damaged at) = run_fault.Damaged at
+run_fault_of_turn (turn_fault.NotATree at) = run_fault.Damaged at
+run_fault_of_turn turn_fault.TooLarge = run_fault.TooDeep
+run_fault_of_turn turn_fault.Device = run_fault.Device
+run_fault_of_turn turn_fault.NoMemory = run_fault.NoMemory

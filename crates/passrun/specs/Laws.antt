@@ -10,14 +10,14 @@ use Rattle.ag_grammar.specs.grammars.Tree.{Tree, IsTreeOf, node_count}
 use Rattle.passassign.specs.Rows.{IsGreatest, passes_of}
 use Rattle.passcode.specs.Rows.{Lists}
 use Rattle.planchecker.specs.Plans.{IsPlan}
-use Rattle.planchecker.specs.Settings.{Setting, setting_of}
+use Rattle.planchecker.specs.Settings.{setting_of}
 use Rattle.treefile.specs.Records.{IsFileOfTree}
 use Rattle.treefile.specs.Runs.{RunsPass}
 use Rattle.treefile.specs.TreeFile.{version_two}
 use Rattle.passrun.specs.declared.ends.Passed.{Passed}
 use Rattle.passrun.specs.declared.job.Job.{Job}
 use Rattle.passrun.specs.declared.last.Last.{Last}
-use Rattle.passrun.specs.Damage.{ShowsAt}
+use Rattle.passrun.specs.Damage.{ShowsAt, Source}
 use Rattle.passrun.specs.Jobs.{CanRun}
 use Rattle.passrun.specs.Layouts.{IsLayout}
 use Rattle.passrun.specs.Passed.{IsPassed}
@@ -30,7 +30,7 @@ PlansCanRun = (job : Job) (passes : ℕ) → IsAccepted job.grammar.now → IsPl
 
 -- It shows at one offset at most that a content is the file of no tree.
 abbrev pub ShowsOnce : Type 0
-ShowsOnce = (c : Setting) (content : List ℕ) (at there : ℕ) → IsAccepted c.grammar → IsLegal c.grammar c.passes → ShowsAt c content at → ShowsAt c content there → at ≡ there
+ShowsOnce = (s : Source) (content : List ℕ) (at there : ℕ) → IsAccepted s.grammar → ShowsAt s content at → ShowsAt s content there → at ≡ there
 
 -- Pass k + 1 counted so over whichever tree has the content as its file of pass k.
 abbrev pub CountsPass : Grammar → Passes → ℕ → (from : List ℕ) → (count evals : ℕ) → Type 0

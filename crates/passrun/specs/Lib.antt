@@ -20,3 +20,4 @@ pub mod Laid
 pub mod Starts
 pub mod Rounds
 pub mod Printed
+pub mod Upgrading

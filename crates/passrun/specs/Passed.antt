@@ -16,7 +16,7 @@ use Rattle.treefile.specs.Writing as writing
 use Rattle.backreader.specs.Place.{IsOver, Place}
 use Rattle.planchecker.specs.Settings.{Setting}
 use Rattle.passrun.specs.declared.open_node.OpenNode.{OpenNode}
-use Rattle.passrun.specs.Damage.{AreRecords, IsReadable}
+use Rattle.passrun.specs.Damage.{AreRecords, IsReadable, source}
 use Rattle.passrun.specs.Passing.{Passing, Tapes}
 
 -- A pass ran from one content to another: there are a tree and values such that the one is the file of the pass before, the other
@@ -45,8 +45,9 @@ pub record IsRunning (c : Setting) (root : ℕ) (honest : Bool) (content : List 
   pub few : length tapes.read ≤ most_nodes
   pub put : WhenHonest to_honest (to ≡ header version_two c.write ++ flat_map frame tapes.put)
   pub written : out.written ≡ length tapes.put
+  pub version : place.progress.version ≡ version_two
   pub unbroken : place.progress.fault ≡ None
   pub whole : out.is_broken ≡ false
   pub well : All IsWell values
-  pub readable : WhenHonest honest (IsReadable c content)
-  pub ahead : AreRecords c tapes.read todo
+  pub readable : WhenHonest honest (IsReadable (source c) content)
+  pub ahead : AreRecords (source c) tapes.read todo

@@ -77,6 +77,18 @@ pub record IsNodeRead (c : Setting) (s p : ℕ) (body : List ℕ) (old new : Lis
 abbrev pub IsNoNode : Setting → ℕ → List ℕ → Type 0
 IsNoNode c s body = (p : ℕ) (q : Production) (h : ℕ → Value) (e : Table) → IsProduction c.grammar p q → q.left ≡ s → ((a : ℕ) → IsWell (h a)) → AllWell e → body ≡ node_body version_two c.grammar c.passes c.read p h (copies c c.read (stored_items q.items) e) → ⊥
 
+-- a body is that of no node of symbol s, whatever stands behind its number
+abbrev pub IsNoNodeBody : Grammar → ℕ → List ℕ → Type 0
+IsNoNodeBody g s body = (p : ℕ) (q : Production) (spellings : List ℕ) → IsProduction g p q → q.left ≡ s → p < 2 ^ 16 → body ≡ body_from Node p spellings → ⊥
+
+-- a body is the record of a token of a class, and this is its text
+pub record IsTextOf (d : ℕ) (body : List ℕ) (value : Value) : Type 0 where
+  pub text : List ℕ
+  pub fits : IsTokenText text
+  pub well : IsWell value
+  pub is : value ≡ Text text
+  pub same : body ≡ token_body d text
+
 -- a body is the record of a token of a class, and its text was read
 pub record IsTokenRead (d : ℕ) (body : List ℕ) (old new : List Value) : Type 0 where
   pub text : List ℕ

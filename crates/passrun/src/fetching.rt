@@ -5,6 +5,7 @@ ghost use Rattle.backreader.specs.Place.{IsOver};
 ghost use Rattle.passrun.specs.Fetching.{HasFetched, IsUnfetched};
 ghost use Rattle.passrun.specs.Jobs.{CanRun, setting};
 ghost use Rattle.treefile.specs.Device.{LeavesContent, Persists, WhenHonest};
+ghost use Rattle.treefile.specs.TreeFile.{version_two};
 
 use crate::job::Job;
 use crate::record::{RecordFault, read_record};
@@ -30,6 +31,7 @@ pub(crate) fn fetch<D: Device>(
 ) -> Result<u16, RunFault>
     requires job { CanRun job.now }
     requires over { WhenHonest (D.is_honest from.old) (IsOver (D.content from.old) back.old) }
+    requires version { back.old.progress.version ≡ version_two }
     requires unbroken { back.old.progress.fault ≡ None }
     ensures fetched { IfOk result (λ p. HasFetched (setting job.now) item p open_count
         (D.is_honest from.old) (D.content from.old) back.old back.new

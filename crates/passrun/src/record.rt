@@ -2,12 +2,12 @@
 
 ghost use Rattle.std.specs.Prelude.{◌≡◌, ◌≤◌, ◌-◌, [], IfOk, IfSome, IsErrOf, None, OnOk, length};
 ghost use Rattle.passrun.specs.Jobs.{CanRun, setting};
-ghost use Rattle.passrun.specs.Reading.{AreTaken, AreUntaken, IsNoRow, IsNodeBody};
+ghost use Rattle.passrun.specs.Reading.{AreTaken, AreUntaken, IsNoNodeBody, IsNoRow, IsNodeBody};
 ghost use Rattle.passrun.specs.Reading.{IsTaken, IsUntaken, IsNodeRead, IsNoNode};
-ghost use Rattle.passrun.specs.Reading.{IsTokenRead, IsNoToken, IsRead, IsNoRecord};
+ghost use Rattle.passrun.specs.Reading.{IsTextOf, IsTokenRead, IsNoToken, IsRead, IsNoRecord};
 ghost use Rattle.passrun.specs.declared.record.RecordFault.TheVariants as record_fault;
 ghost use Rattle.passrun.specs.Faults.{record_fault_of};
-ghost use Rattle.planchecker.specs.Settings.{Setting, setting_of};
+ghost use Rattle.planchecker.specs.Settings.{setting_of};
 
 use crate::job::Job;
 use crate::rows::row_passes;
@@ -134,11 +134,10 @@ fn take_row(
 /// The number of the production of a symbol's node in a body, and the spellings behind it; none where
 /// the body is that of no node of the symbol.
 #[inline(always)]
-fn node_in<'b>(grammar: &Grammar, symbol: u16, body: &'b [u8]) -> Option<(u16, &'b [u8])>
+pub(crate) fn node_in<'b>(grammar: &Grammar, symbol: u16, body: &'b [u8]) -> Option<(u16, &'b [u8])>
     ensures some { IfSome result (λ found.
         IsNodeBody grammar.now symbol found.0 found.1.now body.now) }
-    ensures none { result ≡ None → (c : Setting) → c.grammar ≡ grammar.now
-        → IsNoNode c symbol body.now }
+    ensures none { result ≡ None → IsNoNodeBody grammar.now symbol body.now }
     ensures few { length grammar.now.productions ≤ 65536 }
 {
     let productions = grammar.productions();
@@ -207,15 +206,10 @@ fn read_laid_node(
     Ok(number)
 }
 
-/// Reads the body of a token of a class: its text goes to the values.
+/// The text in the body of a token of a class.
 #[inline(always)]
-fn read_token(
-    alloc: Global,
-    class: u16,
-    body: &[u8],
-    values: &mut Vec<Value>,
-) -> Result<(), RecordFault>
-    ensures read { OnOk result (IsTokenRead class body.now values.old.items values.new.items) }
+pub(crate) fn text_in(alloc: Global, class: u16, body: &[u8]) -> Result<Value, RecordFault>
+    ensures text { IfOk result (λ v. IsTextOf class body.now v) }
     ensures none { IsErrOf result RecordFault.Damaged → IsNoToken class body.now }
 {
     let Some((Kind::Token, number, spelling)) = split_body(body) else {
@@ -231,7 +225,22 @@ fn read_token(
     if text.as_str().len() > MOST_TOKEN_BYTES {
         return Err(RecordFault::Damaged);
     }
-    values.push(Value::Text(text))?;
+    Ok(Value::Text(text))
+}
+
+/// Reads the body of a token of a class: its text goes to the values.
+#[inline(always)]
+fn read_token(
+    alloc: Global,
+    class: u16,
+    body: &[u8],
+    values: &mut Vec<Value>,
+) -> Result<(), RecordFault>
+    ensures read { OnOk result (IsTokenRead class body.now values.old.items values.new.items) }
+    ensures none { IsErrOf result RecordFault.Damaged → IsNoToken class body.now }
+{
+    let text = text_in(alloc, class, body)?;
+    values.push(text)?;
     Ok(())
 }
 

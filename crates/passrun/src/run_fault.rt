@@ -1,10 +1,11 @@
 //! Why a pass did not run to its end.
 
 ghost use Rattle.std.specs.Prelude.{◌≡◌};
-ghost use Rattle.passrun.specs.Faults.{run_fault_of_frame, run_fault_of_write};
+ghost use Rattle.passrun.specs.Faults.{run_fault_of_frame, run_fault_of_turn, run_fault_of_write};
 ghost use Rattle.passrun.specs.declared.run_fault.RunFault.TheVariants as run_fault;
 
 use ag_value::NoMemory;
+use backreader::TurnFault;
 use std::alloc::{AllocError, AllocFailed};
 use treefile::{FrameFault, WriteFault};
 
@@ -48,6 +49,20 @@ impl From<WriteFault> for RunFault {
         match fault {
             WriteFault::Device => RunFault::Device,
             WriteFault::NoMemory => RunFault::NoMemory,
+        }
+    }
+}
+
+impl From<TurnFault> for RunFault {
+    ghost from_gives = { λ fault e. e ≡ run_fault_of_turn fault };
+
+    fn from(fault: TurnFault) -> RunFault {
+        match fault {
+            TurnFault::NotATreeFile => RunFault::Damaged(0),
+            TurnFault::Damaged(at) | TurnFault::NotATree(at) => RunFault::Damaged(at),
+            TurnFault::TooLarge => RunFault::TooDeep,
+            TurnFault::Device => RunFault::Device,
+            TurnFault::NoMemory => RunFault::NoMemory,
         }
     }
 }

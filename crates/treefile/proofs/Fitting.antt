@@ -36,7 +36,7 @@ few_copies g m [] accepted legal = omega arith
 few_copies g m (x ∷ xs) accepted legal = omega (arith, few_copied g m x accepted legal, few_copies g m xs accepted legal)
 
 -- and a record no more than either version allows
-numbered : (g : Grammar) → IsAccepted g → IsNumbered g
+pub numbered : (g : Grammar) → IsAccepted g → IsNumbered g
 numbered g accepted = let few = accepted.limits.production_count in omega arith
 
 pub fits_version_one : FitsAccepted version_one

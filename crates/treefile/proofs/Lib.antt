@@ -3,6 +3,7 @@ pub mod Beginning
 pub mod Coming
 pub mod Copies
 pub mod Files
+pub mod FirstFile
 pub mod Fitting
 pub mod Frames
 pub mod Listing
@@ -14,6 +15,7 @@ pub mod Run
 pub mod SameFile
 pub mod Sizes
 pub mod Spelled
+pub mod Texts
 pub mod Values
 pub mod Way
 pub mod WorkedFiles

@@ -48,7 +48,7 @@ All-joined P RightToLeft xs ys f g = All-append P ys xs g f
 
 module _ (version : Version) (g : Grammar) (m : Passes) (k : ℕ) (d : Direction) (fits : FitsVersion version g m) where
   mutual
-    bodies_fit : (x : Item) (t : Tree) (v : Valuation) → Fits g x t → Solves NoRule g t v → IsWellOn (λ p. p ≤ k) g m t v → All (IsBody version) (postfix d (bodies_of version g m k t v))
+    pub bodies_fit : (x : Item) (t : Tree) (v : Valuation) → Fits g x t → Solves NoRule g t v → IsWellOn (λ p. p ≤ k) g m t v → All (IsBody version) (postfix d (bodies_of version g m k t v))
     bodies_fit x (leaf c text) v f texts well =
         let is : IsWell (Text text) = subst IsWell texts (well 0 0 refl (omega arith)) in
         All-cons (IsBody version) (body_of Token c (Text text ∷ [])) [] (is_body version Token c (Text text ∷ []) fits.tokens (All-cons IsWell (Text text) [] is (All-nil IsWell))) (All-nil (IsBody version))

@@ -5,6 +5,7 @@ pub mod Device
 pub mod Ending
 pub mod Faults
 pub mod Files
+pub mod FirstFile
 pub mod Fuse
 pub mod Laws
 pub mod Listed

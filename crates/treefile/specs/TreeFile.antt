@@ -12,6 +12,8 @@ use Rattle.ag_value.specs.declared.value.Value.TheFolds.{fold-roll-Value}
 use Rattle.ag_value.specs.Spelling.{spelling_of, spelling_step}
 use Rattle.treefile.specs.declared.body.Kind.{Kind}
 use Rattle.treefile.specs.declared.body.Kind.TheVariants.{Node, Token}
+use Rattle.treefile.specs.declared.layout.FileVersion.{FileVersion}
+use Rattle.treefile.specs.declared.layout.FileVersion.TheVariants.{One, Two}
 
 -- a version of tree files: the bytes with which each of its files begins, how many values a record has at most, and whether that
 -- of a node has copies of its children's
@@ -27,6 +29,11 @@ version_one = record { magic = 65 ∷ 71 ∷ 84 ∷ 49 ∷ []; most_values = MOS
 -- version 2: AGT2, and as many values besides for each child
 abbrev pub version_two : Version
 version_two = record { magic = 65 ∷ 71 ∷ 84 ∷ 50 ∷ []; most_values = MOST_ATTRIBUTES + MOST_STORED * MOST_ATTRIBUTES; has_copies = true }
+
+-- the version of each number
+abbrev pub version_of : FileVersion → Version
+version_of One = version_one
+version_of Two = version_two
 
 -- the first bytes of a file: those of its version, and the number of the pass that wrote it in two
 abbrev pub header : Version → ℕ → List ℕ

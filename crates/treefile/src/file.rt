@@ -188,8 +188,8 @@ impl<F: Write> FileDevice<F> {
 }
 
 impl<F: Read + Write + Seek + OpenFile> FileDevice<F> {
-    /// A device over the file of this path, which is made, or cut to nothing. F1 where that can't be
-    /// done. Takes no memory.
+    /// A device over the file of this path, which is made where there is none; what it had stays until
+    /// it is cleared. F1 where that can't be done. Takes no memory.
     pub fn create<Rt: Files<File = F>>(
         rt: &Rt,
         alloc: Global,
@@ -197,10 +197,12 @@ impl<F: Read + Write + Seek + OpenFile> FileDevice<F> {
     ) -> Result<FileDevice<F>, FileFault>
         ensures { IfOk result (IsNew Access.Writing) }
     {
-        if fs::create(rt, path).is_err() {
-            return Err(FileFault::File);
-        }
-        match OpenOptions::new().read(true).append(true).open(rt, path) {
+        match OpenOptions::new()
+            .read(true)
+            .append(true)
+            .create(true)
+            .open(rt, path)
+        {
             Ok(file) => Ok(FileDevice::over(alloc, file, Access::Writing)),
             Err(_) => Err(FileFault::File),
         }

@@ -9,17 +9,18 @@ ghost use Rattle.treefile.specs.Ending.{IsBytes, Told, body_before, fits_before,
 ghost use Rattle.treefile.specs.Ending.{header_bytes, last_body_of, least_body};
 ghost use Rattle.treefile.specs.Ending.{length_bytes, number_before};
 ghost use Rattle.treefile.specs.Faults.{frame_fault_of};
-ghost use Rattle.treefile.specs.TreeFile.{version_two};
+ghost use Rattle.treefile.specs.TreeFile.{version_of, version_two};
 ghost use Rattle.treefile.specs.declared.reading.FrameFault.TheVariants as frame_fault;
 
 use crate::device::{Device, DeviceFault};
-use crate::layout::{GREATEST_BODY, HEADER_BYTES, LEAST_BODY, LENGTH_BYTES, MAGIC};
+use crate::layout::{FileVersion, HEADER_BYTES, LEAST_BODY, LENGTH_BYTES};
 use std::alloc::{AllocError, Global};
 
 /// Why a tree file gave no body.
 #[derive(Clone, Copy, Debug, PartialEq, Eq)]
 pub enum FrameFault {
-    /// B1: there are fewer than 6 bytes, or the first four are not `AGT2`.
+    /// B1: there are fewer than 6 bytes, or the first four are not those of the version that is read,
+    /// `AGT1` or `AGT2`.
     NotATreeFile,
     /// B2: no frame ends at this offset in bytes, where one should.
     Damaged(u64),
@@ -48,17 +49,17 @@ impl From<AllocError> for FrameFault {
     }
 }
 
-/// The number of the pass in the header of a tree file, which a device with so many bytes may have.
-/// Takes no memory.
+/// The number of the pass in the header of a tree file of a version, which a device with so many bytes
+/// may have. Takes no memory.
 ///
-/// B1 NotATreeFile where there are fewer than 6 bytes or the first four are not `AGT2`. D1 Device
-/// where the call of the device failed.
+/// B1 NotATreeFile where there are fewer than 6 bytes or the first four are not the version's. D1
+/// Device where the call of the device failed.
 #[tactic(auto, unfolding(crate::specs::Ending::is_tree_file))]
-pub fn pass_in<D: Device>(device: &mut D, end: u64) -> Result<u16, FrameFault>
+pub fn pass_in<D: Device>(version: FileVersion, device: &mut D, end: u64) -> Result<u16, FrameFault>
     requires { WhenHonest (D.is_honest device.old) (end ≡ length (D.content device.old)) }
     // The number, and B1, exactly as the content has them
     ensures told { WhenHonest (D.is_honest device.old)
-        (Told (λ pass. pass) result (pass_in version_two (D.content device.old))) }
+        (Told (λ pass. pass) result (pass_in (version_of version) (D.content device.old))) }
     ensures bytes { WhenHonest (D.is_honest device.old)
         (OnOk result (IsBytes (take header_bytes (D.content device.old)))) }
     ensures room { OnOk result (header_bytes ≤ end) }
@@ -73,19 +74,19 @@ pub fn pass_in<D: Device>(device: &mut D, end: u64) -> Result<u16, FrameFault>
     }
     let mut header = [0; HEADER_BYTES as usize];
     device.read_at(0, &mut header)?;
-    if !has_magic(&header) {
+    if !has_magic(version, &header) {
         return Err(FrameFault::NotATreeFile);
     }
     let [_, _, _, _, high, low] = header;
     Ok(u16::from_be_bytes([high, low]))
 }
 
-/// Whether bytes begin as those of a tree file.
-fn has_magic(bytes: &[u8]) -> bool
-    ensures found { result ≡ starts_with nat_eq bytes.now version_two.magic }
+/// Whether bytes begin as those of a tree file of a version.
+fn has_magic(version: FileVersion, bytes: &[u8]) -> bool
+    ensures found { result ≡ starts_with nat_eq bytes.now (version_of version).magic }
     ensures bytes { IsBytes bytes.now }
 {
-    bytes.starts_with(&MAGIC)
+    bytes.starts_with(&version.magic())
 }
 
 /// The number in the four bytes before an offset.
@@ -104,16 +105,19 @@ fn number_before<D: Device>(device: &mut D, at: u64) -> Result<u32, DeviceFault>
     Ok(u32::from_be_bytes(bytes))
 }
 
-/// Whether a frame with a body of so many bytes may end at an offset. Takes no memory.
+/// Whether a frame with a body of so many bytes may end at an offset in a file of a version. Takes no
+/// memory.
 #[tactic(auto, unfolding(crate::specs::Ending::fits_before))]
-pub fn fits_before(at: u64, length: u64) -> bool
+pub fn fits_before(version: FileVersion, at: u64, length: u64) -> bool
     requires { length < 2 ^ 32 }
-    ensures exact { result ≡ fits_before version_two at length }
+    ensures exact { result ≡ fits_before (version_of version) at length }
     ensures least { IsTrue result → least_body ≤ length }
-    ensures greatest { IsTrue result → length ≤ greatest_body version_two }
+    ensures greatest { IsTrue result → length ≤ greatest_body (version_of version) }
     ensures room { IsTrue result → header_bytes + length + length_bytes ≤ at }
 {
-    LEAST_BODY <= length && length <= GREATEST_BODY && HEADER_BYTES + length + LENGTH_BYTES <= at
+    LEAST_BODY <= length
+        && length <= version.greatest_body()
+        && HEADER_BYTES + length + LENGTH_BYTES <= at
 }
 
 /// So many bytes of a device from an offset on. Takes memory for them.
@@ -156,7 +160,7 @@ fn body_before<D: Device>(alloc: Global, device: &mut D, at: u64) -> Result<Vec<
         return Err(FrameFault::Damaged(at));
     }
     let length = u64::from(number_before(device, at)?);
-    if !fits_before(at, length) {
+    if !fits_before(FileVersion::Two, at, length) {
         return Err(FrameFault::Damaged(at));
     }
     bytes_at(alloc, device, at - LENGTH_BYTES - length, length as usize)
@@ -182,6 +186,6 @@ pub fn last_body<D: Device>(alloc: Global, device: &mut D) -> Result<Vec<u8>, Fr
         (D.failures device.old) (D.failures device.new) (IsErrOf result FrameFault.Device) }
 {
     let end = device.len()?;
-    pass_in(device, end)?;
+    pass_in(FileVersion::Two, device, end)?;
     body_before(alloc, device, end)
 }

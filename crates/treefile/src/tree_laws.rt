@@ -17,6 +17,7 @@ ghost use Rattle.treefile.specs.Awaited.{AreThere, Awaits, HasNoTree, HasNoTreeW
 ghost use Rattle.treefile.specs.Awaited.{IsNoRecord, IsOnTheWay, IsRecordOf, root_to_come};
 ghost use Rattle.treefile.specs.Backward.{ReadsBack};
 ghost use Rattle.treefile.specs.Ending.{IsBody, IsUsable, last_body_of};
+ghost use Rattle.treefile.specs.FirstFile.{IsFirstFile, first_file};
 ghost use Rattle.treefile.specs.Laws.{AllToCome, AwaitedAreThere, BytesAreLeft, FitsAccepted};
 ghost use Rattle.treefile.specs.Laws.{GoesOnRun, ListedRecord, NextToCome, NoFileHasNoTree, OneNode};
 ghost use Rattle.treefile.specs.Laws.{OneReading, OneRecord, OneTreeAtEnd, OneTreeInFront};
@@ -207,4 +208,14 @@ pub fn worked_way()
     ensures wrong { HasNoTree version_one binary binary_passes 0
         (file version_one 0 ((0 ∷ 0 ∷ 1 ∷ []) ∷ [])) }
     ensures other_pass { HasNoTree version_one binary binary_passes 1 pass_0_of_one }
+{}
+
+/// A tree of a grammar has exactly one file of pass 0 in each version, whichever passes its attributes
+/// are of.
+pub fn first_files_are_one()
+    ensures there { (version : Version) (grammar : Grammar) (tree : Tree) →
+        IsTreeOf grammar tree → IsFirstFile version grammar tree (first_file version tree) }
+    ensures one { (version : Version) (grammar : Grammar) (tree : Tree)
+        (content another : List ℕ) → IsFirstFile version grammar tree content →
+        IsFirstFile version grammar tree another → content ≡ another }
 {}

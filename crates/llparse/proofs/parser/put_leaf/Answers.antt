@@ -4,7 +4,7 @@ use Rattle.ag_grammar.specs.grammars.Tree.{IsTokenText}
 use Rattle.treefile.specs.Records.{token_body}
 use Rattle.treefile.proofs.Beginning.{none_added, one_added, one_refused}
 use Rattle.llparse.specs.declared.parse_fault.ParseFault.{ParseFault}
-use Rattle.llparse.proofs.FirstFile.{text_well}
+use Rattle.treefile.proofs.FirstFile.{text_well}
 use Rattle.llparse.proofs.Putting.{of_leaf, stopped}
 use Rattle.llparse.proofs.parser.put_leaf.Goals as goal
 

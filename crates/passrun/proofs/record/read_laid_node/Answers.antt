@@ -1,13 +1,13 @@
-use Rattle.std.proofs.Common.{◌-◌, ◌∙◌, List, ℕ, [], subst, refl}
+use Rattle.std.proofs.Common.{◌-◌, ◌∙◌, List, ℕ, [], subst}
 use Rattle.std.proofs.lemmas.Option.{slice_get_within}
 use Rattle.std.proofs.lemmas.Result.{err_from_is_err_and}
 use Rattle.passrun.specs.Jobs.{setting}
 use Rattle.passrun.specs.Reading.{AreTaken, IsNoRow}
-use Rattle.passrun.proofs.Recorded.{no_node_read, node_read, same_err}
+use Rattle.passrun.proofs.Recorded.{no_node, no_node_read, node_read, same_err}
 use Rattle.passrun.proofs.record.read_laid_node.Goals as goal
 
 pub returns-in_default-clause-none : goal.returns-in_default-clause-none
-returns-in_default-clause-none c = λ damaged. c.node_in.ensures.none c.in_default.is (setting c.args.job.now) refl
+returns-in_default-clause-none c = λ damaged. no_node (setting c.args.job.now) c.args.symbol c.args.body.now c.node_in.ensures.few (c.node_in.ensures.none c.in_default.is)
 
 pub row-row-requires-clause-there : goal.row-row-requires-clause-there
 row-row-requires-clause-there c = let b = c.in-Some.ensures.some in slice_get_within c.args.job.now.grammar.now.productions c.in-Some.number b.production b.there

@@ -1,14 +1,14 @@
-use Rattle.std.proofs.Common.{◌-◌, ◌∙◌, List, ℕ, [], ap, length, subst, refl, arith}
+use Rattle.std.proofs.Common.{◌-◌, ◌∙◌, List, ℕ, [], ap, length, subst, arith}
 use Rattle.std.proofs.lemmas.Option.{slice_get_within}
 use Rattle.std.proofs.lemmas.Result.{err_from_is_err_and}
 use Rattle.planchecker.specs.Settings.{setting_of}
 use Rattle.passrun.specs.Places.{row_passes}
 use Rattle.passrun.specs.Reading.{AreTaken, IsNoRow}
-use Rattle.passrun.proofs.Recorded.{no_node_read, node_read, production_is, same_err}
+use Rattle.passrun.proofs.Recorded.{no_node, no_node_read, node_read, production_is, same_err}
 use Rattle.passrun.proofs.record.read_node.Goals as goal
 
 pub returns-in_default-clause-none : goal.returns-in_default-clause-none
-returns-in_default-clause-none c = λ damaged. c.node_in.ensures.none c.in_default.is (setting_of c.args.grammar.now c.args.plan.now c.args.k) refl
+returns-in_default-clause-none c = λ damaged. no_node (setting_of c.args.grammar.now c.args.plan.now c.args.k) c.args.symbol c.args.body.now c.node_in.ensures.few (c.node_in.ensures.none c.in_default.is)
 
 pub bounds-productions-number : goal.bounds-productions-number
 bounds-productions-number c =

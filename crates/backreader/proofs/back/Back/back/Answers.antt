@@ -1,12 +1,12 @@
-use Rattle.std.proofs.Common.{rules, ◌≡◌, ◌+◌, None, Some, Ok, Err, length, ℕ, List, Bor, refl, sym, ap, subst, ◌∙◌, arith}
+use Rattle.std.proofs.Common.{rules, ◌≡◌, ◌+◌, ◌≤◌, None, Some, Ok, Err, length, ℕ, List, Bor, refl, sym, ap, subst, ◌∙◌, arith}
 use Rattle.std.specs.Option.{option_map}
 use Rattle.backreader.specs.Place.{IsLarge, Place, Progress, progress_after}
 use Rattle.backreader.specs.Windows.{taken, unread}
 use Rattle.backreader.proofs.Standing.{told_as_well}
 use Rattle.treefile.proofs.Frames.{length_part}
 use Rattle.treefile.specs.Backward.{before_frame, next_before}
-use Rattle.treefile.specs.Ending.{Told}
-use Rattle.treefile.specs.TreeFile.{version_two}
+use Rattle.treefile.specs.Ending.{Told, greatest_body}
+use Rattle.treefile.specs.TreeFile.{version_of}
 use Rattle.treefile.specs.declared.reading.FrameFault.{FrameFault}
 use Rattle.treefile.specs.declared.reading.FrameFault.TheVariants.{NoMemory}
 use Rattle.backreader.proofs.back.Back.back.Goals as goal
@@ -18,19 +18,19 @@ returns-in-Ok-None g c =
     let at_is : c.self.inside.window.at ≡ c.args.self.now.progress.at = ap (λ (place : Place). place.progress.at) c.self.view_is in
     let unbroken : c.args.self.now.progress.fault ≡ None = sym (ap (λ (place : Place). place.progress.fault) c.self.view_is) ∙ c.in_default.is in
     let stays : c.next.new.self.at ≡ c.self.inside.window.at = rw c.in-Ok-None.field-0-is at c.in-Ok-None.ensures.none in
-    let now : ℕ → Progress = λ (k : ℕ). record { pass = c.self.inside.pass; at = k; records = c.self.inside.records; fault = c.self.inside.fault } in (
+    let now : ℕ → Progress = λ (k : ℕ). record { version = version_of c.self.inside.window.version; pass = c.self.inside.pass; at = k; records = c.self.inside.records; fault = c.self.inside.fault } in (
       (
         refl,
         (λ _. tt),
         record {
           over = λ h. record { window = c.in-Ok-None.ensures.stand h; header = (c.requires h).header };
-          progress = ap now stays ∙ ap (λ (place : Place). place.progress) c.self.view_is;
+          progress = ap (λ v. record (now c.next.new.self.at) { version = version_of v }) c.in-Ok-None.ensures.version ∙ ap now stays ∙ ap (λ (place : Place). place.progress) c.self.view_is;
           want = search rules;
         },
       ),
       record {
         after = tt;
-        told = λ e honest. subst (λ (k : ℕ). next_before version_two content k ≡ Ok None) at_is (rw c.in-Ok-None.field-0-is at (c.in-Ok-None.ensures.told honest));
+        told = λ e honest. subst (λ (place : Place). next_before place.progress.version content place.progress.at ≡ Ok None) c.self.view_is (rw c.in-Ok-None.field-0-is at (c.in-Ok-None.ensures.told honest));
         memory = search rules;
         body = search rules;
         room = search rules;
@@ -56,21 +56,21 @@ returns-in-Ok-Some g c =
     let greatest = rw c.in-Ok-Some.field-0-is at c.in-Ok-Some.ensures.greatest in
     let long : length body ≡ count = ap length c.taken.ensures ∙ length_part new.buffer.items new.to (new.to + count) (omega arith) (omega (arith, within)) ∙ omega arith in
     let here : new.at ≡ before_frame c.self.inside.window.at body = omega (arith, moved, long) in
-    let now : ℕ → Progress = λ (k : ℕ). record { pass = c.self.inside.pass; at = k; records = c.self.inside.records + 1; fault = c.self.inside.fault } in (
+    let now : ℕ → Progress = λ (k : ℕ). record { version = version_of c.self.inside.window.version; pass = c.self.inside.pass; at = k; records = c.self.inside.records + 1; fault = c.self.inside.fault } in (
       (
         refl,
         (λ _. tt),
         record {
           over = λ h. record { window = c.in-Ok-Some.ensures.stand h; header = (c.requires h).header };
-          progress = ap now here ∙ ap (λ (place : Place). progress_after place.progress (Ok (Some body))) c.self.view_is;
+          progress = ap (λ v. record (now new.at) { version = version_of v }) c.in-Ok-Some.ensures.version ∙ ap now here ∙ ap (λ (place : Place). progress_after place.progress (Ok (Some body))) c.self.view_is;
           want = search rules;
         },
       ),
       record {
         after = tt;
-        told = λ e honest. subst (λ (k : ℕ). next_before version_two content k ≡ Ok (Some body)) at_is ((rw c.in-Ok-Some.field-0-is at (c.in-Ok-Some.ensures.told honest)) ∙ ap (λ (b : List ℕ). Ok (Some b)) (sym c.taken.ensures));
+        told = λ e honest. subst (λ (place : Place). next_before place.progress.version content place.progress.at ≡ Ok (Some body)) c.self.view_is ((rw c.in-Ok-Some.field-0-is at (c.in-Ok-Some.ensures.told honest)) ∙ ap (λ (b : List ℕ). Ok (Some b)) (sym c.taken.ensures));
         memory = search rules;
-        body = record { least = omega (arith, least, long); greatest = omega (arith, greatest, long) };
+        body = record { least = omega (arith, least, long); greatest = subst (λ (place : Place). length body ≤ greatest_body place.progress.version) c.self.view_is (omega (arith, greatest, long)) };
         room = omega (arith, moved, long, at_is);
         file = search rules;
         broken = rw unbroken tt;
@@ -86,28 +86,29 @@ returns-in-Err g c =
     let fault = c.in-Err.fault in
     let at_is : c.self.inside.window.at ≡ c.args.self.now.progress.at = ap (λ (place : Place). place.progress.at) c.self.view_is in
     let unbroken : c.args.self.now.progress.fault ≡ None = sym (ap (λ (place : Place). place.progress.fault) c.self.view_is) ∙ c.in_default.is in
-    let then : Progress = record { pass = c.self.inside.pass; at = c.self.inside.window.at; records = c.self.inside.records; fault = c.self.inside.fault } in
-    let now : ℕ → Progress = λ (k : ℕ). record { pass = c.self.inside.pass; at = k; records = c.self.inside.records; fault = c.for_good-self-inside.result } in
+    let then : Progress = record { version = version_of c.self.inside.window.version; pass = c.self.inside.pass; at = c.self.inside.window.at; records = c.self.inside.records; fault = c.self.inside.fault } in
+    let now : ℕ → Progress = λ (k : ℕ). record { version = version_of c.self.inside.window.version; pass = c.self.inside.pass; at = k; records = c.self.inside.records; fault = c.for_good-self-inside.result } in
+    let version : record (now c.next.new.self.at) { version = version_of c.next.new.self.version } ≡ now c.next.new.self.at = ap (λ v. record (now c.next.new.self.at) { version = version_of v }) c.in-Err.ensures.version in
     let after : now c.next.new.self.at ≡ progress_after then (Err fault) = ap now c.in-Err.ensures.kept ∙ c.for_good-self-inside.ensures then c.in_default.is in (
       (
         refl,
         (λ _. tt),
         record {
           over = λ h. record { window = c.in-Err.ensures.stand h; header = (c.requires h).header };
-          progress = after ∙ ap (λ (place : Place). progress_after place.progress (Err fault)) c.self.view_is;
+          progress = version ∙ after ∙ ap (λ (place : Place). progress_after place.progress (Err fault)) c.self.view_is;
           want = λ is.
               let same : fault ≡ NoMemory = cc in
               let window : unread c.next.new.self ≡ unread c.self.inside.window = c.in-Err.ensures.want (ap Err same) in
-              let progress : now c.next.new.self.at ≡ then = after ∙ ap (λ (f : FrameFault). progress_after then (Err f)) same in
+              let progress : record (now c.next.new.self.at) { version = version_of c.next.new.self.version } ≡ then = version ∙ after ∙ ap (λ (f : FrameFault). progress_after then (Err f)) same in
               (λ t. record { window = window t; progress = progress t }) ∙ c.self.view_is;
         },
       ),
       record {
         after = tt;
-        told = λ e honest. subst (λ (k : ℕ). Told (option_map (λ (body : Bor (List ℕ)). body.now)) (Err fault) (next_before version_two content k)) at_is (told_as_well (option_map (taken c.next.new.self)) (option_map (λ (body : Bor (List ℕ)). body.now)) fault (next_before version_two content c.self.inside.window.at) (c.in-Err.ensures.told honest));
+        told = λ e honest. subst (λ (place : Place). Told (option_map (λ (body : Bor (List ℕ)). body.now)) (Err fault) (next_before place.progress.version content place.progress.at)) c.self.view_is (told_as_well (option_map (taken c.next.new.self)) (option_map (λ (body : Bor (List ℕ)). body.now)) fault (next_before (version_of c.self.inside.window.version) content c.self.inside.window.at) (c.in-Err.ensures.told honest));
         memory = λ e honest is.
             let same : fault ≡ NoMemory = cc in
-            subst (λ (k : ℕ). IsLarge (next_before version_two content k)) at_is (c.in-Err.ensures.memory honest (ap Err same));
+            subst (λ (place : Place). IsLarge (next_before place.progress.version content place.progress.at)) c.self.view_is (c.in-Err.ensures.memory honest (ap Err same));
         body = search rules;
         room = search rules;
         file = search rules;

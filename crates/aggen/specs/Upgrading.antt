@@ -1,0 +1,15 @@
+-- What bringing an old tree file over says where it is refused. All of this is this project's.
+use Rattle.std.specs.Prelude.{ℕ, Bool, List}
+use Rattle.ag_grammar.specs.grammars.AttributeGrammar.{Grammar}
+use Rattle.passrun.specs.Upgrading.{IsUpgradeFault}
+use Rattle.treefile.specs.Device.{WhenHonest}
+use Rattle.aggen.specs.declared.fault.Fault.{Fault}
+use Rattle.aggen.specs.declared.fault.Fault.TheVariants as fault
+
+-- R1, with its offset, P2 and P3 are true of the old content. A failed device and want of memory say nothing, and no other fault
+-- comes.
+abbrev pub IsOldFileFault : Grammar → (honest_old honest_mid : Bool) → List ℕ → Fault → Type 0
+IsOldFileFault g ho hm content (fault.Run f) = WhenHonest ho (WhenHonest hm (IsUpgradeFault g content f))
+IsOldFileFault g ho hm content fault.Device = Unit {0}
+IsOldFileFault g ho hm content fault.NoMemory = Unit {0}
+IsOldFileFault g ho hm content _ = ⊥

@@ -1,0 +1,361 @@
+-- Bringing the records of a file of version 1 over: what was read and what is to come, one tree after the other.
+use Rattle.std.proofs.Common.{◌≡◌, ℕ, suc, ◌+◌, ◌-◌, ◌<◌, ◌≤◌, inl, inr, Bool, List, [], ◌∷◌, ◌++◌, All, length, reverse, pos, get_or, take, drop, ◌⊎◌, Option, Some, None, Ok, Err, refl, ap, sym, subst, ◌∙◌, append_assoc, append-nil, length-append, arith}
+use Rattle.std.specs.List.{flat_map}
+use Rattle.std.specs.Option.{IfSome}
+use Rattle.ag_value.specs.Well.{IsWell}
+use Rattle.std.proofs.lemmas.List.Elements.{All-cons, All-nil}
+use Rattle.std.proofs.lemmas.Grind.{flat_map-append}
+use Rattle.std.proofs.lemmas.List.{drop_more, reverse-append, reverse-reverse, take-append-drop, take_more}
+use Rattle.ag_value.specs.declared.value.Value.{Value, Num, Text}
+use Rattle.ag_grammar.specs.declared.direction.Direction.TheVariants.{RightToLeft}
+use Rattle.ag_grammar.specs.declared.grammar.Item.{Item}
+use Rattle.ag_grammar.specs.declared.grammar.Item.TheVariants as item
+use Rattle.ag_grammar.specs.declared.grammar.Production.{Production}
+use Rattle.ag_grammar.specs.declared.grammar.Terminal.TheVariants.{Literal, Class}
+use Rattle.ag_grammar.specs.grammars.Accepted.{IsAccepted}
+use Rattle.ag_grammar.specs.grammars.AttributeGrammar.{Grammar, IsProduction, stored_items}
+use Rattle.ag_grammar.specs.grammars.Tree as tree
+use Rattle.ag_grammar.specs.grammars.Tree.{FitsAll, Forest, deepest, node_counts}
+use Rattle.treefile.specs.Awaited.{Breaks, Child, HasNoTree, HasNoTreeWithin, IsNoRecord, IsRecordOf, ToCome, before_others, root_to_come, told}
+use Rattle.treefile.specs.Backward.{ReadsTo, before_frame, next_before}
+use Rattle.treefile.specs.Ending.{Told, version_one_usable}
+use Rattle.treefile.specs.Device.{WhenHonest}
+use Rattle.treefile.specs.FirstFile.{HasNoFirstTree, HasNoFirstTreeWithin, first_bodies, first_bodies_all, leaf_texts, unassigned}
+use Rattle.treefile.specs.Orders.{postfix, postfix_all, prefix, prefix_all}
+use Rattle.treefile.specs.Records.{token_body}
+use Rattle.treefile.specs.TreeFile.{Version, body_of, frame, version_one, version_two}
+use Rattle.treefile.specs.declared.body.Kind.TheVariants.{Node, Token}
+use Rattle.treefile.specs.declared.reading.FrameFault.{FrameFault}
+use Rattle.treefile.specs.declared.reading.FrameFault.TheVariants as frame_fault
+use Rattle.treefile.proofs.Backward.{damage_is_there, never_no_file, reads_on}
+use Rattle.treefile.proofs.FirstFile.{first_body, unassigned_from_one}
+use Rattle.treefile.proofs.Fitting.{numbered}
+use Rattle.treefile.proofs.Texts.{texts_are_given}
+use Rattle.treefile.proofs.Way.{way_is_too_long}
+use Rattle.backreader.specs.Place.{Progress}
+use Rattle.backreader.specs.Turning.{most_levels, most_records}
+use Rattle.passrun.specs.Faults.{run_fault_of_frame}
+use Rattle.passrun.specs.Upgrading.{Brought, IsAt, IsOf, IsUnbrought, IsUpgradeFault, body_in, coming, old_file, text_list, to_come}
+use Rattle.passrun.specs.declared.old_record.OldRecord.{OldRecord}
+use Rattle.passrun.specs.declared.old_record.OldRecord.TheVariants as old
+use Rattle.passrun.specs.declared.run_fault.RunFault.{RunFault}
+use Rattle.passrun.specs.declared.run_fault.RunFault.TheVariants as fault
+use Rattle.passrun.proofs.Damage.{IsTellable, broken, leaves_on, way_to}
+
+-- ---- items that are to come
+
+-- stored items of two right sides, one behind the other
+pub stored_both : (xs ys : List Item) → stored_items (xs ++ ys) ≡ stored_items xs ++ stored_items ys
+stored_both [] ys = refl
+stored_both (item.Symbol s ∷ xs) ys = ap (λ zs. item.Symbol s ∷ zs) (stored_both xs ys)
+stored_both (item.Terminal (Class c) ∷ xs) ys = ap (λ zs. item.Terminal (Class c) ∷ zs) (stored_both xs ys)
+stored_both (item.Terminal (Literal l) ∷ xs) ys = stored_both xs ys
+
+told_both : (g : Grammar) (xs ys : List Item) → told version_one.has_copies g unassigned 0 (xs ++ ys) [] ≡ told version_one.has_copies g unassigned 0 xs [] ++ told version_one.has_copies g unassigned 0 ys []
+told_both g [] ys = refl
+told_both g (x ∷ xs) ys = ap (λ zs. (x, None) ∷ zs) (told_both g xs ys)
+
+before_both : (level : ℕ) (xs ys : List Child) (others : ToCome) → before_others RightToLeft level (xs ++ ys) others ≡ before_others RightToLeft level ys (before_others RightToLeft level xs others)
+before_both level [] ys others = refl
+before_both level (x ∷ xs) ys others = before_both level xs ys ((level, x) ∷ others)
+
+-- those of the right one come first
+pub coming_both : (g : Grammar) (level : ℕ) (xs ys : List Item) (others : ToCome) → coming g level (xs ++ ys) others ≡ coming g level ys (coming g level xs others)
+coming_both g level xs ys others =
+    ap (λ zs. before_others RightToLeft level (told version_one.has_copies g unassigned 0 zs []) others) (stored_both xs ys)
+    ∙ ap (λ zs. before_others RightToLeft level zs others) (told_both g (stored_items xs) (stored_items ys))
+    ∙ before_both level (to_come g xs) (to_come g ys) others
+
+-- one with a place
+pub coming_one : (g : Grammar) (level : ℕ) (x : Item) (others : ToCome) → stored_items (x ∷ []) ≡ x ∷ [] → coming g level (x ∷ []) others ≡ (level, (x, None)) ∷ others
+coming_one g level x others place = ap (λ zs. before_others RightToLeft level (told version_one.has_copies g unassigned 0 zs []) others) place
+
+-- ---- records
+
+-- what a record's own children are
+abbrev pub children_in : (g : Grammar) (x : Item) (r : OldRecord) → IsOf g x r → List Child
+children_in g (item.Symbol s) (old.Node p) is = to_come g is.0.items
+children_in g (item.Symbol s) (old.Token d v) is = []
+children_in g (item.Terminal a) r is = []
+
+pub is_record : (g : Grammar) (x : Item) (r : OldRecord) (is : IsOf g x r) → IsRecordOf version_one g unassigned 0 (x, None) (body_in r) (children_in g x r is)
+is_record g (item.Symbol s) (old.Node p) is = (
+  p,
+  is.0,
+  (λ a. Num (pos 0)),
+  record {
+    production = is.1;
+    left = is.2;
+    well = λ a n e le. absurd (cc);
+    copies = [];
+    are_copies = refl;
+    stands = sym (first_body version_one g unassigned unassigned_from_one p (λ a. Num (pos 0)) []);
+  },
+  refl,
+  tt,
+)
+is_record g (item.Symbol s) (old.Token d v) is = elim is [ ]
+is_record g (item.Terminal (Class c)) (old.Token d v) is = (is.1.0, is.1.1, ap (λ n. body_of Token n (v ∷ [])) is.0 ∙ ap (λ w. body_of Token c (w ∷ [])) is.1.2, refl, tt)
+is_record g (item.Terminal (Class c)) (old.Node p) is = elim is [ ]
+is_record g (item.Terminal (Literal l)) r is = elim is [ ]
+
+pub no_record : (g : Grammar) (x : Item) (body : List ℕ) → ((r : OldRecord) → IsOf g x r → body ≡ body_in r → ⊥) → IsNoRecord version_one g unassigned 0 (x, None) body
+no_record g (item.Symbol s) body nothing ys (p, q, e, is, children, as_told) =
+    nothing (old.Node p) (q, is.production, is.left) (is.stands ∙ first_body version_one g unassigned unassigned_from_one p e is.copies)
+no_record g (item.Terminal (Class c)) body nothing ys (x, text, same, none, as_told) = nothing (old.Token c (Text x)) (refl, (x, text, refl)) same
+no_record g (item.Terminal (Literal l)) body nothing ys is = is
+
+-- ---- refusals
+
+module _ (g : Grammar) (accepted : IsAccepted g) where
+  pub tellable : IsTellable (old_file g)
+  tellable = record { few = numbered g accepted; usable = version_one_usable; fits = record { tokens = omega arith; nodes = λ p q is. omega arith } }
+
+  -- what is no file under no assignment is none under any
+  pub no_first : (content : List ℕ) → HasNoTree version_one g unassigned 0 content → HasNoFirstTree version_one g content
+  no_first content none t tree is = let texts = texts_are_given g t in none t texts.0 tree (is unassigned texts.0 unassigned_from_one texts.1)
+
+  pub no_first_within : (content : List ℕ) → HasNoTreeWithin most_levels most_records version_one g unassigned 0 content → HasNoFirstTreeWithin most_levels most_records version_one g content
+  no_first_within content none t tree within is = let texts = texts_are_given g t in none t texts.0 tree within (is unassigned texts.0 unassigned_from_one texts.1)
+
+  -- the way breaks
+  pub breaks_at : (content : List ℕ) (place : Progress) (todo : ToCome) → IsAt g content place todo → Breaks version_one g unassigned 0 todo (next_before version_one content place.at) → IsUpgradeFault g content (fault.Damaged place.at)
+  breaks_at content place todo is so =
+      let damaged = broken (old_file g) tellable content place.at is.readable (todo, is.way, so) in
+      (no_first content damaged.none, damaged.place)
+
+  -- or goes on too far
+  pub too_large : (content : List ℕ) (place : Progress) (level : ℕ) (x : Child) (todo : ToCome) → IsAt g content place ((level, x) ∷ todo) → (most_levels < level) ⊎ (most_records ≤ place.records) → HasNoFirstTreeWithin most_levels most_records version_one g content
+  too_large content place level x todo is so =
+      no_first_within content (way_is_too_long version_one g unassigned 0 content place.at (length is.way.bodies) level most_levels most_records x todo (way_to (old_file g) tellable content place.at ((level, x) ∷ todo) is.way) (subst (λ n. (most_levels < level) ⊎ (most_records ≤ n)) is.counted so))
+
+  -- or a record more was read
+  pub one_more : (content : List ℕ) (before now : Progress) (level : ℕ) (x : Item) (others : ToCome) (r : OldRecord) (is : IsOf g x r) → next_before version_one content before.at ≡ Ok (Some (body_in r)) → now.at ≡ before_frame before.at (body_in r) → now.records ≡ before.records + 1
+      → IsAt g content before ((level, (x, None)) ∷ others) → IsAt g content now (before_others RightToLeft (suc level) (children_in g x r is) others)
+  one_more content before now level x others r is found at records here =
+      let bodies = here.way.bodies ++ body_in r ∷ [] in
+      record {
+        readable = here.readable;
+        way = record {
+          bodies = bodies;
+          read = subst (ReadsTo version_one content (length content) bodies) (sym at) (reads_on version_one content here.way.bodies (body_in r ∷ []) (length content) before.at (before_frame before.at (body_in r)) here.way.read (found, refl));
+          records = leaves_on (old_file g) RightToLeft here.way.bodies (body_in r) level (x, None) (children_in g x r is) (root_to_come g) others here.way.records (is_record g x r is);
+        };
+        counted = omega (arith, records, here.counted, length-append here.way.bodies (body_in r ∷ []));
+      }
+
+  -- ---- an item whose record is to come
+
+  module _ (content : List ℕ) (x : Item) (level : ℕ) (place : Progress) (stored : stored_items (x ∷ []) ≡ x ∷ []) where
+    here : (others : ToCome) → IsAt g content place (coming g level (x ∷ []) others) → IsAt g content place ((level, (x, None)) ∷ others)
+    here others is = subst (IsAt g content place) (coming_one g level x others stored) is
+
+    pub one_too_deep : most_levels < level → IsUnbrought g content (x ∷ []) level place fault.TooDeep
+    one_too_deep deep others is = too_large content place level (x, None) others (here others is) (inl deep)
+
+    pub one_too_many : most_records ≤ place.records → IsUnbrought g content (x ∷ []) level place fault.TooManyNodes
+    one_too_many many others is = too_large content place level (x, None) others (here others is) (inr many)
+
+    -- what ends there breaks the way
+    pub one_breaks : (at : ℕ) → at ≡ place.at → ((others : ToCome) → Breaks version_one g unassigned 0 ((level, (x, None)) ∷ others) (next_before version_one content place.at)) → IsUnbrought g content (x ∷ []) level place (fault.Damaged at)
+    one_breaks at same so others is = subst (λ n. IsUpgradeFault g content (fault.Damaged n)) (sym same) (breaks_at content place ((level, (x, None)) ∷ others) (here others is) (so others))
+
+    pub one_missing : (at : ℕ) → at ≡ place.at → next_before version_one content place.at ≡ Ok None → IsUnbrought g content (x ∷ []) level place (fault.Damaged at)
+    one_missing at same found = one_breaks at same (λ others. subst (Breaks version_one g unassigned 0 ((level, (x, None)) ∷ others)) (sym found) tt)
+
+    pub one_wrong : (at : ℕ) (body : List ℕ) → at ≡ place.at → next_before version_one content place.at ≡ Ok (Some body) → ((r : OldRecord) → IsOf g x r → body ≡ body_in r → ⊥) → IsUnbrought g content (x ∷ []) level place (fault.Damaged at)
+    one_wrong at body same found nothing = one_breaks at same (λ others. subst (Breaks version_one g unassigned 0 ((level, (x, None)) ∷ others)) (sym found) (no_record g x body nothing))
+
+    pub one_fault : {X : Type 0} (view : X → Option (List ℕ)) (f : FrameFault) → Told view (Err f) (next_before version_one content place.at) → IsUnbrought g content (x ∷ []) level place (run_fault_of_frame f)
+    one_fault view frame_fault.NotATreeFile found = absurd (never_no_file version_one content place.at found)
+    one_fault view (frame_fault.Damaged at) found = one_breaks at (damage_is_there version_one content place.at at found) (λ others. subst (Breaks version_one g unassigned 0 ((level, (x, None)) ∷ others)) (sym found) tt)
+    one_fault view frame_fault.Device found = λ others is. tt
+    one_fault view frame_fault.NoMemory found = λ others is. tt
+
+-- a record with a production is a node's
+pub node_of : (g : Grammar) (x : Item) (p : ℕ) → IsOf g x (old.Node p) → (q : Production) × IsProduction g p q
+node_of g (item.Symbol s) p is = (is.0, is.1)
+node_of g (item.Terminal (Class c)) p is = elim is [ ]
+node_of g (item.Terminal (Literal l)) p is = elim is [ ]
+
+-- the children of a node are those of its production
+pub children_are : (g : Grammar) (x : Item) (p : ℕ) (items : List Item) (is : IsOf g x (old.Node p)) → ((q : Production) → IsProduction g p q → items ≡ q.items) → children_in g x (old.Node p) is ≡ to_come g items
+children_are g (item.Symbol s) p items is all = ap (to_come g) (sym (all is.0 is.1))
+children_are g (item.Terminal (Class c)) p items is all = elim is [ ]
+children_are g (item.Terminal (Literal l)) p items is all = elim is [ ]
+
+-- ---- trees that were brought over
+
+-- the trees of one forest, and those of another behind them
+abbrev pub beside : Forest → Forest → Forest
+beside tree.none ts = ts
+beside (tree.more u us) ts = tree.more u (beside us ts)
+
+fits_both : (g : Grammar) (xs ys : List Item) (us ts : Forest) → FitsAll g xs us → FitsAll g ys ts → FitsAll g (xs ++ ys) (beside us ts)
+fits_both g [] ys tree.none ts f h = h
+fits_both g [] ys (tree.more u us) ts f h = elim f [ ]
+fits_both g (x ∷ xs) ys tree.none ts f h = elim f [ ]
+fits_both g (x ∷ xs) ys (tree.more u us) ts f h = (f.0, fits_both g xs ys us ts f.1 h)
+
+deepest_both : (us ts : Forest) (n : ℕ) → deepest us ≤ n → deepest ts ≤ n → deepest (beside us ts) ≤ n
+deepest_both tree.none ts n p q = q
+deepest_both (tree.more u us) ts n p q =
+    let rest = deepest_both us ts n (omega arith) q in
+    omega arith
+
+counts_both : (us ts : Forest) → node_counts (beside us ts) ≡ node_counts us + node_counts ts
+counts_both tree.none ts = omega arith
+counts_both (tree.more u us) ts = omega (arith, counts_both us ts)
+
+texts_both : (us ts : Forest) → leaf_texts (beside us ts) ≡ leaf_texts us ++ leaf_texts ts
+texts_both tree.none ts = refl
+texts_both (tree.more (tree.leaf c x) us) ts = ap (λ vs. Text x ∷ vs) (texts_both us ts)
+texts_both (tree.more (tree.node p ws) us) ts = texts_both us ts
+
+-- from right to left those behind come first
+prefix_both : (version : Version) (us ts : Forest) → prefix_all RightToLeft (first_bodies_all version (beside us ts)) ≡ prefix_all RightToLeft (first_bodies_all version ts) ++ prefix_all RightToLeft (first_bodies_all version us)
+prefix_both version tree.none ts = sym (append-nil (prefix_all RightToLeft (first_bodies_all version ts)))
+prefix_both version (tree.more u us) ts =
+    ap (λ (bodies : List (List ℕ)). bodies ++ prefix RightToLeft (first_bodies version u)) (prefix_both version us ts)
+    ∙ append_assoc (prefix_all RightToLeft (first_bodies_all version ts)) (prefix_all RightToLeft (first_bodies_all version us)) (prefix RightToLeft (first_bodies version u))
+
+postfix_both : (version : Version) (us ts : Forest) → postfix_all RightToLeft (first_bodies_all version (beside us ts)) ≡ postfix_all RightToLeft (first_bodies_all version ts) ++ postfix_all RightToLeft (first_bodies_all version us)
+postfix_both version tree.none ts = sym (append-nil (postfix_all RightToLeft (first_bodies_all version ts)))
+postfix_both version (tree.more u us) ts =
+    ap (λ (bodies : List (List ℕ)). bodies ++ postfix RightToLeft (first_bodies version u)) (postfix_both version us ts)
+    ∙ append_assoc (postfix_all RightToLeft (first_bodies_all version ts)) (postfix_all RightToLeft (first_bodies_all version us)) (postfix RightToLeft (first_bodies version u))
+
+module _ (g : Grammar) (accepted : IsAccepted g) (content : List ℕ) where
+  -- nothing was, where no item has a place
+  pub none_brought : (front xs : List Item) (level : ℕ) (place : Progress) (honest : Bool) (out : List ℕ) → stored_items xs ≡ [] → Brought g content front xs level place place honest out out []
+  none_brought front xs level place honest out none =
+      let same : (others : ToCome) → coming g level (front ++ xs) others ≡ coming g level front others =
+      λ others. coming_both g level front xs others ∙ ap (λ zs. before_others RightToLeft level (told version_one.has_copies g unassigned 0 zs []) (coming g level front others)) none in
+      record {
+        trees = tree.none;
+        fits = subst (λ zs. FitsAll g zs tree.none) (sym none) tt;
+        deep = omega arith;
+        read = refl;
+        nodes = omega arith;
+        on = λ others is. subst (IsAt g content place) (same others) is;
+        written = λ h. sym (append-nil out);
+        texts_are = refl;
+      }
+
+  -- more were, in front of those that had been
+  pub more_brought : (front xs ys : List Item) (level : ℕ) (before between now : Progress) (honest : Bool) (out_old out_between out_now : List ℕ) (texts others : List Value)
+      → Brought g content (front ++ xs) ys level before between honest out_old out_between texts → Brought g content [] xs level between now honest out_between out_now others
+      → Brought g content front (xs ++ ys) level before now honest out_old out_now (texts ++ others)
+  more_brought front xs ys level before between now honest out_old out_between out_now texts others behind next =
+      let us = next.trees in
+      let ts = behind.trees in
+      let bodies = first_bodies_all version_two in
+      record {
+        trees = beside us ts;
+        fits = subst (λ zs. FitsAll g zs (beside us ts)) (sym (stored_both xs ys)) (fits_both g (stored_items xs) (stored_items ys) us ts next.fits behind.fits);
+        deep = deepest_both us ts (suc most_levels - level) next.deep behind.deep;
+        read = subst (λ (read : List (List ℕ)). ReadsTo version_one content before.at read now.at) (sym (prefix_both version_one us ts)) (reads_on version_one content (prefix_all RightToLeft (first_bodies_all version_one ts)) (prefix_all RightToLeft (first_bodies_all version_one us)) before.at between.at now.at behind.read next.read);
+        nodes = omega (arith, next.nodes, behind.nodes, counts_both us ts);
+        on = λ later is. next.on (coming g level front later) (subst (IsAt g content between) (coming_both g level front xs later) (behind.on later (subst (λ zs. IsAt g content before (coming g level zs later)) (sym (append_assoc front xs ys)) is)));
+        written = λ h.
+            next.written h ∙ ap (λ (bytes : List ℕ). bytes ++ flat_map frame (postfix_all RightToLeft (bodies us))) (behind.written h)
+            ∙ append_assoc out_old (flat_map frame (postfix_all RightToLeft (bodies ts))) (flat_map frame (postfix_all RightToLeft (bodies us)))
+            ∙ ap (λ (bytes : List ℕ). out_old ++ bytes) (sym (flat_map-append frame (postfix_all RightToLeft (bodies ts)) (postfix_all RightToLeft (bodies us))) ∙ ap (flat_map frame) (sym (postfix_both version_two us ts)));
+        texts_are =
+            ap (λ vs. vs ++ others) behind.texts_are ∙ ap (λ vs. reverse (leaf_texts ts) ++ vs) next.texts_are
+            ∙ sym (reverse-append (leaf_texts us) (leaf_texts ts)) ∙ ap reverse (sym (texts_both us ts));
+      }
+
+  -- where a child is refused, its parent is
+  pub child_refused : (x child : Item) (front ys : List Item) (level : ℕ) (before first now : Progress) (r : OldRecord) (is : IsOf g x r) (honest : Bool) (out_old out_now : List ℕ) (texts : List Value) (f : RunFault)
+      → stored_items (x ∷ []) ≡ x ∷ [] → next_before version_one content before.at ≡ Ok (Some (body_in r)) → first.at ≡ before_frame before.at (body_in r) → first.records ≡ before.records + 1
+      → children_in g x r is ≡ to_come g ((front ++ child ∷ []) ++ ys) → Brought g content (front ++ child ∷ []) ys (suc level) first now honest out_old out_now texts
+      → IsUnbrought g content (child ∷ []) (suc level) now f → IsUnbrought g content (x ∷ []) level before f
+  child_refused x child front ys level before first now r is honest out_old out_now texts f stored found at records children brought refused others here =
+      let one = one_more g accepted content before first level x others r is found at records (subst (IsAt g content before) (coming_one g level x others stored) here) in
+      let all : IsAt g content first (coming g (suc level) ((front ++ child ∷ []) ++ ys) others) = subst (λ zs. IsAt g content first (before_others RightToLeft (suc level) zs others)) children one in
+      refused (coming g (suc level) front others) (subst (IsAt g content now) (coming_both g (suc level) front (child ∷ []) others) (brought.on others all))
+
+  -- one item more, from right to left
+  pub next_brought : (items : List Item) (at level : ℕ) (d : Item) (before between now : Progress) (honest : Bool) (out_old out_between out_now : List ℕ) (texts text all : List Value) → 0 < at → at ≤ length items
+      → Brought g content (take at items) (drop at items) level before between honest out_old out_between texts → Brought g content [] (get_or items (at - 1) d ∷ []) level between now honest out_between out_now text → all ≡ texts ++ text
+      → Brought g content (take (at - 1) items) (drop (at - 1) items) level before now honest out_old out_now all
+  next_brought items at level d before between now honest out_old out_between out_now texts text all some within so_far next same =
+      let x = get_or items (at - 1) d in
+      let step : at - 1 + 1 ≡ at = omega arith in
+      let front : take at items ≡ take (at - 1) items ++ x ∷ [] = ap (λ n. take n items) (sym step) ∙ take_more items (at - 1) d (omega arith) in
+      let behind : drop (at - 1) items ≡ x ∷ drop at items = drop_more items (at - 1) d (omega arith) ∙ ap (λ n. x ∷ drop n items) step in
+      let here = subst (λ xs. Brought g content xs (drop at items) level before between honest out_old out_between texts) front so_far in
+      subst (λ vs. Brought g content (take (at - 1) items) (drop (at - 1) items) level before now honest out_old out_now vs) (sym same)
+      (subst (λ ys. Brought g content (take (at - 1) items) ys level before now honest out_old out_now (texts ++ text)) (sym behind)
+      (more_brought (take (at - 1) items) (x ∷ []) (drop at items) level before between now honest out_old out_between out_now texts text here next))
+
+  -- where it is refused, its parent is
+  pub next_refused : (x : Item) (p : ℕ) (items : List Item) (at level : ℕ) (d : Item) (before first now : Progress) (is : IsOf g x (old.Node p)) (honest : Bool) (out_old out_now : List ℕ) (texts : List Value) (f : RunFault)
+      → stored_items (x ∷ []) ≡ x ∷ [] → next_before version_one content before.at ≡ Ok (Some (body_of Node p [])) → first.at ≡ before_frame before.at (body_of Node p []) → first.records ≡ before.records + 1
+      → ((q : Production) → IsProduction g p q → items ≡ q.items) → 0 < at → at ≤ length items → Brought g content (take at items) (drop at items) (suc level) first now honest out_old out_now texts
+      → IsUnbrought g content (get_or items (at - 1) d ∷ []) (suc level) now f → IsUnbrought g content (x ∷ []) level before f
+  next_refused x p items at level d before first now is honest out_old out_now texts f stored found begins records all some within so_far refused =
+      let child = get_or items (at - 1) d in
+      let step : at - 1 + 1 ≡ at = omega arith in
+      let front : take at items ≡ take (at - 1) items ++ child ∷ [] = ap (λ n. take n items) (sym step) ∙ take_more items (at - 1) d (omega arith) in
+      let whole : items ≡ (take (at - 1) items ++ child ∷ []) ++ drop at items = sym (take-append-drop at items) ∙ ap (λ xs. xs ++ drop at items) front in
+      let here = subst (λ xs. Brought g content xs (drop at items) (suc level) first now honest out_old out_now texts) front so_far in
+      child_refused x child (take (at - 1) items) (drop at items) level before first now (old.Node p) is honest out_old out_now texts f stored found begins records (children_are g x p items is all ∙ ap (to_come g) whole) here refused
+
+  -- a token
+  pub token_brought : (x : Item) (level d : ℕ) (v : Value) (before now : Progress) (honest : Bool) (out_old out_now : List ℕ)
+      → stored_items (x ∷ []) ≡ x ∷ [] → IsOf g x (old.Token d v) → level ≤ most_levels → next_before version_one content before.at ≡ Ok (Some (body_in (old.Token d v))) → now.at ≡ before_frame before.at (body_in (old.Token d v)) → now.records ≡ before.records + 1
+      → WhenHonest honest (out_now ≡ out_old ++ frame (body_in (old.Token d v))) → Brought g content [] (x ∷ []) level before now honest out_old out_now (v ∷ [])
+  token_brought (item.Symbol s) level d v before now honest out_old out_now stored is deep found at records put = elim is [ ]
+  token_brought (item.Terminal (Literal l)) level d v before now honest out_old out_now stored is deep found at records put = elim is [ ]
+  token_brought (item.Terminal (Class c)) level d v before now honest out_old out_now stored is deep found at records put =
+      let text = is.1.0 in
+      let same : body_in (old.Token d v) ≡ token_body c text = ap (λ n. body_of Token n (v ∷ [])) is.0 ∙ ap (λ w. body_of Token c (w ∷ [])) is.1.2 in
+      record {
+        trees = tree.more (tree.leaf c text) tree.none;
+        fits = ((refl, is.1.1), tt);
+        deep = omega arith;
+        read = subst (λ (body : List ℕ). ReadsTo version_one content before.at (body ∷ []) now.at) same (found, sym at);
+        nodes = records;
+        on = λ others here. one_more g accepted content before now level (item.Terminal (Class c)) others (old.Token d v) is found at records here;
+        written = λ h. put h ∙ ap (λ (bytes : List ℕ). out_old ++ bytes) (ap frame same ∙ sym (append-nil (frame (token_body c text))));
+        texts_are = ap (λ w. w ∷ []) is.1.2;
+      }
+
+  -- a node, whose children were
+  pub node_brought : (x : Item) (level p : ℕ) (before first now : Progress) (honest : Bool) (out_old out_between out_now : List ℕ) (texts : List Value)
+      → stored_items (x ∷ []) ≡ x ∷ [] → (is : IsOf g x (old.Node p)) → level ≤ most_levels → next_before version_one content before.at ≡ Ok (Some (body_of Node p [])) → first.at ≡ before_frame before.at (body_of Node p []) → first.records ≡ before.records + 1
+      → (items : List Item) → ((q : Production) → IsProduction g p q → items ≡ q.items) → Brought g content [] items (suc level) first now honest out_old out_between texts
+      → WhenHonest honest (out_now ≡ out_between ++ frame (body_of Node p (reverse texts))) → Brought g content [] (x ∷ []) level before now honest out_old out_now []
+  node_brought (item.Terminal (Class c)) level p before first now honest out_old out_between out_now texts stored is deep found at records items all brought put = elim is [ ]
+  node_brought (item.Terminal (Literal l)) level p before first now honest out_old out_between out_now texts stored is deep found at records items all brought put = elim is [ ]
+  node_brought (item.Symbol s) level p before first now honest out_old out_between out_now texts stored is deep found at records items all brought put =
+      let ts = brought.trees in
+      let q = is.0 in
+      let same = all q is.1 in
+      let below = brought.deep in
+      let texts_back : reverse texts ≡ leaf_texts ts = ap reverse brought.texts_are ∙ reverse-reverse (leaf_texts ts) in
+      let body = body_of Node p (leaf_texts ts) in
+      record {
+        trees = tree.more (tree.node p ts) tree.none;
+        fits = ((q, is.1, is.2, subst (λ zs. FitsAll g (stored_items zs) ts) same brought.fits), tt);
+        deep = omega arith;
+        read = (found, subst (λ n. ReadsTo version_one content n (prefix_all RightToLeft (first_bodies_all version_one ts)) now.at) at brought.read);
+        nodes = omega (arith, records, brought.nodes);
+        on = λ others here. brought.on others (subst (λ zs. IsAt g content first (coming g (suc level) zs others)) (sym same) (one_more g accepted content before first level (item.Symbol s) others (old.Node p) is found at records here));
+        written = λ h.
+            put h ∙ ap (λ vs. out_between ++ frame (body_of Node p vs)) texts_back ∙ ap (λ (bytes : List ℕ). bytes ++ frame body) (brought.written h)
+            ∙ append_assoc out_old (flat_map frame (postfix_all RightToLeft (first_bodies_all version_two ts))) (frame body)
+            ∙ ap (λ (bytes : List ℕ). out_old ++ bytes) (sym (flat_map-append frame (postfix_all RightToLeft (first_bodies_all version_two ts)) (body ∷ []) ∙ ap (λ (bytes : List ℕ). flat_map frame (postfix_all RightToLeft (first_bodies_all version_two ts)) ++ bytes) (append-nil (frame body))));
+        texts_are = refl;
+      }
+
+-- a text is well where there is one
+pub text_is_well : (text : Option Value) → IfSome text IsWell → All IsWell (text_list text)
+text_is_well None well = All-nil IsWell
+text_is_well (Some v) well = All-cons IsWell v [] well (All-nil IsWell)
+
+pub one_text : (text : Option Value) → length (text_list text) ≤ 1
+one_text None = omega arith
+one_text (Some v) = omega arith

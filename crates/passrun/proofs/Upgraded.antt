@@ -1,0 +1,206 @@
+-- What bringing a file of version 1 over tells of a whole content.
+use Rattle.std.proofs.Common.{◌≡◌, ◌≢◌, ℕ, suc, ◌+◌, ◌-◌, ◌≤◌, Bool, true, List, [], ◌∷◌, ◌++◌, All, length, reverse, slice_get, Option, Some, None, Result, Ok, Err, refl, ap, sym, subst, ◌∙◌, arith, length-take}
+use Rattle.std.specs.List.{flat_map}
+use Rattle.std.specs.Option.{option_map}
+use Rattle.std.proofs.lemmas.Nat.{from_be_bytes-to_be_bytes_2}
+use Rattle.std.proofs.lemmas.Option.{slice_get_within}
+use Rattle.ag_value.specs.declared.value.Value.{Value}
+use Rattle.ag_grammar.specs.declared.direction.Direction.TheVariants.{LeftToRight, RightToLeft}
+use Rattle.ag_grammar.specs.declared.grammar.Item.{Item}
+use Rattle.ag_grammar.specs.declared.grammar.Item.TheVariants as item
+use Rattle.ag_grammar.specs.declared.grammar.Production.{Production}
+use Rattle.ag_grammar.specs.declared.grammar.Terminal.TheVariants.{Literal, Class}
+use Rattle.ag_grammar.specs.grammars.Accepted.{IsAccepted}
+use Rattle.ag_grammar.specs.grammars.AttributeGrammar.{Grammar, stored_items}
+use Rattle.ag_grammar.specs.grammars.Tree as tree
+use Rattle.ag_grammar.specs.grammars.Tree.{Fits, FitsAll, Forest, IsTreeOf, Tree}
+use Rattle.treefile.specs.Awaited.{Breaks}
+use Rattle.treefile.specs.Backward.{ReadsTo, next_before, pass_in}
+use Rattle.treefile.specs.Device.{WhenHonest}
+use Rattle.treefile.specs.Ending.{IsBody, IsBytes, Told, version_one_usable}
+use Rattle.treefile.specs.FirstFile.{IsFirstFile, first_bodies, first_bodies_all, first_file, unassigned}
+use Rattle.treefile.specs.Orders as orders
+use Rattle.treefile.specs.Orders.{AreRanked, IsRanked, postfix, prefix}
+use Rattle.treefile.specs.Records.{FitsVersion, most_copied, most_copies, synthesized_count}
+use Rattle.treefile.specs.TreeFile.{file, frame, header, version_one, version_two}
+use Rattle.treefile.specs.declared.body.Kind.TheVariants.{Node}
+use Rattle.treefile.specs.declared.reading.FrameFault.{FrameFault}
+use Rattle.treefile.specs.declared.reading.FrameFault.TheVariants as frame_fault
+use Rattle.treefile.proofs.Backward.{back_is_file, damage_is_there, never_no_file, none_at_header, reads_whole}
+use Rattle.treefile.proofs.FirstFile.{bodies_are, is_first_file, same_count, same_depth, unassigned_from_one}
+use Rattle.treefile.proofs.Fitting.{numbered}
+use Rattle.treefile.proofs.OneTree.{one_file}
+use Rattle.treefile.proofs.Records.{bodies_fit}
+use Rattle.treefile.proofs.Texts.{texts_are_given}
+use Rattle.backreader.specs.Place.{IsOver, Place, Progress}
+use Rattle.backreader.specs.Ranks.{rank_of}
+use Rattle.backreader.specs.Turning.{IsFileOf, IsWithinLimits, TreeTurned, TurnTold, most_records}
+use Rattle.backreader.specs.declared.turning.TurnFault.{TurnFault}
+use Rattle.backreader.specs.declared.turning.TurnFault.TheVariants as turn_fault
+use Rattle.backreader.proofs.Mirror.{postfix-reverse}
+use Rattle.backreader.proofs.OneTurning.{tree_told}
+use Rattle.backreader.proofs.Standing.{all_bytes}
+use Rattle.passrun.specs.Faults.{run_fault_of_frame, run_fault_of_turn}
+use Rattle.passrun.specs.Upgrading.{Brought, IsAt, IsBrought, IsUpgradeFault, IsUpgraded, old_file, stored_count}
+use Rattle.passrun.specs.declared.run_fault.RunFault.TheVariants as fault
+use Rattle.passrun.proofs.Brought.{breaks_at, no_first, tellable}
+use Rattle.passrun.proofs.Damage.{other_pass, readable, unstarted}
+
+module _ (g : Grammar) (accepted : IsAccepted g) where
+  -- ---- the beginning
+
+  pub not_begun : {X : Type 0} (view : X → ℕ) (content : List ℕ) (f : FrameFault) → Told view (Err f) (pass_in version_one content) → IsUpgradeFault g content (run_fault_of_frame f)
+  not_begun view content frame_fault.NotATreeFile found =
+      let damaged = (unstarted (old_file g) (tellable g accepted) content frame_fault.NotATreeFile found).1 in
+      (no_first g accepted content damaged.none, damaged.place)
+  not_begun view content (frame_fault.Damaged at) found =
+      let other = (unstarted (old_file g) (tellable g accepted) content (frame_fault.Damaged at) found).0 in
+      absurd cc
+  not_begun view content frame_fault.Device found = tt
+  not_begun view content frame_fault.NoMemory found = tt
+
+  pub of_other_pass : (content : List ℕ) (pass : ℕ) → pass_in version_one content ≡ Ok pass → pass ≢ 0 → IsUpgradeFault g content (fault.Damaged 4)
+  of_other_pass content pass found not =
+      let damaged = other_pass (old_file g) (tellable g accepted) content pass (omega arith) found not in
+      (no_first g accepted content damaged.none, damaged.place)
+
+  pub begins_at : (content : List ℕ) (pass : ℕ) (place : Progress) → pass_in version_one content ≡ Ok pass → pass ≡ 0 → place.at ≡ length content → place.records ≡ 0 → IsAt g content place ((1, (item.Symbol g.start, None)) ∷ [])
+  begins_at content pass place found first end fresh = record {
+    readable = readable (old_file g) (tellable g accepted) content pass found first;
+    way = record { bodies = []; read = sym end; records = refl };
+    counted = fresh;
+  }
+
+  -- ---- the end
+
+  pub left_over : (content : List ℕ) (place : Progress) (at : ℕ) (body : List ℕ) → at ≡ place.at → IsAt g content place [] → next_before version_one content place.at ≡ Ok (Some body) → IsUpgradeFault g content (fault.Damaged at)
+  left_over content place at body same here found =
+      subst (λ n. IsUpgradeFault g content (fault.Damaged n)) (sym same) (breaks_at g accepted content place [] here (subst (Breaks version_one g unassigned 0 []) (sym found) tt))
+
+  pub fault_behind : {X : Type 0} (view : X → Option (List ℕ)) (content : List ℕ) (place : Progress) (f : FrameFault) → IsAt g content place [] → Told view (Err f) (next_before version_one content place.at) → IsUpgradeFault g content (run_fault_of_frame f)
+  fault_behind view content place frame_fault.NotATreeFile here found = absurd (never_no_file version_one content place.at found)
+  fault_behind view content place (frame_fault.Damaged at) here found =
+      subst (λ n. IsUpgradeFault g content (fault.Damaged n)) (sym (damage_is_there version_one content place.at at found)) (breaks_at g accepted content place [] here (subst (Breaks version_one g unassigned 0 []) (sym found) tt))
+  fault_behind view content place frame_fault.Device here found = tt
+  fault_behind view content place frame_fault.NoMemory here found = tt
+
+  -- the root's tree, and nothing behind it
+  pub whole_brought : (content : List ℕ) (before : Progress) (now : Place) (honest : Bool) (out_old out : List ℕ) (texts : List Value) → IsAt g content before ((1, (item.Symbol g.start, None)) ∷ []) → before.at ≡ length content → before.records ≡ 0
+      → Brought g content [] (item.Symbol g.start ∷ []) 1 before now.progress honest out_old out texts → IsOver content now → now.progress.records ≤ most_records → next_before version_one content now.progress.at ≡ Ok None → WhenHonest honest (out_old ≡ header version_two 1)
+      → IsBrought g content honest out
+  whole_brought content before now honest out_old out texts here end fresh brought over few none begun = go brought.trees brought.fits brought.deep brought.read brought.nodes brought.written
+    where
+      bytes : IsBytes content
+      bytes = all_bytes content now over (none_at_header version_one content now.progress.at none)
+
+      go : (ts : Forest) → FitsAll g (item.Symbol g.start ∷ []) ts → tree.deepest ts ≤ 257 - 1 → ReadsTo version_one content before.at (orders.prefix_all RightToLeft (first_bodies_all version_one ts)) now.progress.at → now.progress.records ≡ before.records + tree.node_counts ts
+          → WhenHonest honest (out ≡ out_old ++ flat_map frame (orders.postfix_all RightToLeft (first_bodies_all version_two ts))) → IsBrought g content honest out
+      go tree.none fits deep read nodes written = elim fits [ ]
+      go (tree.more t (tree.more u ts)) fits deep read nodes written = elim fits.1 [ ]
+      go (tree.more t tree.none) fits deep read nodes written =
+          let bodies = prefix RightToLeft (first_bodies version_one t) in
+          let from_end : ReadsTo version_one content (length content) bodies now.progress.at = subst (λ n. ReadsTo version_one content n bodies now.progress.at) end read in
+          let stands : content ≡ first_file version_one t =
+          back_is_file version_one content bytes bodies version_one_usable here.readable.begins (reads_whole version_one content bodies (length content) now.progress.at from_end none)
+          ∙ ap (λ n. file version_one n (reverse bodies)) here.readable.number ∙ ap (file version_one 0) (sym (postfix-reverse LeftToRight (first_bodies version_one t))) in
+          record {
+            tree = t;
+            fits = fits.0;
+            within = record { deep = omega arith; large = omega arith };
+            from = is_first_file version_one g t content fits.0 stands;
+            to = λ h. written h ∙ ap (λ (xs : List ℕ). xs ++ flat_map frame (postfix RightToLeft (first_bodies version_two t))) (begun h);
+          }
+
+  -- a content is the file of version 1 and pass 0 of one tree at most
+  first_tree : (content : List ℕ) (t s : Tree) → IsTreeOf g t → IsTreeOf g s → IsFirstFile version_one g t content → IsFirstFile version_one g s content → t ≡ s
+  first_tree content t s fits also file other =
+      let telling = tellable g accepted in
+      let texts = texts_are_given g t in
+      let words = texts_are_given g s in
+      (one_file version_one g unassigned 0 t s texts.0 words.0 content telling.usable telling.fits telling.few fits also (file unassigned texts.0 unassigned_from_one texts.1) (other unassigned words.0 unassigned_from_one words.1)).0
+
+  -- ---- turning the file between round
+
+  -- a record's number tells how many children its node has
+  mutual
+    ranked : (x : Item) (t : Tree) → Fits g x t → IsRanked (rank_of (stored_count g)) (first_bodies version_two t)
+    ranked (item.Symbol s) (tree.leaf c x) fits = elim fits [ ]
+    ranked (item.Terminal (Literal l)) (tree.leaf c x) fits = elim fits [ ]
+    ranked (item.Terminal a) (tree.node p ts) fits = elim fits [ ]
+    ranked (item.Terminal (Class d)) (tree.leaf c x) fits = (refl, tt)
+    ranked (item.Symbol s) (tree.node p ts) (q, there, left, fits) =
+        let within = slice_get_within g.productions p q there in
+        let few = numbered g accepted in
+        let many : length (stored_items q.items) ≡ orders.tree_count (first_bodies_all version_two ts) = tree_many (stored_items q.items) ts fits in
+        let number = from_be_bytes-to_be_bytes_2 p (omega arith) in (
+          ap (stored_count g Node) number ∙ ap (option_map (λ (q : Production). length (stored_items q.items))) there ∙ ap Some many,
+          all_ranked (stored_items q.items) ts fits,
+        )
+
+    all_ranked : (xs : List Item) (ts : Forest) → FitsAll g xs ts → AreRanked (rank_of (stored_count g)) (first_bodies_all version_two ts)
+    all_ranked xs tree.none fits = tt
+    all_ranked [] (tree.more t ts) fits = elim fits [ ]
+    all_ranked (x ∷ xs) (tree.more t ts) fits = (ranked x t fits.0, all_ranked xs ts fits.1)
+
+    tree_many : (xs : List Item) (ts : Forest) → FitsAll g xs ts → length xs ≡ orders.tree_count (first_bodies_all version_two ts)
+    tree_many [] tree.none fits = refl
+    tree_many [] (tree.more t ts) fits = elim fits [ ]
+    tree_many (x ∷ xs) tree.none fits = elim fits [ ]
+    tree_many (x ∷ xs) (tree.more t ts) fits = ap suc (tree_many xs ts fits.1)
+
+  -- and the records may stand in frames
+  few_copies : (xs : List Item) → most_copies g unassigned xs ≤ length xs
+  few_copies [] = omega arith
+  few_copies (x ∷ xs) = omega (arith, few_copied x, few_copies xs)
+    where
+      few_copied : (x : Item) → most_copied g unassigned x ≤ 1
+      few_copied (item.Symbol s) = omega (arith, length-take (synthesized_count (slice_get g.symbols s)) (unassigned s))
+      few_copied (item.Terminal (Class c)) = omega arith
+      few_copied (item.Terminal (Literal l)) = omega arith
+
+  room : FitsVersion version_two g unassigned
+  room = record { tokens = omega arith; nodes = λ p q is. let stored = accepted.limits.stored_count p q is in omega (arith, few_copies (stored_items q.items)) }
+
+  between : (t : Tree) (mid : List ℕ) → IsTreeOf g t → mid ≡ file version_two 1 (postfix RightToLeft (first_bodies version_two t)) → IsFileOf (rank_of (stored_count g)) RightToLeft (first_bodies version_two t) mid
+  between t mid fits is =
+      let texts = texts_are_given g t in
+      let first = is_first_file version_two g t (first_file version_two t) fits refl unassigned texts.0 unassigned_from_one texts.1 in
+      record {
+        ranked = ranked (item.Symbol g.start) t fits;
+        bodies = subst (λ b. All (IsBody version_two) (postfix RightToLeft b)) (bodies_are version_two g unassigned unassigned_from_one t texts.0) (bodies_fit version_two g unassigned 0 RightToLeft room (item.Symbol g.start) t texts.0 fits first.texts first.well);
+        pass = 1;
+        stands = is;
+      }
+
+  module _ (content mid : List ℕ) (honest : Bool) (turned : List ℕ) (is : IsBrought g content true mid) where
+    told : (result : Result ℕ TurnFault) → TurnTold (rank_of (stored_count g)) 0 mid honest turned result → TreeTurned 0 RightToLeft (first_bodies version_two is.tree) honest turned result
+    told result so = tree_told (rank_of (stored_count g)) 0 mid honest turned RightToLeft (first_bodies version_two is.tree) (between is.tree mid is.fits (is.to refl)) result so
+
+    within : IsWithinLimits (first_bodies version_two is.tree)
+    within =
+        let deep = is.within.deep in
+        let large = is.within.large in
+        record { deep = omega (arith, same_depth version_two is.tree); large = omega (arith, same_count version_two is.tree) }
+
+    -- it can be,
+    pub turned_fault : (f : TurnFault) → TurnTold (rank_of (stored_count g)) 0 mid honest turned (Err f) → IsUpgradeFault g content (run_fault_of_turn f)
+    turned_fault turn_fault.NotATreeFile so = absurd (told (Err turn_fault.NotATreeFile) so)
+    turned_fault (turn_fault.Damaged at) so = absurd (told (Err (turn_fault.Damaged at)) so)
+    turned_fault (turn_fault.NotATree at) so = absurd (told (Err (turn_fault.NotATree at)) so)
+    turned_fault turn_fault.TooLarge so = absurd (told (Err turn_fault.TooLarge) so within)
+    turned_fault turn_fault.Device so = tt
+    turned_fault turn_fault.NoMemory so = tt
+
+    -- into the file of version 2
+    pub turned_tree : (count : ℕ) → TurnTold (rank_of (stored_count g)) 0 mid honest turned (Ok count) → IsUpgraded g content honest turned count
+    turned_tree count so =
+        let it = told (Ok count) so in
+        record {
+          tree = is.tree;
+          fits = is.fits;
+          within = is.within;
+          from = is.from;
+          only = λ another fits file. first_tree content another is.tree fits is.fits file is.from;
+          to = λ h. is_first_file version_two g is.tree turned is.fits (it.2 h);
+          nodes = it.1 ∙ same_count version_two is.tree;
+        }

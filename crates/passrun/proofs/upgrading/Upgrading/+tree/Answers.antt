@@ -1,0 +1,151 @@
+use Rattle.std.proofs.Common.{rules, get_or, length-append, ◌≡◌, ◌+◌, ◌-◌, ◌≤◌, ℕ, suc, Bool, List, [], ◌∷◌, ◌++◌, All, drop, length, reverse, take, take_at, refl, sym, ap, subst, ◌∙◌, arith}
+use Rattle.std.proofs.lemmas.List.{drop_all, length-reverse}
+use Rattle.std.proofs.lemmas.List.Elements.{All-append, All-nil}
+use Rattle.std.proofs.lemmas.Option.{slice_get_within}
+use Rattle.std.proofs.lemmas.Result.{err_from_is_err_and}
+use Rattle.ag_value.specs.declared.value.Value.{Value}
+use Rattle.ag_value.specs.Well.{IsWell}
+use Rattle.ag_grammar.specs.declared.grammar.Item.{Item}
+use Rattle.ag_grammar.specs.declared.grammar.Item.TheVariants as item
+use Rattle.ag_grammar.specs.declared.grammar.Production.{Production}
+use Rattle.ag_grammar.specs.grammars.AttributeGrammar.{Grammar, IsProduction, stored_items}
+use Rattle.backreader.specs.Place.{Progress}
+use Rattle.passrun.specs.Upgrading.{Brought, HasTaken, IsOf, IsUnbrought, text_list}
+use Rattle.treefile.specs.TreeFile.{body_of, frame}
+use Rattle.treefile.specs.declared.body.Kind.TheVariants.{Node, Token}
+use Rattle.passrun.proofs.Brought.{next_brought, next_refused, node_brought, node_of, none_brought, one_text, text_is_well, token_brought}
+use Rattle.treefile.proofs.Backward.{All-reverse}
+use Rattle.passrun.proofs.Recorded.{production_is}
+use Rattle.passrun.proofs.upgrading.Upgrading.+tree.Goals as goal
+
+-- an item without a place
+pub returns-then-not-has_place-clause-brought : goal.returns-then-not-has_place-clause-brought
+returns-then-not-has_place-clause-brought g t c honest =
+    none_brought c.args.grammar.now c.requires.accepted (g.D.Device.content c.args.from.now) [] (c.args.item ∷ []) c.args.level c.args.self.now.back.progress (g.E.Device.is_honest c.args.to.now) (g.E.Device.content c.args.to.now) (c.if-not-has_place.ensures [])
+
+pub record-requires-clause-place : goal.record-requires-clause-place
+record-requires-clause-place g t c = c.if-not-has_place.ensures []
+
+-- a token
+pub returns-in-Token-clause-brought : goal.returns-in-Token-clause-brought
+returns-in-Token-clause-brought g t c honest =
+    let h = subst (HasTaken c.args.grammar.now c.args.item c.args.level (g.D.Device.is_honest c.args.from.now) (g.D.Device.content c.args.from.now) c.args.self.now.back c.record.new.self.back) c.in-Token.is c.in_ok-production.ensures.taken in
+    token_brought c.args.grammar.now c.requires.accepted (g.D.Device.content c.args.from.now) c.args.item c.args.level c.in-Token.class c.in-Token.text c.args.self.now.back.progress c.record.new.self.back.progress (g.E.Device.is_honest c.args.to.now) (g.E.Device.content c.args.to.now) (g.E.Device.content c.put_record.new.to)
+    (c.if-not-has_place.ensures []) h.is h.deep (h.found honest) (ap (λ (p : Progress). p.at) h.progress) (ap (λ (p : Progress). p.records) h.progress) (λ h. c.in_ok-put_record-in-Token.ensures.put.there h ∙ ap (λ vs. g.E.Device.content c.args.to.now ++ frame (body_of Token c.in-Token.class vs)) c.from_ref.ensures.value)
+
+-- a node
+pub bounds-productions-production : goal.bounds-productions-production
+bounds-productions-production g t c =
+    let node = node_of c.args.grammar.now c.args.item c.in-Node.production (subst (IsOf c.args.grammar.now c.args.item) c.in-Node.is c.in_ok-production.ensures.taken.is) in
+    let within = slice_get_within c.args.grammar.now.productions c.in-Node.production node.0 node.1 in
+    omega (arith, within, ap (λ (qs : List Production). length qs) c.productions.ensures.lent)
+
+pub loop-at-init : goal.loop-at-init
+loop-at-init g t c =
+    let h = c.in_ok-production.ensures.taken in
+    let items = c.as_slice-items.result.now in
+    let records = ap (λ (p : Progress). p.records) h.progress in
+    let many : length items ≤ length items = omega arith in
+    record {
+      content = λ honest. c.in_ok-production.ensures.content honest;
+      from_persists = search rules;
+      to_persists = search rules;
+      ready = search rules;
+      balanced = omega (arith, records, ap (λ w. w.written) c.in_ok-production.ensures.writer);
+      well = subst (All IsWell) (sym c.new-texts.ensures.items) (All-nil IsWell);
+      few = omega (arith, ap length c.new-texts.ensures.items);
+      brought = λ honest.
+          subst (λ texts. Brought c.args.grammar.now (g.D.Device.content c.args.from.now) (take (length items) items) (drop (length items) items) (suc c.args.level) c.record.new.self.back.progress c.record.new.self.back.progress (g.E.Device.is_honest c.args.to.now) (g.E.Device.content c.args.to.now) (g.E.Device.content c.args.to.now) texts) (sym c.new-texts.ensures.items)
+          (none_brought c.args.grammar.now c.requires.accepted (g.D.Device.content c.args.from.now) (take (length items) items) (drop (length items) items) (suc c.args.level) c.record.new.self.back.progress (g.E.Device.is_honest c.args.to.now) (g.E.Device.content c.args.to.now) (ap stored_items (drop_all (length items) items many)));
+    }
+
+-- its items are those of its production
+items_are : (g : Grammar) (p : ℕ) (lent : List Production) (d : Production) (items : List Item) → lent ≡ g.productions → items ≡ (get_or lent p d).items → (q : Production) → IsProduction g p q → items ≡ q.items
+items_are g p lent d items same all q there = all ∙ ap (λ (q : Production). q.items) (production_is g.productions lent p q (get_or lent p d) d same refl there)
+
+-- a child that is refused
+pub returns-in_err-text-clause-refused : goal.returns-in_err-text-clause-refused
+returns-in_err-text-clause-refused g t c =
+    let p = err_from_is_err_and c.from_residual-in_err-text.result c.from_residual-in_err-text.ensures.1 in
+    let so_far = c.loop-at.invariant in
+    let grammar = c.args.grammar.now in
+    let content = g.D.Device.content c.args.from.now in
+    let items = c.as_slice-items.result.now in
+    let now = c.loop-at.self.back.progress in
+    let f = c.in_err-text.field-0.0 in
+    let level : c.args.level + 1 ≡ suc c.args.level = omega arith in
+    let h = subst (HasTaken grammar c.args.item c.args.level (g.D.Device.is_honest c.args.from.now) content c.args.self.now.back c.record.new.self.back) c.in-Node.is c.in_ok-production.ensures.taken in
+    rw (p.1, p.2) (λ honest.
+    let refused = subst (λ (bytes : List ℕ). IsUnbrought grammar bytes (get_or items (c.loop-at.at - 1) (item.Symbol 0) ∷ []) (c.args.level + 1) now f) (so_far.content honest) (c.in_err-text.ensures.refused (so_far.from_persists.honest ∙ honest)) in
+    next_refused grammar c.requires.accepted content c.args.item c.in-Node.production items c.loop-at.at c.args.level (item.Symbol 0) c.args.self.now.back.progress c.record.new.self.back.progress now h.is (g.E.Device.is_honest c.args.to.now) (g.E.Device.content c.args.to.now) (g.E.Device.content c.loop-at.to) c.loop-at.texts.items f
+    (c.if-not-has_place.ensures []) (h.found honest) (ap (λ (p : Progress). p.at) h.progress) (ap (λ (p : Progress). p.records) h.progress)
+    (items_are grammar c.in-Node.production c.productions.result.now c.index-productions-production.result items c.productions.ensures.lent c.as_slice-items.ensures)
+    c.loop-at-test.true c.loop-at.auto.at (so_far.brought honest) (subst (λ n. IsUnbrought grammar content (get_or items (c.loop-at.at - 1) (item.Symbol 0) ∷ []) n now f) level refused))
+
+pub loop-at-preserved : goal.loop-at-preserved
+loop-at-preserved g t c =
+    let so_far = c.loop-at.invariant in
+    let grammar = c.args.grammar.now in
+    let content = g.D.Device.content c.args.from.now in
+    let items = c.as_slice-items.result.now in
+    let text = c.in_ok-text.text in
+    let child = get_or items (c.loop-at.at - 1) (item.Symbol 0) in
+    let between = c.loop-at.self.back.progress in
+    let now = c.tree.new.self.back.progress in
+    let out_between = g.E.Device.content c.loop-at.to in
+    let out_now = g.E.Device.content c.tree.new.to in
+    let added : c.add_text.new.texts.items ≡ c.loop-at.texts.items ++ text_list text = c.in_ok-add_text.ensures in
+    let level : c.args.level + 1 ≡ suc c.args.level = omega arith in
+    record {
+      content = λ h. c.in_ok-text.ensures.content (so_far.from_persists.honest ∙ h) ∙ so_far.content h;
+      from_persists = search rules;
+      to_persists = search rules;
+      ready = search rules;
+      balanced = search rules;
+      well = subst (All IsWell) (sym added) (All-append IsWell c.loop-at.texts.items (text_list text) so_far.well (text_is_well text c.in_ok-text.ensures.well));
+      few = omega (arith, ap (λ vs. length vs) added, length-append c.loop-at.texts.items (text_list text), one_text text, so_far.few, c.loop-at-test.true);
+      brought = λ honest.
+          let read = subst (λ (bytes : List ℕ). Brought grammar bytes [] (child ∷ []) (c.args.level + 1) between now (g.E.Device.is_honest c.loop-at.to) out_between out_now (text_list text)) (so_far.content honest) (c.in_ok-text.ensures.brought (so_far.from_persists.honest ∙ honest)) in
+          let next = subst (λ (b : Bool). Brought grammar content [] (child ∷ []) (c.args.level + 1) between now b out_between out_now (text_list text)) so_far.to_persists.honest read in
+          next_brought grammar c.requires.accepted content items c.loop-at.at (suc c.args.level) (item.Symbol 0) c.record.new.self.back.progress between now (g.E.Device.is_honest c.args.to.now) (g.E.Device.content c.args.to.now) out_between out_now c.loop-at.texts.items (text_list text) c.add_text.new.texts.items
+          c.loop-at-test.true c.loop-at.auto.at (so_far.brought honest) (subst (λ n. Brought grammar content [] (child ∷ []) n between now (g.E.Device.is_honest c.args.to.now) out_between out_now (text_list text)) level next) added;
+    }
+
+-- the texts, turned round
+turned : (xs : List Value) (turned lent : List Value) (n : ℕ) → turned ≡ reverse xs → n ≡ length xs → lent ≡ take n (turned ++ drop (length turned) xs) → lent ≡ reverse xs
+turned xs ys lent n is long same = same ∙ take_at ys (drop (length ys) xs) n (ap length is ∙ length-reverse xs ∙ sym long) ∙ is
+
+pub put_record-requires-2-clause-few : goal.put_record-requires-2-clause-few
+put_record-requires-2-clause-few g t c =
+    let texts = c.loop-at.texts in
+    let same = turned texts.items c.reverse.new.self c.as_slice.result.now texts.len (c.reverse.ensures.after ∙ ap reverse c.as_mut_slice.ensures.value) (omega (arith, texts.ok.0)) c.as_slice.ensures.value in
+    let node = node_of c.args.grammar.now c.args.item c.in-Node.production (subst (IsOf c.args.grammar.now c.args.item) c.in-Node.is c.in_ok-production.ensures.taken.is) in
+    let items = items_are c.args.grammar.now c.in-Node.production c.productions.result.now c.index-productions-production.result c.as_slice-items.result.now c.productions.ensures.lent c.as_slice-items.ensures node.0 node.1 in
+    let most = c.requires.accepted.limits.item_count c.in-Node.production node.0 node.1 in
+    omega (arith, ap (λ vs. length vs) same, length-reverse texts.items, c.loop-at.invariant.few, ap (λ xs. length xs) items, most)
+
+pub put_record-requires-2-clause-well : goal.put_record-requires-2-clause-well
+put_record-requires-2-clause-well g t c =
+    let texts = c.loop-at.texts in
+    let same = turned texts.items c.reverse.new.self c.as_slice.result.now texts.len (c.reverse.ensures.after ∙ ap reverse c.as_mut_slice.ensures.value) (omega (arith, texts.ok.0)) c.as_slice.ensures.value in
+    subst (All IsWell) (sym same) (All-reverse IsWell texts.items c.loop-at.invariant.well)
+
+-- all of the tree
+pub returns-clause-brought : goal.returns-clause-brought
+returns-clause-brought g t c honest =
+    let so_far = c.loop-at.invariant in
+    let grammar = c.args.grammar.now in
+    let content = g.D.Device.content c.args.from.now in
+    let items = c.as_slice-items.result.now in
+    let texts = c.loop-at.texts in
+    let to = g.E.Device.is_honest c.args.to.now in
+    let out_between = g.E.Device.content c.loop-at.to in
+    let out_now = g.E.Device.content c.put_record-2.new.to in
+    let h = subst (HasTaken grammar c.args.item c.args.level (g.D.Device.is_honest c.args.from.now) content c.args.self.now.back c.record.new.self.back) c.in-Node.is c.in_ok-production.ensures.taken in
+    let same = turned texts.items c.reverse.new.self c.as_slice.result.now texts.len (c.reverse.ensures.after ∙ ap reverse c.as_mut_slice.ensures.value) (omega (arith, texts.ok.0)) c.as_slice.ensures.value in
+    let none : c.loop-at.at ≡ 0 = omega (arith, c.loop-at-test.false) in
+    let whole = subst (λ n. Brought grammar content (take n items) (drop n items) (suc c.args.level) c.record.new.self.back.progress c.loop-at.self.back.progress to (g.E.Device.content c.args.to.now) out_between texts.items) none (so_far.brought honest) in
+    node_brought grammar c.requires.accepted content c.args.item c.args.level c.in-Node.production c.args.self.now.back.progress c.record.new.self.back.progress c.loop-at.self.back.progress to (g.E.Device.content c.args.to.now) out_between out_now texts.items
+    (c.if-not-has_place.ensures []) h.is h.deep (h.found honest) (ap (λ (p : Progress). p.at) h.progress) (ap (λ (p : Progress). p.records) h.progress) items
+    (items_are grammar c.in-Node.production c.productions.result.now c.index-productions-production.result items c.productions.ensures.lent c.as_slice-items.ensures)
+    whole (λ is. c.in_ok-put_record.ensures.put.there (so_far.to_persists.honest ∙ is) ∙ ap (λ vs. out_between ++ frame (body_of Node c.in-Node.production vs)) same)

@@ -1,0 +1,98 @@
+use Rattle.std.proofs.Common.{◌≡◌, ℕ, Bool, List, [], ◌∷◌, Option, Bor, Ok, Err, None, Some, sym, ap, subst, ◌∙◌}
+use Rattle.std.specs.Option.{option_map}
+use Rattle.std.proofs.lemmas.Result.{err_from_is_err_and}
+use Rattle.ag_grammar.specs.declared.grammar.Item.TheVariants as item
+use Rattle.treefile.specs.Backward.{next_before}
+use Rattle.treefile.specs.Ending.{Told}
+use Rattle.treefile.specs.TreeFile.{version_one}
+use Rattle.backreader.specs.Place.{IsOver, Place}
+use Rattle.passrun.specs.Upgrading.{Brought, IsUnbrought, text_list}
+use Rattle.passrun.proofs.Ending.{none_lent}
+use Rattle.passrun.proofs.Refusing.{some_lent}
+use Rattle.passrun.proofs.Upgraded.{begins_at, fault_behind, left_over, not_begun, of_other_pass, whole_brought}
+use Rattle.passrun.proofs.upgrading.bring.Goals as goal
+
+abbrev body_of : Option (Bor (List ℕ)) → Option (List ℕ)
+body_of = option_map (λ (body : Bor (List ℕ)). body.now)
+
+pub returns-in_err-back-clause-refused : goal.returns-in_err-back-clause-refused
+returns-in_err-back-clause-refused g c =
+    let p = err_from_is_err_and c.from_residual.result c.from_residual.ensures.1 in
+    rw (p.1, p.2) (λ honest. not_begun c.args.grammar.now c.start.ensures.accepted (λ (back : Place). back.progress.pass) (g.D.Device.content c.args.from.now) c.in_err-back.field-0.0 (c.in_err-back.ensures.told honest))
+
+pub returns-then-pass-ne0-clause-refused : goal.returns-then-pass-ne0-clause-refused
+returns-then-pass-ne0-clause-refused g c honest =
+    of_other_pass c.args.grammar.now c.start.ensures.accepted (g.D.Device.content c.args.from.now) c.in_ok-back.back.progress.pass (c.in_ok-back.ensures.told honest) (λ same. c.if-pass-ne0.true (c.pass.ensures ∙ same))
+
+pub returns-in_err-tree-clause-refused : goal.returns-in_err-tree-clause-refused
+returns-in_err-tree-clause-refused g c =
+    let p = err_from_is_err_and c.from_residual-in_err-tree.result c.from_residual-in_err-tree.ensures.1 in
+    let grammar = c.args.grammar.now in
+    let start = c.in_ok-back.ensures in
+    let content = g.D.Device.content c.args.from.now in
+    rw (p.1, p.2) (λ honest.
+    let here = begins_at grammar c.start.ensures.accepted content c.in_ok-back.back.progress.pass c.in_ok-back.back.progress (start.told honest) (sym c.pass.ensures ∙ c.if-pass-ne0.false) (start.end honest) start.fresh in
+    let refused = subst (λ (bytes : List ℕ). IsUnbrought grammar bytes (item.Symbol c.start.result ∷ []) 1 c.in_ok-back.back.progress c.in_err-tree.field-0.0) (start.content honest) (c.in_err-tree.ensures.refused (start.persists.honest ∙ honest)) in
+    subst (λ (s : ℕ). IsUnbrought grammar content (item.Symbol s ∷ []) 1 c.in_ok-back.back.progress c.in_err-tree.field-0.0) c.start.ensures.value refused [] here)
+
+-- no frame can be read behind the tree
+pub returns-in_err-back-2-clause-refused : goal.returns-in_err-back-2-clause-refused
+returns-in_err-back-2-clause-refused g c =
+    let p = err_from_is_err_and c.from_residual-in_err-back-2.result c.from_residual-in_err-back-2.ensures.1 in
+    let grammar = c.args.grammar.now in
+    let content = g.D.Device.content c.args.from.now in
+    let start = c.in_ok-back.ensures in
+    let tree = c.in_ok-tree.ensures in
+    let before = c.in_ok-back.back.progress in
+    let now = c.tree.new.self.back.progress in
+    let fault = c.in_err-back-2.field-0.0 in
+    rw (p.1, p.2) (λ honest.
+    let is = start.persists.honest ∙ honest in
+    let same = tree.content is ∙ start.content honest in
+    let brought = subst (λ (s : ℕ). Brought grammar content [] (item.Symbol s ∷ []) 1 before now (g.E.Device.is_honest c.begin.new.device) (g.E.Device.content c.begin.new.device) (g.E.Device.content c.tree.new.to) (text_list c.in_ok-tree.field-0)) c.start.ensures.value
+    (subst (λ (bytes : List ℕ). Brought grammar bytes [] (item.Symbol c.start.result ∷ []) 1 before now (g.E.Device.is_honest c.begin.new.device) (g.E.Device.content c.begin.new.device) (g.E.Device.content c.tree.new.to) (text_list c.in_ok-tree.field-0)) (start.content honest) (tree.brought is)) in
+    let here = begins_at grammar c.start.ensures.accepted content before.pass before (start.told honest) (sym c.pass.ensures ∙ c.if-pass-ne0.false) (start.end honest) start.fresh in
+    let told = rw tree.ready.version at (c.in_err-back-2.ensures.told tree.ready.unbroken (tree.from_persists.honest ∙ is)) in
+    fault_behind grammar c.start.ensures.accepted body_of content now fault (brought.on [] here) (subst (λ (bytes : List ℕ). Told body_of (Err fault) (next_before version_one bytes now.at)) same told))
+
+-- a frame is left over
+pub returns-then-is_some-clause-refused : goal.returns-then-is_some-clause-refused
+returns-then-is_some-clause-refused g c honest =
+    let grammar = c.args.grammar.now in
+    let content = g.D.Device.content c.args.from.now in
+    let start = c.in_ok-back.ensures in
+    let tree = c.in_ok-tree.ensures in
+    let before = c.in_ok-back.back.progress in
+    let now = c.tree.new.self.back.progress in
+    let is = start.persists.honest ∙ honest in
+    let same = tree.content is ∙ start.content honest in
+    let brought = subst (λ (s : ℕ). Brought grammar content [] (item.Symbol s ∷ []) 1 before now (g.E.Device.is_honest c.begin.new.device) (g.E.Device.content c.begin.new.device) (g.E.Device.content c.tree.new.to) (text_list c.in_ok-tree.field-0)) c.start.ensures.value
+    (subst (λ (bytes : List ℕ). Brought grammar bytes [] (item.Symbol c.start.result ∷ []) 1 before now (g.E.Device.is_honest c.begin.new.device) (g.E.Device.content c.begin.new.device) (g.E.Device.content c.tree.new.to) (text_list c.in_ok-tree.field-0)) (start.content honest) (tree.brought is)) in
+    let here = begins_at grammar c.start.ensures.accepted content before.pass before (start.told honest) (sym c.pass.ensures ∙ c.if-pass-ne0.false) (start.end honest) start.fresh in
+    let some = some_lent c.in_ok-back-2.field-0 (sym c.is_some.ensures ∙ c.if-is_some.true) in
+    let told = rw tree.ready.version at (c.in_ok-back-2.ensures.told tree.ready.unbroken (tree.from_persists.honest ∙ is)) in
+    left_over grammar c.start.ensures.accepted content now c.end-end.result some.0 c.end-end.ensures (brought.on [] here) (subst (λ (bytes : List ℕ). next_before version_one bytes now.at ≡ Ok (Some some.0)) same (told ∙ ap Ok some.1))
+
+-- all of the tree
+pub returns-clause-brought : goal.returns-clause-brought
+returns-clause-brought g c honest =
+    let grammar = c.args.grammar.now in
+    let content = g.D.Device.content c.args.from.now in
+    let start = c.in_ok-back.ensures in
+    let begin = c.in_ok-writer.ensures in
+    let tree = c.in_ok-tree.ensures in
+    let before = c.in_ok-back.back.progress in
+    let place = c.tree.new.self.back in
+    let to = g.E.Device.is_honest c.args.to.now in
+    let out_old = g.E.Device.content c.begin.new.device in
+    let out = g.E.Device.content c.tree.new.to in
+    let texts = text_list c.in_ok-tree.field-0 in
+    let is = start.persists.honest ∙ honest in
+    let same = tree.content is ∙ start.content honest in
+    let there = subst (λ (bytes : List ℕ). Brought grammar bytes [] (item.Symbol c.start.result ∷ []) 1 before place.progress (g.E.Device.is_honest c.begin.new.device) out_old out texts) (start.content honest) (tree.brought is) in
+    let brought = subst (λ (b : Bool). Brought grammar content [] (item.Symbol grammar.start ∷ []) 1 before place.progress b out_old out texts) begin.persists.honest (subst (λ (s : ℕ). Brought grammar content [] (item.Symbol s ∷ []) 1 before place.progress (g.E.Device.is_honest c.begin.new.device) out_old out texts) c.start.ensures.value there) in
+    let here = begins_at grammar c.start.ensures.accepted content before.pass before (start.told honest) (sym c.pass.ensures ∙ c.if-pass-ne0.false) (start.end honest) start.fresh in
+    let none = none_lent c.in_ok-back-2.field-0 (sym c.is_some.ensures ∙ c.if-is_some.false) in
+    let told = rw tree.ready.version at (c.in_ok-back-2.ensures.told tree.ready.unbroken (tree.from_persists.honest ∙ is)) in
+    whole_brought grammar c.start.ensures.accepted content before place to out_old out texts here (start.end honest) start.fresh brought (subst (λ (bytes : List ℕ). IsOver bytes place) (start.content honest) (tree.ready.over is)) tree.ready.few
+    (subst (λ (bytes : List ℕ). next_before version_one bytes place.progress.at ≡ Ok None) same (told ∙ ap Ok none)) (λ h. begin.header h)

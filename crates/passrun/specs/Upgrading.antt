@@ -1,0 +1,131 @@
+-- Bringing a tree file of version 1 over to version 2. All of this is this project's.
+use Rattle.std.specs.Prelude.{ℕ, suc, ◌≡◌, ◌+◌, ◌-◌, ◌<◌, ◌≤◌, Bool, false, List, [], ◌∷◌, ◌++◌, length, reverse, slice_get, Option, Some, None, Ok}
+use Rattle.std.specs.Option.{option_map}
+use Rattle.std.specs.List.{flat_map}
+use Rattle.ag_value.specs.declared.value.Value.{Value, Text}
+use Rattle.ag_grammar.specs.declared.direction.Direction.TheVariants.{RightToLeft}
+use Rattle.ag_grammar.specs.declared.grammar.Item.{Item}
+use Rattle.ag_grammar.specs.declared.grammar.Item.TheVariants as item
+use Rattle.ag_grammar.specs.declared.grammar.Production.{Production}
+use Rattle.ag_grammar.specs.declared.grammar.Terminal.TheVariants.{Class}
+use Rattle.ag_grammar.specs.grammars.AttributeGrammar.{Grammar, IsProduction, stored_items}
+use Rattle.ag_grammar.specs.grammars.Tree.{FitsAll, Forest, IsTokenText, IsTreeOf, IsWithinLimits, Tree, deepest, node_count, node_counts}
+use Rattle.treefile.specs.Awaited.{Child, ToCome, before_others, told}
+use Rattle.treefile.specs.Backward.{ReadsTo, before_frame, next_before}
+use Rattle.treefile.specs.Device.{WhenHonest}
+use Rattle.treefile.specs.FirstFile.{HasNoFirstTree, HasNoFirstTreeWithin, IsFirstFile, first_bodies, first_bodies_all, leaf_texts, unassigned}
+use Rattle.treefile.specs.Orders.{postfix, postfix_all, prefix_all}
+use Rattle.treefile.specs.TreeFile.{body_of, file, frame, version_one, version_two}
+use Rattle.treefile.specs.Writing as writing
+use Rattle.treefile.specs.declared.body.Kind.{Kind}
+use Rattle.treefile.specs.declared.body.Kind.TheVariants.{Node, Token}
+use Rattle.backreader.specs.Place.{IsOver, Place, Progress}
+use Rattle.backreader.specs.Turning.{most_levels, most_records}
+use Rattle.passrun.specs.Damage.{ComesTo, IsReadable, ShowsAt, Source}
+use Rattle.passrun.specs.declared.old_record.OldRecord.{OldRecord}
+use Rattle.passrun.specs.declared.old_record.OldRecord.TheVariants as old
+use Rattle.passrun.specs.declared.run_fault.RunFault.{RunFault}
+use Rattle.passrun.specs.declared.run_fault.RunFault.TheVariants as fault
+
+-- what an old file is read as: the file of version 1 and pass 0 of a tree
+abbrev pub old_file : Grammar → Source
+old_file g = record { version = version_one; grammar = g; passes = unassigned; pass = 0 }
+
+-- The old content is the file of version 1 and pass 0 of exactly one tree, which is within the limits and has so many nodes; the new
+-- one is that of version 2 of the same tree, where an honest device has it.
+pub record IsUpgraded (g : Grammar) (content : List ℕ) (honest : Bool) (upgraded : List ℕ) (count : ℕ) : Type 0 where
+  pub tree : Tree
+  pub fits : IsTreeOf g tree
+  pub within : IsWithinLimits most_levels most_records tree
+  pub from : IsFirstFile version_one g tree content
+  pub only : (another : Tree) → IsTreeOf g another → IsFirstFile version_one g another content → another ≡ tree
+  pub to : WhenHonest honest (IsFirstFile version_two g tree upgraded)
+  pub nodes : count ≡ node_count tree
+
+-- R1: the content is the file of version 1 and pass 0 of no tree, and it shows at the offset. P2 and P3: it is that of none within
+-- the limits. The other refusals say nothing of it.
+abbrev pub IsUpgradeFault : Grammar → List ℕ → RunFault → Type 0
+IsUpgradeFault g content (fault.Damaged at) = HasNoFirstTree version_one g content × ShowsAt (old_file g) content at
+IsUpgradeFault g content fault.TooDeep = HasNoFirstTreeWithin most_levels most_records version_one g content
+IsUpgradeFault g content fault.TooManyNodes = HasNoFirstTreeWithin most_levels most_records version_one g content
+IsUpgradeFault g content fault.Device = Unit {0}
+IsUpgradeFault g content fault.NoMemory = Unit {0}
+
+-- a record of version 1 and pass 0 is one of an item: a node of its symbol, or a token of its class
+abbrev pub IsOf : Grammar → Item → OldRecord → Type 0
+IsOf g (item.Symbol s) (old.Node p) = (q : Production) × IsProduction g p q × (q.left ≡ s)
+IsOf g (item.Terminal (Class c)) (old.Token d v) = (d ≡ c) × ((text : List ℕ) × IsTokenText text × (v ≡ Text text))
+IsOf g x r = ⊥
+
+-- its body
+abbrev pub body_in : OldRecord → List ℕ
+body_in (old.Node p) = body_of Node p []
+body_in (old.Token d v) = body_of Token d (v ∷ [])
+
+-- the items with a place of a right side, as they are to come
+abbrev pub to_come : Grammar → List Item → List Child
+to_come g xs = told false g unassigned 0 (stored_items xs) []
+
+-- those at a level, from right to left, before others
+abbrev pub coming : Grammar → ℕ → List Item → ToCome → ToCome
+coming g level xs others = before_others RightToLeft level (to_come g xs) others
+
+-- A reader has come so far in an old file: what it lent are records of the grammar at their places, and these are still to come.
+pub record IsAt (g : Grammar) (content : List ℕ) (place : Progress) (todo : ToCome) : Type 0 where
+  pub readable : IsReadable (old_file g) content
+  pub way : ComesTo (old_file g) content place.at todo
+  pub counted : place.records ≡ length way.bodies
+
+-- why trees of items at a level could not be brought over, whatever was to come behind them
+abbrev pub IsUnbrought : Grammar → List ℕ → List Item → (level : ℕ) → Progress → RunFault → Type 0
+IsUnbrought g content xs level place f = (others : ToCome) → IsAt g content place (coming g level xs others) → IsUpgradeFault g content f
+
+-- The reader is one of an old file, and no refusal is answered for good; not more records were written than read, and not more read
+-- than may be.
+pub record IsReady (honest : Bool) (content : List ℕ) (place : Place) (out : writing.Progress) : Type 0 where
+  pub over : WhenHonest honest (IsOver content place)
+  pub version : place.progress.version ≡ version_one
+  pub unbroken : place.progress.fault ≡ None
+  pub whole : out.is_broken ≡ false
+  pub few : place.progress.records ≤ most_records
+  pub written : out.written ≤ place.progress.records
+
+-- a record of an item was read, whose tree stands at a level
+pub record HasTaken (g : Grammar) (x : Item) (level : ℕ) (honest : Bool) (content : List ℕ) (before now : Place) (r : OldRecord) : Type 0 where
+  pub is : IsOf g x r
+  pub found : WhenHonest honest (next_before version_one content before.progress.at ≡ Ok (Some (body_in r)))
+  pub over : WhenHonest honest (IsOver content now)
+  pub progress : now.progress ≡ record before.progress { at = before_frame before.progress.at (body_in r); records = before.progress.records + 1 }
+  pub deep : level ≤ most_levels
+  pub few : before.progress.records < most_records
+
+-- Trees of the last items of a right side were brought over, from right to left: their records were read, and those of version 2
+-- were put; those of the items in front of them are still to come. The texts are those of their tokens, the last one first.
+pub record Brought (g : Grammar) (content : List ℕ) (front xs : List Item) (level : ℕ) (before now : Progress) (honest : Bool) (out_old out_now : List ℕ) (texts : List Value) : Type 0 where
+  pub trees : Forest
+  pub fits : FitsAll g (stored_items xs) trees
+  pub deep : deepest trees ≤ suc most_levels - level
+  pub read : ReadsTo version_one content before.at (prefix_all RightToLeft (first_bodies_all version_one trees)) now.at
+  pub nodes : now.records ≡ before.records + node_counts trees
+  pub on : (others : ToCome) → IsAt g content before (coming g level (front ++ xs) others) → IsAt g content now (coming g level front others)
+  pub written : WhenHonest honest (out_now ≡ out_old ++ flat_map frame (postfix_all RightToLeft (first_bodies_all version_two trees)))
+  pub texts_are : texts ≡ reverse (leaf_texts trees)
+
+-- the text of a token, none of a node
+abbrev pub text_list : Option Value → List Value
+text_list None = []
+text_list (Some v) = v ∷ []
+
+-- The content is the file of version 1 and pass 0 of a tree within the limits; the other one, where an honest device has it, is a
+-- file with the number 1 of its records of version 2, from right to left.
+pub record IsBrought (g : Grammar) (content : List ℕ) (honest : Bool) (mid : List ℕ) : Type 0 where
+  pub tree : Tree
+  pub fits : IsTreeOf g tree
+  pub within : IsWithinLimits most_levels most_records tree
+  pub from : IsFirstFile version_one g tree content
+  pub to : WhenHonest honest (mid ≡ file version_two 1 (postfix RightToLeft (first_bodies version_two tree)))
+
+-- how many children the node of a production has, and a token: as many as it has items with a place
+abbrev pub stored_count : Grammar → Kind → ℕ → Option ℕ
+stored_count g Node p = option_map (λ (q : Production). length (stored_items q.items)) (slice_get g.productions p)
+stored_count g Token d = Some 0

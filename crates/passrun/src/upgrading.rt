@@ -1,0 +1,284 @@
+//! Bringing a tree file of version 1 over to version 2.
+
+ghost use Rattle.std.specs.Prelude.{◌≡◌, ◌+◌, ◌<◌, ◌^◌, length, ◌⊎◌, Bool, IfErr, IfOk, IfSome, IsErrOf, List};
+ghost use Rattle.std.specs.Prelude.{OnErr, OnOk, [], ◌∷◌, ◌++◌, ℕ};
+ghost use Rattle.ag_value.specs.Well.{IsWell};
+ghost use Rattle.ag_grammar.specs.grammars.Accepted.{IsAccepted};
+ghost use Rattle.ag_grammar.specs.grammars.AttributeGrammar.{stored_items};
+ghost use Rattle.backreader.specs.Turning.{most_records};
+ghost use Rattle.passrun.specs.Faults.{run_fault_of_turn};
+ghost use Rattle.passrun.specs.Upgrading.{Brought, HasTaken, IsBrought, IsReady, IsUnbrought};
+ghost use Rattle.passrun.specs.Upgrading.{IsUpgradeFault, IsUpgraded, stored_count, text_list};
+ghost use Rattle.treefile.specs.Beginning.{LeavesBeginning};
+ghost use Rattle.treefile.specs.Device.{HasRisen, LeavesContent, Persists, WhenHonest};
+
+use crate::old_record::{OldRecord, old_record};
+use crate::putting::put_record;
+use crate::record::RecordFault;
+use crate::run_fault::RunFault;
+use ag_grammar::{Grammar, Item};
+use ag_value::Value;
+use backreader::{Arity, Back, MOST_LEVELS, MOST_RECORDS, turn};
+use std::alloc::{AllocError, Global};
+use std::slice;
+use treefile::{Device, Kind, Writer};
+
+/// The offset in bytes of the number of the pass in a header.
+const PASS_OFFSET: u64 = 4;
+
+/// The number of the pass in the file between: it has the records from right to left, as pass 1 leaves
+/// them.
+const BETWEEN: u16 = 1;
+
+/// Reads a tree file of version 1 from its end, and writes the same tree's records of version 2.
+#[derive(Drop)]
+struct Upgrading {
+    back: Back,
+    writer: Writer,
+}
+
+impl Upgrading {
+    /// Reads the record of an item whose tree stands at a level: the one before the record that was
+    /// read last.
+    fn record<D: Device>(
+        &mut self,
+        alloc: Global,
+        grammar: &Grammar,
+        item: Item,
+        level: u16,
+        from: &mut D,
+    ) -> Result<OldRecord, RunFault>
+        requires accepted { IsAccepted grammar.now }
+        requires ready { IsReady (D.is_honest from.old) (D.content from.old)
+            self.old.back self.old.writer }
+        requires place { stored_items (item ∷ []) ≡ item ∷ [] }
+        ensures taken { IfOk result (λ r. HasTaken grammar.now item level (D.is_honest from.old)
+            (D.content from.old) self.old.back self.new.back r) }
+        ensures writer { self.new.writer ≡ self.old.writer }
+        ensures refused { IfErr result (λ f. WhenHonest (D.is_honest from.old)
+            (IsUnbrought grammar.now (D.content from.old) (item ∷ []) level
+            self.old.back.progress f)) }
+        ensures content { LeavesContent (D.is_honest from.old)
+            (D.content from.old) (D.content from.new) }
+        ensures persists { Persists (D.is_honest from.old) (D.is_honest from.new)
+            (D.failures from.old) (D.failures from.new) (IsErrOf result RunFault.Device) }
+    {
+        if MOST_LEVELS < level {
+            return Err(RunFault::TooDeep);
+        }
+        if self.back.records() >= MOST_RECORDS {
+            return Err(RunFault::TooManyNodes);
+        }
+        let end = self.back.end();
+        let Some(body) = self.back.back(from)? else {
+            return Err(RunFault::Damaged(end));
+        };
+        match old_record(alloc, grammar, item, body) {
+            Ok(record) => Ok(record),
+            Err(RecordFault::Damaged) => Err(RunFault::Damaged(end)),
+            Err(RecordFault::NoMemory) => Err(RunFault::NoMemory),
+        }
+    }
+
+    /// Brings the tree of an item over, where it has a place, which stands at a level: reads its
+    /// records, and writes each of them behind those of its children. The text of a token.
+    fn tree<D: Device, E: Device>(
+        &mut self,
+        alloc: Global,
+        grammar: &Grammar,
+        item: Item,
+        level: u16,
+        from: &mut D,
+        to: &mut E,
+    ) -> Result<Option<Value>, RunFault>
+        requires accepted { IsAccepted grammar.now }
+        requires ready { IsReady (D.is_honest from.old) (D.content from.old)
+            self.old.back self.old.writer }
+        ensures brought { IfOk result (λ text. WhenHonest (D.is_honest from.old)
+            (Brought grammar.now (D.content from.old) [] (item ∷ []) level
+            self.old.back.progress self.new.back.progress
+            (E.is_honest to.old) (E.content to.old) (E.content to.new) (text_list text))) }
+        ensures refused { IfErr result (λ f. WhenHonest (D.is_honest from.old)
+            (IsUnbrought grammar.now (D.content from.old) (item ∷ []) level
+            self.old.back.progress f)) }
+        ensures ready { OnOk result (IsReady (D.is_honest from.old) (D.content from.old)
+            self.new.back self.new.writer) }
+        ensures well { IfOk result (λ text. IfSome text IsWell) }
+        // As many records were written as were read
+        ensures balanced { OnOk result
+            (self.new.writer.written + self.old.back.progress.records
+            ≡ self.old.writer.written + self.new.back.progress.records) }
+        ensures content { LeavesContent (D.is_honest from.old)
+            (D.content from.old) (D.content from.new) }
+        ensures from_persists { Persists (D.is_honest from.old) (D.is_honest from.new)
+            (D.failures from.old) (D.failures from.new) ⊥ }
+        ensures to_persists { Persists (E.is_honest to.old) (E.is_honest to.new)
+            (E.failures to.old) (E.failures to.new) ⊥ }
+        ensures cause { IsErrOf result RunFault.Device →
+            HasRisen (D.failures from.old) (D.failures from.new)
+            ⊎ HasRisen (E.failures to.old) (E.failures to.new) }
+    {
+        if !item.has_place() {
+            return Ok(None);
+        }
+        let production = match self.record(alloc, grammar, item, level, from)? {
+            OldRecord::Node(production) => production,
+            OldRecord::Token(class, text) => {
+                put_record(
+                    Kind::Token,
+                    class,
+                    slice::from_ref(&text),
+                    &mut self.writer,
+                    to,
+                )?;
+                return Ok(Some(text));
+            }
+        };
+        let items = grammar.productions()[production as usize].items.as_slice();
+        let mut texts = Vec::new(alloc);
+        for at in (0..items.len()).rev() {
+            let text = self.tree(alloc, grammar, items[at], level + 1, from, to)?;
+            add_text(&mut texts, text)?;
+        }
+        texts.as_mut_slice().reverse();
+        put_record(
+            Kind::Node,
+            production,
+            texts.as_slice(),
+            &mut self.writer,
+            to,
+        )?;
+        Ok(None)
+    }
+}
+
+/// Adds a text, where there is one.
+fn add_text(texts: &mut Vec<Value>, text: Option<Value>) -> Result<(), AllocError>
+    ensures { OnOk result (texts.new.items ≡ texts.old.items ++ text_list text) }
+{
+    if let Some(text) = text {
+        texts.push(text)?;
+    }
+    Ok(())
+}
+
+/// Reads the file of version 1 and pass 0 of a tree, and writes the tree's records of version 2, from
+/// right to left.
+fn bring<D: Device, E: Device>(
+    alloc: Global,
+    grammar: &Grammar,
+    from: &mut D,
+    to: &mut E,
+) -> Result<(), RunFault>
+    ensures accepted { IsAccepted grammar.now }
+    ensures brought { OnOk result (WhenHonest (D.is_honest from.old)
+        (IsBrought grammar.now (D.content from.old) (E.is_honest to.old) (E.content to.new))) }
+    ensures refused { IfErr result (λ f. WhenHonest (D.is_honest from.old)
+        (IsUpgradeFault grammar.now (D.content from.old) f)) }
+    ensures content { LeavesContent (D.is_honest from.old)
+        (D.content from.old) (D.content from.new) }
+    ensures from_persists { Persists (D.is_honest from.old) (D.is_honest from.new)
+        (D.failures from.old) (D.failures from.new) ⊥ }
+    ensures to_persists { Persists (E.is_honest to.old) (E.is_honest to.new)
+        (E.failures to.old) (E.failures to.new) ⊥ }
+    ensures cause { IsErrOf result RunFault.Device →
+        HasRisen (D.failures from.old) (D.failures from.new)
+        ⊎ HasRisen (E.failures to.old) (E.failures to.new) }
+{
+    let root = Item::Symbol(grammar.start());
+    let back = Back::start_old(alloc, from)?;
+    if back.pass() != 0 {
+        return Err(RunFault::Damaged(PASS_OFFSET));
+    }
+    let writer = Writer::begin(alloc, to, BETWEEN)?;
+    let mut upgrading = Upgrading { back, writer };
+    upgrading.tree(alloc, grammar, root, 1, from, to)?;
+    let end = upgrading.back.end();
+    if upgrading.back.back(from)?.is_some() {
+        return Err(RunFault::Damaged(end));
+    }
+    Ok(())
+}
+
+/// How many children the nodes of a grammar's trees have.
+#[derive(Drop)]
+struct Stored<'a> {
+    grammar: &'a Grammar,
+}
+
+impl Arity for Stored<'_> {
+    ghost children_of = { λ s. stored_count s.grammar.now };
+
+    fn children(&self, kind: Kind, number: u16) -> Option<u32> {
+        match kind {
+            Kind::Node => {
+                let production = self.grammar.productions().get(number as usize)?;
+                Some(stored_among(production.items.as_slice()))
+            }
+            Kind::Token => Some(0),
+        }
+    }
+}
+
+/// How many of some items have a place.
+fn stored_among(items: &[Item]) -> u32
+    requires { length items.now < 2 ^ 32 }
+    ensures { result ≡ length (stored_items items.now) }
+{
+    let mut count = 0;
+    for item in items {
+        if item.has_place() {
+            count += 1;
+        }
+    }
+    count
+}
+
+/// Brings a tree file of version 1 over: reads the file of pass 0 of a tree of the grammar from the end
+/// of the first device, and leaves on the third one the file of version 2 and pass 0 of the same tree,
+/// the one that `parse` writes of a sentence with this tree. The second device has then the same
+/// records from right to left. Answers the number of stored nodes. It recurses over at most 256
+/// levels. The first device keeps its content, also on a refusal; what the others had is taken away.
+///
+/// R1 Damaged where the content is the file of version 1 and pass 0 of no tree of the grammar, with the
+/// offset in it where that shows, as a pass tells it. P2 TooDeep and P3 TooManyNodes where it is that of
+/// no tree of at most 256 levels and 65,536 stored nodes. D1 Device where a call of a device failed.
+/// What can't be read back of the second device, which an honest one never shows, is R1 with the
+/// offset in it, or P2. After a refusal the third device has what it had, or a beginning of a file.
+///
+/// Takes memory for two buffers, for the texts of the tokens of each node on the way, and for a body on
+/// each level.
+pub fn upgrade<D: Device, E: Device, F: Device>(
+    alloc: Global,
+    grammar: &Grammar,
+    old: &mut D,
+    mid: &mut E,
+    to: &mut F,
+) -> Result<u32, RunFault>
+    // an answer: the tree is brought over
+    ensures upgraded { IfOk result (λ count. WhenHonest (D.is_honest old.old)
+        (WhenHonest (E.is_honest mid.old) (IsUpgraded grammar.now (D.content old.old)
+        (F.is_honest to.old) (F.content to.new) count))) }
+    // a refusal: what it says of the old content is true
+    ensures refused { IfErr result (λ f. WhenHonest (D.is_honest old.old)
+        (WhenHonest (E.is_honest mid.old) (IsUpgradeFault grammar.now (D.content old.old) f))) }
+    // what the third device had, or a beginning of a file of pass 0
+    ensures left { IfErr result (λ _. WhenHonest (F.is_honest to.old)
+        (LeavesBeginning 0 (F.content to.old) (F.content to.new))) }
+    ensures content { LeavesContent (D.is_honest old.old) (D.content old.old) (D.content old.new) }
+    ensures old_persists { Persists (D.is_honest old.old) (D.is_honest old.new)
+        (D.failures old.old) (D.failures old.new) ⊥ }
+    ensures mid_persists { Persists (E.is_honest mid.old) (E.is_honest mid.new)
+        (E.failures mid.old) (E.failures mid.new) ⊥ }
+    ensures to_persists { Persists (F.is_honest to.old) (F.is_honest to.new)
+        (F.failures to.old) (F.failures to.new) ⊥ }
+    // D1 only where the number of failures rose on one of the three
+    ensures cause { IsErrOf result RunFault.Device →
+        HasRisen (D.failures old.old) (D.failures old.new)
+        ⊎ (HasRisen (E.failures mid.old) (E.failures mid.new)
+        ⊎ HasRisen (F.failures to.old) (F.failures to.new)) }
+{
+    bring(alloc, grammar, old, mid)?;
+    let count = turn(alloc, mid, to, 0, &Stored { grammar })?;
+    Ok(count)
+}
