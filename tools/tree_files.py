@@ -17,7 +17,7 @@ LONGEST_SPELLING = 1_048_576
 DEEPEST_VALUE = 64
 LONGEST_LEX = 65_535
 # a tree is within the limits where it has no more levels, and no more nodes and tokens
-MOST_LEVELS, MOST_RECORDS = 256, 65_536
+MOST_LEVELS, MOST_RECORDS = 65_536, 1_048_576
 CLASSES = ("NAME", "NUMBER", "TEXT")
 ERRORS = ("overflow", "divide", "kind", "index", "key", "number", "big", "deep")
 
@@ -407,8 +407,8 @@ class Record:
 @dataclass
 class Answer:
     """What a content is: the file of a tree where there is no fault. A fault has the offset that an R1 tells. `beyond` says
-    what came first on the way from the end: P2, that a record had to stand at level 257, or P3, that one had to be of number
-    65,537; nothing where neither did."""
+    what came first on the way from the end: P2, that a record had to stand one level deeper than a tree may be, or P3, that one
+    had to be one more than it may have; nothing where neither did."""
 
     records: int = 0
     fault: object = None

@@ -104,7 +104,7 @@ static void put_node(const struct node *node, unsigned pass, struct file *to) {
 }
 
 static void run_first_pass(struct reader *from, struct file *to) {
-    struct node nodes[MOST_LEVELS];
+    static struct node nodes[MOST_LEVELS];
     unsigned open = 0, count = 0;
     count_node(&count, 1, OF_FILE);
     open_node(&nodes[open], open, 1, from);
@@ -140,7 +140,7 @@ static int64_t place_of_child(const struct node *node) {
 }
 
 static void run_second_pass(struct reader *from, struct file *to) {
-    struct node nodes[MOST_LEVELS];
+    static struct node nodes[MOST_LEVELS];
     unsigned open = 0, count = 0;
     count_node(&count, 1, OF_FILE);
     open_node(&nodes[open], open, 2, from);

@@ -122,7 +122,7 @@ static void hand_over(const struct node *node, struct node *above) {
 }
 
 static void run_pass(unsigned pass, struct reader *from, struct file *to) {
-    struct node nodes[MOST_LEVELS];
+    static struct node nodes[MOST_LEVELS];
     unsigned open = 0, count = 0;
     (void)pass;
     count_node(&count, 1, OF_FILE);

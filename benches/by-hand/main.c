@@ -49,10 +49,10 @@ void expect(struct scanner *scanner, char letter) {
 
 void count_node(unsigned *nodes, unsigned level, int status) {
     if (level > MOST_LEVELS) {
-        refuse(status, "P2 no tree of at most 256 levels");
+        refuse(status, "P2 no tree of at most 65,536 levels");
     }
     if (*nodes == MOST_NODES) {
-        refuse(status, "P3 no tree of at most 65,536 nodes");
+        refuse(status, "P3 no tree of at most 1,048,576 nodes");
     }
     ++*nodes;
 }

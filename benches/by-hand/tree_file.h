@@ -6,8 +6,8 @@
 #include <stdint.h>
 
 enum {
-    MOST_LEVELS = 256,
-    MOST_NODES = 65536,
+    MOST_LEVELS = 65536,
+    MOST_NODES = 1048576,
     BLOCK = 65536,
     /* the digits of a number, and its sign */
     MOST_TEXT = 20,

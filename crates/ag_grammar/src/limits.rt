@@ -54,7 +54,14 @@ pub const MOST_PLACE: u16 = 65_535;
 pub const MOST_PASSES: u16 = 8_192;
 
 /// The depth that a tree has at most; a leaf's is 1.
-pub const MOST_DEPTH: usize = 256;
+pub const MOST_DEPTH: usize = 65_536;
 
 /// How many stored nodes a tree has at most.
-pub const MOST_NODES: u32 = 65_536;
+pub const MOST_NODES: u32 = 1_048_576;
+
+/// The depth that a tree has at most whose file is turned round, or brought over from version 1. That
+/// recurses over the depth, and no file of version 1 has a deeper tree.
+pub const MOST_TURNED_DEPTH: usize = 256;
+
+/// How many stored nodes such a tree has at most.
+pub const MOST_TURNED_NODES: u32 = 65_536;

@@ -5,7 +5,7 @@ use passrun::Last;
 /// What a translation did.
 #[derive(Clone, Copy, Debug, PartialEq, Eq)]
 pub struct Report {
-    /// How many stored nodes the tree has, from 1 to 65,536.
+    /// How many stored nodes the tree has, from 1 to `MOST_NODES`.
     pub nodes: u32,
     /// How many passes ran: those of the plan, from 1.
     pub passes: u16,

@@ -274,8 +274,8 @@ impl Translator {
     /// left, and `old` is only read. Answers the number of stored nodes.
     ///
     /// R1 where the content of `old` is the file of version 1 and pass 0 of no tree of the grammar; P2
-    /// and P3 where it is that of no tree of at most 256 levels and 65,536 stored nodes; D1 where a call
-    /// of a device failed. Of a `mid` that does not give back what was written, R1 or P2 may come, with
+    /// and P3 where it is that of no tree of at most `MOST_TURNED_DEPTH` levels and `MOST_TURNED_NODES`
+    /// stored nodes (256 and 65,536); D1 where a call of a device failed. Of a `mid` that does not give back what was written, R1 or P2 may come, with
     /// an offset in `mid`. After a refusal `to` has what it had, or a beginning of a file.
     pub fn upgrade<D: Device, E: Device, F: Device>(
         &self,

@@ -87,10 +87,11 @@ impl fmt::Display for ParseMessage<'_> {
                 tell_aheads(f, self.grammar, self.expected.as_slice())?;
                 write!(f, " can stand")
             }
-            ParseFault::TooDeep => write!(
-                f,
-                " no tree of at most {MOST_DEPTH} levels has these tokens, nest them less"
-            ),
+            ParseFault::TooDeep => {
+                write!(f, " no tree of at most ")?;
+                tell_number(f, MOST_DEPTH)?;
+                write!(f, " levels has these tokens, nest them less")
+            }
             ParseFault::TooManyNodes => {
                 write!(f, " no tree of at most ")?;
                 tell_number(f, MOST_NODES as usize)?;

@@ -5,7 +5,7 @@ ghost use Rattle.treefile.specs.Device.{LeavesContent, Persists};
 use crate::standing::{Frame, awaited_at, frame_before};
 use crate::telling::{tell_number, tell_word};
 use crate::terminals::class_name;
-use ag_grammar::limits::{MOST_DEPTH, MOST_NODES, TEXT};
+use ag_grammar::limits::{MOST_DEPTH, MOST_NODES, MOST_TURNED_DEPTH, MOST_TURNED_NODES, TEXT};
 use ag_grammar::{Grammar, Item, Terminal};
 use passrun::RunFault;
 use std::alloc::Global;
@@ -128,6 +128,22 @@ impl<'a> TreeMessage<'a> {
         }
     }
 
+    /// How many levels a tree has at most.
+    fn most_levels(&self) -> usize {
+        match self.version {
+            FileVersion::One => MOST_TURNED_DEPTH,
+            FileVersion::Two => MOST_DEPTH,
+        }
+    }
+
+    /// How many nodes it has at most.
+    fn most_nodes(&self) -> usize {
+        match self.version {
+            FileVersion::One => MOST_TURNED_NODES as usize,
+            FileVersion::Two => MOST_NODES as usize,
+        }
+    }
+
     /// What to do about a file that is no tree's.
     fn tell_remedy<W: fmt::Write>(&self, f: &mut fmt::Formatter<W>, at: u64) -> fmt::Result {
         write!(f, ", make the file anew with `aggen parse`")?;
@@ -181,13 +197,14 @@ impl fmt::Display for TreeMessage<'_> {
                 }
                 self.tell_remedy(f, at)?;
             }
-            RunFault::TooDeep => write!(
-                f,
-                " no tree of at most {MOST_DEPTH} levels has this file, nest the sentence less: "
-            )?,
+            RunFault::TooDeep => {
+                write!(f, " no tree of at most ")?;
+                tell_number(f, self.most_levels())?;
+                write!(f, " levels has this file, nest the sentence less: ")?;
+            }
             RunFault::TooManyNodes => {
                 write!(f, " no tree of at most ")?;
-                tell_number(f, MOST_NODES as usize)?;
+                tell_number(f, self.most_nodes())?;
                 write!(
                     f,
                     " nodes has this file, cut the sentence into smaller ones: "

@@ -10,7 +10,7 @@ use Rattle.passrun.specs.Running.{Runs}
 use Rattle.passrun.proofs.Counted.{rules_bound}
 use Rattle.passrun.proofs.Finish.{count_of}
 
-pub meter_few : (c : Setting) → IsSound c → (honest : Bool) (content : List ℕ) (to_honest : Bool) (to : List ℕ) (meter : ℕ) (m : Machine) → Runs c honest content to_honest to meter m None → (m.begun ≤ meter) × (meter ≤ m.begun + 2 ^ 32)
+pub meter_few : (c : Setting) → IsSound c → (honest : Bool) (content : List ℕ) (to_honest : Bool) (to : List ℕ) (meter : ℕ) (m : Machine) → Runs c honest content to_honest to meter m None → (m.begun ≤ meter) × (meter ≤ m.begun + 2 ^ 36)
 meter_few c sound honest content to_honest to meter m r =
     let h = r.running.passing in
     let read = ap length h.ready.read in

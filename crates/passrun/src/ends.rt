@@ -32,7 +32,7 @@ const PASS_OFFSET: u64 = 4;
 /// What a pass has done.
 #[derive(Clone, Copy, Debug, PartialEq, Eq)]
 pub struct Passed {
-    /// How many stored nodes the tree has, from 1 to 65,536.
+    /// How many stored nodes the tree has, from 1 to `MOST_NODES`.
     pub nodes: u32,
     /// How many records were read: one for each stored node.
     pub read: u64,

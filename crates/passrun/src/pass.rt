@@ -51,7 +51,7 @@ pub(crate) fn run_job<D: Device, E: Device>(
     ensures few { IfOk result (λ p. p.nodes ≤ most_nodes) }
     // whatever the devices give back
     ensures rises { meter.old ≤ meter.new }
-    ensures meter { OnOk result (meter.new ≤ meter.old + 2 ^ 32) }
+    ensures meter { OnOk result (meter.new ≤ meter.old + 2 ^ 36) }
     ensures content { LeavesContent (D.is_honest from.old)
         (D.content from.old) (D.content from.new) }
     ensures from_persists { Persists (D.is_honest from.old) (D.is_honest from.new)
@@ -77,8 +77,8 @@ pub(crate) fn run_job<D: Device, E: Device>(
 /// R1 Damaged where the first file is one that the pass before leaves of no tree of the grammar,
 /// with the offset of what tells it: 0 where it begins as no tree file, 4 where it is that of
 /// another pass, else the end of a frame. P2 TooDeep and P3 TooManyNodes where it is that of no tree
-/// of at most 256 levels and 65,536 stored nodes: P2 before a record at level 257 is read, P3 before
-/// one of number 65,537. D1 Device where a call of one of the devices failed. NoMemory where a
+/// of at most `MOST_DEPTH` levels and `MOST_NODES` stored nodes: P2 before a record one level deeper is
+/// read, P3 before one more. D1 Device where a call of one of the devices failed. NoMemory where a
 /// growth was refused.
 ///
 /// The first device is only read. After a refusal the second has what it had, or a beginning of a
@@ -118,7 +118,7 @@ pub fn run_pass<D: Device, E: Device>(
     ensures few { IfOk result (λ p. p.nodes ≤ most_nodes) }
     // whatever the devices give back
     ensures rises { meter.old ≤ meter.new }
-    ensures meter { OnOk result (meter.new ≤ meter.old + 2 ^ 32) }
+    ensures meter { OnOk result (meter.new ≤ meter.old + 2 ^ 36) }
     ensures content { LeavesContent (D.is_honest from.old)
         (D.content from.old) (D.content from.new) }
     ensures from_persists { Persists (D.is_honest from.old) (D.is_honest from.new)

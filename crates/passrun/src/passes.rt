@@ -71,7 +71,7 @@ fn next_pass<D: Device>(
     ensures counts { IfOk result (λ p. (p.read ≡ p.nodes) × (p.written ≡ p.nodes)) }
     ensures few { IfOk result (λ p. p.nodes ≤ most_nodes) }
     ensures rises { meter.old ≤ meter.new }
-    ensures meter { OnOk result (meter.new ≤ meter.old + 2 ^ 32) }
+    ensures meter { OnOk result (meter.new ≤ meter.old + 2 ^ 36) }
     ensures a_persists { Persists (D.is_honest a.old) (D.is_honest a.new)
         (D.failures a.old) (D.failures a.new) ⊥ }
     ensures b_persists { Persists (D.is_honest b.old) (D.is_honest b.new)
@@ -114,8 +114,8 @@ fn one_more(sum: Passed, passed: Passed) -> Passed
 ///
 /// The first pass that is refused ends the run, with the refusal of `run_pass`. R1 Damaged where the
 /// file on `a` is one that pass `first` - 1 leaves of no tree of the grammar, with the offset of
-/// what tells it. P2 TooDeep and P3 TooManyNodes where it is that of no tree of at most 256 levels
-/// and 65,536 stored nodes. D1 Device where a call of one of the devices failed. NoMemory where a
+/// what tells it. P2 TooDeep and P3 TooManyNodes where it is that of no tree of at most
+/// `MOST_DEPTH` levels and `MOST_NODES` stored nodes. D1 Device where a call of one of the devices failed. NoMemory where a
 /// growth was refused.
 ///
 /// What `b` has is overwritten by the first pass, and the file on `a` by the second one: it is kept
@@ -149,10 +149,10 @@ pub fn run_all<D: Device>(
         (D.content a.new) (D.content b.new)))) }
     // whatever the devices give back
     ensures few { IfOk result (λ r. (r.1.nodes ≤ most_nodes)
-        × (r.1.read ≤ 2 ^ 32) × (r.1.written ≤ 2 ^ 32)) }
+        × (r.1.read ≤ 2 ^ 36) × (r.1.written ≤ 2 ^ 36)) }
     // whatever the devices give back
     ensures rises { meter.old ≤ meter.new }
-    ensures meter { OnOk result (meter.new ≤ meter.old + 2 ^ 48) }
+    ensures meter { OnOk result (meter.new ≤ meter.old + 2 ^ 52) }
     ensures a_persists { Persists (D.is_honest a.old) (D.is_honest a.new)
         (D.failures a.old) (D.failures a.new) ⊥ }
     ensures b_persists { Persists (D.is_honest b.old) (D.is_honest b.new)

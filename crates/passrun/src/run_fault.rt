@@ -17,11 +17,10 @@ pub enum RunFault {
     /// bytes is 0 where it begins as no tree file, 4 where it is that of another pass, else the end
     /// of the frame that tells it, or the place at which one should end.
     Damaged(u64),
-    /// P2: it is that of no tree of at most 256 levels and 65,536 stored nodes: a record would stand
-    /// at level 257.
+    /// P2: it is that of no tree of at most `MOST_DEPTH` levels and `MOST_NODES` stored nodes, of
+    /// `upgrade` `MOST_TURNED_DEPTH` and `MOST_TURNED_NODES`: a record would stand one level deeper.
     TooDeep,
-    /// P3: it is that of no tree of at most 256 levels and 65,536 stored nodes: a record would be
-    /// the one of number 65,537.
+    /// P3: it is that of no tree of at most as many levels and stored nodes: a record would be one more.
     TooManyNodes,
     /// D1: a call of one of the devices failed.
     Device,

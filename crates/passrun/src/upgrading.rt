@@ -237,12 +237,12 @@ fn stored_among(items: &[Item]) -> u32
 /// Brings a tree file of version 1 over: reads the file of pass 0 of a tree of the grammar from the end
 /// of the first device, and leaves on the third one the file of version 2 and pass 0 of the same tree,
 /// the one that `parse` writes of a sentence with this tree. The second device has then the same
-/// records from right to left. Answers the number of stored nodes. It recurses over at most 256
-/// levels. The first device keeps its content, also on a refusal; what the others had is taken away.
+/// records from right to left. Answers the number of stored nodes. It recurses over at most
+/// `MOST_LEVELS` levels, 256. The first device keeps its content, also on a refusal; what the others had is taken away.
 ///
 /// R1 Damaged where the content is the file of version 1 and pass 0 of no tree of the grammar, with the
 /// offset in it where that shows, as a pass tells it. P2 TooDeep and P3 TooManyNodes where it is that of
-/// no tree of at most 256 levels and 65,536 stored nodes. D1 Device where a call of a device failed.
+/// no tree of at most `MOST_LEVELS` levels and `MOST_RECORDS` stored nodes (256 and 65,536). D1 Device where a call of a device failed.
 /// What can't be read back of the second device, which an honest one never shows, is R1 with the
 /// offset in it, or P2. After a refusal the third device has what it had, or a beginning of a file.
 ///

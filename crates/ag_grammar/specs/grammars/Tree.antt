@@ -5,7 +5,7 @@ use Rattle.ag_grammar.specs.declared.grammar.Item.TheVariants as item
 use Rattle.ag_grammar.specs.declared.grammar.Item.{Item}
 use Rattle.ag_grammar.specs.declared.grammar.Production.{Production}
 use Rattle.ag_grammar.specs.declared.grammar.Terminal.TheVariants.{Literal, Class}
-use Rattle.ag_grammar.specs.declared.limits.TheConstants.{MOST_DEPTH, MOST_NODES, MOST_TOKEN_BYTES}
+use Rattle.ag_grammar.specs.declared.limits.TheConstants.{MOST_DEPTH, MOST_NODES, MOST_TOKEN_BYTES, MOST_TURNED_DEPTH, MOST_TURNED_NODES}
 use Rattle.ag_grammar.specs.grammars.AttributeGrammar.{Grammar, stored_items, IsProduction}
 
 mutual
@@ -74,6 +74,13 @@ most_depth = MOST_DEPTH
 
 abbrev pub most_nodes : ℕ
 most_nodes = MOST_NODES
+
+-- and of one whose file is turned round (this project's)
+abbrev pub most_turned_depth : ℕ
+most_turned_depth = MOST_TURNED_DEPTH
+
+abbrev pub most_turned_nodes : ℕ
+most_turned_nodes = MOST_TURNED_NODES
 
 -- a tree is at most so deep and has at most so many nodes
 pub record IsWithinLimits (depth count : ℕ) (t : Tree) : Type 0 where

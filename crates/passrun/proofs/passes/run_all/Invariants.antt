@@ -12,9 +12,9 @@ invariant-loop-done g l = record {
   a_persists : Persists (g.D.Device.is_honest l.fn.a) (g.D.Device.is_honest l.a) (g.D.Device.failures l.fn.a) (g.D.Device.failures l.a) ⊥;
   b_persists : Persists (g.D.Device.is_honest l.fn.b) (g.D.Device.is_honest l.b) (g.D.Device.failures l.fn.b) (g.D.Device.failures l.b) ⊥;
   meter_low : l.fn.meter ≤ l.meter;
-  meter_high : l.meter ≤ l.fn.meter + l.done * 4294967296;
+  meter_high : l.meter ≤ l.fn.meter + l.done * 68719476736;
   nodes : l.sum.nodes ≤ most_nodes;
-  read : l.sum.read ≤ l.done * 65536;
-  written : l.sum.written ≤ l.done * 65536;
+  read : l.sum.read ≤ l.done * 1048576;
+  written : l.sum.written ≤ l.done * 1048576;
   runs : WhenHonest (g.D.Device.is_honest l.fn.a) (WhenHonest (g.D.Device.is_honest l.fn.b) (HasRunAll l.grammar (passes_of l.plan.0) (l.first - 1) l.done (g.D.Device.content l.fn.a) l.last (g.D.Device.content l.a) (g.D.Device.content l.b) (l.meter - l.fn.meter) l.sum));
 }
