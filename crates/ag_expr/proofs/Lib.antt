@@ -1,2 +1,1 @@
 pub mod language
-pub mod Options

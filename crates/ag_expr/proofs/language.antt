@@ -1,22 +1,13 @@
 -- Lemmas on the expression language.
 pub mod Agree
 pub mod Below
-pub mod Exact
 pub mod Examples
-pub mod Fronts
-pub mod Lexed
-pub mod Lexes
 pub mod Listing
+pub mod Manner
 pub mod Numbered
-pub mod Numerals
-pub mod Offsets
+pub mod Parts
 pub mod Places
 pub mod Scopes
-pub mod Spans
 pub mod States
-pub mod Steady
-pub mod TextTurns
 pub mod Texts
-pub mod TokenLaws
-pub mod Turns
 pub mod Until

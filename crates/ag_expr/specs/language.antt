@@ -1,19 +1,13 @@
--- The expression language: its tokens and its syntax.
-pub mod Ending
+-- The expression language: its syntax.
 pub mod Expression
 pub mod Faults
 pub mod Laws
-pub mod Left
-pub mod Lexing
 pub mod Names
 pub mod Numbers
 pub mod Occurrences
-pub mod Offsets
-pub mod Placed
 pub mod Places
 pub mod Reading
+pub mod State
 pub mod Syntax
-pub mod Token
-pub mod Tokens
 pub mod Until
 pub mod Worked

@@ -1,10 +1,9 @@
 //! What could stand where a text is refused: what the parser takes there, tried token by token.
 
-use crate::cursor::Cursor;
 use crate::expression::read_expr;
 use crate::fault::ExprFault;
 use crate::names::is_reserved;
-use crate::token::Token;
+use ag_tokens::{Cursor, Token};
 use ag_value::NoMemory;
 use std::alloc::Global;
 
@@ -65,7 +64,7 @@ pub fn expected_at(alloc: Global, text: &str, at: usize) -> Result<Vec<Expected>
 /// What is said of a place where an operand can stand.
 fn operand_at(alloc: Global, text: &str, before: &str) -> Result<Expected, NoMemory> {
     if let Some(rest) = text.get(before.len()..) {
-        if let Some(Token::Name(name)) = Cursor::new(alloc, rest).peek() {
+        if let Some(Token::Name(name)) = Cursor::new(rest).peek() {
             if !is_reserved(name) {
                 return Ok(Expected::BoundName);
             }

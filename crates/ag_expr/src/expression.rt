@@ -1,19 +1,19 @@
 //! Reading a text as an expression.
 
-ghost use Rattle.std.specs.Prelude.{◌≡◌, chars, drop, length, true, IfOk, IfErr};
+ghost use Rattle.std.specs.Prelude.{◌≡◌, [], chars, drop, length, true, IfOk, IfErr};
 ghost use Rattle.ag_grammar.specs.expressions.Trees.{is_below};
 ghost use Rattle.ag_expr.specs.language.Expression.{ReadsAsExpr, IsRefused, IsAt, Says};
 ghost use Rattle.std.specs.Str.{IsCharBoundary};
-ghost use Rattle.ag_expr.specs.language.Left.{input};
-ghost use Rattle.ag_expr.specs.language.Places.{IsFirstOf, IsRead, IsReadToEnd};
+ghost use Rattle.ag_expr.specs.language.State.{IsReadEnded, IsReadToEnd};
+ghost use Rattle.ag_expr.specs.language.Places.{IsFirstOf, IsRead};
 ghost use Rattle.ag_expr.specs.language.Until.{IsFirstUntil, IsReadUntil, IsRefusedUntil};
-ghost use Rattle.ag_expr.specs.language.Until.{ReadsUntil, first_semicolon};
+ghost use Rattle.ag_expr.specs.language.Until.{ReadsUntil};
 
-use crate::cursor::Cursor;
 use crate::fault::ExprFault;
-use crate::parser::parse;
-use crate::token::Punctuation;
+use crate::reader::Reader;
 use ag_grammar::Expr;
+use ag_grammar::limits::MOST_LEVELS;
+use ag_tokens::Cursor;
 use std::alloc::Global;
 
 /// Reads a text as an expression: its tree, and the different occurrences in it. Takes memory.
@@ -29,7 +29,7 @@ pub fn read_expr(alloc: Global, text: &str) -> Result<Expr, ExprFault>
     ensures refuses { IfErr result (λ e. IsRefused text.now e) }
     ensures places { IfErr result (λ e. IsAt text.now e) }
 {
-    whole(alloc, Cursor::new(alloc, text))
+    whole(Reader::new(alloc, Cursor::new(text), false))
 }
 
 /// Reads the expression that stands from an offset on up to a `;`, and answers it with the offset of
@@ -46,37 +46,38 @@ pub fn read_until(alloc: Global, text: &str, from: usize) -> Result<(Expr, usize
     ensures refuses { IfErr result (λ e. IsRefusedUntil text.now from e) }
     ensures places { IfErr result (λ e. Says from (chars (drop from text.now)) e) }
 {
-    match next_semicolon(Cursor::at(alloc, text, from)) {
-        Some(at) => {
-            let (statement, _) = text.split_at(at);
-            let expr = whole(alloc, Cursor::at(alloc, statement, from))?;
-            Ok((expr, at))
-        }
-        None => {
-            let _unended = whole(alloc, Cursor::at(alloc, text, from))?;
-            Err(ExprFault::Unexpected(text.len()))
-        }
-    }
+    let mut cursor = Cursor::at(text, from);
+    read_ended(alloc, &mut cursor)
 }
 
-/// The offset of the first `;` that is left. Takes no memory.
-fn next_semicolon(mut cursor: Cursor<'_>) -> Option<usize>
-    ensures { result ≡ first_semicolon (input cursor.entry).left }
+/// Passes the expression in front of a cursor and the `;` behind it, and answers it with the offset
+/// of the `;`. What it refuses is refused as by `read_until`; of the cursor nothing is said then.
+/// Takes memory.
+pub fn read_ended<'t>(alloc: Global, cursor: &mut Cursor<'t>) -> Result<(Expr, usize), ExprFault>
+    ensures { IsReadEnded cursor.old result cursor.new }
 {
-    while !cursor.sees(Punctuation::Semicolon) {
-        if cursor.peek().is_none() {
-            return None;
-        }
-        cursor.bump();
+    let tokens = std::mem::replace(cursor, Cursor::new(""));
+    let mut reader = Reader::new(alloc, tokens, true);
+    let node = reader.expression(MOST_LEVELS)?;
+    if !reader.sees_semicolon() {
+        return Err(reader.refusal());
     }
-    Some(cursor.offset())
+    let (occurrences, rest) = reader.into_parts();
+    let at = rest.place();
+    *cursor = rest;
+    cursor.bump();
+    Ok((Expr::new(node, occurrences), at))
 }
 
 /// Reads all that is left as an expression.
-fn whole(alloc: Global, mut cursor: Cursor<'_>) -> Result<Expr, ExprFault>
-    ensures { IsReadToEnd cursor.entry result }
+fn whole(mut reader: Reader<'_>) -> Result<Expr, ExprFault>
+    requires { reader.scope ≡ [] }
+    ensures { IsReadToEnd reader.entry result }
 {
-    let node = parse(alloc, &mut cursor)?;
-    let occurrences = cursor.finish()?;
-    Ok(Expr::new(node, occurrences))
+    let tree = reader.expression(MOST_LEVELS)?;
+    if !reader.is_at_end() {
+        return Err(reader.refusal());
+    }
+    let (occurrences, _) = reader.into_parts();
+    Ok(Expr::new(tree, occurrences))
 }

@@ -1,4 +1,4 @@
-//! Why a text is no expression, and why no token is cut.
+//! Why a text is no expression.
 
 ghost use Rattle.std.specs.Prelude.{◌≡◌};
 ghost use Rattle.ag_expr.specs.declared.fault.ExprFault.TheVariants as expr_fault;
@@ -44,13 +44,4 @@ impl<T: Drop> From<AllocFailed<T>> for ExprFault {
     fn from(_error: AllocFailed<T>) -> ExprFault {
         ExprFault::NoMemory
     }
-}
-
-/// Why no token is cut from the front of a text.
-#[derive(Clone, Copy, Debug, PartialEq, Eq)]
-pub enum TokenFault {
-    /// No token begins there.
-    Nothing,
-    /// The token there has a number above its limit.
-    TooLarge,
 }

@@ -3,12 +3,12 @@
 
 ghost use Rattle.std.specs.Prelude.{◌≡◌, ◌∷◌, ◌++◌, [], Some, None, true, false, codes};
 ghost use Rattle.ag_expr.specs.language.Expression.{ReadsAsExpr};
-ghost use Rattle.ag_expr.specs.language.Laws.{ReadingAgrees, LongestIsCut, NothingIsCut};
-ghost use Rattle.ag_expr.specs.language.Laws.{OneExpression, OneInput};
+ghost use Rattle.ag_expr.specs.language.Laws.{ReadingAgrees};
+ghost use Rattle.ag_expr.specs.language.Laws.{OneExpression};
 ghost use Rattle.ag_expr.specs.language.Laws.{RefusesAtTheFirst};
-ghost use Rattle.ag_expr.specs.language.Tokens.{AreTokens};
+ghost use Rattle.ag_tokens.specs.Tokens.{AreTokens};
 ghost use Rattle.ag_expr.specs.language.Names.{is_reserved, place_in};
-ghost use Rattle.ag_expr.specs.language.Placed.{tokens};
+ghost use Rattle.ag_tokens.specs.Placed.{tokens};
 ghost use Rattle.ag_expr.specs.language.Syntax.{IsExpr};
 ghost use Rattle.ag_expr.specs.language.Until.{first_semicolon, semicolon};
 ghost use Rattle.ag_expr.specs.language.Worked.{occurrence_and_number, sum_and_product};
@@ -21,23 +21,10 @@ pub fn reading_agrees_with_the_syntax()
     ensures { ReadingAgrees }
 {}
 
-/// A text has one list of placed tokens and one ending.
-#[tactic(auto, using(crate::proofs::language::Lexes::one_input))]
-pub fn a_text_has_one_list_of_tokens()
-    ensures { OneInput }
-{}
-
 /// What is refused is refused at the first token that can't be taken.
 #[tactic(auto, using(crate::proofs::language::Places::refuses_at_the_first))]
 pub fn the_first_wrong_token_is_told()
     ensures { RefusesAtTheFirst }
-{}
-
-/// What is cut from the front of characters is their longest token, and where nothing is cut no
-/// token begins.
-pub fn cutting_agrees_with_tokens()
-    ensures cut { LongestIsCut }
-    ensures none { NothingIsCut }
 {}
 
 /// A text reads as one expression at most.

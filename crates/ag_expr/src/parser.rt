@@ -1,23 +1,21 @@
-//! The parser of expressions, by recursive descent over a cursor.
+//! The parser of expressions, by recursive descent.
 
 ghost use Rattle.std.specs.Prelude.{◌≡◌, [], Some, IfOk, OnOk};
 ghost use Rattle.ag_expr.specs.language.Syntax as syntax;
 ghost use Rattle.ag_expr.specs.language.Syntax.{closer};
-ghost use Rattle.ag_expr.specs.language.Expression.{max_levels};
-ghost use Rattle.ag_expr.specs.language.Left.{Reads, ReadsAs, input};
-ghost use Rattle.ag_expr.specs.language.Lexing.{token_of};
+ghost use Rattle.ag_expr.specs.language.State.{Reads, ReadsAs, input};
+ghost use Rattle.ag_tokens.specs.Lexing.{token_of};
+ghost use Rattle.ag_tokens.specs.Parsing.{front, further_from, sees, sign_of, place};
 ghost use Rattle.ag_expr.specs.language.Reading as reading;
 ghost use Rattle.ag_expr.specs.language.Reading.{atom_from, chain_from, expr_in, other_from};
 ghost use Rattle.ag_expr.specs.language.Reading.{ranked_from};
-ghost use Rattle.ag_expr.specs.language.Token as token;
+ghost use Rattle.ag_tokens.specs.Token as token;
 
-use crate::cursor::Cursor;
 use crate::fault::ExprFault;
-use crate::lexer::unescaped;
-use crate::names::{Call, Scope, call_of, is_reserved};
-use crate::token::{Punctuation, Token};
-use ag_grammar::limits::MOST_LEVELS;
+use crate::names::{Call, call_of, is_reserved};
+use crate::reader::Reader;
 use ag_grammar::{BinaryCall, Literal, Node, Operator, UnaryCall};
+use ag_tokens::{Punctuation, Token, unescaped};
 use ag_value::{Boxed, Items, NoMemory};
 use std::alloc::Global;
 
@@ -96,35 +94,41 @@ fn operator_of(precedence: Precedence, token: Token<'_>) -> Option<Operator>
     }
 }
 
-/// The operator of a precedence that stands in front.
-fn next_operator(cursor: &Cursor<'_>, precedence: Precedence) -> Option<Operator>
-    ensures { result ≡ reading.front_as (syntax.operator_of precedence)
-        (reading.front (input cursor.now)) }
+/// What a token begins that no operator takes apart.
+#[derive(Clone, Copy, Debug, PartialEq, Eq)]
+enum Atom {
+    /// An expression in parentheses.
+    Parenthesized,
+    /// A list.
+    List,
+    /// An empty table.
+    Table,
+    /// A call.
+    Call,
+    /// An operand of one token, or nothing.
+    Operand,
+}
+
+/// What a mark begins.
+fn marked_atom(mark: Punctuation) -> Atom
+    ensures { result ≡ reading.marked_atom mark }
 {
-    match cursor.peek() {
-        Some(token) => operator_of(precedence, token),
-        None => None,
+    match mark {
+        Punctuation::Open => Atom::Parenthesized,
+        Punctuation::OpenList => Atom::List,
+        Punctuation::OpenTable => Atom::Table,
+        _ => Atom::Operand,
     }
 }
 
-/// Whether an operator of a precedence stands in front.
-fn goes_on(cursor: &Cursor<'_>, precedence: Precedence) -> bool
-    ensures { result ≡ reading.sees (reading.is_operator_of precedence) (input cursor.now) }
+/// What a token begins.
+fn atom_of(token: Token<'_>) -> Atom
+    ensures { result ≡ reading.atom_of (token_of token.entry) }
 {
-    next_operator(cursor, precedence).is_some()
-}
-
-/// Passes an operator of a precedence.
-fn operator(cursor: &mut Cursor<'_>, precedence: Precedence) -> Result<Operator, ExprFault>
-    ensures { Reads (λ _. reading.token_as (syntax.operator_of precedence))
-        cursor.old result cursor.new }
-{
-    match next_operator(cursor, precedence) {
-        Some(operator) => {
-            cursor.bump();
-            Ok(operator)
-        }
-        None => Err(cursor.refusal()),
+    match token {
+        Token::Punctuation(mark) => marked_atom(mark),
+        Token::Name(name) if call_of(name).is_some() => Atom::Call,
+        _ => Atom::Operand,
     }
 }
 
@@ -138,511 +142,405 @@ fn chained(alloc: Global, first: Node, others: Vec<(Operator, Node)>) -> Result<
     Ok(Node::Chain(Boxed::new(alloc, first)?, Items::from_vec(others)))
 }
 
-/// The call that stands in front.
-fn next_call(cursor: &Cursor<'_>) -> Option<Call>
-    ensures { result ≡ reading.front_as syntax.call_in (reading.front (input cursor.now)) }
-{
-    match cursor.peek() {
-        Some(Token::Name(name)) => call_of(name),
-        _ => None,
-    }
-}
-
-/// Whether a call stands in front.
-fn sees_call(cursor: &Cursor<'_>) -> bool
-    ensures { result ≡ reading.sees reading.is_call (input cursor.now) }
-{
-    next_call(cursor).is_some()
-}
-
-/// Passes the name of a call.
-fn called(cursor: &mut Cursor<'_>) -> Result<Call, ExprFault>
-    ensures { Reads (λ _. reading.token_as syntax.call_in) cursor.old result cursor.new }
-{
-    match next_call(cursor) {
-        Some(call) => {
-            cursor.bump();
-            Ok(call)
-        }
-        None => Err(cursor.refusal()),
-    }
-}
-
-/// Passes an expression of at most so many levels, and answers its tree.
-#[cycle(parsing)]
-#[tactic(auto, using(crate::proofs::language::Turns::one_level), unfolding(crate::specs::language::Reading::expr_in, crate::specs::language::Reading::whole_from, crate::specs::language::Reading::ranked_from,))]
-fn expression<'t>(
-    alloc: Global,
-    cursor: &mut Cursor<'t>,
-    scope: &mut Scope<'t>,
-    levels: usize,
-) -> Result<Node, ExprFault>
-    ensures reads { Reads (λ all. expr_in all levels scope.old) cursor.old result cursor.new }
-    ensures names { OnOk result (scope.new ≡ scope.old) }
-{
-    if levels == 0 {
-        return Err(cursor.no_level(scope));
-    }
-    if cursor.sees_word("let") {
-        return binding(alloc, cursor, scope, levels - 1);
-    }
-    if cursor.sees_word("if") {
-        return conditional(alloc, cursor, scope, levels - 1);
-    }
-    chain(alloc, cursor, scope, levels - 1, Precedence::Comparison)
-}
-
-/// Passes an expression of at most so many levels, and answers its tree in a box.
-#[cycle(parsing)]
-fn boxed<'t>(
-    alloc: Global,
-    cursor: &mut Cursor<'t>,
-    scope: &mut Scope<'t>,
-    levels: usize,
-) -> Result<Boxed<Node>, ExprFault>
-    ensures reads { Reads (λ all. expr_in all levels scope.old) cursor.old result cursor.new }
-    ensures names { OnOk result (scope.new ≡ scope.old) }
-{
-    let tree = expression(alloc, cursor, scope, levels)?;
-    Ok(Boxed::new(alloc, tree)?)
-}
-
-/// Passes a `let`, whose parts have at most so many levels.
-#[cycle(parsing)]
-#[tactic(auto, using(crate::proofs::language::Scopes::outer_end), unfolding(crate::specs::language::Reading::let_from))]
-fn binding<'t>(
-    alloc: Global,
-    cursor: &mut Cursor<'t>,
-    scope: &mut Scope<'t>,
-    levels: usize,
-) -> Result<Node, ExprFault>
-    ensures reads { Reads (λ all. reading.let_from (expr_in all levels) scope.old)
-        cursor.old result cursor.new }
-    ensures names { OnOk result (scope.new ≡ scope.old) }
-{
-    cursor.expect_word("let")?;
-    let name = cursor.new_name()?;
-    cursor.expect(Punctuation::Equal)?;
-    let definition = boxed(alloc, cursor, scope, levels)?;
-    cursor.expect_word("in")?;
-    scope.bind(name)?;
-    let body = boxed(alloc, cursor, scope, levels)?;
-    scope.unbind();
-    Ok(Node::Let(definition, body))
-}
-
-/// Passes an `if`, whose parts have at most so many levels.
-#[cycle(parsing)]
-#[tactic(auto, unfolding(crate::specs::language::Reading::if_from))]
-fn conditional<'t>(
-    alloc: Global,
-    cursor: &mut Cursor<'t>,
-    scope: &mut Scope<'t>,
-    levels: usize,
-) -> Result<Node, ExprFault>
-    ensures reads { Reads (λ all. reading.if_from (expr_in all levels) scope.old)
-        cursor.old result cursor.new }
-    ensures names { OnOk result (scope.new ≡ scope.old) }
-{
-    cursor.expect_word("if")?;
-    let test = boxed(alloc, cursor, scope, levels)?;
-    cursor.expect_word("then")?;
-    let value = boxed(alloc, cursor, scope, levels)?;
-    cursor.expect_word("else")?;
-    let other = boxed(alloc, cursor, scope, levels)?;
-    Ok(Node::If(test, value, other))
-}
-
-/// Passes a chain of a precedence, whose atoms have parts of at most so many levels.
-#[cycle(parsing)]
-#[tactic(auto, using(crate::proofs::language::Turns::alone), unfolding(crate::specs::language::Reading::chain_from))]
-fn chain<'t>(
-    alloc: Global,
-    cursor: &mut Cursor<'t>,
-    scope: &mut Scope<'t>,
-    levels: usize,
-    precedence: Precedence,
-) -> Result<Node, ExprFault>
-    ensures reads { Reads (λ all. chain_from precedence
-        (ranked_from (atom_from (expr_in all levels) scope.old all) (closer precedence)))
-        cursor.old result cursor.new }
-    ensures names { OnOk result (scope.new ≡ scope.old) }
-{
-    let first = operand(alloc, cursor, scope, levels, precedence)?;
-    if !goes_on(cursor, precedence) {
-        return Ok(first);
-    }
-    let others = others(alloc, cursor, scope, levels, precedence)?;
-    Ok(chained(alloc, first, others)?)
-}
-
-/// Passes an operand of a precedence: a chain of the next precedence, or behind the last an atom.
-#[cycle(parsing)]
-#[tactic(auto, unfolding(crate::specs::language::Reading::ranked_from))]
-fn operand<'t>(
-    alloc: Global,
-    cursor: &mut Cursor<'t>,
-    scope: &mut Scope<'t>,
-    levels: usize,
-    precedence: Precedence,
-) -> Result<Node, ExprFault>
-    ensures reads { Reads (λ all.
-        ranked_from (atom_from (expr_in all levels) scope.old all) (closer precedence))
-        cursor.old result cursor.new }
-    ensures names { OnOk result (scope.new ≡ scope.old) }
-{
-    match precedence {
-        Precedence::Comparison => chain(alloc, cursor, scope, levels, Precedence::Join),
-        Precedence::Join => chain(alloc, cursor, scope, levels, Precedence::Sum),
-        Precedence::Sum => chain(alloc, cursor, scope, levels, Precedence::Product),
-        Precedence::Product => atom(alloc, cursor, scope, levels),
-    }
-}
-
-/// Passes the operands behind the first, each with its operator, and answers their trees.
-#[cycle(parsing)]
-fn others<'t>(
-    alloc: Global,
-    cursor: &mut Cursor<'t>,
-    scope: &mut Scope<'t>,
-    levels: usize,
-    precedence: Precedence,
-) -> Result<Vec<(Operator, Node)>, ExprFault>
-    ensures reads { ReadsAs (λ others. others.items) (λ all. reading.further
-        (syntax.takes_one precedence) (reading.is_operator_of precedence) (other_from precedence
-        (ranked_from (atom_from (expr_in all levels) scope.old all) (closer precedence))) [])
-        cursor.old result cursor.new }
-    ensures names { OnOk result (scope.new ≡ scope.old) }
-{
-    let mut others = Vec::new(alloc);
-    while goes_on(cursor, precedence) {
-        let other = other(alloc, cursor, scope, levels, precedence)?;
-        others.push(other)?;
-        if takes_one(precedence) {
-            return Ok(others);
-        }
-    }
-    Ok(others)
-}
-
-/// Passes an operator and the operand behind it.
-#[cycle(parsing)]
-#[tactic(auto, unfolding(crate::specs::language::Reading::other_from))]
-fn other<'t>(
-    alloc: Global,
-    cursor: &mut Cursor<'t>,
-    scope: &mut Scope<'t>,
-    levels: usize,
-    precedence: Precedence,
-) -> Result<(Operator, Node), ExprFault>
-    ensures reads { Reads (λ all. other_from precedence
-        (ranked_from (atom_from (expr_in all levels) scope.old all) (closer precedence)))
-        cursor.old result cursor.new }
-    ensures names { OnOk result (scope.new ≡ scope.old) }
-{
-    let operator = operator(cursor, precedence)?;
-    let operand = operand(alloc, cursor, scope, levels, precedence)?;
-    Ok((operator, operand))
-}
-
-/// Passes what no operator takes apart, whose parts have at most so many levels.
-#[cycle(parsing)]
-#[tactic(auto, unfolding(crate::specs::language::Reading::atom_from))]
-fn atom<'t>(
-    alloc: Global,
-    cursor: &mut Cursor<'t>,
-    scope: &mut Scope<'t>,
-    levels: usize,
-) -> Result<Node, ExprFault>
-    ensures reads { Reads (λ all. atom_from (expr_in all levels) scope.old all)
-        cursor.old result cursor.new }
-    ensures names { OnOk result (scope.new ≡ scope.old) }
-{
-    if cursor.sees(Punctuation::Open) {
-        return parenthesized(alloc, cursor, scope, levels);
-    }
-    if cursor.sees(Punctuation::OpenList) {
-        return list(alloc, cursor, scope, levels);
-    }
-    if cursor.sees(Punctuation::OpenTable) {
-        return table(cursor);
-    }
-    if sees_call(cursor) {
-        return call(alloc, cursor, scope, levels);
-    }
-    operand_alone(alloc, cursor, scope)
-}
-
-/// The operand that a name is, where it is bound.
-fn bound(scope: &Scope<'_>, name: &str) -> Option<Node>
-    ensures { result ≡ syntax.operand_of [] scope.now (token.Name name.now) }
+/// Where a name is no reserved one, its operand by the number of its binding.
+fn bound(name: &str, place: Option<usize>) -> Option<Node>
+    ensures { result ≡ syntax.bound_operand name.now place }
 {
     if is_reserved(name) {
         return None;
     }
-    match scope.place_of(name) {
-        Some(place) => Some(Node::Bound(place)),
-        None => None,
-    }
+    Some(Node::Bound(place?))
 }
 
-/// Passes an operand of one token: a number, a text, a bound name or an occurrence.
-fn operand_alone<'t>(
-    alloc: Global,
-    cursor: &mut Cursor<'t>,
-    scope: &Scope<'t>,
-) -> Result<Node, ExprFault>
-    ensures { Reads (λ all. reading.token_as (syntax.operand_of all scope.now))
-        cursor.old result cursor.new }
-{
-    match cursor.peek() {
-        Some(Token::Number(number)) => {
-            cursor.bump();
-            Ok(Node::Literal(Literal::number(number)))
+impl<'t> Reader<'t> {
+    /// The operator of a precedence that stands in front.
+    fn next_operator(&self, precedence: Precedence) -> Option<Operator>
+        ensures { result ≡ sign_of (λ _. syntax.operator_of precedence)
+            (place (input self.now)) (front (input self.now)) }
+    {
+        match self.peek() {
+            Some(token) => operator_of(precedence, token),
+            None => None,
         }
-        Some(Token::Text(body)) => {
-            let text = unescaped(alloc, body)?;
-            cursor.bump();
-            Ok(Node::Literal(Literal::text(text)))
+    }
+
+    /// Whether an operator of a precedence stands in front.
+    fn goes_on(&self, precedence: Precedence) -> bool
+        ensures { result ≡ sees (reading.is_operator_of precedence) (input self.now) }
+    {
+        self.next_operator(precedence).is_some()
+    }
+
+    /// Passes an operator of a precedence.
+    fn operator(&mut self, precedence: Precedence) -> Result<Operator, ExprFault>
+        ensures { Reads (λ _ _. reading.token_as (syntax.operator_of precedence))
+            self.old result self.new }
+    {
+        match self.next_operator(precedence) {
+            Some(operator) => {
+                self.bump();
+                Ok(operator)
+            }
+            None => Err(self.refusal()),
         }
-        Some(Token::Name(name)) => bound_operand(cursor, scope, name),
-        Some(Token::Occurrence(place, attr)) => {
-            Ok(Node::Occurrence(cursor.take_occurrence(alloc, place, attr)?))
+    }
+
+    /// What stands in front that no operator takes apart.
+    fn front_atom(&self) -> Atom
+        ensures { reading.BeginsAtom result (input self.now) }
+    {
+        match self.peek() {
+            Some(token) => atom_of(token),
+            None => Atom::Operand,
         }
-        _ => Err(cursor.refusal()),
     }
-}
 
-/// Passes the bound name in front.
-fn bound_operand<'t>(
-    cursor: &mut Cursor<'t>,
-    scope: &Scope<'t>,
-    name: &'t str,
-) -> Result<Node, ExprFault>
-    requires { reading.front (input cursor.old) ≡ Some (token.Name name.now) }
-    ensures { Reads (λ all. reading.token_as (syntax.operand_of all scope.now))
-        cursor.old result cursor.new }
-{
-    match bound(scope, name) {
-        Some(node) => {
-            cursor.bump();
-            Ok(node)
+    /// The call that stands in front.
+    fn next_call(&self) -> Option<Call>
+        ensures { result ≡ sign_of (λ _. syntax.call_in)
+            (place (input self.now)) (front (input self.now)) }
+    {
+        match self.peek() {
+            Some(Token::Name(name)) => call_of(name),
+            _ => None,
         }
-        None => Err(cursor.refusal()),
     }
-}
 
-/// Passes an expression in parentheses.
-#[cycle(parsing)]
-#[tactic(auto, unfolding(crate::specs::language::Reading::parenthesized_from))]
-fn parenthesized<'t>(
-    alloc: Global,
-    cursor: &mut Cursor<'t>,
-    scope: &mut Scope<'t>,
-    levels: usize,
-) -> Result<Node, ExprFault>
-    ensures reads { Reads (λ all. reading.parenthesized_from (expr_in all levels) scope.old)
-        cursor.old result cursor.new }
-    ensures names { OnOk result (scope.new ≡ scope.old) }
-{
-    cursor.expect(Punctuation::Open)?;
-    let inner = expression(alloc, cursor, scope, levels)?;
-    cursor.expect(Punctuation::Close)?;
-    Ok(inner)
-}
-
-/// Passes an empty table.
-#[tactic(auto, unfolding(crate::specs::language::Reading::table_from))]
-fn table(cursor: &mut Cursor<'_>) -> Result<Node, ExprFault>
-    ensures { Reads (λ _. reading.table_from) cursor.old result cursor.new }
-{
-    cursor.expect(Punctuation::OpenTable)?;
-    cursor.expect(Punctuation::CloseTable)?;
-    Ok(Node::EmptyTable)
-}
-
-/// Passes a list.
-#[cycle(parsing)]
-#[tactic(auto, unfolding(crate::specs::language::Reading::list_from, crate::specs::language::Reading::none_from,))]
-fn list<'t>(
-    alloc: Global,
-    cursor: &mut Cursor<'t>,
-    scope: &mut Scope<'t>,
-    levels: usize,
-) -> Result<Node, ExprFault>
-    ensures reads { Reads (λ all. reading.list_from (expr_in all levels) scope.old)
-        cursor.old result cursor.new }
-    ensures names { OnOk result (scope.new ≡ scope.old) }
-{
-    cursor.expect(Punctuation::OpenList)?;
-    if cursor.sees(Punctuation::CloseList) {
-        cursor.expect(Punctuation::CloseList)?;
-        return Ok(Node::List(Items::from_vec(Vec::new(alloc))));
+    /// Passes the name of a call.
+    fn called(&mut self) -> Result<Call, ExprFault>
+        ensures { Reads (λ _ _. reading.token_as syntax.call_in) self.old result self.new }
+    {
+        match self.next_call() {
+            Some(call) => {
+                self.bump();
+                Ok(call)
+            }
+            None => Err(self.refusal()),
+        }
     }
-    some_items(alloc, cursor, scope, levels)
-}
 
-/// Passes one item or more, and the sign that closes their list.
-#[cycle(parsing)]
-#[tactic(auto, unfolding(crate::specs::language::Reading::some_from))]
-fn some_items<'t>(
-    alloc: Global,
-    cursor: &mut Cursor<'t>,
-    scope: &mut Scope<'t>,
-    levels: usize,
-) -> Result<Node, ExprFault>
-    ensures reads { Reads (λ all. reading.some_from (expr_in all levels) scope.old)
-        cursor.old result cursor.new }
-    ensures names { OnOk result (scope.new ≡ scope.old) }
-{
-    let first = expression(alloc, cursor, scope, levels)?;
-    let items = items(alloc, cursor, scope, levels, first)?;
-    cursor.expect(Punctuation::CloseList)?;
-    Ok(Node::List(Items::from_vec(items)))
-}
-
-/// Passes the items behind the first, and answers all.
-#[cycle(parsing)]
-#[tactic(auto, unfolding(crate::specs::language::Reading::items_from))]
-fn items<'t>(
-    alloc: Global,
-    cursor: &mut Cursor<'t>,
-    scope: &mut Scope<'t>,
-    levels: usize,
-    first: Node,
-) -> Result<Vec<Node>, ExprFault>
-    ensures reads { ReadsAs (λ items. items.items)
-        (λ all. reading.items_from (expr_in all levels) scope.old first)
-        cursor.old result cursor.new }
-    ensures names { OnOk result (scope.new ≡ scope.old) }
-{
-    let mut items = Vec::new(alloc);
-    items.push(first)?;
-    while cursor.sees(Punctuation::Comma) {
-        let item = next(alloc, cursor, scope, levels)?;
-        items.push(item)?;
+    /// Passes an expression of at most so many levels, and answers its tree.
+    #[cycle(parsing)]
+    #[tactic(auto, using(crate::proofs::language::Parts::one_level), unfolding(crate::specs::language::Reading::expr_in, crate::specs::language::Reading::whole_from, crate::specs::language::Reading::ranked_from,))]
+    pub fn expression(&mut self, levels: usize) -> Result<Node, ExprFault>
+        ensures { Reads (λ all. expr_in all levels) self.old result self.new }
+    {
+        if levels == 0 {
+            return Err(self.no_level());
+        }
+        if self.sees_word("let") {
+            return self.binding(levels - 1);
+        }
+        if self.sees_word("if") {
+            return self.conditional(levels - 1);
+        }
+        self.chain(levels - 1, Precedence::Comparison)
     }
-    Ok(items)
-}
 
-/// Passes a comma and the expression behind it.
-#[cycle(parsing)]
-#[tactic(auto, unfolding(crate::specs::language::Reading::next_from))]
-fn next<'t>(
-    alloc: Global,
-    cursor: &mut Cursor<'t>,
-    scope: &mut Scope<'t>,
-    levels: usize,
-) -> Result<Node, ExprFault>
-    ensures reads { Reads (λ all. reading.next_from (expr_in all levels) scope.old)
-        cursor.old result cursor.new }
-    ensures names { OnOk result (scope.new ≡ scope.old) }
-{
-    cursor.expect(Punctuation::Comma)?;
-    expression(alloc, cursor, scope, levels)
-}
-
-/// Passes a comma and the argument behind it, and answers its tree in a box.
-#[cycle(parsing)]
-fn argument<'t>(
-    alloc: Global,
-    cursor: &mut Cursor<'t>,
-    scope: &mut Scope<'t>,
-    levels: usize,
-) -> Result<Boxed<Node>, ExprFault>
-    ensures reads { Reads (λ all. reading.next_from (expr_in all levels) scope.old)
-        cursor.old result cursor.new }
-    ensures names { OnOk result (scope.new ≡ scope.old) }
-{
-    let tree = next(alloc, cursor, scope, levels)?;
-    Ok(Boxed::new(alloc, tree)?)
-}
-
-/// Passes a call.
-#[cycle(parsing)]
-#[tactic(auto, unfolding(crate::specs::language::Reading::call_from))]
-fn call<'t>(
-    alloc: Global,
-    cursor: &mut Cursor<'t>,
-    scope: &mut Scope<'t>,
-    levels: usize,
-) -> Result<Node, ExprFault>
-    ensures reads { Reads (λ all. reading.call_from (expr_in all levels) scope.old)
-        cursor.old result cursor.new }
-    ensures names { OnOk result (scope.new ≡ scope.old) }
-{
-    let call = called(cursor)?;
-    cursor.expect(Punctuation::Open)?;
-    match call {
-        Call::Unary(call) => unary(alloc, cursor, scope, levels, call),
-        Call::Binary(call) => binary(alloc, cursor, scope, levels, call),
-        Call::Put => put(alloc, cursor, scope, levels),
+    /// Passes an expression of at most so many levels, and answers its tree in a box.
+    #[cycle(parsing)]
+    fn boxed(&mut self, levels: usize) -> Result<Boxed<Node>, ExprFault>
+        ensures { Reads (λ all. expr_in all levels) self.old result self.new }
+    {
+        let tree = self.expression(levels)?;
+        Ok(Boxed::new(self.alloc(), tree)?)
     }
-}
 
-/// Passes the argument of a call of one, and the closing parenthesis.
-#[cycle(parsing)]
-#[tactic(auto, unfolding(crate::specs::language::Reading::unary_from))]
-fn unary<'t>(
-    alloc: Global,
-    cursor: &mut Cursor<'t>,
-    scope: &mut Scope<'t>,
-    levels: usize,
-    call: UnaryCall,
-) -> Result<Node, ExprFault>
-    ensures reads { Reads (λ all. reading.unary_from (expr_in all levels) scope.old call)
-        cursor.old result cursor.new }
-    ensures names { OnOk result (scope.new ≡ scope.old) }
-{
-    let only = boxed(alloc, cursor, scope, levels)?;
-    cursor.expect(Punctuation::Close)?;
-    Ok(Node::Unary(call, only))
-}
+    /// Passes a `let`, whose parts have at most so many levels.
+    #[cycle(parsing)]
+    #[tactic(auto, using(crate::proofs::language::Scopes::outer_end), unfolding(crate::specs::language::Reading::let_from))]
+    fn binding(&mut self, levels: usize) -> Result<Node, ExprFault>
+        ensures { Reads (λ all. reading.let_from (expr_in all levels)) self.old result self.new }
+    {
+        self.expect_word("let")?;
+        let name = self.new_name()?;
+        self.expect(Punctuation::Equal)?;
+        let definition = self.boxed(levels)?;
+        self.expect_word("in")?;
+        self.bind(name)?;
+        let body = self.boxed(levels)?;
+        self.unbind();
+        Ok(Node::Let(definition, body))
+    }
 
-/// Passes the arguments of a call of two, and the closing parenthesis.
-#[cycle(parsing)]
-#[tactic(auto, unfolding(crate::specs::language::Reading::binary_from))]
-fn binary<'t>(
-    alloc: Global,
-    cursor: &mut Cursor<'t>,
-    scope: &mut Scope<'t>,
-    levels: usize,
-    call: BinaryCall,
-) -> Result<Node, ExprFault>
-    ensures reads { Reads (λ all. reading.binary_from (expr_in all levels) scope.old call)
-        cursor.old result cursor.new }
-    ensures names { OnOk result (scope.new ≡ scope.old) }
-{
-    let first = boxed(alloc, cursor, scope, levels)?;
-    let second = argument(alloc, cursor, scope, levels)?;
-    cursor.expect(Punctuation::Close)?;
-    Ok(Node::Binary(call, first, second))
-}
+    /// Passes an `if`, whose parts have at most so many levels.
+    #[cycle(parsing)]
+    #[tactic(auto, unfolding(crate::specs::language::Reading::if_from))]
+    fn conditional(&mut self, levels: usize) -> Result<Node, ExprFault>
+        ensures { Reads (λ all. reading.if_from (expr_in all levels)) self.old result self.new }
+    {
+        self.expect_word("if")?;
+        let test = self.boxed(levels)?;
+        self.expect_word("then")?;
+        let value = self.boxed(levels)?;
+        self.expect_word("else")?;
+        let other = self.boxed(levels)?;
+        Ok(Node::If(test, value, other))
+    }
 
-/// Passes the arguments of `put`, and the closing parenthesis.
-#[cycle(parsing)]
-#[tactic(auto, unfolding(crate::specs::language::Reading::put_from))]
-fn put<'t>(
-    alloc: Global,
-    cursor: &mut Cursor<'t>,
-    scope: &mut Scope<'t>,
-    levels: usize,
-) -> Result<Node, ExprFault>
-    ensures reads { Reads (λ all. reading.put_from (expr_in all levels) scope.old)
-        cursor.old result cursor.new }
-    ensures names { OnOk result (scope.new ≡ scope.old) }
-{
-    let table = boxed(alloc, cursor, scope, levels)?;
-    let key = argument(alloc, cursor, scope, levels)?;
-    let value = argument(alloc, cursor, scope, levels)?;
-    cursor.expect(Punctuation::Close)?;
-    Ok(Node::Put(table, key, value))
-}
+    /// Passes a chain of a precedence, whose atoms have parts of at most so many levels.
+    #[cycle(parsing)]
+    #[tactic(auto, using(crate::proofs::language::Parts::alone), unfolding(crate::specs::language::Reading::chain_from))]
+    fn chain(&mut self, levels: usize, precedence: Precedence) -> Result<Node, ExprFault>
+        ensures { Reads (λ all names. chain_from precedence
+            (ranked_from (atom_from (expr_in all levels) names all) (closer precedence)))
+            self.old result self.new }
+    {
+        let first = self.operand(levels, precedence)?;
+        if !self.goes_on(precedence) {
+            return Ok(first);
+        }
+        let others = self.others(levels, precedence)?;
+        Ok(chained(self.alloc(), first, others)?)
+    }
 
-/// Passes an expression, and answers its tree.
-pub fn parse(alloc: Global, cursor: &mut Cursor<'_>) -> Result<Node, ExprFault>
-    ensures { Reads (λ all. expr_in all max_levels []) cursor.old result cursor.new }
-{
-    let mut scope = Scope::new(alloc);
-    expression(alloc, cursor, &mut scope, MOST_LEVELS)
+    /// Passes an operand of a precedence: a chain of the next precedence, or behind the last an atom.
+    #[cycle(parsing)]
+    #[tactic(auto, unfolding(crate::specs::language::Reading::ranked_from))]
+    fn operand(&mut self, levels: usize, precedence: Precedence) -> Result<Node, ExprFault>
+        ensures { Reads (λ all names.
+            ranked_from (atom_from (expr_in all levels) names all) (closer precedence))
+            self.old result self.new }
+    {
+        match precedence {
+            Precedence::Comparison => self.chain(levels, Precedence::Join),
+            Precedence::Join => self.chain(levels, Precedence::Sum),
+            Precedence::Sum => self.chain(levels, Precedence::Product),
+            Precedence::Product => self.atom(levels),
+        }
+    }
+
+    /// Passes the operands behind the first, each with its operator, and answers their trees.
+    #[cycle(parsing)]
+    #[tactic(auto, using(crate::proofs::language::Parts::goes_on, crate::proofs::language::Parts::stopped, crate::proofs::language::Parts::failed, crate::proofs::language::Parts::ends, crate::proofs::language::Parts::shorter, crate::proofs::language::Agree::other_shortens))]
+    fn others(
+        &mut self,
+        levels: usize,
+        precedence: Precedence,
+    ) -> Result<Vec<(Operator, Node)>, ExprFault>
+        ensures { ReadsAs (λ others. others.items) (λ all names. further_from
+            (syntax.takes_one precedence) (reading.is_operator_of precedence)
+            (other_from precedence
+            (ranked_from (atom_from (expr_in all levels) names all) (closer precedence))) [])
+            self.old result self.new }
+    {
+        let mut others = Vec::new(self.alloc());
+        while self.goes_on(precedence) {
+            let other = self.other(levels, precedence)?;
+            others.push(other)?;
+            if takes_one(precedence) {
+                return Ok(others);
+            }
+        }
+        Ok(others)
+    }
+
+    /// Passes an operator and the operand behind it.
+    #[cycle(parsing)]
+    #[tactic(auto, unfolding(crate::specs::language::Reading::other_from))]
+    fn other(
+        &mut self,
+        levels: usize,
+        precedence: Precedence,
+    ) -> Result<(Operator, Node), ExprFault>
+        ensures { Reads (λ all names. other_from precedence
+            (ranked_from (atom_from (expr_in all levels) names all) (closer precedence)))
+            self.old result self.new }
+    {
+        let operator = self.operator(precedence)?;
+        let operand = self.operand(levels, precedence)?;
+        Ok((operator, operand))
+    }
+
+    /// Passes what no operator takes apart, whose parts have at most so many levels.
+    #[cycle(parsing)]
+    #[tactic(auto, unfolding(crate::specs::language::Reading::atom_from))]
+    fn atom(&mut self, levels: usize) -> Result<Node, ExprFault>
+        ensures { Reads (λ all names. atom_from (expr_in all levels) names all)
+            self.old result self.new }
+    {
+        match self.front_atom() {
+            Atom::Parenthesized => self.parenthesized(levels),
+            Atom::List => self.list(levels),
+            Atom::Table => self.table(),
+            Atom::Call => self.call(levels),
+            Atom::Operand => self.operand_alone(),
+        }
+    }
+
+    /// Passes an operand of one token: a number, a text, a bound name or an occurrence.
+    fn operand_alone(&mut self) -> Result<Node, ExprFault>
+        ensures { Reads (λ all names. reading.token_as (syntax.operand_of all names))
+            self.old result self.new }
+    {
+        match self.peek() {
+            Some(Token::Number(number)) => {
+                self.bump();
+                Ok(Node::Literal(Literal::number(number)))
+            }
+            Some(Token::Text(body)) => {
+                let text = unescaped(self.alloc(), body)?;
+                self.bump();
+                Ok(Node::Literal(Literal::text(text)))
+            }
+            Some(Token::Name(name)) => self.bound_operand(name),
+            Some(Token::Occurrence(place, attr)) => {
+                Ok(Node::Occurrence(self.take_occurrence(place, attr)?))
+            }
+            _ => Err(self.refusal()),
+        }
+    }
+
+    /// Passes the bound name in front.
+    fn bound_operand(&mut self, name: &'t str) -> Result<Node, ExprFault>
+        requires { front (input self.old) ≡ Some (token.Name name.now) }
+        ensures { Reads (λ all names. reading.token_as (syntax.operand_of all names))
+            self.old result self.new }
+    {
+        match bound(name, self.place_of(name)) {
+            Some(node) => {
+                self.bump();
+                Ok(node)
+            }
+            None => Err(self.refusal()),
+        }
+    }
+
+    /// Passes an expression in parentheses.
+    #[cycle(parsing)]
+    #[tactic(auto, unfolding(crate::specs::language::Reading::parenthesized_from))]
+    fn parenthesized(&mut self, levels: usize) -> Result<Node, ExprFault>
+        ensures { Reads (λ all. reading.parenthesized_from (expr_in all levels))
+            self.old result self.new }
+    {
+        self.expect(Punctuation::Open)?;
+        let inner = self.expression(levels)?;
+        self.expect(Punctuation::Close)?;
+        Ok(inner)
+    }
+
+    /// Passes an empty table.
+    #[tactic(auto, unfolding(crate::specs::language::Reading::table_from))]
+    fn table(&mut self) -> Result<Node, ExprFault>
+        ensures { Reads (λ _ _. reading.table_from) self.old result self.new }
+    {
+        self.expect(Punctuation::OpenTable)?;
+        self.expect(Punctuation::CloseTable)?;
+        Ok(Node::EmptyTable)
+    }
+
+    /// Passes a list.
+    #[cycle(parsing)]
+    #[tactic(auto, unfolding(crate::specs::language::Reading::list_from, crate::specs::language::Reading::none_from,))]
+    fn list(&mut self, levels: usize) -> Result<Node, ExprFault>
+        ensures { Reads (λ all. reading.list_from (expr_in all levels)) self.old result self.new }
+    {
+        self.expect(Punctuation::OpenList)?;
+        if self.sees(Punctuation::CloseList) {
+            self.expect(Punctuation::CloseList)?;
+            return Ok(Node::List(Items::from_vec(Vec::new(self.alloc()))));
+        }
+        self.some_items(levels)
+    }
+
+    /// Passes one item or more, and the sign that closes their list.
+    #[cycle(parsing)]
+    #[tactic(auto, unfolding(crate::specs::language::Reading::some_from))]
+    fn some_items(&mut self, levels: usize) -> Result<Node, ExprFault>
+        ensures { Reads (λ all. reading.some_from (expr_in all levels)) self.old result self.new }
+    {
+        let first = self.expression(levels)?;
+        let items = self.items(levels, first)?;
+        self.expect(Punctuation::CloseList)?;
+        Ok(Node::List(Items::from_vec(items)))
+    }
+
+    /// Passes the items behind the first, and answers all.
+    #[cycle(parsing)]
+    #[tactic(auto, using(crate::proofs::language::Parts::goes_on, crate::proofs::language::Parts::stopped, crate::proofs::language::Parts::failed, crate::proofs::language::Parts::ends, crate::proofs::language::Parts::shorter, crate::proofs::language::Agree::next_shortens), unfolding(crate::specs::language::Reading::items_from))]
+    fn items(&mut self, levels: usize, first: Node) -> Result<Vec<Node>, ExprFault>
+        ensures { ReadsAs (λ items. items.items)
+            (λ all names. reading.items_from (expr_in all levels) names first)
+            self.old result self.new }
+    {
+        let mut items = Vec::new(self.alloc());
+        items.push(first)?;
+        while self.sees(Punctuation::Comma) {
+            let item = self.next(levels)?;
+            items.push(item)?;
+        }
+        Ok(items)
+    }
+
+    /// Passes a comma and the expression behind it.
+    #[cycle(parsing)]
+    #[tactic(auto, unfolding(crate::specs::language::Reading::next_from))]
+    fn next(&mut self, levels: usize) -> Result<Node, ExprFault>
+        ensures { Reads (λ all. reading.next_from (expr_in all levels)) self.old result self.new }
+    {
+        self.expect(Punctuation::Comma)?;
+        self.expression(levels)
+    }
+
+    /// Passes a comma and the argument behind it, and answers its tree in a box.
+    #[cycle(parsing)]
+    fn argument(&mut self, levels: usize) -> Result<Boxed<Node>, ExprFault>
+        ensures { Reads (λ all. reading.next_from (expr_in all levels)) self.old result self.new }
+    {
+        let tree = self.next(levels)?;
+        Ok(Boxed::new(self.alloc(), tree)?)
+    }
+
+    /// Passes a call.
+    #[cycle(parsing)]
+    #[tactic(auto, unfolding(crate::specs::language::Reading::call_from))]
+    fn call(&mut self, levels: usize) -> Result<Node, ExprFault>
+        ensures { Reads (λ all. reading.call_from (expr_in all levels)) self.old result self.new }
+    {
+        let call = self.called()?;
+        self.expect(Punctuation::Open)?;
+        match call {
+            Call::Unary(call) => self.unary(levels, call),
+            Call::Binary(call) => self.binary(levels, call),
+            Call::Put => self.put(levels),
+        }
+    }
+
+    /// Passes the argument of a call of one, and the closing parenthesis.
+    #[cycle(parsing)]
+    #[tactic(auto, unfolding(crate::specs::language::Reading::unary_from))]
+    fn unary(&mut self, levels: usize, call: UnaryCall) -> Result<Node, ExprFault>
+        ensures { Reads (λ all names. reading.unary_from (expr_in all levels) names call)
+            self.old result self.new }
+    {
+        let only = self.boxed(levels)?;
+        self.expect(Punctuation::Close)?;
+        Ok(Node::Unary(call, only))
+    }
+
+    /// Passes the arguments of a call of two, and the closing parenthesis.
+    #[cycle(parsing)]
+    #[tactic(auto, unfolding(crate::specs::language::Reading::binary_from))]
+    fn binary(&mut self, levels: usize, call: BinaryCall) -> Result<Node, ExprFault>
+        ensures { Reads (λ all names. reading.binary_from (expr_in all levels) names call)
+            self.old result self.new }
+    {
+        let first = self.boxed(levels)?;
+        let second = self.argument(levels)?;
+        self.expect(Punctuation::Close)?;
+        Ok(Node::Binary(call, first, second))
+    }
+
+    /// Passes the arguments of `put`, and the closing parenthesis.
+    #[cycle(parsing)]
+    #[tactic(auto, unfolding(crate::specs::language::Reading::put_from))]
+    fn put(&mut self, levels: usize) -> Result<Node, ExprFault>
+        ensures { Reads (λ all. reading.put_from (expr_in all levels)) self.old result self.new }
+    {
+        let table = self.boxed(levels)?;
+        let key = self.argument(levels)?;
+        let value = self.argument(levels)?;
+        self.expect(Punctuation::Close)?;
+        Ok(Node::Put(table, key, value))
+    }
 }

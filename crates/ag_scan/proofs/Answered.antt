@@ -12,9 +12,9 @@ use Rattle.std.specs.Str.Lossy.{utf8_valid_len}
 use Rattle.ag_grammar.specs.Lists.{Has}
 use Rattle.ag_grammar.specs.declared.grammar.Terminal.TheVariants.{Literal}
 use Rattle.ag_grammar.specs.grammars.Tree.{most_token_bytes}
-use Rattle.ag_expr.specs.language.Left.{StartsPlain, unspaced}
-use Rattle.ag_expr.specs.language.Tokens.{is_separator, width}
-use Rattle.ag_expr.proofs.language.Lexed.{width-append, width-chars, plain_behind, separator_width}
+use Rattle.ag_tokens.specs.Left.{StartsPlain, unspaced}
+use Rattle.ag_tokens.specs.Tokens.{is_separator, width}
+use Rattle.ag_tokens.proofs.Lexed.{width-append, width-chars, plain_behind, separator_width}
 use Rattle.ag_scan.specs.Cutting.{Front, CutsLiteral, CutsToken, class_from}
 use Rattle.ag_scan.specs.Laws.{IsAnswer, AnAnswer}
 use Rattle.ag_scan.specs.Tokens.{most_sentence_bytes, AreTokens, ended, separator, word, Reaches, IsReadable, NoTokenAt, LongTokenAt}

@@ -2,8 +2,8 @@
 use Rattle.std.proofs.Common.{◌≡◌, ℕ, ◌+◌, ◌<◌, ◌≤◌, true, false, nat_lt, List, [], ◌∷◌, ◌++◌, length, Option, Some, None, refl, ap, sym, ◌∙◌, subst, arith, option_map, MatchOption}
 use Rattle.std.proofs.lemmas.Str.{len_utf8_bounds}
 use Rattle.ag_grammar.specs.declared.grammar.Terminal.TheVariants.{Literal, Class}
-use Rattle.ag_expr.specs.language.Tokens.{width}
-use Rattle.ag_expr.proofs.language.Lexed.{width-append}
+use Rattle.ag_tokens.specs.Tokens.{width}
+use Rattle.ag_tokens.proofs.Lexed.{width-append}
 use Rattle.ag_scan.specs.Words.{Vocabulary, over, IsLiteral, IsClassed, IsAnyWord, IsLongest, BeginsNone, IsToken}
 use Rattle.ag_scan.specs.declared.front.Front as lent
 use Rattle.ag_scan.specs.Cutting.{Front, CutsLiteral, CutsToken, front_of, class_from}

@@ -11,10 +11,10 @@ use Rattle.unicode_ident.specs.Ident.{is_xid_start, is_xid_continue}
 use Rattle.unicode_ident.proofs.IdentLemmas.{is_xid_continue-ascii, is_xid_start-is_xid_continue}
 use Rattle.ag_grammar.specs.Lists.{Has}
 use Rattle.ag_grammar.specs.declared.grammar.Terminal.TheVariants.{Class}
-use Rattle.ag_expr.specs.language.Tokens.{starts_name, IsName, IsDigits}
-use Rattle.ag_expr.proofs.language.Fronts.{front_passes, front_reaches, front_ends}
-use Rattle.ag_expr.proofs.language.TokenLaws.{no_start}
-use Rattle.ag_scan.specs.Words.{is_quotable, IsWordOfClass, IsClassed, IsLongest, BeginsNone}
+use Rattle.ag_tokens.specs.Tokens.{is_quotable, starts_name, IsName, IsDigits}
+use Rattle.ag_tokens.proofs.Fronts.{front_passes, front_reaches, front_ends}
+use Rattle.ag_tokens.proofs.TokenLaws.{no_start}
+use Rattle.ag_scan.specs.Words.{IsWordOfClass, IsClassed, IsLongest, BeginsNone}
 use Rattle.ag_scan.specs.Cutting.{Front, front_in, back_of, span_from, closed, text_from, uses, class_from}
 
 -- The word of a class is cut from the front of the characters, the longest that stands there.

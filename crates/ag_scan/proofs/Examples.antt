@@ -5,11 +5,11 @@ use Rattle.std.specs.Str.{chars}
 use Rattle.unicode_ident.proofs.IdentLemmas.{is_xid_start-ascii, is_xid_continue-ascii}
 use Rattle.ag_grammar.specs.declared.grammar.Terminal.TheVariants.{Literal, Class}
 use Rattle.ag_grammar.specs.grammars.Tree.{most_token_bytes}
-use Rattle.ag_expr.specs.language.Tokens.{width, starts_name}
+use Rattle.ag_tokens.specs.Tokens.{width, starts_name}
 use Rattle.ag_grammar.proofs.grammars.Members.{both, only}
-use Rattle.ag_expr.proofs.language.Lexed.{width-append}
+use Rattle.ag_tokens.proofs.Lexed.{width-append}
 use Rattle.std.specs.Char.{is_ascii_digit}
-use Rattle.ag_expr.proofs.language.TokenLaws.{no_start}
+use Rattle.ag_tokens.proofs.TokenLaws.{no_start}
 use Rattle.ag_scan.specs.Cutting.{CutsLiteral, CutsToken, class_from}
 use Rattle.ag_scan.specs.Tokens.{AreTokens, ended, separator, word}
 use Rattle.ag_scan.specs.Words.{Vocabulary, over, IsLiteral, IsLongest, BeginsNone}

@@ -8,5 +8,4 @@ pub mod Listing
 pub mod LiteralWords
 pub mod OneAnswer
 pub mod Orders
-pub mod Spans
 pub mod Tables

@@ -7,9 +7,9 @@ use Rattle.ag_grammar.specs.Lists.{Each}
 use Rattle.ag_grammar.specs.declared.grammar.Terminal.{Terminal}
 use Rattle.ag_grammar.specs.declared.grammar.Terminal.TheVariants.{Literal, Class}
 use Rattle.ag_grammar.specs.grammars.Tree.{most_token_bytes}
-use Rattle.ag_expr.specs.language.Left.{StartsPlain, unspaced}
-use Rattle.ag_expr.specs.language.Tokens.{is_separator, width}
-use Rattle.ag_expr.proofs.language.Lexed.{width-append, width-chars, spaces, plain_behind}
+use Rattle.ag_tokens.specs.Left.{StartsPlain, unspaced}
+use Rattle.ag_tokens.specs.Tokens.{is_separator, width}
+use Rattle.ag_tokens.proofs.Lexed.{width-append, width-chars, spaces, plain_behind}
 use Rattle.ag_scan.specs.Words.{Vocabulary, HasNoEmpty, IsAnyWord, BeginsNone, IsWord, IsWordOfClass}
 use Rattle.ag_scan.specs.Cutting.{Front, CutsToken}
 use Rattle.ag_scan.specs.Tokens.{most_sentence_bytes, AreTokens, ended, separator, word, Reaches, AreTokensOf, IsRefused, IsStopped, IsTokenOf, FitAll, TakesToken, NoTokenAt}

@@ -5,7 +5,7 @@ use Rattle.std.proofs.lemmas.Str.{chars-append, encodes-chars, encodes-append, l
 use Rattle.std.proofs.Math.Seq.{drop-append_seam, take-append_seam}
 use Rattle.std.specs.Str.{IsCharBoundary}
 use Rattle.ag_grammar.specs.declared.grammar.Terminal.TheVariants.{Literal}
-use Rattle.ag_expr.specs.language.Tokens.{width}
+use Rattle.ag_tokens.specs.Tokens.{width}
 use Rattle.ag_scan.specs.declared.literals.Word.{Word}
 use Rattle.ag_scan.specs.Cutting.{CutsLiteral}
 use Rattle.ag_scan.specs.Table.{IsFront, IsLongestFront, HasNoFront}

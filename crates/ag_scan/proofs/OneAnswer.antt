@@ -14,8 +14,8 @@ use Rattle.ag_grammar.specs.declared.grammar.Terminal.TheVariants.{Literal, Clas
 use Rattle.ag_grammar.specs.grammars.Accepted.{IsAccepted, IsSeparator}
 use Rattle.ag_grammar.specs.grammars.AttributeGrammar.{Grammar}
 use Rattle.ag_grammar.specs.grammars.Tree.{most_token_bytes}
-use Rattle.ag_expr.specs.language.Tokens.{is_separator, starts_name, width}
-use Rattle.ag_expr.proofs.language.TokenLaws.{no_start}
+use Rattle.ag_tokens.specs.Tokens.{is_separator, starts_name, width}
+use Rattle.ag_tokens.proofs.TokenLaws.{no_start}
 use Rattle.ag_scan.specs.Laws.{IsAnswer, AtMostOneAnswer}
 use Rattle.ag_scan.specs.Tokens.{most_sentence_bytes, AreTokens, ended, separator, word, AreShort, Reaches, IsReadable, HasLongToken}
 use Rattle.ag_scan.specs.Words.{Vocabulary, vocabulary_of, HasNoEmpty, IsWordOfClass, IsWord, IsAnyWord, BeginsNone, LiteralWins, IsToken}

@@ -1,29 +1,19 @@
 -- Cutting the word of a class from the front of characters: the plain function, which agrees with the definition of words.
-use Rattle.std.specs.Prelude.{◌≡◌, ℕ, Bool, true, cond, ◌==◌, List, [], ◌∷◌, ◌++◌, take, drop, Option, Some, None, slice_get, chars, encode_utf8, encode_utf8_all}
-use Rattle.std.specs.Borrow.{Bor}
+use Rattle.std.specs.Prelude.{◌≡◌, ℕ, Bool, cond, ◌==◌, List, [], ◌∷◌, ◌++◌, take, drop, Option, Some, None, slice_get, chars, encode_utf8_all}
 use Rattle.std.specs.Char.{is_ascii_digit}
 use Rattle.std.specs.List.{prefix_len, list_any}
 use Rattle.unicode_ident.specs.Ident.{is_xid_continue}
 use Rattle.ag_grammar.specs.declared.grammar.Terminal.{Terminal}
 use Rattle.ag_grammar.specs.declared.grammar.Terminal.TheVariants.{Literal, Class}
-use Rattle.ag_expr.specs.language.Tokens.{is_separator, starts_name}
-use Rattle.ag_scan.specs.declared.front.Span.{Span}
-use Rattle.ag_scan.specs.declared.front.Span.TheVariants as span
+use Rattle.ag_tokens.specs.Tokens.{is_quotable, starts_name}
 use Rattle.ag_scan.specs.declared.front.Front as lent
-use Rattle.ag_scan.specs.Words.{Vocabulary, is_quotable, IsLiteral, IsLongest, IsToken}
+use Rattle.ag_scan.specs.Words.{Vocabulary, IsLiteral, IsLongest, IsToken}
 
 -- A word that is cut: its terminal, the text that it has, and what stands behind it.
 pub record Front : Type 0 where
   pub kind : Terminal
   pub lex : List ℕ
   pub rest : List ℕ
-
--- the characters of a span
-abbrev pub is_in : Span → ℕ → Bool
-is_in span.Separators = is_separator
-is_in span.Digits = is_ascii_digit
-is_in span.NameParts = is_xid_continue
-is_in span.Quotable = is_quotable
 
 -- the longest front whose characters pass, and what stands behind it
 abbrev pub front_in : (ℕ → Bool) → List ℕ → List ℕ
@@ -59,15 +49,6 @@ class_from classes (c ∷ cs) =
 -- what a lent front is
 abbrev pub front_of : lent.Front → Front
 front_of f = record { kind = f.kind; lex = f.lex.now; rest = chars f.rest.now }
-
--- the text is a character and what stands behind it
-abbrev pub IsSplit : List ℕ → ℕ → List ℕ → Type 0
-IsSplit text c rest = (chars text ≡ c ∷ chars rest) × (text ≡ encode_utf8 c ++ rest)
-
--- what stands behind a first character that passes, and none stands in front where there is nothing
-abbrev pub PassesOne : (ℕ → Bool) → List ℕ → Option (Bor (List ℕ)) → Type 0
-PassesOne p text None = prefix_len p (chars text) ≡ 0
-PassesOne p text (Some rest) = (c : ℕ) × (p c ≡ true) × IsSplit text c rest.now
 
 -- A literal is cut from the front of the characters, the longest that stands there.
 pub record CutsLiteral (literals : List (List ℕ)) (cs : List ℕ) (f : Front) : Type 0 where

@@ -6,7 +6,7 @@ use Rattle.ag_grammar.specs.declared.grammar.Terminal.{Terminal}
 use Rattle.ag_grammar.specs.declared.grammar.Terminal.TheVariants.{Literal, Class}
 use Rattle.ag_grammar.specs.grammars.Accepted.{most_text_bytes}
 use Rattle.ag_grammar.specs.grammars.Tree.{most_token_bytes, IsTokenText}
-use Rattle.ag_expr.specs.language.Tokens.{is_separator, width}
+use Rattle.ag_tokens.specs.Tokens.{is_separator, width}
 use Rattle.ag_scan.specs.Words.{Vocabulary, IsAnyWord, BeginsNone, IsToken}
 use Rattle.ag_scan.specs.declared.fault.ScanFault.{ScanFault}
 use Rattle.ag_scan.specs.declared.fault.ScanFault.TheVariants as fault

@@ -1,11 +1,11 @@
 -- The words of a sentence: what is a word of a literal or of a class. All of this is this project's. A text stands here as the list of its characters.
-use Rattle.std.specs.Prelude.{◌≡◌, ℕ, zero, suc, ◌≤◌, Bool, true, not, ◌||◌, ◌==◌, List, [], ◌∷◌, ◌++◌, length, Some, slice_get, encode_utf8_all}
+use Rattle.std.specs.Prelude.{◌≡◌, ℕ, zero, suc, ◌≤◌, true, List, [], ◌∷◌, ◌++◌, length, Some, slice_get, encode_utf8_all}
 use Rattle.std.specs.List.{list_all}
 use Rattle.ag_grammar.specs.Lists.{Each, Has}
 use Rattle.ag_grammar.specs.declared.grammar.Terminal.{Terminal}
 use Rattle.ag_grammar.specs.declared.grammar.Terminal.TheVariants.{Literal, Class}
 use Rattle.ag_grammar.specs.grammars.AttributeGrammar.{Grammar}
-use Rattle.ag_expr.specs.language.Tokens.{IsDigits, IsName}
+use Rattle.ag_tokens.specs.Tokens.{is_quotable, IsDigits, IsName}
 
 -- What the words are taken from: the texts of the literals by their numbers, and the classes in use.
 pub record Vocabulary : Type 0 where
@@ -18,10 +18,6 @@ over literals classes = record { literals = literals; classes = classes }
 -- the literals of a grammar, and the classes that it uses
 abbrev pub vocabulary_of : Grammar → Vocabulary
 vocabulary_of g = over g.literals g.classes
-
--- what may stand between the quotes of a TEXT: any character but a double quote and LF, and there are no escapes
-abbrev pub is_quotable : ℕ → Bool
-is_quotable c = not (c == 34 || c == 10)
 
 -- The characters are a word of the class, 0 being NAME, 1 NUMBER and 2 TEXT, and `lex` is the text that it has: of a TEXT what stands between its
 -- quotes, of the others the word itself.

@@ -5,7 +5,7 @@ ghost use Rattle.std.specs.Prelude.{◌↔◌, IfOk, IfErr, IsTrue, MatchOption,
 ghost use Rattle.ag_grammar.specs.Lists.{Has};
 ghost use Rattle.ag_grammar.specs.grammars.Accepted.{most_literals};
 ghost use Rattle.ag_grammar.specs.grammars.Tree.{IsTokenText};
-ghost use Rattle.ag_expr.specs.language.Tokens.{width};
+ghost use Rattle.ag_tokens.specs.Tokens.{width};
 ghost use Rattle.ag_scan.specs.Cutting.{CutsLiteral, CutsToken, front_of};
 ghost use Rattle.ag_scan.specs.Table.{IsFront};
 ghost use Rattle.ag_scan.specs.Tokens.{AreTokensOf, FitAll, IsRefused, IsStopped};
@@ -15,11 +15,12 @@ ghost use Rattle.ag_scan.specs.Words.{BeginsNone, HasNoEmpty, IsAnyWord, IsLiter
 ghost use Rattle.ag_scan.specs.Words.{vocabulary_of};
 
 use crate::fault::ScanFault;
-use crate::front::{Front, class_in_front, skip_separators};
+use crate::front::{Front, class_in_front};
 use crate::literals::Literals;
 use crate::token::Token;
 use ag_grammar::limits::{MOST_TEXT_BYTES, MOST_TOKEN_BYTES};
 use ag_grammar::{Grammar, Terminal};
+use ag_tokens::skip_separators;
 use ag_value::Text;
 use std::alloc::Global;
 

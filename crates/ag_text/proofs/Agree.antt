@@ -1,20 +1,21 @@
 -- The laws of the grammar language.
-use Rattle.std.proofs.Common.{◌≡◌, ℕ, Bool, true, false, if◌then◌else◌, List, [], ◌∷◌, ◌++◌, Ok, Err, chars, refl, ap, sym, ◌∙◌, subst, append_assoc, append-nil}
-use Rattle.ag_expr.specs.language.Ending.{Ending}
-use Rattle.ag_expr.specs.language.Ending as ending
-use Rattle.ag_expr.specs.language.Placed.{Placed, Input}
-use Rattle.ag_expr.specs.language.Reading.{is_end}
-use Rattle.ag_expr.proofs.language.Lexes.{one_input}
+use Rattle.std.proofs.Common.{◌≡◌, ℕ, Bool, true, false, if◌then◌else◌, List, [], ◌∷◌, ◌++◌, map, Ok, Err, ◌⊎◌, inl, inr, chars, refl, ap, sym, ◌∙◌, subst, append_assoc, append-nil}
+use Rattle.ag_tokens.specs.Ending.{Ending}
+use Rattle.ag_tokens.specs.Ending as ending
+use Rattle.ag_tokens.specs.Placed.{Placed, Input}
+use Rattle.ag_tokens.specs.Parsing as reading
+use Rattle.ag_tokens.specs.Parsing.{is_end, place}
+use Rattle.ag_tokens.proofs.Lexes.{one_input}
 use Rattle.ag_grammar.specs.declared.raw.RawGrammar.{RawGrammar}
 use Rattle.ag_text.specs.Laws.{ReadingAgrees, RefusesAtTheFirst, OneGrammar}
 use Rattle.ag_text.specs.Places.{NoneGoesOn, IsFirstWrong}
-use Rattle.ag_text.specs.Reading as reading
-use Rattle.ag_expr.specs.language.Offsets.{place}
-use Rattle.ag_text.specs.Reading.{Outcome, grammar_from, grammar_of}
+use Rattle.ag_text.specs.Reading.{Outcome, at_end, grammar_from, grammar_of}
 use Rattle.ag_text.specs.declared.stop.Stop.TheVariants.{WrongAt}
 use Rattle.ag_text.specs.Syntax.{IsGrammar}
-use Rattle.ag_text.proofs.Grammars.{grammar_complete, grammar_steady}
-use Rattle.ag_text.proofs.Steady.{Found, Refused, before, first, first_of, opened, answered}
+use Rattle.ag_text.proofs.Grammars.{grammar_exact, grammar_steady}
+use Rattle.ag_tokens.proofs.Exact.{before, opened, answered}
+use Rattle.ag_tokens.proofs.Steady.{Deep, Refused, Stuck, first, first_of}
+use Rattle.ag_text.proofs.Manner.{itself, manner}
 
 end_left : (e : Ending) (ps : List Placed) → is_end e ps ≡ true → ps ≡ []
 end_left e [] h = refl
@@ -44,13 +45,13 @@ pub sound : (at : ℕ) (ps : List Placed) (j : Input) (raw : RawGrammar) → gra
 sound at ps j raw h =
     let i : Input = record { left = ps; ending = ending.EndsAt at } in
     let whole = whole_of i j raw h in
-    let found = (grammar_steady.at i).ok j raw whole.read in
+    let found = grammar_exact.sound i j raw whole.read in
     let last = end_left j.ending j.left whole.ends in
-    let all : ps ≡ found.us = ap (λ (k : Input). k.left) found.cut ∙ ap (λ qs. found.us ++ qs) last ∙ append-nil found.us in
-    subst (λ qs. IsGrammar qs raw) (sym all) found.is
+    let all : ps ≡ map (λ p. p) found.0 = ap (λ (k : Input). k.left) found.1 ∙ ap (λ qs. found.0 ++ qs) last ∙ append-nil found.0 ∙ sym (itself found.0) in
+    subst (λ qs. IsGrammar qs raw) (sym all) found.2
 
 read_whole : (e : Ending) (ps : List Placed) (raw : RawGrammar) → IsGrammar ps raw → grammar_from (record { left = ps; ending = e }) ≡ Ok (raw, record { left = []; ending = e })
-read_whole e ps raw is = ap (λ qs. grammar_from (record { left = qs; ending = e })) (sym (append-nil ps)) ∙ grammar_complete.read ps (record { left = []; ending = e }) raw is refl
+read_whole e ps raw is = ap (λ qs. grammar_from (record { left = qs; ending = e })) (sym (append-nil ps)) ∙ grammar_exact.complete ps (record { left = []; ending = e }) raw (subst (λ qs. IsGrammar qs raw) (sym (itself ps)) is) refl
 
 pub complete : (at : ℕ) (ps : List Placed) (raw : RawGrammar) → IsGrammar ps raw → grammar_of (record { left = ps; ending = ending.EndsAt at }) ≡ Ok (raw, record { left = []; ending = ending.EndsAt at })
 unfolding grammar_of
@@ -82,34 +83,42 @@ nothing : (qs : List Placed) (p : Placed) (ps : List Placed) → first_of qs ≡
 nothing [] p ps h e = cc
 nothing (q ∷ qs) p ps h e = cc
 
-refused : (i : Input) (at : ℕ) → Refused IsGrammar grammar_from i at → IsFirstWrong i at
-refused i at x =
-    let ends : i.ending ≡ x.j.ending = ap (λ (k : Input). k.ending) x.cut in
-    record {
-      before = x.us;
-      rest = x.j.left;
-      cut = ap (λ (k : Input). k.left) x.cut;
-      start = (x.rest, x.a, x.begins);
-      says = rw ends x.there;
-      none = none_goes_on x.us i.ending x.j.left (λ k same raw read. let stuck = x.stuck k same in let clash = sym stuck.1 ∙ read in cc);
-    }
+refused : (i : Input) (at : ℕ) → Refused manner IsGrammar grammar_from grammar_from i (WrongAt at) → IsFirstWrong i at
+refused i at x = go x.how
+  where
+    ends : i.ending ≡ x.j.ending
+    ends = ap (λ (k : Input). k.ending) x.cut
+
+    go : Stuck manner grammar_from x.us x.j (WrongAt at) ⊎ Deep manner grammar_from x.us x.j (WrongAt at) x.rest → IsFirstWrong i at
+    go (inr (p, ps, l, deep, heads, more)) = let bad : ⊥ = cc in absurd bad
+    go (inl (says, stuck)) =
+        let there : at ≡ place x.j = cc in
+        record {
+          before = x.us;
+          rest = x.j.left;
+          cut = ap (λ (k : Input). k.left) x.cut;
+          start = (x.rest, x.a, subst (λ qs. IsGrammar (qs ++ x.rest) x.a) (itself x.us) x.begins);
+          says = rw ends there;
+          none = none_goes_on x.us i.ending x.j.left (λ k same raw read. let clash = sym (stuck k same) ∙ read in cc);
+        }
 
 -- a whole grammar, and more behind it
-followed : (i j : Input) (raw : RawGrammar) → Found IsGrammar grammar_from i j raw → is_end j.ending j.left ≡ false → IsFirstWrong i (place j)
-followed i j raw x open_end =
-    let ends : i.ending ≡ j.ending = ap (λ (k : Input). k.ending) x.cut in
+followed : (i j : Input) (raw : RawGrammar) → grammar_from i ≡ Ok (raw, j) → is_end j.ending j.left ≡ false → IsFirstWrong i (place j)
+followed i j raw read open_end =
+    let x = (grammar_steady.at i).ok j raw read in
+    let ends : i.ending ≡ j.ending = ap (λ (k : Input). k.ending) x.1 in
     record {
-      before = x.us;
+      before = x.0;
       rest = j.left;
-      cut = ap (λ (k : Input). k.left) x.cut;
-      start = ([], raw, subst (λ qs. IsGrammar qs raw) (sym (append-nil x.us)) x.is);
+      cut = ap (λ (k : Input). k.left) x.1;
+      start = ([], raw, subst (λ qs. IsGrammar qs raw) (itself x.0 ∙ sym (append-nil x.0)) x.2);
       says = rw ends refl;
-      none = go j.left j.ending ends open_end x.again;
+      none = go x.0 j.left j.ending ends open_end (λ k h. (x.3 k h).0);
     }
   where
-    go : (ps : List Placed) (e : Ending) → i.ending ≡ e → is_end e ps ≡ false → ((k : Input) → first k ≡ first (record { left = ps; ending = e }) → grammar_from (before x.us k) ≡ Ok (raw, k)) → NoneGoesOn x.us i.ending ps
-    go [] e same open_end again = λ at is raw all. let bad : is_end (ending.EndsAt at) [] ≡ false = subst (λ y. is_end y [] ≡ false) (sym same ∙ is) open_end in let never : ⊥ = cc in never
-    go (p ∷ ps) e same open_end again = none_goes_on x.us i.ending (p ∷ ps) (λ k first_same other read. nothing k.left p ps first_same (ap (λ (l : Input). l.left) (answered raw other k _ (sym (again k first_same) ∙ read)).1))
+    go : (us ps : List Placed) (e : Ending) → i.ending ≡ e → is_end e ps ≡ false → ((k : Input) → first k ≡ first (record { left = ps; ending = e }) → grammar_from (before us k) ≡ Ok (raw, k)) → NoneGoesOn us i.ending ps
+    go us [] e same open_end again = λ at is raw all. let bad : is_end (ending.EndsAt at) [] ≡ false = subst (λ y. is_end y [] ≡ false) (sym same ∙ is) open_end in let never : ⊥ = cc in never
+    go us (p ∷ ps) e same open_end again = none_goes_on us i.ending (p ∷ ps) (λ k first_same other read. nothing k.left p ps first_same (ap (λ (l : Input). l.left) (answered raw other k _ (sym (again k first_same) ∙ read)).1))
 
 pub refuses_at_the_first : RefusesAtTheFirst
 unfolding grammar_of
@@ -117,8 +126,8 @@ refuses_at_the_first i at h = go (grammar_from i) refl h
   where
     behind : (j : Input) (raw : RawGrammar) → grammar_from i ≡ Ok (raw, j) → (b : Bool) → is_end j.ending j.left ≡ b → reading.and_then {A = Unit {0}} (if b then Ok (tt {0}, j) else Err (WrongAt (place j))) (λ u. reading.pure raw) ≡ Err (WrongAt at) → IsFirstWrong i at
     behind j raw read true e h = let bad : ⊥ = cc in absurd bad
-    behind j raw read false e h = let same : place j ≡ at = cc in subst (IsFirstWrong i) same (followed i j raw ((grammar_steady.at i).ok j raw read) e)
+    behind j raw read false e h = let same : place j ≡ at = cc in subst (IsFirstWrong i) same (followed i j raw read e)
 
-    go : (o : Outcome RawGrammar) → grammar_from i ≡ o → reading.and_then o (λ g. reading.◌>>◌ reading.at_end (reading.pure g)) ≡ Err (WrongAt at) → IsFirstWrong i at
+    go : (o : Outcome RawGrammar) → grammar_from i ≡ o → reading.and_then o (λ g. reading.◌>>◌ at_end (reading.pure g)) ≡ Err (WrongAt at) → IsFirstWrong i at
     go (Ok (raw, j)) read h = behind j raw read (is_end j.ending j.left) refl h
-    go (Err s) read h = let same : s ≡ WrongAt at = cc in refused i at ((grammar_steady.at i).err at (read ∙ ap Err same))
+    go (Err s) read h = let same : s ≡ WrongAt at = cc in refused i at ((grammar_steady.at i).err (WrongAt at) refl (read ∙ ap Err same))

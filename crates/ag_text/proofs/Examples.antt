@@ -3,26 +3,26 @@ use Rattle.std.proofs.Common.{◌≡◌, ℕ, List, [], ◌∷◌, ◌++◌, Som
 use Rattle.std.proofs.lemmas.Str.{encode_ascii}
 use Rattle.std.specs.Str.{chars}
 use Rattle.unicode_ident.proofs.IdentLemmas.{is_xid_start-ascii, is_xid_continue-ascii}
-use Rattle.ag_expr.specs.declared.token.Punctuation.TheVariants as punctuation
-use Rattle.ag_expr.specs.language.Ending as ending
-use Rattle.ag_expr.specs.language.Lexing.{token_from}
-use Rattle.ag_expr.specs.language.Placed.{Placed, Input}
+use Rattle.ag_tokens.specs.declared.token.Punctuation.TheVariants as punctuation
+use Rattle.ag_tokens.specs.Ending as ending
+use Rattle.ag_tokens.specs.Lexing.{token_from}
+use Rattle.ag_tokens.specs.Placed.{Placed, Input}
 use Rattle.ag_expr.specs.language.Reading.{expr_of, expr_in, whole_from, ranked_from, chain_from, atom_from}
-use Rattle.ag_expr.specs.language.Reading as expr_reading
-use Rattle.ag_expr.specs.language.Token as token
-use Rattle.ag_expr.specs.language.Tokens.{AreTokens, ended, separator, Lexes}
-use Rattle.ag_expr.proofs.language.Lexed.{one_more}
-use Rattle.ag_expr.proofs.language.Lexes.{one_input}
-use Rattle.ag_expr.proofs.language.TokenLaws.{no_start, punctuation_cut}
+use Rattle.ag_tokens.specs.Parsing.{many_from}
+use Rattle.ag_tokens.specs.Token as token
+use Rattle.ag_tokens.specs.Tokens.{AreTokens, ended, separator, Lexes}
+use Rattle.ag_tokens.proofs.Lexed.{one_more}
+use Rattle.ag_tokens.proofs.Lexes.{one_input}
+use Rattle.ag_tokens.proofs.TokenLaws.{no_start, punctuation_cut}
 use Rattle.ag_text.specs.Grammar.{ReadsAsGrammar, ReadsAsNone}
-use Rattle.ag_text.specs.Reading.{many_from, further_from, names_from, section_from, attributes_from, symbol_from, ended_expr_from, rule_from, production_from, grammar_from, grammar_of}
+use Rattle.ag_text.specs.Reading.{next_name_from, names_from, section_from, attributes_from, symbol_from, ended_expr_from, rule_from, production_from, grammar_from, grammar_of}
 use Rattle.ag_text.specs.declared.stop.Stop.TheVariants.{WrongAt}
 use Rattle.ag_text.specs.Syntax.{IsGrammar}
 use Rattle.ag_text.specs.Worked.{name_at, mark_at, start_tokens, start_alone, constant_tokens, constant}
 use Rattle.ag_text.proofs.Agree.{reading_agrees}
 
 constant_is_read : grammar_of (record { left = constant_tokens; ending = ending.EndsAt 57 }) ≡ Ok (constant, record { left = []; ending = ending.EndsAt 57 })
-unfolding grammar_of grammar_from many_from symbol_from attributes_from section_from names_from further_from production_from rule_from ended_expr_from expr_of expr_in whole_from ranked_from chain_from atom_from expr_reading.many_from
+unfolding grammar_of grammar_from many_from symbol_from attributes_from section_from names_from next_name_from production_from rule_from ended_expr_from expr_of expr_in whole_from ranked_from chain_from atom_from
 constant_is_read = refl
 
 pub constant_is_spelled : IsGrammar constant_tokens constant

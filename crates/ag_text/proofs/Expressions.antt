@@ -1,28 +1,32 @@
 -- The expression of a rule, up to its `;`, is read as the expression language reads it.
-use Rattle.std.proofs.Common.{◌≡◌, ℕ, pos, Bool, true, false, cond, List, [], ◌∷◌, ◌++◌, Option, Some, None, Result, Ok, Err, refl, ap, sym, ◌∙◌, subst, append_assoc}
+use Rattle.std.proofs.Common.{◌≡◌, ◌≢◌, ℕ, pos, Bool, true, false, cond, List, [], ◌∷◌, ◌++◌, map, Option, Some, None, Result, Ok, Err, refl, ap, sym, ◌∙◌, subst, append_assoc}
 use Rattle.ag_expr.specs.declared.fault.ExprFault.{ExprFault}
+use Rattle.ag_expr.specs.declared.fault.ExprFault.TheVariants as fault
 use Rattle.ag_grammar.specs.declared.node.Node.{Node}
 use Rattle.ag_grammar.specs.declared.node.Node.TheVariants as node
 use Rattle.ag_grammar.specs.declared.occurrence.Occ.{Occ}
-use Rattle.ag_expr.specs.declared.token.Punctuation.TheVariants as punctuation
+use Rattle.ag_tokens.specs.declared.token.Punctuation.TheVariants as punctuation
 use Rattle.ag_value.specs.declared.value.Value.TheVariants as value
-use Rattle.ag_expr.specs.language.Ending.{Ending}
-use Rattle.ag_expr.specs.language.Ending as ending
+use Rattle.ag_tokens.specs.Ending.{Ending}
+use Rattle.ag_tokens.specs.Ending as ending
 use Rattle.ag_expr.specs.language.Expression.{max_levels}
-use Rattle.ag_expr.specs.language.Placed.{Placed, Input}
+use Rattle.ag_tokens.specs.Placed.{Placed, Input}
 use Rattle.ag_expr.specs.language.Places.{answer_of, occurrences_of, read_from}
+use Rattle.ag_tokens.specs.Parsing.{many_from}
 use Rattle.ag_expr.specs.language.Reading as expr_reading
-use Rattle.ag_expr.specs.language.Reading.{ending_fault, expr_of, expr_in, whole_from, ranked_from, chain_from, atom_from, many_from}
-use Rattle.ag_expr.specs.language.Token.{Token}
-use Rattle.ag_expr.specs.language.Token as token
+use Rattle.ag_expr.specs.language.Reading.{ending_fault, expr_of, expr_in, whole_from, ranked_from, chain_from, atom_from}
+use Rattle.ag_tokens.specs.Token.{Token}
+use Rattle.ag_tokens.specs.Token as token
 use Rattle.ag_expr.proofs.language.Agree as agree
-use Rattle.ag_expr.specs.language.Until.{Ended, first_semicolon, before_semicolon, with_offset, or_fault, until_by, read_until_from}
-use Rattle.ag_text.specs.Reading.{behind_semicolon, ended, ended_expr_from}
-use Rattle.ag_text.specs.declared.stop.Stop.TheVariants.{WrongAt}
+use Rattle.ag_expr.specs.language.Until.{Ended, behind_semicolon, first_semicolon, before_semicolon, with_offset, or_fault, until_by, read_until_from}
+use Rattle.ag_text.specs.Reading.{ended, ended_expr_from}
+use Rattle.ag_text.specs.declared.stop.Stop.{Stop}
+use Rattle.ag_text.specs.declared.stop.Stop.TheVariants.{InExpr, NoMemory}
+use Rattle.ag_text.specs.Passing.{stop_of}
 use Rattle.ag_text.specs.Syntax.{IsOwnExpr, IsEndedExpr}
 use Rattle.ag_text.specs.Words.{some_where, is_mark, mark_in}
-use Rattle.ag_text.proofs.Complete.{Complete, nowhere, anywhere}
-use Rattle.ag_text.proofs.Steady.{Found, Steady, before, front_is}
+use Rattle.ag_tokens.proofs.Exact.{anywhere, before, first_is, nowhere}
+use Rattle.ag_text.proofs.Manner.{Exact, Steady, itself, manner}
 
 -- ---- tokens up to a `;`
 
@@ -106,45 +110,57 @@ is_semicolon_of t false e u h = let bad : ⊥ = cc in absurd bad
 ended_is : (es : List Placed) (p : Placed) (x : Node × List Occ) → IsOwnExpr es x → is_semicolon p.token ≡ true → IsEndedExpr (es ++ p ∷ []) x
 ended_is es p x is mark = (es, p ∷ [], x, refl, is, (p ∷ [], [], tt, refl, (p, refl, semicolon_is p.at p.token mark), (refl, refl)))
 
-pub ended_complete : Complete nowhere IsEndedExpr ended_expr_from
+complete : (us : List Placed) (j : Input) (x : Node × List Occ) → IsEndedExpr us x → ended_expr_from (before us j) ≡ Ok (x, j)
 unfolding ended_expr_from
-ended_complete = record { read = read }
-  where
-    read : (us : List Placed) (j : Input) (x : Node × List Occ) → IsEndedExpr us x → front_is nowhere j.left ≡ false → ended (before us j) (until_by (first_semicolon (us ++ j.left)) (before us j)) ≡ Ok (x, j)
-    read us j x (es, vs, y, e, is, (ms, ns, u, d, (p, single, sign), (empty, same))) h =
-        let text : us ++ j.left ≡ es ++ p ∷ j.left = rw (e, d, single, empty) (append_assoc es (p ∷ []) j.left) in
-        let cut = find es p j.left is.free (is_semicolon_of p.token (is_semicolon p.token) refl u sign) in
-        let found = own_read p.at es y is in
-        rw (text, cut.at, cut.front, found, cut.back, same) refl
+complete us j x (es, vs, y, e, is, (ms, ns, u, d, (p, single, sign), (empty, same))) =
+    let text : us ++ j.left ≡ es ++ p ∷ j.left = rw (e, d, single, empty) (append_assoc es (p ∷ []) j.left) in
+    let cut = find es p j.left is.free (is_semicolon_of p.token (is_semicolon p.token) refl u sign) in
+    let found = own_read p.at es y is in
+    rw (text, cut.at, cut.front, found, cut.back, same) refl
 
-found_at : (i j : Input) (x : Node × List Occ) (o : Option ℕ) → first_semicolon i.left ≡ o → ended i (until_by o i) ≡ Ok (x, j) → Found IsEndedExpr ended_expr_from i j x
+found_at : (i j : Input) (x : Node × List Occ) (o : Option ℕ) → first_semicolon i.left ≡ o → ended i (until_by o i) ≡ Ok (x, j) → (us : List Placed) × (i ≡ before us j) × IsEndedExpr us x
 found_at i j x None e h = go (read_from i) h
   where
-    go : (r : Result (Node × List Occ) ExprFault) → ended i (or_fault (ending_fault i.ending) r) ≡ Ok (x, j) → Found IsEndedExpr ended_expr_from i j x
+    go : (r : Result (Node × List Occ) ExprFault) → ended i (or_fault (ending_fault i.ending) r) ≡ Ok (x, j) → (us : List Placed) × (i ≡ before us j) × IsEndedExpr us x
     go (Ok y) h = let bad : ⊥ = cc in absurd bad
     go (Err f) h = let bad : ⊥ = cc in absurd bad
 found_at i j x (Some at) e h = go (read_from (record { left = before_semicolon i.left; ending = ending.EndsAt at })) refl h
   where
-    go : (r : Result (Node × List Occ) ExprFault) → read_from (record { left = before_semicolon i.left; ending = ending.EndsAt at }) ≡ r → ended i (with_offset at r) ≡ Ok (x, j) → Found IsEndedExpr ended_expr_from i j x
+    go : (r : Result (Node × List Occ) ExprFault) → read_from (record { left = before_semicolon i.left; ending = ending.EndsAt at }) ≡ r → ended i (with_offset at r) ≡ Ok (x, j) → (us : List Placed) × (i ≡ before us j) × IsEndedExpr us x
     go (Err f) d h = let bad : ⊥ = cc in absurd bad
     go (Ok y) d h =
         let cut = cut_at i.left at e in
         let es : List Placed = before_semicolon i.left in
         let us : List Placed = es ++ cut.semicolon ∷ [] in
         let both : ◌≡◌ {A = (Node × List Occ) × Input} (y, record { left = behind_semicolon i.left; ending = i.ending }) (x, j) = cc in
-        let same : y ≡ x = ap (λ p. p.0) both in
-        let left : record { left = behind_semicolon i.left; ending = i.ending } ≡ j = ap (λ p. p.1) both in
-        let is : IsEndedExpr us x = subst (IsEndedExpr us) same (ended_is es cut.semicolon y (own_of at es y cut.free d) cut.is) in
+        let is : IsEndedExpr us x = subst (IsEndedExpr us) (ap (λ p. p.0) both) (ended_is es cut.semicolon y (own_of at es y cut.free d) cut.is) in
         let whole : i.left ≡ us ++ behind_semicolon i.left = cut.whole ∙ sym (append_assoc es (cut.semicolon ∷ []) (behind_semicolon i.left)) in
-        record { us = us; cut = ap (λ ps. record { left = ps; ending = i.ending }) whole ∙ ap (before us) left; is = is; again = λ k same_first. ended_complete.read us k x is (anywhere k.left) }
+        (us, ap (λ ps. record { left = ps; ending = i.ending }) whole ∙ ap (λ p. before us p.1) both, is)
 
-never_wrong : (i : Input) (r : Result Ended ExprFault) (at : ℕ) → ended i r ≡ Err (WrongAt at) → ⊥
-never_wrong i (Ok x) at h = cc
-never_wrong i (Err f) at h = cc
+found : (i j : Input) (x : Node × List Occ) → ended_expr_from i ≡ Ok (x, j) → (us : List Placed) × (i ≡ before us j) × IsEndedExpr (map (λ p. p) us) x
+unfolding ended_expr_from
+found i j x h = let f = found_at i j x (first_semicolon i.left) refl h in (f.0, f.1, subst (λ ps. IsEndedExpr ps x) (sym (itself f.0)) f.2)
+
+pub ended_exact : {stops : Token → Bool} → Exact stops IsEndedExpr ended_expr_from
+ended_exact = record { sound = found; complete = λ us j x is h. complete us j x (subst (λ ps. IsEndedExpr ps x) (itself us) is) }
+
+never_told : (i : Input) (r : Result Ended ExprFault) (f : Stop) → manner.is_told f ≡ true → ended i r ≡ Err f → ⊥
+never_told i (Ok x) f told h = cc
+never_told i (Err g) f told h = let same : InExpr g ≡ f = cc in let bad : manner.is_told (InExpr g) ≡ true = subst (λ s. manner.is_told s ≡ true) (sym same) told in cc
 
 pub ended_steady : Steady IsEndedExpr ended_expr_from
 unfolding ended_expr_from
 ended_steady = record {
-  at = λ i. record { ok = λ j x h. found_at i j x (first_semicolon i.left) refl h; err = λ at h. absurd (never_wrong i (read_until_from i) at h) };
+  at = λ i. record { ok = λ j x h. (let f = found i j x h in let again : (k : Input) → ended_expr_from (before f.0 k) ≡ Ok (x, k) = λ k. complete f.0 k x (subst (λ ps. IsEndedExpr ps x) (itself f.0) f.2) in (f.0, f.1, f.2, λ k e. (again k, again k))); err = λ f told h. absurd (never_told i (read_until_from i) f told h) };
   word = (zero_tokens ++ (record { at = 1; token = token.Punctuation punctuation.Semicolon }) ∷ [], (zero_node, []), ended_is zero_tokens _ (zero_node, []) zero_own refl);
 }
+
+-- ---- what is read with a cursor
+
+pub read_refused : (i : Input) (f : ExprFault) → stop_of f ≢ NoMemory → (f ≢ fault.NoMemory → read_until_from i ≡ Err f) → ended_expr_from i ≡ Err (stop_of f)
+unfolding ended_expr_from
+read_refused i fault.NoMemory other read = absurd (other refl)
+read_refused i (fault.NoToken at) other read = ap (ended i) (read (λ e. cc))
+read_refused i (fault.Unexpected at) other read = ap (ended i) (read (λ e. cc))
+read_refused i (fault.NumberTooLarge at) other read = ap (ended i) (read (λ e. cc))
+read_refused i (fault.TooDeep at) other read = ap (ended i) (read (λ e. cc))

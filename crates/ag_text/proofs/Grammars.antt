@@ -1,27 +1,28 @@
 -- Reading agrees with the syntax of grammars, and stops at the first token that can't be taken.
-use Rattle.std.proofs.Common.{◌≡◌, ℕ, Bool, true, false, not, ◌||◌, List, [], ◌∷◌, ◌++◌, Some, codes, bytes_eq, inl, inr, refl, ap, sym, ◌∙◌, subst, append-nil}
+use Rattle.std.proofs.Common.{◌≡◌, ℕ, Bool, true, false, not, ◌||◌, List, [], ◌∷◌, ◌++◌, map, Some, codes, bytes_eq, inl, inr, refl, ap, sym, ◌∙◌, subst, append-nil}
 use denote.Enum.Bare.{true_same}
 use Rattle.std.proofs.lemmas.Slice.Eq.{bytes_eq-Decides}
-use Rattle.ag_expr.specs.contracts.token.Punctuation.{the_type}
+use Rattle.ag_tokens.specs.contracts.token.Punctuation.{the_type}
 use Rattle.ag_grammar.specs.declared.occurrence.Occ.{Occ}
-use Rattle.ag_expr.specs.declared.token.Punctuation.{Punctuation}
-use Rattle.ag_expr.specs.declared.token.Punctuation.TheVariants as punctuation
-use Rattle.ag_expr.specs.language.Placed.{Placed}
-use Rattle.ag_expr.specs.language.Token.{Token}
-use Rattle.ag_expr.specs.language.Token as token
+use Rattle.ag_tokens.specs.declared.token.Punctuation.{Punctuation}
+use Rattle.ag_tokens.specs.declared.token.Punctuation.TheVariants as punctuation
+use Rattle.ag_tokens.specs.Placed.{Placed}
+use Rattle.ag_tokens.specs.Token.{Token}
+use Rattle.ag_tokens.specs.Token as token
 use Rattle.ag_grammar.specs.declared.raw.Named.{Named}
 use Rattle.ag_grammar.specs.declared.raw.RawGrammar.{RawGrammar}
 use Rattle.ag_grammar.specs.declared.raw.RawItem.{RawItem}
 use Rattle.ag_grammar.specs.declared.raw.RawItem.TheVariants as item
 use Rattle.ag_grammar.specs.declared.raw.RawSymbol.{RawSymbol}
-use Rattle.ag_text.specs.Reading.{many, expect, expect_word, one_from, is_other_than, is_any, further_from, names_from, section_from, attributes_from, symbol_from, rule_from, production_from, grammar_from}
-use Rattle.ag_text.specs.Spelling as spelling
-use Rattle.ag_text.specs.Spelling.{one, gives, Many, further}
-use Rattle.ag_text.specs.Syntax.{mark, word, IsFurther, IsNames, IsSection, IsAttributes, IsSymbol, IsRule, IsProduction, IsGrammar}
+use Rattle.ag_text.specs.Reading.{many, expect, expect_word, one_from, is_other_than, is_any, next_name_from, names_from, section_from, attributes_from, symbol_from, rule_from, production_from, grammar_from}
+use Rattle.ag_tokens.specs.Words as spelling
+use Rattle.ag_tokens.specs.Words.{gives, Many, further}
+use Rattle.ag_text.specs.Syntax.{one, mark, word, IsFurther, IsNames, IsSection, IsAttributes, IsSymbol, IsRule, IsProduction, IsGrammar}
 use Rattle.ag_text.specs.Words.{some_where, is_mark, is_word, is_reserved, mark_in, word_in, name_in, item_in, target_in}
-use Rattle.ag_text.proofs.Complete.{Complete, nowhere, Apart, Before, leads-append, one_complete, then_complete, or_complete, further_complete, many_complete, many_leads, then_starts, one_starts, ends_complete, any_then, start_then}
-use Rattle.ag_text.proofs.Expressions.{ended_complete, ended_steady}
-use Rattle.ag_text.proofs.Steady.{Steady, Starts, Shortens, front_is, shortens, further_steady, then_steady, or_steady, pure_steady, ends_steady, one_steady, many_steady}
+use Rattle.ag_tokens.proofs.Exact.{Apart, Before, ends_exact, first_is, further_exact, many_exact, many_leads, maybe_exact, maybe_starts, nowhere, any_then, start_then, then_exact, then_starts, shortens}
+use Rattle.ag_tokens.proofs.Steady.{Shortens, ends_steady, further_steady, many_steady, or_steady, pure_steady, then_steady}
+use Rattle.ag_text.proofs.Expressions.{ended_exact, ended_steady}
+use Rattle.ag_text.proofs.Manner.{Exact, Starts, Steady, manner, token_exact, token_starts, token_steady}
 
 -- ---- what one token is
 
@@ -127,77 +128,60 @@ mark_ends : (m : Punctuation) → Apart (is_mark m) (λ t. is_other_than m t || 
 mark_ends m t h = rw h refl
 
 mark_starts : (m : Punctuation) → Starts (is_mark m) (mark m)
-mark_starts m = one_starts (λ at t a h. held (is_mark m t) tt a h)
+mark_starts m = token_starts (λ at t a h. held (is_mark m t) tt a h)
 
 word_starts : (w : List ℕ) → Starts (is_word w) (word w)
-word_starts w = one_starts (λ at t a h. held (is_word w t) tt a h)
+word_starts w = token_starts (λ at t a h. held (is_word w t) tt a h)
 
 -- ---- each word is read
 
-further_name_complete : Complete nowhere IsFurther further_from
-unfolding further_from
-further_name_complete = any_then (one_complete (mark_in punctuation.Comma)) (λ u. one_complete name_in)
+next_name_exact : Exact nowhere IsFurther next_name_from
+unfolding next_name_from
+next_name_exact = any_then (token_exact (mark_in punctuation.Comma)) (λ u. token_exact name_in)
 
-names_after : (found : List Named) → Complete names_go_on (further found IsFurther) (many is_comma further_from found)
-names_after found = further_complete found further_name_complete (then_starts (mark_starts punctuation.Comma)) (λ t h. refl)
+names_after : (found : List Named) → Exact names_go_on (further false found IsFurther) (many is_comma next_name_from found)
+names_after found = further_exact false found next_name_exact (then_starts (mark_starts punctuation.Comma)) (λ t h. refl)
 
-names_complete : Complete names_go_on IsNames names_from
+names_exact : Exact names_go_on IsNames names_from
 unfolding names_from
-names_complete = any_then (one_complete name_in) (λ name. names_after (name ∷ []))
+names_exact = any_then (token_exact name_in) (λ name. names_after (name ∷ []))
 
 section_starts : (w : List ℕ) → Starts (is_word w) (IsSection w)
 section_starts w = then_starts (word_starts w)
 
-attributes_complete : (w : List ℕ) → Complete (section_goes_on w) (IsAttributes w) (attributes_from w)
+attributes_exact : (w : List ℕ) → Exact (section_goes_on w) (IsAttributes w) (attributes_from w)
 unfolding attributes_from section_from
-attributes_complete w = or_complete [] (any_then (one_complete (word_in w)) (λ u. names_complete)) (section_starts w)
+attributes_exact w = maybe_exact [] (any_then (token_exact (word_in w)) (λ u. names_exact)) (section_starts w)
 
--- what begins with the second section, or with `;`
-inh_starts : {B : Type 0} (S : List Named → List Placed → B → Type 0) → ((inh : List Named) → Starts is_semi (S inh)) → Starts behind_syn (spelling.◌>>=◌ (IsAttributes (codes "inh")) S)
-inh_starts {B} S ends = record { leads = λ ps b (us, vs, inh, e, is, later). go ps us vs inh b e is later }
-  where
-    seconds : (b : Bool) → (b || true) ≡ true
-    seconds true = refl
-    seconds false = refl
-
-    wider : (ps : List Placed) → front_is is_semi ps ≡ true → front_is behind_syn ps ≡ true
-    wider [] h = h
-    wider (p ∷ ps) h = rw h (seconds (is_word (codes "inh") p.token))
-
-    first : (ps : List Placed) → front_is (is_word (codes "inh")) ps ≡ true → front_is behind_syn ps ≡ true
-    first [] h = h
-    first (p ∷ ps) h = rw h refl
-
-    go : (ps us vs : List Placed) (inh : List Named) (b : B) → ps ≡ us ++ vs → IsAttributes (codes "inh") us inh → S inh vs b → front_is behind_syn ps ≡ true
-    go ps us vs inh b e (inl is) later = subst (λ ts. front_is behind_syn ts ≡ true) (sym e) (first (us ++ vs) (leads-append (is_word (codes "inh")) us vs ((section_starts (codes "inh")).leads us inh is)))
-    go ps us vs inh b e (inr (empty, same)) later = let all : ps ≡ vs = rw (e, empty) refl in subst (λ ts. front_is behind_syn ts ≡ true) (sym all) (wider vs ((ends inh).leads vs b later))
-
-symbol_complete : Complete nowhere IsSymbol symbol_from
+symbol_exact : Exact nowhere IsSymbol symbol_from
 unfolding symbol_from
-symbol_complete =
-    any_then (one_complete (word_in (codes "symbol"))) (λ u. any_then (one_complete name_in) (λ name.
-    start_then (attributes_complete (codes "syn")) (λ syn.
-    start_then (attributes_complete (codes "inh")) (λ inh. ends_complete (λ u. record { name = name; syn = syn; inh = inh }) (one_complete (mark_in punctuation.Semicolon)))
+symbol_exact =
+    any_then (token_exact (word_in (codes "symbol"))) (λ u. any_then (token_exact name_in) (λ name.
+    start_then (attributes_exact (codes "syn")) (λ syn.
+    start_then (attributes_exact (codes "inh")) (λ inh. ends_exact (λ u. record { name = name; syn = syn; inh = inh }) (token_exact (mark_in punctuation.Semicolon)))
     (λ inh. then_starts (mark_starts punctuation.Semicolon)) semi_apart)
-    (λ syn. inh_starts _ (λ inh. then_starts (mark_starts punctuation.Semicolon))) behind_syn_apart))
+    (λ syn. maybe_starts [] (section_starts (codes "inh")) (λ inh. then_starts (mark_starts punctuation.Semicolon))) behind_syn_apart))
 
-rule_complete : Complete nowhere IsRule rule_from
+rule_exact : Exact nowhere IsRule rule_from
 unfolding rule_from
-rule_complete = any_then (one_complete target_in) (λ target. any_then (one_complete (mark_in punctuation.Equal)) (λ u. ends_complete (λ expr. record { target = target; expr = expr }) ended_complete))
+rule_exact = any_then (token_exact target_in) (λ target. any_then (token_exact (mark_in punctuation.Equal)) (λ u. ends_exact (λ expr. record { target = target; expr = expr }) ended_exact))
+
+item_exact : Exact nowhere (one item_in) (one_from item_in)
+item_exact = token_exact item_in
 
 items_start : Starts (is_other_than punctuation.OpenTable) (one item_in)
-items_start = one_starts item_goes_on
+items_start = token_starts item_goes_on
 
 rules_start : Starts (is_other_than punctuation.CloseTable) IsRule
-rules_start = then_starts (one_starts target_goes_on)
+rules_start = then_starts (token_starts target_goes_on)
 
-production_complete : Complete nowhere IsProduction production_from
+production_exact : Exact nowhere IsProduction production_from
 unfolding production_from
-production_complete =
-    any_then (one_complete name_in) (λ left. any_then (one_complete (mark_in punctuation.Equal)) (λ u.
-    start_then (many_complete (one_complete item_in) items_start (λ t h. refl)) (λ items.
-    any_then (one_complete (mark_in punctuation.OpenTable)) (λ u.
-    start_then (many_complete rule_complete rules_start (λ t h. refl)) (λ rules. ends_complete (λ u. record { left = left; items = items; rules = rules }) (one_complete (mark_in punctuation.CloseTable)))
+production_exact =
+    any_then (token_exact name_in) (λ left. any_then (token_exact (mark_in punctuation.Equal)) (λ u.
+    start_then (many_exact (token_exact item_in) items_start (λ t h. refl)) (λ items.
+    any_then (token_exact (mark_in punctuation.OpenTable)) (λ u.
+    start_then (many_exact rule_exact rules_start (λ t h. refl)) (λ rules. ends_exact (λ u. record { left = left; items = items; rules = rules }) (token_exact (mark_in punctuation.CloseTable)))
     (λ rules. then_starts (mark_starts punctuation.CloseTable)) (mark_ends punctuation.CloseTable)))
     (λ items. then_starts (mark_starts punctuation.OpenTable)) (mark_ends punctuation.OpenTable)))
 
@@ -205,27 +189,27 @@ production_complete =
 abbrev any_goes_on : Token → Bool
 any_goes_on t = is_any t || nowhere t
 
-nothing_goes_on : (test : Token → Bool) (ps : List Placed) → front_is any_goes_on ps ≡ false → front_is test ps ≡ false
+nothing_goes_on : (test : Token → Bool) (ps : List Placed) → first_is any_goes_on ps ≡ false → first_is test ps ≡ false
 nothing_goes_on test [] h = refl
 nothing_goes_on test (p ∷ ps) h = let bad : ⊥ = cc in absurd bad
 
 productions_start : Starts is_plain IsProduction
-productions_start = then_starts (one_starts plain)
+productions_start = then_starts (token_starts plain)
 
 any_starts : Starts is_any IsProduction
-any_starts = then_starts (one_starts (λ at t a h. refl))
+any_starts = then_starts (token_starts (λ at t a h. refl))
 
-pub grammar_complete : Complete any_goes_on IsGrammar grammar_from
+pub grammar_exact : Exact any_goes_on IsGrammar grammar_from
 unfolding grammar_from IsGrammar
-grammar_complete =
-    any_then (one_complete (word_in (codes "start"))) (λ u. any_then (one_complete name_in) (λ start. any_then (one_complete (mark_in punctuation.Semicolon)) (λ u.
-    then_complete (many_complete symbol_complete (then_starts (word_starts (codes "symbol"))) (λ t h. refl)) (λ symbols.
-    ends_complete (λ productions. record { start = start; symbols = symbols; productions = productions }) (many_complete production_complete any_starts (λ t h. refl))) (behind start))))
+grammar_exact =
+    any_then (token_exact (word_in (codes "start"))) (λ u. any_then (token_exact name_in) (λ start. any_then (token_exact (mark_in punctuation.Semicolon)) (λ u.
+    then_exact (many_exact symbol_exact (then_starts (word_starts (codes "symbol"))) (λ t h. refl)) (λ symbols.
+    ends_exact (λ productions. record { start = start; symbols = symbols; productions = productions }) (many_exact production_exact any_starts (λ t h. refl))) (behind start))))
   where
-    behind : (start : Named) (symbols : List RawSymbol) → Before {B = RawGrammar} any_goes_on (λ t. is_word (codes "symbol") t || nowhere t) (spelling.◌>>=◌ (Many IsProduction) (λ productions. gives (record { start = start; symbols = symbols; productions = productions })))
+    behind : (start : Named) (symbols : List RawSymbol) → Before manner any_goes_on (λ t. is_word (codes "symbol") t || nowhere t) (spelling.◌>>=◌ (Many IsProduction) (λ productions. gives {A = RawGrammar} (record { start = start; symbols = symbols; productions = productions })))
     behind start symbols vs rest b (us, ws, xs, e, are, (no_more, same)) h =
-        let all : vs ≡ us = e ∙ ap (λ ys. us ++ ys) no_more ∙ append-nil us in
-        rw all (many_leads is_plain (λ t. is_word (codes "symbol") t || nowhere t) IsProduction productions_start plain_apart us xs are rest (nothing_goes_on _ rest h))
+        let all : map (λ p. p) vs ≡ us = e ∙ ap (λ ys. us ++ ys) no_more ∙ append-nil us in
+        many_leads {m = manner} is_plain (λ t. is_word (codes "symbol") t || nowhere t) IsProduction productions_start plain_apart vs xs (subst (λ ps. Many IsProduction ps xs) (sym all) are) rest (nothing_goes_on _ rest h)
 
 -- ---- where each part stops
 
@@ -233,28 +217,28 @@ abbrev a_name : Named
 a_name = record { name = codes "A"; at = 0 }
 
 mark_steady : (m : Punctuation) → Steady (mark m) (expect m)
-mark_steady m = one_steady (mark_in m) (token.Punctuation m) tt (simp (true_same the_type m m refl))
+mark_steady m = token_steady (mark_in m) (token.Punctuation m) tt (simp (true_same the_type m m refl))
 
 word_steady : (w : List ℕ) → Steady (word w) (expect_word w)
-word_steady w = one_steady (word_in w) (token.Name w) tt (simp ((bytes_eq-Decides w w).1 refl))
+word_steady w = token_steady (word_in w) (token.Name w) tt (simp ((bytes_eq-Decides w w).1 refl))
 
 name_steady : Steady (one name_in) (one_from name_in)
-name_steady = one_steady name_in (token.Name (codes "A")) a_name refl
+name_steady = token_steady name_in (token.Name (codes "A")) a_name refl
 
-further_name_steady : Steady IsFurther further_from
-unfolding further_from
-further_name_steady = then_steady (mark_steady punctuation.Comma) (λ u. name_steady)
+next_name_steady : Steady IsFurther next_name_from
+unfolding next_name_from
+next_name_steady = then_steady (mark_steady punctuation.Comma) (λ u. name_steady)
 
-pub further_shortens : Shortens further_from
-further_shortens = shortens further_name_steady (then_starts (mark_starts punctuation.Comma))
+pub next_name_shortens : Shortens next_name_from
+next_name_shortens = shortens next_name_exact (then_starts (mark_starts punctuation.Comma))
 
 names_steady : Steady IsNames names_from
 unfolding names_from
-names_steady = then_steady name_steady (λ name. further_steady is_comma (name ∷ []) further_name_steady further_shortens)
+names_steady = then_steady name_steady (λ name. further_steady false is_comma (name ∷ []) next_name_steady next_name_shortens next_name_shortens)
 
 attributes_steady : (w : List ℕ) → Steady (IsAttributes w) (attributes_from w)
 unfolding attributes_from section_from
-attributes_steady w = or_steady (is_word w) (then_steady (word_steady w) (λ u. names_steady)) (pure_steady [])
+attributes_steady w = or_steady (then_steady (word_steady w) (λ u. names_steady)) (pure_steady [])
 
 symbol_steady : Steady IsSymbol symbol_from
 unfolding symbol_from
@@ -265,36 +249,36 @@ symbol_steady =
 rule_steady : Steady IsRule rule_from
 unfolding rule_from
 rule_steady =
-    then_steady (one_steady target_in (token.Occurrence 0 (codes "a")) (record { place = 0; attr = codes "a"; at = 0 }) refl) (λ target. then_steady (mark_steady punctuation.Equal) (λ u.
+    then_steady (token_steady target_in (token.Occurrence 0 (codes "a")) (record { place = 0; attr = codes "a"; at = 0 }) refl) (λ target. then_steady (mark_steady punctuation.Equal) (λ u.
     ends_steady (λ expr. record { target = target; expr = expr }) ended_steady))
 
 item_steady : Steady (one item_in) (one_from item_in)
-item_steady = one_steady item_in (token.Name (codes "A")) (item.Name a_name) refl
+item_steady = token_steady item_in (token.Name (codes "A")) (item.Name a_name) refl
 
 production_steady : Steady IsProduction production_from
 unfolding production_from
 production_steady =
-    then_steady name_steady (λ left. then_steady (mark_steady punctuation.Equal) (λ u. then_steady (many_steady (is_other_than punctuation.OpenTable) item_steady (shortens item_steady items_start)) (λ items.
-    then_steady (mark_steady punctuation.OpenTable) (λ u. then_steady (many_steady (is_other_than punctuation.CloseTable) rule_steady (shortens rule_steady rules_start)) (λ rules.
+    then_steady name_steady (λ left. then_steady (mark_steady punctuation.Equal) (λ u. then_steady (many_steady (is_other_than punctuation.OpenTable) item_steady (shortens item_exact items_start)) (λ items.
+    then_steady (mark_steady punctuation.OpenTable) (λ u. then_steady (many_steady (is_other_than punctuation.CloseTable) rule_steady (shortens rule_exact rules_start)) (λ rules.
     ends_steady (λ u. record { left = left; items = items; rules = rules }) (mark_steady punctuation.CloseTable))))))
 
 pub grammar_steady : Steady IsGrammar grammar_from
 unfolding grammar_from IsGrammar
 grammar_steady =
     then_steady (word_steady (codes "start")) (λ u. then_steady name_steady (λ start. then_steady (mark_steady punctuation.Semicolon) (λ u.
-    then_steady (many_steady (is_word (codes "symbol")) symbol_steady (shortens symbol_steady (then_starts (word_starts (codes "symbol"))))) (λ symbols.
-    ends_steady (λ productions. record { start = start; symbols = symbols; productions = productions }) (many_steady is_any production_steady (shortens production_steady any_starts))))))
+    then_steady (many_steady (is_word (codes "symbol")) symbol_steady (shortens symbol_exact (then_starts (word_starts (codes "symbol"))))) (λ symbols.
+    ends_steady (λ productions. record { start = start; symbols = symbols; productions = productions }) (many_steady is_any production_steady (shortens production_exact any_starts))))))
 
 -- ---- each further part takes a token
 
 pub symbol_shortens : Shortens symbol_from
-symbol_shortens = shortens symbol_steady (then_starts (word_starts (codes "symbol")))
+symbol_shortens = shortens symbol_exact (then_starts (word_starts (codes "symbol")))
 
 pub item_shortens : Shortens (one_from item_in)
-item_shortens = shortens item_steady items_start
+item_shortens = shortens item_exact items_start
 
 pub rule_shortens : Shortens rule_from
-rule_shortens = shortens rule_steady rules_start
+rule_shortens = shortens rule_exact rules_start
 
 pub production_shortens : Shortens production_from
-production_shortens = shortens production_steady any_starts
+production_shortens = shortens production_exact any_starts

@@ -1,9 +1,7 @@
 pub mod Agree
-pub mod Complete
 pub mod Examples
 pub mod Expressions
 pub mod Grammars
-pub mod Parts
+pub mod Manner
 pub mod Read
-pub mod Steady
 pub mod Turns

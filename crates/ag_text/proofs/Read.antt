@@ -5,14 +5,13 @@ use Rattle.std.proofs.lemmas.Str.{IsUtf8-from_is_utf8, is_utf8-from_IsUtf8}
 use Rattle.std.specs.Str.{is_utf8}
 use Rattle.std.specs.Str.Lossy.{utf8_valid_len}
 use Rattle.ag_expr.specs.declared.fault.ExprFault.TheVariants as expr
-use Rattle.ag_expr.specs.language.Ending.{Ending, offset_of}
-use Rattle.ag_expr.specs.language.Ending as ending
-use Rattle.ag_expr.specs.language.Placed.{Placed, Input}
-use Rattle.ag_expr.specs.language.Reading.{is_end}
-use Rattle.ag_expr.specs.language.Tokens.{Lexes, width}
-use Rattle.ag_expr.proofs.language.Lexed.{width-chars}
-use Rattle.ag_expr.proofs.language.Lexes.{one_input}
-use Rattle.ag_expr.proofs.language.Texts.{ends_wide}
+use Rattle.ag_tokens.specs.Ending.{Ending, offset_of}
+use Rattle.ag_tokens.specs.Ending as ending
+use Rattle.ag_tokens.specs.Placed.{Placed, Input}
+use Rattle.ag_tokens.specs.Parsing.{is_end}
+use Rattle.ag_tokens.specs.Tokens.{Lexes, width}
+use Rattle.ag_tokens.proofs.Lexed.{width-chars}
+use Rattle.ag_tokens.proofs.Lexes.{ends_wide, one_input}
 use Rattle.ag_text.specs.Answers.{fault_of, answer_of, read_text, line_of, IsRead, IsReadText, IsFirstOf, IsRefused}
 use Rattle.ag_grammar.specs.grammars.Accepted.{most_text_bytes}
 use Rattle.ag_text.specs.Grammar.{ReadsAsGrammar, ReadsAsNone}
@@ -24,7 +23,7 @@ use Rattle.ag_grammar.specs.declared.raw.RawGrammar.{RawGrammar}
 use Rattle.ag_text.specs.declared.stop.Stop.{Stop}
 use Rattle.ag_text.specs.declared.stop.Stop.TheVariants as stop
 use Rattle.ag_text.proofs.Agree.{whole_of, sound, complete, refuses_at_the_first}
-use Rattle.ag_text.proofs.Grammars.{grammar_steady}
+use Rattle.ag_text.proofs.Grammars.{grammar_exact}
 
 -- a text has one list of tokens
 alike : (text : List ℕ) (i j : Input) → Lexes 0 (chars text) i → Lexes 0 (chars text) j → i ≡ j
@@ -43,8 +42,8 @@ no_end : (e : Ending) (ps : List Placed) (raw : RawGrammar) (j : Input) → ((qs
 no_end e ps raw j never read =
     let i : Input = record { left = ps; ending = e } in
     let whole = whole_of i j raw read in
-    let found = (grammar_steady.at i).ok j raw whole.read in
-    let same : e ≡ j.ending = ap (λ (k : Input). k.ending) found.cut in
+    let found = grammar_exact.sound i j raw whole.read in
+    let same : e ≡ j.ending = ap (λ (k : Input). k.ending) found.1 in
     let ends : is_end e j.left ≡ true = subst (λ x. is_end x j.left ≡ true) (sym same) whole.ends in
     let open_end = never j.left in
     cc

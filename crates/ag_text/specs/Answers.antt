@@ -5,8 +5,8 @@ use Rattle.std.specs.Str.{is_utf8}
 use Rattle.std.specs.Str.Lossy.{utf8_valid_len}
 use Rattle.ag_expr.specs.declared.fault.ExprFault.{ExprFault}
 use Rattle.ag_expr.specs.declared.fault.ExprFault.TheVariants as expr
-use Rattle.ag_expr.specs.language.Placed.{Input}
-use Rattle.ag_expr.specs.language.Tokens.{Lexes}
+use Rattle.ag_tokens.specs.Placed.{Input}
+use Rattle.ag_tokens.specs.Tokens.{Lexes}
 use Rattle.ag_text.specs.declared.fault.TextFault.{TextFault}
 use Rattle.ag_text.specs.declared.fault.TextFault.TheVariants as fault
 use Rattle.ag_grammar.specs.declared.raw.RawGrammar.{RawGrammar}

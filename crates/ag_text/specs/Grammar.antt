@@ -1,8 +1,8 @@
 -- Which texts read as which grammars, and what is told of those that read as none: this project's.
 use Rattle.std.specs.Prelude.{◌≤◌, ℕ, List, length, chars, IsUtf8}
-use Rattle.ag_expr.specs.language.Ending as ending
-use Rattle.ag_expr.specs.language.Placed.{Placed}
-use Rattle.ag_expr.specs.language.Tokens.{Lexes}
+use Rattle.ag_tokens.specs.Ending as ending
+use Rattle.ag_tokens.specs.Placed.{Placed}
+use Rattle.ag_tokens.specs.Tokens.{Lexes}
 use Rattle.ag_grammar.specs.declared.raw.RawGrammar.{RawGrammar}
 use Rattle.ag_grammar.specs.grammars.Accepted.{most_text_bytes}
 use Rattle.ag_text.specs.Syntax.{IsGrammar}

@@ -5,7 +5,6 @@ pub mod Passing
 pub mod Places
 pub mod Printed
 pub mod Reading
-pub mod Spelling
 pub mod Syntax
 pub mod Words
 pub mod Worked

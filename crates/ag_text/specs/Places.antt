@@ -1,10 +1,10 @@
 -- Which token of a grammar's text is the first that can't be taken: this project's.
 use Rattle.std.specs.Prelude.{◌≡◌, ℕ, List, [], ◌∷◌, ◌++◌}
-use Rattle.ag_expr.specs.language.Ending.{Ending}
-use Rattle.ag_expr.specs.language.Ending as ending
-use Rattle.ag_expr.specs.language.Placed.{Placed, Input}
+use Rattle.ag_tokens.specs.Ending.{Ending}
+use Rattle.ag_tokens.specs.Ending as ending
+use Rattle.ag_tokens.specs.Placed.{Placed, Input}
 use Rattle.ag_grammar.specs.declared.raw.RawGrammar.{RawGrammar}
-use Rattle.ag_expr.specs.language.Offsets.{place_of}
+use Rattle.ag_tokens.specs.Parsing.{place_of}
 use Rattle.ag_text.specs.Syntax.{IsGrammar}
 
 -- the tokens are the beginning of a grammar's text

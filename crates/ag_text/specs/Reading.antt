@@ -1,15 +1,15 @@
 -- Reading a grammar from the front of placed tokens: what is read, and what is left; or why reading stops.
-use Rattle.std.specs.Prelude.{ℕ, zero, suc, Bool, true, not, cond, if◌then◌else◌, List, [], ◌∷◌, ◌++◌, length, Option, Some, None, Result, Ok, Err, codes}
+use Rattle.std.specs.Prelude.{ℕ, Bool, true, false, not, List, [], ◌∷◌, Option, Result, Ok, Err, codes}
 use Rattle.ag_expr.specs.declared.fault.ExprFault.{ExprFault}
 use Rattle.ag_grammar.specs.declared.node.Node.{Node}
 use Rattle.ag_grammar.specs.declared.occurrence.Occ.{Occ}
-use Rattle.ag_expr.specs.declared.token.Punctuation.{Punctuation}
-use Rattle.ag_expr.specs.declared.token.Punctuation.TheVariants as punctuation
-use Rattle.ag_expr.specs.language.Placed.{Placed, Input}
-use Rattle.ag_expr.specs.language.Reading.{front, is_end, next, sees}
-use Rattle.ag_expr.specs.language.Offsets.{place}
-use Rattle.ag_expr.specs.language.Until.{Ended, read_until_from}
-use Rattle.ag_expr.specs.language.Token.{Token}
+use Rattle.ag_tokens.specs.declared.token.Punctuation.{Punctuation}
+use Rattle.ag_tokens.specs.declared.token.Punctuation.TheVariants as punctuation
+use Rattle.ag_tokens.specs.Placed.{Placed, Input}
+use Rattle.ag_tokens.specs.Parsing as parsing
+use Rattle.ag_tokens.specs.Parsing.{◌>>=◌, ◌>>◌, pure, choose, further_from, end_from, place}
+use Rattle.ag_expr.specs.language.Until.{Ended, behind_semicolon, read_until_from}
+use Rattle.ag_tokens.specs.Token.{Token}
 use Rattle.ag_grammar.specs.declared.raw.Named.{Named}
 use Rattle.ag_grammar.specs.declared.raw.RawGrammar.{RawGrammar}
 use Rattle.ag_grammar.specs.declared.raw.RawItem.{RawItem}
@@ -23,57 +23,23 @@ use Rattle.ag_text.specs.Words.{is_mark, is_word, mark_in, word_in, name_in, ite
 -- ---- parsers
 
 abbrev pub Outcome : Type 0 → Type 0
-Outcome A = Result (A × Input) Stop
+Outcome = parsing.Outcome Stop
 
 abbrev pub Parser : Type 0 → Type 0
-Parser A = Input → Outcome A
+Parser = parsing.Parser Stop
 
-abbrev pub and_then : {A B : Type 0} → Outcome A → (A → Parser B) → Outcome B
-and_then (Ok p) f = f p.0 p.1
-and_then (Err e) f = Err e
-
-infixl 10 ◌>>=◌
-abbrev pub ◌>>=◌ : {A B : Type 0} → Parser A → (A → Parser B) → Parser B
-p >>= f = λ i. and_then (p i) f
-
-infixl 10 ◌>>◌
-abbrev pub ◌>>◌ : {A B : Type 0} → Parser A → Parser B → Parser B
-p >> q = p >>= (λ _. q)
-
-abbrev pub pure : {A : Type 0} → A → Parser A
-pure a = λ i. Ok (a, i)
-
--- takes the next token for what it stands for, where it stands for something
-abbrev pub taken : {A : Type 0} → Option A → Parser A
-taken None = λ i. Err (WrongAt (place i))
-taken (Some a) = λ i. Ok (a, next i)
-
--- what a token stands for at an offset, where there is one
-abbrev pub sign_of : {A : Type 0} → (ℕ → Token → Option A) → ℕ → Option Token → Option A
-sign_of sign at None = None
-sign_of sign at (Some t) = sign at t
+-- a token that can't be taken is told by its offset
+abbrev pub wrong : Input → Stop
+wrong i = WrongAt (place i)
 
 abbrev pub one_from : {A : Type 0} → (ℕ → Token → Option A) → Parser A
-one_from sign = λ i. taken (sign_of sign (place i) (front i)) i
-
-abbrev pub choose : {A : Type 0} → (Token → Bool) → Parser A → Parser A → Parser A
-choose test left right = λ i. if sees test i then left i else right i
-
--- as long as the next token begins a further one, so many turns at most
-unfoldable pub many_from : {A : Type 0} → (Token → Bool) → Parser A → ℕ → List A → Parser (List A)
-many_from begins item zero found = pure found
-many_from begins item (suc n) found = choose begins (item >>= λ x. many_from begins item n (found ++ x ∷ [])) (pure found)
+one_from = parsing.one_from wrong
 
 -- as many as there are
 abbrev pub many : {A : Type 0} → (Token → Bool) → Parser A → List A → Parser (List A)
-many begins item found = λ i. many_from begins item (length i.left) found i
+many = further_from false
 
 -- ---- the expression of a rule
-
--- the tokens behind the first `;`
-abbrev pub behind_semicolon : List Placed → List Placed
-behind_semicolon [] = []
-behind_semicolon (p ∷ ps) = cond (is_mark punctuation.Semicolon p.token) ps (behind_semicolon ps)
 
 -- an expression that is read up to its `;`, which is passed
 abbrev pub ended : Input → Result Ended ExprFault → Outcome (Node × List Occ)
@@ -91,15 +57,15 @@ expect m = one_from (mark_in m)
 abbrev pub expect_word : List ℕ → Parser (Unit {0})
 expect_word w = one_from (word_in w)
 
-unfoldable pub further_from : Parser Named
-further_from = do
+unfoldable pub next_name_from : Parser Named
+next_name_from = do
   expect punctuation.Comma
   one_from name_in
 
 unfoldable pub names_from : Parser (List Named)
 names_from = do
   first ← one_from name_in
-  many (is_mark punctuation.Comma) further_from (first ∷ [])
+  many (is_mark punctuation.Comma) next_name_from (first ∷ [])
 
 unfoldable pub section_from : List ℕ → Parser (List Named)
 section_from w = do
@@ -165,7 +131,7 @@ grammar_from = do
 -- ---- a whole text
 
 abbrev pub at_end : Parser (Unit {0})
-at_end = λ i. if is_end i.ending i.left then Ok (tt, i) else Err (WrongAt (place i))
+at_end = end_from wrong
 
 unfoldable pub grammar_of : Parser RawGrammar
 grammar_of = do

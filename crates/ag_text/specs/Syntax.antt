@@ -1,12 +1,12 @@
 -- Which placed tokens spell a grammar: this project's grammar of grammars.
-use Rattle.std.specs.Prelude.{◌≡◌, ℕ, List, [], ◌∷◌, None, codes}
+use Rattle.std.specs.Prelude.{◌≡◌, ℕ, false, List, [], ◌∷◌, Option, None, codes}
 use Rattle.ag_grammar.specs.declared.node.Node.{Node}
 use Rattle.ag_grammar.specs.declared.occurrence.Occ.{Occ}
-use Rattle.ag_expr.specs.declared.token.Punctuation.{Punctuation}
-use Rattle.ag_expr.specs.declared.token.Punctuation.TheVariants as punctuation
+use Rattle.ag_tokens.specs.declared.token.Punctuation.{Punctuation}
+use Rattle.ag_tokens.specs.declared.token.Punctuation.TheVariants as punctuation
 use Rattle.ag_expr.specs.language.Expression.{max_levels}
 use Rattle.ag_expr.specs.language.Occurrences.{all_occurrences, different}
-use Rattle.ag_expr.specs.language.Placed.{Placed, tokens}
+use Rattle.ag_tokens.specs.Placed.{Placed, tokens}
 use Rattle.ag_expr.specs.language.Syntax.{IsExpr}
 use Rattle.ag_expr.specs.language.Until.{first_semicolon}
 use Rattle.ag_grammar.specs.declared.raw.Named.{Named}
@@ -14,8 +14,14 @@ use Rattle.ag_grammar.specs.declared.raw.RawGrammar.{RawGrammar}
 use Rattle.ag_grammar.specs.declared.raw.RawProduction.{RawProduction}
 use Rattle.ag_grammar.specs.declared.raw.RawRule.{RawRule}
 use Rattle.ag_grammar.specs.declared.raw.RawSymbol.{RawSymbol}
-use Rattle.ag_text.specs.Spelling.{◌>>=◌, ◌>>◌, gives, one, ◌or◌, Many, further}
+use Rattle.ag_tokens.specs.Token.{Token}
+use Rattle.ag_tokens.specs.Words as words
+use Rattle.ag_tokens.specs.Words.{◌>>=◌, ◌>>◌, gives, ◌or◌, Many, further}
 use Rattle.ag_text.specs.Words.{mark_in, word_in, name_in, item_in, target_in}
+
+-- one placed token, for what it stands for at its offset
+abbrev pub one : {A : Type 0} → (ℕ → Token → Option A) → List Placed → A → Type 0
+one sign = words.one (λ p. sign p.at p.token)
 
 abbrev pub mark : Punctuation → List Placed → Unit {0} → Type 0
 mark m = one (mark_in m)
@@ -33,7 +39,7 @@ IsFurther = do
 abbrev pub IsNames : List Placed → List Named → Type 0
 IsNames = do
   first ← one name_in
-  further (first ∷ []) IsFurther
+  further false (first ∷ []) IsFurther
 
 -- names behind `syn` or `inh`
 abbrev pub IsSection : List ℕ → List Placed → List Named → Type 0

@@ -1,12 +1,12 @@
 -- What one token stands for in a grammar's text: this project's.
 use Rattle.std.specs.Prelude.{ℕ, ◌==◌, ◌&&◌, length, Bool, not, cond, if◌then◌else◌, List, [], ◌∷◌, Option, Some, None, bytes_eq, codes}
 use Rattle.std.specs.List.{list_any}
-use Rattle.ag_expr.specs.declared.token.Punctuation.{Punctuation}
+use Rattle.ag_tokens.specs.declared.token.Punctuation.{Punctuation}
 use Rattle.ag_grammar.specs.declared.occurrence.Occ.{Occ}
-use Rattle.ag_expr.specs.language.Reading.{is_sign}
-use Rattle.ag_expr.specs.language.Token.{Token, mark, word}
-use Rattle.ag_expr.specs.language.Token as token
-use Rattle.ag_expr.specs.language.Tokens.{is_separator}
+use Rattle.ag_tokens.specs.Parsing.{is_sign}
+use Rattle.ag_tokens.specs.Token.{Token, mark, word}
+use Rattle.ag_tokens.specs.Token as token
+use Rattle.ag_tokens.specs.Tokens.{is_separator}
 use Rattle.ag_grammar.specs.declared.raw.Named.{Named}
 use Rattle.ag_grammar.specs.grammars.Accepted.{name_class, number_class, text_class}
 use Rattle.ag_grammar.specs.declared.raw.RawItem.{RawItem}

@@ -2,10 +2,10 @@
 use Rattle.std.specs.Prelude.{ℕ, List, [], ◌∷◌, pos, codes}
 use Rattle.ag_value.specs.declared.value.Value.TheVariants as value
 use Rattle.ag_grammar.specs.declared.node.Node.TheVariants as node
-use Rattle.ag_expr.specs.declared.token.Punctuation.{Punctuation}
-use Rattle.ag_expr.specs.declared.token.Punctuation.TheVariants as punctuation
-use Rattle.ag_expr.specs.language.Placed.{Placed}
-use Rattle.ag_expr.specs.language.Token as token
+use Rattle.ag_tokens.specs.declared.token.Punctuation.{Punctuation}
+use Rattle.ag_tokens.specs.declared.token.Punctuation.TheVariants as punctuation
+use Rattle.ag_tokens.specs.Placed.{Placed}
+use Rattle.ag_tokens.specs.Token as token
 use Rattle.ag_grammar.specs.declared.raw.Named.{Named}
 use Rattle.ag_grammar.specs.declared.raw.RawGrammar.{RawGrammar}
 use Rattle.ag_grammar.specs.declared.raw.RawItem.TheVariants as item

@@ -3,7 +3,8 @@
 
 use crate::fault::TextFault;
 use crate::grammar::read_grammar;
-use ag_expr::{Cursor, ExprFault, Punctuation, Token};
+use ag_expr::ExprFault;
+use ag_tokens::{Cursor, Punctuation, Token};
 use ag_value::NoMemory;
 use std::alloc::Global;
 
@@ -67,7 +68,7 @@ fn expected_outside(alloc: Global, text: &str, at: usize) -> Result<Vec<Expected
 /// What could stand at an offset within an expression.
 fn expected_inside(alloc: Global, text: &str, at: usize) -> Result<Vec<Expected>, NoMemory> {
     let mut found = Vec::new(alloc);
-    let from = expression_front(alloc, text, at);
+    let from = expression_front(text, at);
     let Some(expression) = text.get(from..) else {
         return Ok(found);
     };
@@ -83,8 +84,8 @@ fn expected_inside(alloc: Global, text: &str, at: usize) -> Result<Vec<Expected>
 
 /// Where the expression begins in which an offset stands: behind the last `=` before it that follows
 /// an occurrence, since within expressions none does.
-fn expression_front(alloc: Global, text: &str, at: usize) -> usize {
-    let mut cursor = Cursor::new(alloc, text);
+fn expression_front(text: &str, at: usize) -> usize {
+    let mut cursor = Cursor::new(text);
     let mut front = 0usize;
     let mut behind_occurrence = false;
     for _ in 0..text.len() {

@@ -9,11 +9,11 @@ ghost use Rattle.ag_text.specs.declared.fault.TextFault.TheVariants as fault;
 
 use crate::fault::TextFault;
 use crate::parser::whole_grammar;
-use crate::reader::Reader;
 use crate::stop::Stop;
 use ag_expr::ExprFault;
 use ag_grammar::RawGrammar;
 use ag_grammar::limits::MOST_TEXT_BYTES;
+use ag_tokens::Cursor;
 use std::alloc::Global;
 
 /// How many line feeds there are.
@@ -56,8 +56,8 @@ fn told(text: &str, stop: Stop) -> TextFault
 fn read_characters(alloc: Global, text: &str) -> Result<RawGrammar, TextFault>
     ensures { IsReadText text.now result }
 {
-    let mut reader = Reader::new(alloc, text);
-    match whole_grammar(alloc, &mut reader) {
+    let mut cursor = Cursor::new(text);
+    match whole_grammar(alloc, &mut cursor) {
         Ok(grammar) => Ok(grammar),
         Err(stop) => Err(told(text, stop)),
     }

@@ -2,43 +2,21 @@
 
 ghost use Rattle.std.specs.List.{list_any};
 ghost use Rattle.std.specs.Prelude.{◌≡◌, IfOk, chars};
-ghost use Rattle.ag_expr.specs.language.Lexing.{token_of, unescaped as unescaped_bytes};
-ghost use Rattle.ag_expr.specs.language.Reading.{sees};
-ghost use Rattle.ag_expr.specs.language.Offsets.{place};
-ghost use Rattle.ag_expr.specs.language.Token as token;
-ghost use Rattle.ag_expr.specs.language.Tokens.{is_separator};
+ghost use Rattle.ag_tokens.specs.Lexing.{token_of, unescaped as unescaped_bytes};
+ghost use Rattle.ag_tokens.specs.Parsing.{place, sees};
+ghost use Rattle.ag_tokens.specs.Token as token;
+ghost use Rattle.ag_tokens.specs.Tokens.{is_separator};
 ghost use Rattle.ag_text.specs.Passing.{Reads};
 ghost use Rattle.ag_text.specs.Reading as reading;
 ghost use Rattle.ag_text.specs.Words as words;
 ghost use Rattle.ag_text.specs.declared.stop.Stop.TheVariants as stop;
 
-use crate::reader::Reader;
 use crate::stop::Stop;
-use ag_expr::{Punctuation, Token, unescaped};
 use ag_grammar::limits::{NAME, NUMBER, TEXT};
 use ag_grammar::{Named, Occ, RawItem};
+use ag_tokens::{Cursor, Punctuation, Token, is_mark, is_word, unescaped};
 use ag_value::{NoMemory, Text};
 use std::alloc::Global;
-
-/// Whether a token is this punctuation.
-fn is_mark(mark: Punctuation, token: Token<'_>) -> bool
-    ensures { result ≡ words.is_mark mark (token_of token.entry) }
-{
-    match token {
-        Token::Punctuation(other) => other == mark,
-        _ => false,
-    }
-}
-
-/// Whether a token is this reserved name.
-fn is_word(word: &str, token: Token<'_>) -> bool
-    ensures { result ≡ words.is_word word.now (token_of token.entry) }
-{
-    match token {
-        Token::Name(name) => name == word,
-        _ => false,
-    }
-}
 
 /// Whether a name is reserved in a grammar's text.
 fn is_reserved(name: &str) -> bool
@@ -54,72 +32,72 @@ fn is_reserved(name: &str) -> bool
 }
 
 /// Why reading stops at the token in front, or where the tokens end.
-pub fn wrong(reader: &Reader<'_>) -> Stop
-    ensures { result ≡ stop.WrongAt (place reader.now) }
+pub fn wrong(cursor: &Cursor<'_>) -> Stop
+    ensures { result ≡ stop.WrongAt (place cursor.now) }
 {
-    Stop::WrongAt(reader.place())
+    Stop::WrongAt(cursor.place())
 }
 
 /// Whether this punctuation stands in front.
-pub fn sees_mark(reader: &Reader<'_>, mark: Punctuation) -> bool
-    ensures { result ≡ sees (words.is_mark mark) reader.now }
+pub fn sees_mark(cursor: &Cursor<'_>, mark: Punctuation) -> bool
+    ensures { result ≡ sees (words.is_mark mark) cursor.now }
 {
-    match reader.peek() {
+    match cursor.peek() {
         Some(token) => is_mark(mark, token),
         None => false,
     }
 }
 
 /// Whether this reserved name stands in front.
-pub fn sees_word(reader: &Reader<'_>, word: &str) -> bool
-    ensures { result ≡ sees (words.is_word word.now) reader.now }
+pub fn sees_word(cursor: &Cursor<'_>, word: &str) -> bool
+    ensures { result ≡ sees (words.is_word word.now) cursor.now }
 {
-    match reader.peek() {
+    match cursor.peek() {
         Some(token) => is_word(word, token),
         None => false,
     }
 }
 
 /// Whether a token stands in front that is not this punctuation.
-pub fn sees_other(reader: &Reader<'_>, mark: Punctuation) -> bool
-    ensures { result ≡ sees (reading.is_other_than mark) reader.now }
+pub fn sees_other(cursor: &Cursor<'_>, mark: Punctuation) -> bool
+    ensures { result ≡ sees (reading.is_other_than mark) cursor.now }
 {
-    match reader.peek() {
+    match cursor.peek() {
         Some(token) => !is_mark(mark, token),
         None => false,
     }
 }
 
 /// Whether any token stands in front.
-pub fn sees_any(reader: &Reader<'_>) -> bool
-    ensures { result ≡ sees reading.is_any reader.now }
+pub fn sees_any(cursor: &Cursor<'_>) -> bool
+    ensures { result ≡ sees reading.is_any cursor.now }
 {
-    reader.peek().is_some()
+    cursor.peek().is_some()
 }
 
 /// Passes this punctuation.
-pub fn expect(reader: &mut Reader<'_>, mark: Punctuation) -> Result<(), Stop>
-    ensures { Reads (reading.expect mark) reader.old result reader.new }
+pub fn expect(cursor: &mut Cursor<'_>, mark: Punctuation) -> Result<(), Stop>
+    ensures { Reads (reading.expect mark) cursor.old result cursor.new }
 {
-    match reader.peek() {
+    match cursor.peek() {
         Some(token) if is_mark(mark, token) => {
-            reader.bump();
+            cursor.bump();
             Ok(())
         }
-        _ => Err(wrong(reader)),
+        _ => Err(wrong(cursor)),
     }
 }
 
 /// Passes this reserved name.
-pub fn expect_word(reader: &mut Reader<'_>, word: &str) -> Result<(), Stop>
-    ensures { Reads (reading.expect_word word.now) reader.old result reader.new }
+pub fn expect_word(cursor: &mut Cursor<'_>, word: &str) -> Result<(), Stop>
+    ensures { Reads (reading.expect_word word.now) cursor.old result cursor.new }
 {
-    match reader.peek() {
+    match cursor.peek() {
         Some(token) if is_word(word, token) => {
-            reader.bump();
+            cursor.bump();
             Ok(())
         }
-        _ => Err(wrong(reader)),
+        _ => Err(wrong(cursor)),
     }
 }
 
@@ -131,17 +109,17 @@ fn copied(alloc: Global, text: &str) -> Result<Text, NoMemory>
 }
 
 /// Passes a name that is not reserved.
-pub fn name(alloc: Global, reader: &mut Reader<'_>) -> Result<Named, Stop>
-    ensures { Reads (reading.one_from words.name_in) reader.old result reader.new }
+pub fn name(alloc: Global, cursor: &mut Cursor<'_>) -> Result<Named, Stop>
+    ensures { Reads (reading.one_from words.name_in) cursor.old result cursor.new }
 {
-    match reader.peek() {
+    match cursor.peek() {
         Some(Token::Name(name)) if !is_reserved(name) => {
-            let at = reader.place();
+            let at = cursor.place();
             let name = copied(alloc, name)?;
-            reader.bump();
+            cursor.bump();
             Ok(Named { name, at })
         }
-        _ => Err(wrong(reader)),
+        _ => Err(wrong(cursor)),
     }
 }
 
@@ -218,40 +196,40 @@ fn item_of(alloc: Global, token: Token<'_>, at: usize) -> Result<Option<RawItem>
 }
 
 /// Passes what stands on the right side of a production: a class, a name or a literal.
-pub fn item(alloc: Global, reader: &mut Reader<'_>) -> Result<RawItem, Stop>
-    ensures { Reads (reading.one_from words.item_in) reader.old result reader.new }
+pub fn item(alloc: Global, cursor: &mut Cursor<'_>) -> Result<RawItem, Stop>
+    ensures { Reads (reading.one_from words.item_in) cursor.old result cursor.new }
 {
-    let at = reader.place();
-    if let Some(token) = reader.peek() {
+    let at = cursor.place();
+    if let Some(token) = cursor.peek() {
         if let Some(item) = item_of(alloc, token, at)? {
-            reader.bump();
+            cursor.bump();
             return Ok(item);
         }
     }
-    Err(wrong(reader))
+    Err(wrong(cursor))
 }
 
 /// Passes an occurrence.
-pub fn target(alloc: Global, reader: &mut Reader<'_>) -> Result<Occ, Stop>
-    ensures { Reads (reading.one_from words.target_in) reader.old result reader.new }
+pub fn target(alloc: Global, cursor: &mut Cursor<'_>) -> Result<Occ, Stop>
+    ensures { Reads (reading.one_from words.target_in) cursor.old result cursor.new }
 {
-    match reader.peek() {
+    match cursor.peek() {
         Some(Token::Occurrence(place, attr)) => {
-            let at = reader.place();
+            let at = cursor.place();
             let attr = copied(alloc, attr)?;
-            reader.bump();
+            cursor.bump();
             Ok(Occ { place, attr, at })
         }
-        _ => Err(wrong(reader)),
+        _ => Err(wrong(cursor)),
     }
 }
 
 /// Passes the end of the text, where nothing else is left.
-pub fn end(reader: &mut Reader<'_>) -> Result<(), Stop>
-    ensures { Reads reading.at_end reader.old result reader.new }
+pub fn end(cursor: &mut Cursor<'_>) -> Result<(), Stop>
+    ensures { Reads reading.at_end cursor.old result cursor.new }
 {
-    if !reader.is_at_end() {
-        return Err(wrong(reader));
+    if !cursor.is_at_end() {
+        return Err(wrong(cursor));
     }
     Ok(())
 }

@@ -4,17 +4,17 @@ use Rattle.std.proofs.lemmas.Bool.{and_parts}
 use Rattle.std.specs.List.{list_any}
 use Rattle.ag_grammar.specs.Lists.{Each}
 use Rattle.ag_grammar.specs.grammars.Accepted.{IsSeparator, class_count}
-use Rattle.ag_expr.specs.language.Placed.{Placed}
-use Rattle.ag_expr.specs.language.Token.{Token}
-use Rattle.ag_expr.specs.language.Token as token
-use Rattle.ag_expr.specs.language.Tokens.{is_separator}
+use Rattle.ag_tokens.specs.Placed.{Placed}
+use Rattle.ag_tokens.specs.Token.{Token}
+use Rattle.ag_tokens.specs.Token as token
+use Rattle.ag_tokens.specs.Tokens.{is_separator}
 use Rattle.ag_grammar.specs.declared.raw.Named.{Named}
 use Rattle.ag_grammar.specs.declared.raw.RawGrammar.{RawGrammar}
 use Rattle.ag_grammar.specs.declared.raw.RawItem.{RawItem}
 use Rattle.ag_grammar.specs.declared.raw.RawItem.TheVariants as raw_item
 use Rattle.ag_grammar.specs.declared.raw.RawProduction.{RawProduction}
-use Rattle.ag_text.specs.Spelling.{Many, none, more, one}
-use Rattle.ag_text.specs.Syntax.{IsProduction, IsGrammar}
+use Rattle.ag_tokens.specs.Words.{Many, none, more}
+use Rattle.ag_text.specs.Syntax.{IsProduction, IsGrammar, one}
 use Rattle.ag_text.specs.Words.{class_of, class_or_name, is_literal, item_in, named, some_where}
 use Rattle.normalform.specs.Faults.{IsReadable, IsReadableItem}
 use Rattle.aggen.specs.Checking.{TextsAreReadable}

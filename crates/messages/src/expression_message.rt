@@ -27,7 +27,7 @@ impl<'a> ExpressionMessage<'a> {
             Err(_) => Vec::new(alloc),
         };
         let found = match place_in(fault) {
-            Some(at) => found_at(alloc, text, at),
+            Some(at) => found_at(text, at),
             None => None,
         };
         ExpressionMessage {

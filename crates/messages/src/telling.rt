@@ -1,8 +1,7 @@
 //! The parts of messages: places in a text, what stands there, and what could.
 
-use ag_expr::{Cursor, Expected as Part, ExprFault};
+use ag_expr::{Cursor, Expected as Part, ExprFault, refusal};
 use ag_text::Expected;
-use std::alloc::Global;
 use std::fmt;
 
 /// How many terminals or attributes a message names at most.
@@ -66,9 +65,9 @@ pub fn front_of(bytes: &[u8]) -> &str {
 
 /// What stands at an offset: the token there, or else the characters up to the next separator, one
 /// at least. None at the text's end.
-pub fn found_at(alloc: Global, text: &str, at: usize) -> Option<&str> {
+pub fn found_at(text: &str, at: usize) -> Option<&str> {
     let rest = text.get(at..)?;
-    let mut cursor = Cursor::new(alloc, rest);
+    let mut cursor = Cursor::new(rest);
     if cursor.peek().is_none() {
         return word_in_front(rest);
     }
@@ -92,11 +91,11 @@ fn is_separator(character: char) -> bool {
 }
 
 /// Why no token begins with what was found. None where one does.
-pub fn refusal_of(alloc: Global, found: &str) -> Option<ExprFault> {
-    let cursor = Cursor::new(alloc, found);
+pub fn refusal_of(found: &str) -> Option<ExprFault> {
+    let cursor = Cursor::new(found);
     match cursor.peek() {
         Some(_) => None,
-        None => Some(cursor.refusal()),
+        None => Some(refusal(&cursor)),
     }
 }
 

@@ -27,14 +27,14 @@ impl<'a> TextMessage<'a> {
     pub fn new(alloc: Global, fault: TextFault, bytes: &'a [u8]) -> TextMessage<'a> {
         let text = front_of(bytes);
         let found = match place_of(fault) {
-            Some(at) => found_at(alloc, text, at),
+            Some(at) => found_at(text, at),
             None => None,
         };
         let expected = match expected_at(alloc, text, fault) {
             Ok(expected) => expected,
             Err(_) => Vec::new(alloc),
         };
-        let broken = broken_of(alloc, found, expected.as_slice());
+        let broken = broken_of(found, expected.as_slice());
         TextMessage {
             fault,
             text,
@@ -55,14 +55,10 @@ fn place_of(fault: TextFault) -> Option<usize> {
 }
 
 /// Why what was found is no literal or no occurrence, where it begins as one and one could stand.
-fn broken_of(alloc: Global, found: Option<&str>, expected: &[Expected]) -> Option<ExprFault> {
+fn broken_of(found: Option<&str>, expected: &[Expected]) -> Option<ExprFault> {
     let is_meant = begins_with(found, '"') && expected.contains(&Expected::Item)
         || begins_with(found, '$') && expected.contains(&Expected::Rule);
-    if is_meant {
-        refusal_of(alloc, found?)
-    } else {
-        None
-    }
+    if is_meant { refusal_of(found?) } else { None }
 }
 
 impl fmt::Display for TextMessage<'_> {

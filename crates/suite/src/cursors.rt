@@ -5,7 +5,7 @@ use std::test::Fail;
 
 #[test]
 fn tokens_one_by_one(rt: HostRuntime) -> Result<(), Fail> {
-    let mut cursor = Cursor::new(rt.alloc(), "\tlet a = \"b\\n\" ;");
+    let mut cursor = Cursor::new("\tlet a = \"b\\n\" ;");
     for (token, at) in [
         (Token::Name("let"), 1),
         (Token::Name("a"), 5),
@@ -28,7 +28,7 @@ fn tokens_one_by_one(rt: HostRuntime) -> Result<(), Fail> {
 /// A cursor goes no further where no token begins.
 #[test]
 fn no_token_in_front(rt: HostRuntime) -> Result<(), Fail> {
-    let mut cursor = Cursor::new(rt.alloc(), "a @ b");
+    let mut cursor = Cursor::new("a @ b");
     cursor.bump();
     cursor.bump();
     assert_eq!(rt; cursor.peek(), None);

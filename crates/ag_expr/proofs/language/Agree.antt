@@ -1,5 +1,5 @@
 -- Reading agrees with the syntax.
-use Rattle.std.proofs.Common.{rules, ◌≡◌, ℕ, zero, suc, Bool, true, false, not, cond, ◌||◌, if◌then◌else◌, ◌&&◌, List, [], ◌∷◌, ◌++◌, length, ◌<◌, Option, Some, None, Ok, Err, is_some, refl, ap, sym, ◌∙◌, subst, append-nil, ◌↔◌, arith, length-append, codes}
+use Rattle.std.proofs.Common.{option_map, rules, ◌≡◌, ℕ, zero, suc, Bool, true, false, not, cond, ◌||◌, if◌then◌else◌, ◌&&◌, List, [], ◌∷◌, ◌++◌, length, ◌<◌, Option, Some, None, Ok, Err, is_some, refl, ap, sym, ◌∙◌, subst, append-nil, ◌↔◌, codes}
 use denote.Enum.Bare.{same_true}
 use Rattle.std.proofs.lemmas.Bool.{and_parts}
 use Rattle.ag_expr.specs.contracts.parser.Precedence.{the_type}
@@ -7,22 +7,25 @@ use Rattle.ag_expr.specs.declared.parser.Precedence.{Precedence}
 use Rattle.ag_expr.specs.declared.parser.Precedence.TheVariants as precedence
 use Rattle.ag_expr.specs.declared.names.Call.{Call}
 use Rattle.ag_expr.specs.declared.names.Call.TheVariants as call
-use Rattle.ag_expr.specs.declared.token.Punctuation.TheVariants as punctuation
+use Rattle.ag_tokens.specs.declared.token.Punctuation.TheVariants as punctuation
 use Rattle.ag_grammar.specs.declared.node.Operator.{Operator}
 use Rattle.ag_grammar.specs.declared.node.Node.{Node}
 use Rattle.ag_grammar.specs.declared.node.Node.TheVariants as node
 use Rattle.ag_grammar.specs.declared.occurrence.Occ.{Occ}
-use Rattle.ag_expr.specs.language.Ending.{Ending}
-use Rattle.ag_expr.specs.language.Ending as ending
-use Rattle.ag_expr.specs.language.Names.{Names, is_keyword}
-use Rattle.ag_expr.specs.language.Placed.{Placed, Input, tokens}
-use Rattle.ag_expr.specs.language.Syntax as syntax
-use Rattle.ag_expr.specs.language.Syntax.{gives, spelled, token_as, ◌or◌, further, operator_of, binary_operator, precedences, closer, takes_one, same_precedence, of_precedence, chained, new_name, call_in, operand_of, bound_in, IsOther, IsChain, IsRanked, AreNone, IsTable, IsParenthesized, IsNext, AreSome, IsList, IsUnary, IsBinary, IsPut, AreArguments, IsCall, IsLet, IsIf, IsAtom, IsWhole, IsExpr, IsExprIn}
-use Rattle.ag_expr.specs.language.Reading as reading
-use Rattle.ag_expr.specs.language.Reading.{expr_of, at_end, pure, is_end, refusal, Parser, is_sign, is_call, is_operand, is_operator_of, begins, begins_atom, other_from, chain_from, ranked_from, none_from, table_from, parenthesized_from, next_from, items_from, some_from, list_from, unary_from, binary_from, put_from, arguments_from, call_from, let_from, if_from, atom_from, whole_from, expr_from, expr_in}
-use Rattle.ag_expr.specs.language.Token.{Token, Sign, mark, word, sign_token}
-use Rattle.ag_expr.specs.language.Token as token
-use Rattle.ag_expr.proofs.language.Exact.{Leads, Starts, Exact, nowhere, Apart, before, then_exact, or_exact, further_exact, further_behind, further_then, token_exact, sign_exact, sign_is, token_starts, then_starts, starts_with, ends_exact, token_then, start_then, First, sign_first, or_first, or_exact, opened, answered}
+use Rattle.ag_tokens.specs.Ending.{Ending}
+use Rattle.ag_tokens.specs.Ending as ending
+use Rattle.ag_expr.specs.language.Names.{Names, place_in, is_keyword}
+use Rattle.ag_tokens.specs.Placed.{Placed, Input, tokens}
+use Rattle.ag_tokens.specs.Words as syntax
+use Rattle.ag_tokens.specs.Words.{gives, one, ◌or◌, further}
+use Rattle.ag_expr.specs.language.Syntax.{spelled, operator_of, binary_operator, precedences, closer, takes_one, same_precedence, of_precedence, chained, new_name, call_in, operand_of, IsOther, IsChain, IsRanked, AreNone, IsTable, IsParenthesized, IsNext, AreSome, IsList, AreArguments, IsCall, IsLet, IsIf, IsAtom, IsWhole, IsExpr, IsExprIn}
+use Rattle.ag_tokens.specs.Parsing as reading
+use Rattle.ag_tokens.specs.Parsing.{pure, is_end, is_sign}
+use Rattle.ag_expr.specs.language.Reading.{expect, expr_of, refusal, Parser, is_call, is_operand, is_operator_of, begins, begins_atom, other_from, chain_from, ranked_from, none_from, table_from, parenthesized_from, next_from, items_from, some_from, list_from, unary_from, binary_from, put_from, arguments_from, call_from, let_from, if_from, atom_from, whole_from, expr_from, expr_in}
+use Rattle.ag_tokens.specs.Token.{Token, Sign, mark, word, sign_token}
+use Rattle.ag_tokens.specs.Token as token
+use Rattle.ag_tokens.proofs.Exact.{nowhere, Apart, then_exact, or_exact, further_exact, further_behind, further_then, then_starts, ends_exact, any_then, start_then, opened, answered, shortens}
+use Rattle.ag_expr.proofs.language.Manner.{Starts, Exact, First, token_exact, token_starts, sign_exact, sign_is, sign_first, or_first, starts_with}
 
 -- ---- precedences
 
@@ -66,7 +69,7 @@ all_apart (r ∷ rs) h = let parts = and_parts (absent r rs) (distinct rs) h in 
 
 pub other_exact : (k : Precedence) {stops : Token → Bool} {L : List Token → Node → Type 0} {l : Parser Node} → Exact stops L l → Exact stops (IsOther k L) (other_from k l)
 unfolding other_from
-other_exact k x = token_then (token_exact (operator_of k)) (λ o. ends_exact (λ e. (o, e)) x)
+other_exact k x = any_then (token_exact (operator_of k)) (λ o. ends_exact (λ e. (o, e)) x)
 
 pub other_starts : (k : Precedence) (L : List Token → Node → Type 0) → Starts (is_operator_of k) (IsOther k L)
 other_starts k L = then_starts (token_starts (operator_of k))
@@ -97,7 +100,7 @@ sign_apart s stops no_stop t h = ap stops (sign_is s t h) ∙ no_stop
 call_apart : (listed : List Occ) (scope : Names) → Apart is_call (is_operand listed scope)
 call_apart listed scope (token.Name name) h = rw h (go (is_keyword name))
   where
-    go : (b : Bool) → is_some (cond (b || true) None (bound_in scope name)) ≡ false
+    go : (b : Bool) → is_some (cond (b || true) None (option_map node.Bound (place_in scope name))) ≡ false
     go true = refl
     go false = refl
 call_apart listed scope (token.Number n) h = let bad : ⊥ = cc in absurd bad
@@ -113,7 +116,7 @@ none_exact = ends_exact (λ u. node.List []) (sign_exact (mark punctuation.Close
 
 table_exact : Exact nowhere IsTable table_from
 unfolding table_from
-table_exact = token_then (sign_exact (mark punctuation.OpenTable)) (λ u. ends_exact (λ u. node.EmptyTable) (sign_exact (mark punctuation.CloseTable)))
+table_exact = any_then (sign_exact (mark punctuation.OpenTable)) (λ u. ends_exact (λ u. node.EmptyTable) (sign_exact (mark punctuation.CloseTable)))
 
 module _ (listed : List Occ) (inner : Names → List Token → Node → Type 0) (read : Names → Parser Node) (x : (scope : Names) → First (begins listed scope) operators (inner scope) (read scope)) (scope : Names) where
   comma : Apart (is_sign (mark punctuation.Comma)) operators
@@ -121,19 +124,19 @@ module _ (listed : List Occ) (inner : Names → List Token → Node → Type 0) 
 
   -- an expression and the parenthesis that closes the form
   closed : {R : List Token → Node → Type 0} {r : Parser Node} (f : Node → Node) → Exact operators R r
-      → Exact nowhere (syntax.◌>>=◌ R (λ e. syntax.◌>>◌ (spelled (mark punctuation.Close)) (gives (f e)))) (reading.◌>>=◌ r (λ e. reading.◌>>◌ (reading.expect (mark punctuation.Close)) (pure (f e))))
+      → Exact nowhere (syntax.◌>>=◌ R (λ e. syntax.◌>>◌ (spelled (mark punctuation.Close)) (gives (f e)))) (reading.◌>>=◌ r (λ e. reading.◌>>◌ (expect (mark punctuation.Close)) (pure (f e))))
   closed f y = start_then y (λ e. ends_exact (λ u. f e) (sign_exact (mark punctuation.Close))) (λ e. starts_with (mark punctuation.Close)) (sign_apart (mark punctuation.Close) operators refl)
 
   parenthesized_exact : Exact nowhere (IsParenthesized inner scope) (parenthesized_from read scope)
   unfolding parenthesized_from
-  parenthesized_exact = token_then (sign_exact (mark punctuation.Open)) (λ u. closed (λ e. e) (x scope).exact)
+  parenthesized_exact = any_then (sign_exact (mark punctuation.Open)) (λ u. closed (λ e. e) (x scope).exact)
 
   pub next_starts : Starts (is_sign (mark punctuation.Comma)) (IsNext inner scope)
   next_starts = starts_with (mark punctuation.Comma)
 
   pub next_exact : Exact operators (IsNext inner scope) (next_from read scope)
   unfolding next_from
-  next_exact = token_then (sign_exact (mark punctuation.Comma)) (λ u. (x scope).exact)
+  next_exact = any_then (sign_exact (mark punctuation.Comma)) (λ u. (x scope).exact)
 
   some_exact : Exact nowhere (AreSome inner scope) (some_from read scope)
   unfolding some_from items_from
@@ -143,7 +146,7 @@ module _ (listed : List Occ) (inner : Names → List Token → Node → Type 0) 
 
   list_exact : Exact nowhere (IsList inner scope) (list_from read scope)
   unfolding list_from
-  list_exact = token_then (sign_exact (mark punctuation.OpenList)) (λ u. or_exact none_exact some_exact (starts_with (mark punctuation.CloseList)) (then_starts (x scope).starts) (sign_apart (mark punctuation.CloseList) (begins listed scope) refl))
+  list_exact = any_then (sign_exact (mark punctuation.OpenList)) (λ u. or_exact none_exact some_exact (starts_with (mark punctuation.CloseList)) (then_starts (x scope).starts) (sign_apart (mark punctuation.CloseList) (begins listed scope) refl))
 
   arguments_exact : (c : Call) → Exact nowhere (AreArguments inner scope c) (arguments_from read scope c)
   unfolding unary_from binary_from put_from
@@ -154,19 +157,19 @@ module _ (listed : List Occ) (inner : Names → List Token → Node → Type 0) 
 
   call_exact : Exact nowhere (IsCall inner scope) (call_from read scope)
   unfolding call_from
-  call_exact = token_then (token_exact call_in) (λ c. token_then (sign_exact (mark punctuation.Open)) (λ u. arguments_exact c))
+  call_exact = any_then (token_exact call_in) (λ c. any_then (sign_exact (mark punctuation.Open)) (λ u. arguments_exact c))
 
   let_exact : Exact operators (IsLet inner scope) (let_from read scope)
   unfolding let_from
-  let_exact = token_then (sign_exact (word (codes "let"))) (λ u. token_then (token_exact new_name) (λ name. token_then (sign_exact (mark punctuation.Equal)) (λ u. start_then (x scope).exact
-      (λ e. token_then (sign_exact (word (codes "in"))) (λ u. ends_exact (node.Let e) (x (scope ++ name ∷ [])).exact))
+  let_exact = any_then (sign_exact (word (codes "let"))) (λ u. any_then (token_exact new_name) (λ name. any_then (sign_exact (mark punctuation.Equal)) (λ u. start_then (x scope).exact
+      (λ e. any_then (sign_exact (word (codes "in"))) (λ u. ends_exact (node.Let e) (x (scope ++ name ∷ [])).exact))
       (λ e. starts_with (word (codes "in"))) (sign_apart (word (codes "in")) operators refl))))
 
   if_exact : Exact operators (IsIf inner scope) (if_from read scope)
   unfolding if_from
-  if_exact = token_then (sign_exact (word (codes "if"))) (λ u. start_then (x scope).exact
-      (λ c. token_then (sign_exact (word (codes "then"))) (λ u. start_then (x scope).exact
-      (λ e. token_then (sign_exact (word (codes "else"))) (λ u. ends_exact (node.If c e) (x scope).exact))
+  if_exact = any_then (sign_exact (word (codes "if"))) (λ u. start_then (x scope).exact
+      (λ c. any_then (sign_exact (word (codes "then"))) (λ u. start_then (x scope).exact
+      (λ e. any_then (sign_exact (word (codes "else"))) (λ u. ends_exact (node.If c e) (x scope).exact))
       (λ e. starts_with (word (codes "else"))) (sign_apart (word (codes "else")) operators refl)))
       (λ c. starts_with (word (codes "then"))) (sign_apart (word (codes "then")) operators refl))
 
@@ -192,14 +195,6 @@ expr_first listed (suc levels) scope = whole_first listed (IsExprIn listed level
 
 pub expr_exact : (listed : List Occ) (levels : ℕ) (scope : Names) → Exact operators (IsExprIn listed levels scope) (expr_in listed levels scope)
 expr_exact listed levels scope = (expr_first listed levels scope).exact
-
--- what is left is shorter
-pub shortens : {A : Type 0} {stops test : Token → Bool} {L : List Token → A → Type 0} {r : Parser A} → Exact stops L r → Starts test L → (i j : Input) (a : A) → r i ≡ Ok (a, j) → length j.left < length i.left
-shortens {A} {stops} {test} {L} {r} x starts i j a h = let found = x.sound i j a h in go found.0 found.1 (starts.leads (tokens found.0) a found.2)
-  where
-    go : (us : List Placed) → i ≡ before us j → Leads test (tokens us) → length j.left < length i.left
-    go [] e l = absurd l
-    go (u ∷ us) e l = omega (arith, ap (λ (k : Input). length k.left) e, length-append (u ∷ us) j.left)
 
 closer_apart : (k : Precedence) → AllApart (closer k)
 closer_apart precedence.Comparison = all_apart (closer precedence.Comparison) refl
@@ -234,7 +229,7 @@ pub read_whole : (listed : List Occ) (levels at : ℕ) (ps : List Placed) (e : N
 unfolding expr_of
 read_whole listed levels at ps e is =
     let end : Input = record { left = []; ending = ending.EndsAt at } in
-    let read = ap (λ us. expr_from listed levels (record { left = us; ending = ending.EndsAt at })) (sym (append-nil ps)) ∙ (expr_exact listed levels []).complete ps end e is tt in
+    let read = ap (λ us. expr_from listed levels (record { left = us; ending = ending.EndsAt at })) (sym (append-nil ps)) ∙ (expr_exact listed levels []).complete ps end e is refl in
     rw read refl
 
 -- what reading a text comes to

@@ -1,25 +1,24 @@
 -- The numbers in the tree of an expression: those of occurrences are of the list, and those of bound names of the scope.
 use Rattle.std.proofs.lemmas.Bool.{lt-ltb}
 use Rattle.std.proofs.lemmas.Option.{same_Some}
-use Rattle.std.proofs.Common.{◌≡◌, ◌<◌, ◌+◌, ℕ, zero, suc, nat_lt, length, Option, Some, None, IfSome, subst, List, [], ◌∷◌, ◌++◌, Bool, true, false, cond, ◌&&◌, map, inl, inr, refl, ap, sym, ◌∙◌, arith, length-append, bytes_eq}
+use Rattle.std.proofs.Common.{◌≡◌, ◌<◌, ◌+◌, ℕ, zero, suc, length, Option, Some, None, IfSome, subst, List, [], ◌∷◌, ◌++◌, Bool, true, false, cond, inl, inr, refl, sym, arith, length-append, bytes_eq}
 use Rattle.std.specs.Prelude.{option_map}
-use Rattle.ag_value.specs.declared.value.Value.{Value}
 use Rattle.ag_expr.specs.declared.names.Call.{Call}
 use Rattle.ag_expr.specs.declared.names.Call.TheVariants as call
 use Rattle.ag_grammar.specs.declared.node.Operator.{Operator}
-use Rattle.ag_grammar.specs.declared.node.Node.{Node, roll-Node}
+use Rattle.ag_grammar.specs.declared.node.Node.{Node}
 use Rattle.ag_grammar.specs.declared.node.Node.TheVariants as node
 use Rattle.ag_grammar.specs.declared.node.Node.TheOpen.{Node-F}
-use Rattle.ag_grammar.specs.declared.node.Node.TheFolds.{fold-roll-Node, map-Node}
 use Rattle.ag_grammar.specs.declared.occurrence.Occ.{Occ}
 use Rattle.ag_expr.specs.declared.parser.Precedence.{Precedence}
 use Rattle.ag_expr.specs.language.Names.{Names, last_from, place_in, is_reserved}
 use Rattle.ag_expr.specs.language.Occurrences.{is_of, position_of}
-use Rattle.ag_expr.specs.language.Syntax as syntax
-use Rattle.ag_expr.specs.language.Syntax.{Many, none, more, further, gives, token_as, ◌or◌, precedences, chained, operand_of, takes_one, IsOther, IsChain, IsRanked, IsNext, AreSome, AreNone, IsList, AreArguments, IsCall, IsLet, IsIf, IsAtom, IsWhole, IsExpr, IsExprIn}
-use Rattle.ag_expr.specs.language.Token.{Token}
-use Rattle.ag_expr.specs.language.Token as token
-use Rattle.ag_grammar.specs.expressions.Trees.{is_below, is_within, below_step, all_pass, each_passes}
+use Rattle.ag_tokens.specs.Words as syntax
+use Rattle.ag_tokens.specs.Words.{Many, none, more, further, gives, one, ◌or◌}
+use Rattle.ag_expr.specs.language.Syntax.{precedences, chained, operand_of, takes_one, IsOther, IsRanked, IsNext, IsList, AreArguments, IsLet, IsIf, IsAtom, IsWhole, IsExpr, IsExprIn}
+use Rattle.ag_tokens.specs.Token.{Token}
+use Rattle.ag_tokens.specs.Token as token
+use Rattle.ag_grammar.specs.expressions.Trees.{is_below}
 use Rattle.ag_expr.proofs.language.Numbered.{within}
 use Rattle.ag_grammar.proofs.expressions.Within.{Each, Within, both, rolled, in_chain, in_list, literal_within, occurrence_within}
 
@@ -83,7 +82,7 @@ module _ (listed : List Occ) where
   abbrev n : ℕ
   n = length listed
 
-  operand_within : (scope : Names) → Holds (Within n (length scope)) (token_as (operand_of listed scope))
+  operand_within : (scope : Names) → Holds (Within n (length scope)) (one (operand_of listed scope))
   operand_within scope = record { of = λ ts e (t, is, means). go t e means }
     where
       occurrence : (o : Option ℕ) (e : Node) → IfSome o (λ k. k < n) → option_map node.Occurrence o ≡ Some e → Within n (length scope) e

@@ -3,20 +3,21 @@ use Rattle.std.proofs.Common.{◌≡◌, ℕ, ℤ, List, [], ◌∷◌, Some, Ok
 use Rattle.std.proofs.lemmas.Str.{encode_ascii}
 use Rattle.std.specs.Str.{chars}
 use Rattle.unicode_ident.proofs.IdentLemmas.{is_xid_start-ascii, is_xid_continue-ascii}
-use Rattle.ag_expr.specs.declared.token.Punctuation.TheVariants as punctuation
-use Rattle.ag_expr.specs.language.Ending as ending
-use Rattle.ag_expr.specs.language.Placed.{Placed, tokens}
-use Rattle.ag_expr.specs.language.Token.{Token}
-use Rattle.ag_expr.specs.language.Token as token
-use Rattle.ag_expr.specs.language.Tokens.{AreTokens, ended, separator}
-use Rattle.ag_expr.specs.language.Lexing.{token_from}
-use Rattle.ag_expr.specs.language.Reading.{expr_of, expr_in, whole_from, let_from, ranked_from, chain_from, other_from, atom_from, many_from}
+use Rattle.ag_tokens.specs.declared.token.Punctuation.TheVariants as punctuation
+use Rattle.ag_tokens.specs.Ending as ending
+use Rattle.ag_tokens.specs.Placed.{Placed, tokens}
+use Rattle.ag_tokens.specs.Token.{Token}
+use Rattle.ag_tokens.specs.Token as token
+use Rattle.ag_tokens.specs.Tokens.{AreTokens, ended, separator}
+use Rattle.ag_tokens.specs.Lexing.{token_from}
+use Rattle.ag_tokens.specs.Parsing.{many_from}
+use Rattle.ag_expr.specs.language.Reading.{expr_of, expr_in, whole_from, let_from, ranked_from, chain_from, other_from, atom_from}
 use Rattle.ag_expr.specs.language.Expression.{ReadsAsExpr}
 use Rattle.ag_expr.specs.language.Syntax.{IsExpr}
 use Rattle.ag_expr.specs.language.Worked.{placed, sum_and_product, let_and_compare, bound_and_compared}
 use Rattle.ag_expr.proofs.language.Agree as agree
-use Rattle.ag_expr.proofs.language.Lexed.{one_more}
-use Rattle.ag_expr.proofs.language.TokenLaws.{no_start, punctuation_cut}
+use Rattle.ag_tokens.proofs.Lexed.{one_more}
+use Rattle.ag_tokens.proofs.TokenLaws.{no_start, punctuation_cut}
 
 cut_occurrence : token_from (codes "$1.a + 2") ≡ Some (token.Occurrence 1 (codes "a"), codes " + 2")
 unfolding token_from

@@ -1,5 +1,5 @@
 -- The first token that can't be taken: what stands before it is the beginning of an expression, and with it of none.
-use Rattle.std.proofs.Common.{◌≡◌, ℕ, zero, suc, ◌+◌, pos, Bool, true, false, if◌then◌else◌, ◌||◌, List, [], ◌∷◌, ◌++◌, Option, Some, None, is_some, Ok, Err, ◌⊎◌, inl, inr, refl, ap, sym, ◌∙◌, subst, append_assoc, append-nil, arith, codes, bytes_eq, cond, not}
+use Rattle.std.proofs.Common.{option_map, ◌≡◌, ℕ, zero, suc, ◌+◌, pos, Bool, true, false, if◌then◌else◌, ◌||◌, List, [], ◌∷◌, ◌++◌, Option, Some, None, is_some, Ok, Err, ◌⊎◌, inl, inr, refl, ap, sym, ◌∙◌, subst, append_assoc, append-nil, arith, codes, bytes_eq, cond, not}
 use Rattle.ag_expr.specs.declared.fault.ExprFault.{ExprFault}
 use Rattle.ag_expr.specs.declared.fault.ExprFault.TheVariants as fault
 use Rattle.ag_expr.specs.declared.names.Call.{Call}
@@ -12,23 +12,28 @@ use Rattle.ag_value.specs.declared.value.Value.TheVariants as value
 use Rattle.ag_grammar.specs.declared.occurrence.Occ.{Occ}
 use Rattle.ag_expr.specs.declared.parser.Precedence.{Precedence}
 use Rattle.ag_expr.specs.declared.parser.Precedence.TheVariants as precedence
-use Rattle.ag_expr.specs.declared.token.Punctuation.TheVariants as punctuation
-use Rattle.ag_expr.specs.language.Ending.{Ending}
-use Rattle.ag_expr.specs.language.Ending as ending
+use Rattle.ag_tokens.specs.declared.token.Punctuation.TheVariants as punctuation
+use Rattle.ag_tokens.specs.Ending.{Ending}
+use Rattle.ag_tokens.specs.Ending as ending
 use Rattle.ag_expr.specs.language.Expression.{begins_expression}
 use Rattle.ag_expr.specs.language.Laws.{RefusesAtTheFirst}
-use Rattle.ag_expr.specs.language.Names.{Names, call_of, is_reserved}
-use Rattle.ag_expr.specs.language.Placed.{Placed, Input, tokens}
+use Rattle.ag_expr.specs.language.Names.{Names, place_in, call_of, is_reserved}
+use Rattle.ag_tokens.specs.Placed.{Placed, Input, tokens}
 use Rattle.ag_expr.specs.language.Places.{NoneGoesOn, IsToldFirst}
-use Rattle.ag_expr.specs.language.Reading as reading
-use Rattle.ag_expr.specs.language.Reading.{Outcome, Parser, front, front_of, front_is, sees, refusal, refusal_of, is_end, at_end, expect, is_sign, is_call, is_operand, is_operator_of, choose, begins, begins_atom, other_from, chain_from, ranked_from, none_from, table_from, parenthesized_from, next_from, items_from, some_from, list_from, unary_from, binary_from, put_from, arguments_from, call_from, let_from, if_from, atom_from, whole_from, no_level_of, expr_from, expr_in, expr_of}
-use Rattle.ag_expr.specs.language.Syntax as syntax
-use Rattle.ag_expr.specs.language.Syntax.{gives, spelled, token_as, ◌or◌, none, further, IsFew, operator_of, precedences, takes_one, chained, new_name, call_in, operand_of, bound_in, IsOther, IsChain, IsRanked, AreNone, IsTable, IsParenthesized, IsNext, AreSome, IsList, AreArguments, IsCall, IsLet, IsIf, IsAtom, IsWhole, IsExpr, IsExprIn}
-use Rattle.ag_expr.specs.language.Token.{Token, Sign, mark, word, sign_token}
-use Rattle.ag_expr.specs.language.Token as token
-use Rattle.ag_expr.proofs.language.Exact.{tokens-append, answered, before, Exact, First, nowhere, neither, sign_is}
-use Rattle.ag_expr.proofs.language.Agree.{AllApart, operators, other_exact, other_starts, ranked_exact, all_apart, next_exact, next_starts, atom_exact, expr_exact, expr_first, shortens}
-use Rattle.ag_expr.proofs.language.Steady.{Steady, Heads, Refused, Stuck, Deep, then_steady, or_steady, ends_steady, token_steady, sign_steady, further_steady}
+use Rattle.ag_tokens.specs.Parsing as reading
+use Rattle.ag_tokens.specs.Parsing.{front, front_of, front_is, sees, is_end, is_sign, choose}
+use Rattle.ag_expr.specs.language.Reading.{token_as, Outcome, Parser, refusal, refusal_of, at_end, expect, is_operator_of, begins, begins_atom, other_from, chain_from, ranked_from, none_from, table_from, parenthesized_from, next_from, items_from, some_from, list_from, unary_from, binary_from, put_from, arguments_from, call_from, let_from, if_from, atom_from, whole_from, no_level_of, expr_from, expr_in, expr_of}
+use Rattle.ag_tokens.specs.Words as syntax
+use Rattle.ag_tokens.specs.Words.{gives, one, ◌or◌, none, further, IsFew}
+use Rattle.ag_expr.specs.language.Syntax.{spelled, operator_of, precedences, takes_one, chained, new_name, call_in, operand_of, IsOther, IsChain, IsRanked, AreNone, IsTable, IsParenthesized, IsNext, AreSome, IsList, AreArguments, IsCall, IsLet, IsIf, IsAtom, IsWhole, IsExpr, IsExprIn}
+use Rattle.ag_tokens.specs.Token.{Token, Sign, mark, word, sign_token}
+use Rattle.ag_tokens.specs.Token as token
+use Rattle.std.proofs.lemmas.List.{map-append}
+use Rattle.ag_tokens.proofs.Exact.{answered, before, nowhere, neither, shortens}
+use Rattle.ag_expr.proofs.language.Manner.{Exact, First, Steady, manner, deep_is, is_too_deep, sign_is, sign_steady, token_steady}
+use Rattle.ag_expr.proofs.language.Agree.{AllApart, operators, other_exact, other_starts, ranked_exact, all_apart, next_exact, next_starts, atom_exact, expr_exact, expr_first}
+use Rattle.ag_tokens.proofs.Steady as steady
+use Rattle.ag_tokens.proofs.Steady.{Heads, first, first_of, same_front, then_steady, or_steady, ends_steady, further_steady}
 
 -- ---- chains
 
@@ -142,10 +147,10 @@ further_word false found L = record { ts = []; a = found ++ []; is = ([], none, 
 sign_covers : (s : Sign) → Covers (is_sign s) (spelled s)
 sign_covers s = record { from = λ t h. ([], tt, ap (λ u. u ∷ []) (sign_is s t h)) }
 
-token_covers : {A : Type 0} (meaning : Token → Option A) → Covers (λ t. is_some (meaning t)) (token_as meaning)
+token_covers : {A : Type 0} (meaning : Token → Option A) → Covers (λ t. is_some (meaning t)) (one meaning)
 token_covers {A} meaning = record { from = λ t h. go t (meaning t) refl h }
   where
-    go : (t : Token) (o : Option A) → meaning t ≡ o → is_some o ≡ true → (rest : List Token) × (a : A) × token_as meaning (t ∷ rest) a
+    go : (t : Token) (o : Option A) → meaning t ≡ o → is_some o ≡ true → (rest : List Token) × (a : A) × one meaning (t ∷ rest) a
     go t (Some a) e h = ([], a, (t, refl, e))
     go t None e h = let bad : ⊥ = cc in absurd bad
 
@@ -216,14 +221,14 @@ begun listed levels scope = whole_covers listed (IsExprIn listed (suc levels)) (
 pub record Refuses {A : Type 0} (test : Token → Bool) (r : Parser A) : Type 0 where
   pub at : (k : Input) → sees test k ≡ false → r k ≡ Err (refusal k)
 
-token_refuses : {A : Type 0} (meaning : Token → Option A) → Refuses (λ t. is_some (meaning t)) (reading.token_as meaning)
+token_refuses : {A : Type 0} (meaning : Token → Option A) → Refuses (λ t. is_some (meaning t)) (token_as meaning)
 token_refuses {A} meaning = record { at = λ k h. go k (front k) h }
   where
     none_of : (o : Option A) → is_some o ≡ false → o ≡ None
     none_of None h = refl
     none_of (Some a) h = let bad : ⊥ = cc in absurd bad
 
-    go : (k : Input) (o : Option Token) → front_is (λ t. is_some (meaning t)) o ≡ false → reading.taken (reading.front_as meaning o) k ≡ Err (refusal k)
+    go : (k : Input) (o : Option Token) → front_is (λ t. is_some (meaning t)) o ≡ false → reading.taken refusal (reading.sign_of (λ at. meaning) (reading.place k) o) k ≡ Err (refusal k)
     go k None h = refl
     go k (Some t) h = rw (none_of (meaning t) h) refl
 
@@ -248,7 +253,7 @@ refused_first listed levels scope = choose_refuses (choose_refuses (ranked_refus
 begins_one : (listed : List Occ) (scope : Names) (t : Token) → begins listed scope t ≡ true → begins_expression t ≡ true
 begins_one listed scope (token.Number n) h = refl
 begins_one listed scope (token.Text bytes) h = refl
-begins_one listed scope (token.Name name) h = go (bytes_eq name (codes "let")) (bytes_eq name (codes "if")) (is_some (call_of name)) (is_reserved name) (bound_in scope name) h
+begins_one listed scope (token.Name name) h = go (bytes_eq name (codes "let")) (bytes_eq name (codes "if")) (is_some (call_of name)) (is_reserved name) (option_map node.Bound (place_in scope name)) h
   where
     go : (a b c reserved : Bool) (o : Option Node) → (a || (b || (c || is_some (cond reserved None o)))) ≡ true → (not reserved || (a || (b || c))) ≡ true
     go a b c false o h = refl
@@ -275,22 +280,22 @@ above-sum d (suc n) = let e = above-sum d n in omega arith
 
 expr_steady : (listed : List Occ) (d n : ℕ) (scope : Names) → Steady (IsExprIn listed (above d n) scope) (expr_in listed n scope) (expr_in listed (above d n) scope)
 unfolding expr_in IsExprIn
-expr_steady listed d zero scope = record { at = λ i. record { ok = λ j a h. (let bad : ⊥ = cc in absurd bad); err = λ f h. (let same : f ≡ no_level_of listed scope i.ending i.left = cc in go i.left i.ending f same) }; word = (number.ts, number.a, number.is) }
+expr_steady listed d zero scope = record { at = λ i. record { ok = λ j a h. (let bad : ⊥ = cc in absurd bad); err = λ f told h. (let same : f ≡ no_level_of listed scope i.ending i.left = cc in go i.left i.ending f same) }; word = (number.ts, number.a, number.is) }
   where
     number : Word (IsExprIn listed (above d 0) scope)
     number = a_number listed (suc d) scope
 
-    stuck : (i : Input) (f : ExprFault) → f ≡ refusal i → sees (begins listed scope) i ≡ false → Refused (IsExprIn listed (above d 0) scope) (expr_in listed 0 scope) (expr_in listed (above d 0) scope) i f
-    stuck i f same unlike = record { us = []; j = i; cut = refl; rest = number.ts; a = number.a; begins = number.is; how = inl (same, λ k fr. (refused_first listed (suc d) scope).at k (ap (front_is (begins listed scope)) fr ∙ unlike)) }
+    stuck : (i : Input) (f : ExprFault) → f ≡ refusal i → sees (begins listed scope) i ≡ false → steady.Refused manner (IsExprIn listed (above d 0) scope) (expr_in listed 0 scope) (expr_in listed (above d 0) scope) i f
+    stuck i f same unlike = record { us = []; j = i; cut = refl; rest = number.ts; a = number.a; begins = number.is; how = inl (same, λ k fr. (refused_first listed (suc d) scope).at k (same_front (begins listed scope) k.left i.left fr ∙ unlike)) }
 
-    go : (ps : List Placed) (e : Ending) (f : ExprFault) → f ≡ no_level_of listed scope e ps → Refused (IsExprIn listed (above d 0) scope) (expr_in listed 0 scope) (expr_in listed (above d 0) scope) (record { left = ps; ending = e }) f
+    go : (ps : List Placed) (e : Ending) (f : ExprFault) → f ≡ no_level_of listed scope e ps → steady.Refused manner (IsExprIn listed (above d 0) scope) (expr_in listed 0 scope) (expr_in listed (above d 0) scope) (record { left = ps; ending = e }) f
     go [] e f same = stuck (record { left = []; ending = e }) f same refl
     go (p ∷ ps) e f same = first (begins listed scope p.token) refl same
       where
-        first : (b : Bool) → begins listed scope p.token ≡ b → f ≡ (if b then fault.TooDeep p.at else fault.Unexpected p.at) → Refused (IsExprIn listed (above d 0) scope) (expr_in listed 0 scope) (expr_in listed (above d 0) scope) (record { left = p ∷ ps; ending = e }) f
+        first : (b : Bool) → begins listed scope p.token ≡ b → f ≡ (if b then fault.TooDeep p.at else fault.Unexpected p.at) → steady.Refused manner (IsExprIn listed (above d 0) scope) (expr_in listed 0 scope) (expr_in listed (above d 0) scope) (record { left = p ∷ ps; ending = e }) f
         first true b same =
             let w = (begun listed d scope).from p.token b in
-            record { us = []; j = record { left = p ∷ ps; ending = e }; cut = refl; rest = p.token ∷ w.0; a = w.1; begins = w.2; how = inr (p, ps, refl, same, begins_one listed scope p.token b, refl, λ k e. (no_level_of listed scope k.ending k.left, refl)) }
+            record { us = []; j = record { left = p ∷ ps; ending = e }; cut = refl; rest = p.token ∷ w.0; a = w.1; begins = w.2; how = inr (p, ps, refl, subst (λ g. manner.is_deep g p ≡ true) (sym same) (is_too_deep p (begins_one listed scope p.token b)), refl, λ k e. (no_level_of listed scope k.ending k.left, refl)) }
         first false b same = stuck (record { left = p ∷ ps; ending = e }) f same b
 expr_steady listed d (suc n) scope =
     whole_steady listed (IsExprIn listed n) (IsExprIn listed (above d n)) (expr_in listed n) (expr_in listed (above d n)) (expr_first listed n) (expr_first listed (above d n)) (expr_steady listed d n) scope
@@ -308,10 +313,10 @@ NotDeep (Err f) = (at : ℕ) → f ≡ fault.TooDeep at → ⊥
 -- The number of levels changes nothing but what is too deep.
 one_outcome : (listed : List Occ) (m n : ℕ) (i j : Input) (e : Node) → expr_from listed m i ≡ Ok (e, j) → (o : Outcome Node) → expr_from listed n i ≡ o → NotDeep o → o ≡ Ok (e, j)
 one_outcome listed m n i j e h (Ok (a, k)) is sure = sym (up listed m n i k a is) ∙ ap (λ l. expr_from listed l i) (meet m n) ∙ up listed n m i j e h
-one_outcome listed m n i j e h (Err f) is sure = let x = ((expr_steady listed m n []).at i).err f is in go x x.how
+one_outcome listed m n i j e h (Err f) is sure = let x = ((expr_steady listed m n []).at i).err f refl is in go x x.how
   where
-    go : (x : Refused (IsExpr listed (above m n)) (expr_from listed n) (expr_from listed (above m n)) i f) → Stuck (expr_from listed (above m n)) x.us x.j f ⊎ Deep (expr_from listed n) x.us x.j f x.rest → ◌≡◌ {A = Outcome Node} (Err f) (Ok (e, j))
-    go x (inr (p, ps, l, says, one, w, deep)) = absurd (sure p.at says)
+    go : (x : steady.Refused manner (IsExpr listed (above m n)) (expr_from listed n) (expr_from listed (above m n)) i f) → steady.Stuck manner (expr_from listed (above m n)) x.us x.j f ⊎ steady.Deep manner (expr_from listed n) x.us x.j f x.rest → ◌≡◌ {A = Outcome Node} (Err f) (Ok (e, j))
+    go x (inr (p, ps, l, d, w, deep)) = absurd (sure p.at (deep_is f p d).0)
     go x (inl (says, stuck)) =
         let err = ap (expr_from listed (above m n)) x.cut ∙ stuck x.j refl in
         let ok = ap (λ l. expr_from listed l i) (meet m n) ∙ up listed n m i j e h in
@@ -336,15 +341,15 @@ module _ (listed : List Occ) (n : ℕ) (us : List Placed) where
   settled : (m : ℕ) (k : Input) (e : Node) → IsExpr listed m (tokens us ++ tokens k.left) e → (o : Outcome Node) → expr_from listed n (before us k) ≡ o → NotDeep o → o ≡ Ok (e, record { left = []; ending = k.ending })
   settled m k e is o read sure =
       let end : Input = record { left = []; ending = k.ending } in
-      let whole : IsExpr listed m (tokens (us ++ k.left)) e = rw tokens-append is in
-      let found = (expr_exact listed m []).complete (us ++ k.left) end e whole tt in
+      let whole : IsExpr listed m (tokens (us ++ k.left)) e = rw map-append is in
+      let found = (expr_exact listed m []).complete (us ++ k.left) end e whole refl in
       one_outcome listed m n (before us k) end e (ap (λ ys. expr_from listed m (record { left = ys; ending = k.ending })) (sym (append-nil (us ++ k.left))) ∙ found) o read sure
 
   -- an expression that goes on with a token, with offsets that don't matter
   going_on : (p : Placed) (m : ℕ) (more : List Token) (e : Node) → IsExpr listed m ((tokens us ++ p.token ∷ []) ++ more) e → IsExpr listed m (tokens us ++ p.token ∷ tokens (placed more)) e
   going_on p m more e is = subst (λ ts. IsExpr listed m ts e) (append_assoc (tokens us) (p.token ∷ []) more ∙ ap (λ ts. tokens us ++ p.token ∷ ts) (sym (tokens-placed more))) is
 
-  none_stuck : (ps : List Placed) (e : Ending) (f : ExprFault) → Stuck (expr_from listed n) us (record { left = ps; ending = e }) f → NoneGoesOn listed (tokens us) e ps
+  none_stuck : (ps : List Placed) (e : Ending) (f : ExprFault) → steady.Stuck manner (expr_from listed n) us (record { left = ps; ending = e }) f → NoneGoesOn listed (tokens us) e ps
   none_stuck [] e f stuck = λ at same m tree is.
       let k : Input = record { left = []; ending = e } in
       let clash = settled m k tree (rw append-nil is) (Err (refusal k)) (stuck.1 k refl) (not_deep e []) in
@@ -354,7 +359,7 @@ module _ (listed : List Occ) (n : ℕ) (us : List Placed) where
       let clash = settled m k tree (going_on p m more tree is) (Err (refusal k)) (stuck.1 k refl) (not_deep e (p ∷ placed more)) in
       cc
 
-  none_read : (ps : List Placed) (e : Ending) (tree : Node) → ((k : Input) → front k ≡ front_of ps → expr_from listed n (before us k) ≡ Ok (tree, k)) → is_end e ps ≡ false → NoneGoesOn listed (tokens us) e ps
+  none_read : (ps : List Placed) (e : Ending) (tree : Node) → ((k : Input) → first k ≡ first_of ps → expr_from listed n (before us k) ≡ Ok (tree, k)) → is_end e ps ≡ false → NoneGoesOn listed (tokens us) e ps
   none_read [] e tree read open_end = λ at same m other is. let ends : is_end (ending.EndsAt at) [] ≡ false = subst (λ x. is_end x [] ≡ false) same open_end in cc
   none_read (p ∷ ps) e tree read open_end = λ (m, more, other, is).
       let k : Input = record { left = p ∷ placed more; ending = e } in
@@ -370,7 +375,7 @@ pub refuses_at_the_first : RefusesAtTheFirst
 unfolding expr_of
 refuses_at_the_first listed levels i f h = go (expr_from listed levels i) refl h
   where
-    refused : (x : Refused (IsExpr listed (above 0 levels)) (expr_from listed levels) (expr_from listed (above 0 levels)) i f) → Stuck (expr_from listed (above 0 levels)) x.us x.j f ⊎ Deep (expr_from listed levels) x.us x.j f x.rest → IsToldFirst listed levels i f
+    refused : (x : steady.Refused manner (IsExpr listed (above 0 levels)) (expr_from listed levels) (expr_from listed (above 0 levels)) i f) → steady.Stuck manner (expr_from listed (above 0 levels)) x.us x.j f ⊎ steady.Deep manner (expr_from listed levels) x.us x.j f x.rest → IsToldFirst listed levels i f
     refused x (inl (says, stuck)) =
         let ends : i.ending ≡ x.j.ending = ap (λ (k : Input). k.ending) x.cut in
         inl (record {
@@ -381,22 +386,23 @@ refuses_at_the_first listed levels i f h = go (expr_from listed levels i) refl h
           says = rw ends says;
           none = subst (λ y. NoneGoesOn listed (tokens x.us) y x.j.left) (sym ends) (none_stuck listed (above 0 levels) x.us x.j.left x.j.ending f (says, stuck));
         })
-    refused x (inr (p, ps, l, says, one, w, deep)) =
+    refused x (inr (p, ps, l, d, w, deep)) =
         let next = headed p.token x.rest w in
+        let told = deep_is f p d in
         inr (record {
           before = x.us;
           first = p;
           rest = ps;
           cut = ap (λ (k : Input). k.left) x.cut ∙ ap (λ ys. x.us ++ ys) l;
-          says = says;
-          begins_one = one;
+          says = told.0;
+          begins_one = told.1;
           start = (above 0 levels, next.0, x.a, subst (λ ts. IsExpr listed (above 0 levels) ts x.a) (ap (λ ys. tokens x.us ++ ys) next.1 ∙ sym (append_assoc (tokens x.us) (p.token ∷ []) next.0)) x.begins);
           none = λ more tree is.
               let k : Input = record { left = p ∷ placed more; ending = i.ending } in
               let end : Input = record { left = []; ending = i.ending } in
-              let whole : IsExpr listed levels (tokens (x.us ++ k.left)) tree = rw tokens-append (going_on listed levels x.us p levels more tree is) in
-              let found = (expr_exact listed levels []).complete (x.us ++ k.left) end tree whole tt in
-              let other = deep k (ap front_of (sym l)) in
+              let whole : IsExpr listed levels (tokens (x.us ++ k.left)) tree = rw map-append (going_on listed levels x.us p levels more tree is) in
+              let found = (expr_exact listed levels []).complete (x.us ++ k.left) end tree whole refl in
+              let other = deep k (ap first_of (sym l)) in
               let same = ap (λ ys. expr_from listed levels (record { left = ys; ending = i.ending })) (append-nil (x.us ++ k.left)) in
               let clash = sym other.1 ∙ sym same ∙ found in
               cc;
@@ -419,4 +425,4 @@ refuses_at_the_first listed levels i f h = go (expr_from listed levels i) refl h
 
     go : (o : Outcome Node) → expr_from listed levels i ≡ o → reading.and_then o (λ e. reading.◌>>◌ at_end (reading.pure e)) ≡ Err f → IsToldFirst listed levels i f
     go (Ok (e, j)) found h = ended j e found (is_end j.ending j.left) refl h
-    go (Err g) found h = let same : g ≡ f = cc in let x = ((expr_steady listed 0 levels []).at i).err f (found ∙ ap Err same) in refused x x.how
+    go (Err g) found h = let same : g ≡ f = cc in let x = ((expr_steady listed 0 levels []).at i).err f refl (found ∙ ap Err same) in refused x x.how

@@ -1,191 +1,205 @@
 -- A reader's state, by the token in front.
-use Rattle.std.proofs.lemmas.Option.{none-some, same_Some}
-use Rattle.std.proofs.Common.{◌≡◌, ◌==◌, ℕ, zero, suc, ◌<◌, ◌≤◌, true, false, List, [], ◌∷◌, ◌++◌, length, Option, Some, None, Result, Ok, Err, Bor, IsUtf8, chars, refl, ap, sym, ◌∙◌, subst, arith}
-use Rattle.std.proofs.lemmas.Bool.{eqb-false, eqb-true}
-use Rattle.std.proofs.lemmas.Str.{len_utf8_bounds}
-use Rattle.ag_expr.specs.language.Ending as ending
-use Rattle.ag_expr.specs.language.Placed.{Placed, Input}
-use Rattle.ag_expr.specs.language.Token.{Token}
-use Rattle.ag_expr.specs.language.Token as token
-use Rattle.ag_expr.specs.declared.token.Token as lent
-use Rattle.ag_expr.specs.declared.fault.TokenFault.{TokenFault}
-use Rattle.ag_expr.specs.declared.fault.TokenFault.TheVariants as token_fault
+use Rattle.std.proofs.Common.{if◌then◌else◌, ◌≡◌, ◌&&◌, ℕ, Bool, true, false, cond, List, [], ◌∷◌, ◌++◌, Option, Some, None, is_some, refl, ap, sym, ◌∙◌}
+use Rattle.ag_tokens.specs.declared.fault.TokenFault.{TokenFault}
+use Rattle.ag_tokens.specs.declared.fault.TokenFault.TheVariants as token_fault
+use Rattle.ag_tokens.specs.declared.token.Punctuation.TheVariants as punctuation
+use Rattle.ag_tokens.specs.Ending.{Ending}
+use Rattle.ag_tokens.specs.Ending as ending
+use Rattle.ag_tokens.specs.Left.{one_before}
+use Rattle.ag_tokens.specs.Parsing.{front, next, place, is_end, is_sign, fault_of}
+use Rattle.ag_tokens.specs.Placed.{Placed, Input}
+use Rattle.ag_tokens.specs.Token.{Token, mark}
+use Rattle.ag_tokens.specs.Token as token
+use Rattle.ag_expr.specs.declared.fault.ExprFault.{ExprFault}
 use Rattle.ag_expr.specs.declared.fault.ExprFault.TheVariants as fault
 use Rattle.ag_grammar.specs.declared.occurrence.Occ.{Occ}
-use Rattle.ag_expr.specs.language.Names.{Names}
-use Rattle.ag_expr.specs.language.Tokens.{width, is_within}
-use Rattle.ag_expr.specs.language.Lexing.{token_from, token_of, GivesToken, IsTooLarge}
 use Rattle.ag_expr.specs.language.Occurrences.{occurrence_in, all_occurrences, listed_with, listed_with_all, position_of}
-use Rattle.ag_expr.specs.language.Left.{State, Keeps, unspaced, none_left, one_before, ending_at, ending_by, left_by, cut, offset, input, everything, behind, behind_front, is_occurrence, no_level, begins_here}
-use Rattle.ag_expr.specs.language.Reading.{front, next, begins, ending_fault, no_level_of, refusal, is_end}
-use Rattle.ag_expr.proofs.language.Lexed.{is_behind, spaces, width-chars}
-use Rattle.ag_expr.proofs.language.Lexes.{nothing_cut, same_cut, shorter}
+use Rattle.ag_expr.specs.language.Reading.{begins, no_level_of, refusal}
+use Rattle.ag_expr.specs.language.State.{State, Keeps, PassesOther, begins_here, everything, from_end, input, is_occurrence, kept, no_level, passed, up_to}
+use Rattle.ag_expr.specs.language.Until.{before_semicolon}
 use Rattle.ag_expr.proofs.language.Numbered.{position_stays, has_number}
 
--- a token within its limit stands in front
+abbrev pub is_semicolon : Token → Bool
+is_semicolon = is_sign (mark punctuation.Semicolon)
+
+-- the token in front is that of the cursor, where that is no end
+pub front_is : (s : State) → front (input s) ≡ kept s.is_statement (front s.tokens)
+unfolding input
+front_is s = go s.is_statement s.tokens.left
+  where
+    go : (b : Bool) (ps : List Placed) → front (up_to b (record s.tokens { left = ps })) ≡ kept b (front (record s.tokens { left = ps }))
+    go false ps = refl
+    go true [] = refl
+    go true (p ∷ ps) = by (is_semicolon p.token)
+      where
+        by : (b : Bool) → front (record s.tokens { left = cond b [] (p ∷ before_semicolon ps) }) ≡ cond b None (Some p.token)
+        by true = refl
+        by false = refl
+
+-- why it can't be taken
+abbrev pub told : Option TokenFault → ℕ → ExprFault
+told None at = fault.Unexpected at
+told (Some token_fault.Nothing) at = fault.NoToken at
+told (Some token_fault.TooLarge) at = fault.NumberTooLarge at
+
+pub told_is : (i : Input) (f : Option TokenFault) → f ≡ fault_of i.ending i.left → told f (place i) ≡ refusal i
+told_is i f is = ap (λ g. told g (place i)) is ∙ go i.left i.ending
+  where
+    go : (ps : List Placed) (e : Ending) → told (fault_of e ps) (place (record { left = ps; ending = e })) ≡ refusal (record { left = ps; ending = e })
+    go (p ∷ ps) e = refl
+    go [] (ending.EndsAt at) = refl
+    go [] (ending.NoTokenAt at) = refl
+    go [] (ending.TooLargeAt at) = refl
+
+-- it is the same where the tokens end at a `;`
+pub refusal_is : (s : State) → refusal s.tokens ≡ refusal (input s)
+unfolding input
+refusal_is s = go s.is_statement s.tokens.left s.tokens.ending
+  where
+    go : (b : Bool) (ps : List Placed) (e : Ending) → refusal (record { left = ps; ending = e }) ≡ refusal (up_to b (record { left = ps; ending = e }))
+    go false ps e = refl
+    go true [] e = refl
+    go true (p ∷ ps) e = by (is_semicolon p.token) refl
+      where
+        by : (b : Bool) → is_semicolon p.token ≡ b → fault.Unexpected p.at ≡ refusal (up_to true (record { left = p ∷ ps; ending = e }))
+        by true h = rw h refl
+        by false h = rw h refl
+
+-- the tokens end at a `;` or where the text does
+pub ends_at_token : (s : State) (t : Token) → front s.tokens ≡ Some t → (s.is_statement && is_semicolon t) ≡ is_end (input s).ending (input s).left
+unfolding input
+ends_at_token s t h = go s.is_statement s.tokens.left s.tokens.ending h
+  where
+    no_end : (e : Ending) (p : Placed) (ps : List Placed) → false ≡ is_end e (p ∷ ps)
+    no_end (ending.EndsAt at) p ps = refl
+    no_end (ending.NoTokenAt at) p ps = refl
+    no_end (ending.TooLargeAt at) p ps = refl
+
+    go : (b : Bool) (ps : List Placed) (e : Ending) → front (record { left = ps; ending = e }) ≡ Some t → (b && is_semicolon t) ≡ is_end (up_to b (record { left = ps; ending = e })).ending (up_to b (record { left = ps; ending = e })).left
+    go b [] e h = let bad : ⊥ = cc in absurd bad
+    go false (p ∷ ps) e h = no_end e p ps
+    go true (p ∷ ps) e h = let same : p.token ≡ t = cc in ap is_semicolon (sym same) ∙ by (is_semicolon p.token) refl
+      where
+        by : (c : Bool) → is_semicolon p.token ≡ c → c ≡ is_end (up_to true (record { left = p ∷ ps; ending = e })).ending (up_to true (record { left = p ∷ ps; ending = e })).left
+        by true h = rw h refl
+        by false h = rw h (no_end _ p (before_semicolon ps))
+
+pub ends_at_none : (s : State) → front s.tokens ≡ None → is_end s.tokens.ending s.tokens.left ≡ is_end (input s).ending (input s).left
+unfolding input
+ends_at_none s h = go s.is_statement s.tokens.left h
+  where
+    go : (b : Bool) (ps : List Placed) → front (record s.tokens { left = ps }) ≡ None → is_end s.tokens.ending ps ≡ is_end (up_to b (record s.tokens { left = ps })).ending (up_to b (record s.tokens { left = ps })).left
+    go false ps h = refl
+    go true [] h = refl
+    go true (p ∷ ps) h = let bad : ⊥ = cc in absurd bad
+
+-- a token stands in front
 pub record Stands (s : State) (t : Token) : Type 0 where
-  pub rest : List ℕ
-  pub cut : token_from s.1.1 ≡ Some (t, rest)
-  pub within : is_within t ≡ true
+  pub is : input s ≡ one_before (place s.tokens) t (input (passed s))
+  pub behind : from_end s.is_statement (next s.tokens) ≡ from_end s.is_statement s.tokens
 
-pub stands : (s : State) (x : lent.Token × Bor (List ℕ)) → GivesToken (Ok x) (token_from s.1.1) → Stands s (token_of x.0)
-stands s x given = record { rest = chars x.1.now; cut = given.0; within = given.1 }
+pub stands : (s : State) (t : Token) → front (input s) ≡ Some t → Stands s t
+unfolding input
+stands s t h = let both = go s.is_statement s.tokens.left s.tokens.ending h in record { is = both.0; behind = both.1 }
+  where
+    go : (b : Bool) (ps : List Placed) (e : Ending) → front (up_to b (record { left = ps; ending = e })) ≡ Some t
+        → (up_to b (record { left = ps; ending = e }) ≡ one_before (place (record { left = ps; ending = e })) t (up_to b (next (record { left = ps; ending = e })))) × (from_end b (next (record { left = ps; ending = e })) ≡ from_end b (record { left = ps; ending = e }))
+    go false [] e h = let bad : ⊥ = cc in absurd bad
+    go true [] e h = let bad : ⊥ = cc in absurd bad
+    go false (p ∷ ps) e h = let same : p.token ≡ t = cc in (ap (λ u. one_before p.at u (record { left = ps; ending = e })) same, refl)
+    go true (p ∷ ps) e h = by (is_semicolon p.token) refl h
+      where
+        by : (b : Bool) → is_semicolon p.token ≡ b → front (up_to true (record { left = p ∷ ps; ending = e })) ≡ Some t
+            → (up_to true (record { left = p ∷ ps; ending = e }) ≡ one_before p.at t (up_to true (record { left = ps; ending = e }))) × (from_end true (record { left = ps; ending = e }) ≡ from_end true (record { left = p ∷ ps; ending = e }))
+        by true is h = let none : None ≡ Some t = rw is at h in let bad : ⊥ = cc in absurd bad
+        by false is h =
+            let some : Some p.token ≡ Some t = rw is at h in
+            let same : p.token ≡ t = cc in
+            (rw is (ap (λ u. one_before p.at u (up_to true (record { left = ps; ending = e }))) same), rw is refl)
 
-module _ (s : State) (t : Token) (st : Stands s t) where
-  behind_is : behind s ≡ (s.0, (s.1.0, unspaced st.rest))
-  unfolding behind
-  behind_is = rw (st.cut, st.within) refl
+pub some_token : (o : Option Token) → is_some o ≡ true → (t : Token) × (o ≡ Some t)
+some_token None h = let bad : ⊥ = cc in absurd bad
+some_token (Some t) h = (t, refl)
 
-  pub input_is : input s ≡ one_before (offset s) t (input (behind s))
-  unfolding cut input
-  input_is =
-      let less = shorter s.1.1 t st.rest st.cut in
-      let same = same_cut (length s.1.1) (suc (length (unspaced st.rest))) (width s.1.0) (unspaced st.rest) less (omega arith) in
-      rw (st.cut, st.within, same) (ap (λ b. one_before (offset s) t (input b)) (sym behind_is))
+module _ (s : State) (t : Token) (h : front (input s) ≡ Some t) where
+  pub passed_input : input (passed s) ≡ next (input s)
+  passed_input = sym (ap next (stands s t h).is)
 
-  pub passed : input (behind s) ≡ next (input s)
-  passed = sym (ap next input_is)
-
-  pub in_front : front (input s) ≡ Some t
-  in_front = ap front input_is
-
-  pub all_is : everything s ≡ listed_with_all s.0 (occurrence_in t (offset s) ++ all_occurrences (input (behind s)).left)
+  all_is : everything s ≡ listed_with_all s.listed (occurrence_in t (place s.tokens) ++ all_occurrences (input (passed s)).left)
   unfolding everything
-  all_is = ap (λ (i : Input). listed_with_all s.0 (all_occurrences i.left)) input_is
+  all_is = ap (λ (i : Input). listed_with_all s.listed (all_occurrences i.left)) (stands s t h).is
 
--- a token that is no occurrence lists nothing
-other_lists_none : (t : Token) (at : ℕ) → is_occurrence (Some t) ≡ false → occurrence_in t at ≡ []
-other_lists_none (token.Number n) at h = refl
-other_lists_none (token.Text bytes) at h = refl
-other_lists_none (token.Name name) at h = refl
-other_lists_none (token.Occurrence place attr) at h = let bad : ⊥ = cc in absurd bad
-other_lists_none (token.Punctuation s) at h = refl
+  -- a token that is no occurrence lists nothing
+  pub passed_keeps : PassesOther s → Keeps s (passed s)
+  unfolding everything
+  passed_keeps other = record { occurrences = sym (all_is ∙ ap (λ os. listed_with_all s.listed (os ++ all_occurrences (input (passed s)).left)) (none t (sym (ap is_occurrence h) ∙ other))); names = refl; kind = refl; behind = (stands s t h).behind }
+    where
+      none : (t : Token) → is_occurrence (Some t) ≡ false → occurrence_in t (place s.tokens) ≡ []
+      none (token.Number n) h = refl
+      none (token.Text bytes) h = refl
+      none (token.Name name) h = refl
+      none (token.Occurrence place attr) h = let bad : ⊥ = cc in absurd bad
+      none (token.Punctuation s) h = refl
 
-pub passed_keeps : (s : State) (t : Token) → Stands s t → is_occurrence (front (input s)) ≡ false → Keeps s (behind s)
-unfolding everything behind
-passed_keeps s t st other =
-    let here : is_occurrence (Some t) ≡ false = sym (ap is_occurrence (in_front s t st)) ∙ other in
-    sym (all_is s t st ∙ ap (λ os. listed_with_all s.0 (os ++ all_occurrences (input (behind s)).left)) (other_lists_none t (offset s) here))
+  -- an expression begins with it where it begins with it among all occurrences
+  begins_same : begins (everything s) s.scope t ≡ begins_here s.scope t
+  begins_same = go t all_is
+    where
+      go : (t : Token) → everything s ≡ listed_with_all s.listed (occurrence_in t (place s.tokens) ++ all_occurrences (input (passed s)).left) → begins (everything s) s.scope t ≡ begins_here s.scope t
+      go (token.Number n) all = refl
+      go (token.Text bytes) all = refl
+      go (token.Name name) all = refl
+      go (token.Occurrence p attr) all =
+          let x : Occ = record { place = p; attr = attr; at = place s.tokens } in
+          let k = has_number s.listed x in
+          let number = ap (λ os. position_of os p attr) all ∙ position_stays (listed_with s.listed x) p attr k.0 (all_occurrences (input (passed s)).left) k.1 in
+          rw number refl
+      go (token.Punctuation m) all = refl
+
+  -- why none begins where no level is left
+  level_is : no_level s ≡ cond (begins_here s.scope t) (fault.TooDeep (place s.tokens)) (fault.Unexpected (place s.tokens))
+  level_is = ap (λ (i : Input). no_level_of (everything s) s.scope i.ending i.left) (stands s t h).is ∙ rw begins_same (by (begins_here s.scope t))
+    where
+      by : (b : Bool) → (if b then fault.TooDeep (place s.tokens) else fault.Unexpected (place s.tokens)) ≡ cond b (fault.TooDeep (place s.tokens)) (fault.Unexpected (place s.tokens))
+      by true = refl
+      by false = refl
+
+  pub too_deep : begins_here s.scope t ≡ true → no_level s ≡ fault.TooDeep (place s.tokens)
+  too_deep b = level_is ∙ rw b refl
+
+  pub not_begun : begins_here s.scope t ≡ false → no_level s ≡ refusal (input s)
+  not_begun b = level_is ∙ rw b (sym (ap refusal (stands s t h).is))
+
+pub none_begun : (s : State) → front (input s) ≡ None → no_level s ≡ refusal (input s)
+none_begun s h = go (input s).left h
+  where
+    go : (ps : List Placed) → front (record (input s) { left = ps }) ≡ None → no_level_of (everything s) s.scope (input s).ending ps ≡ refusal (record (input s) { left = ps })
+    go [] h = refl
+    go (p ∷ ps) h = let bad : ⊥ = cc in absurd bad
 
 -- an occurrence that is passed is listed
-module _ (s : State) (place : ℕ) (attr : List ℕ) (listed : List Occ) where
-  abbrev one : Occ
-  one = record { place = place; attr = attr; at = offset s }
+module _ (s : State) (p : ℕ) (attr : List ℕ) (listed : List Occ) (h : front (input s) ≡ Some (token.Occurrence p attr)) (is : listed ≡ listed_with s.listed (record { place = p; attr = attr; at = place s.tokens })) where
+  all_listed : everything s ≡ listed_with_all listed (all_occurrences (input (passed s)).left)
+  all_listed = all_is s (token.Occurrence p attr) h ∙ ap (λ os. listed_with_all os (all_occurrences (input (passed s)).left)) (sym is)
 
-  pub taken_keeps : Stands s (token.Occurrence place attr) → listed ≡ listed_with s.0 one → Keeps s (behind (listed, s.1))
-  unfolding everything behind input
-  taken_keeps st is = ap (λ os. listed_with_all os (all_occurrences (input (behind s)).left)) is ∙ sym (all_is s (token.Occurrence place attr) st)
+  pub taken_keeps : Keeps s (record s { listed = listed; tokens = next s.tokens })
+  unfolding everything input
+  taken_keeps = record { occurrences = sym all_listed; names = refl; kind = refl; behind = (stands s (token.Occurrence p attr) h).behind }
 
-  pub taken_number : Stands s (token.Occurrence place attr) → listed ≡ listed_with s.0 one → (k : ℕ) → position_of listed place attr ≡ Some k → position_of (everything s) place attr ≡ Some k
-  unfolding everything behind
-  taken_number st is k e =
-      let more = all_occurrences (input (behind s)).left in
-      let all : everything s ≡ listed_with_all listed more = all_is s (token.Occurrence place attr) st ∙ ap (λ os. listed_with_all os more) (sym is) in
-      ap (λ os. position_of os place attr) all ∙ position_stays listed place attr k more e
+  pub taken_number : (k : ℕ) → position_of listed p attr ≡ Some k → position_of (everything s) p attr ≡ Some k
+  taken_number k e = ap (λ os. position_of os p attr) all_listed ∙ position_stays listed p attr k (all_occurrences (input (passed s)).left) e
 
-  pub taken_tokens : input (listed, s.1) ≡ input s
+  pub taken_tokens : input (record s { listed = listed; tokens = next s.tokens }) ≡ next (input s)
   unfolding input
-  taken_tokens = refl
+  taken_tokens = passed_input s (token.Occurrence p attr) h
 
--- where none stands in front
-pub none_behind : (s : State) (e : TokenFault) → GivesToken (Err e) (token_from s.1.1) → behind s ≡ s
-unfolding behind
-none_behind s token_fault.Nothing given = rw given refl
-none_behind s token_fault.TooLarge given = go (token_from s.1.1) given
+-- at the end all are listed
+pub all_at_end : (s : State) → is_end (input s).ending (input s).left ≡ true → everything s ≡ s.listed
+unfolding everything
+all_at_end s h = ap (λ ps. listed_with_all s.listed (all_occurrences ps)) (none (input s).ending (input s).left h)
   where
-    go : (o : Option (Token × List ℕ)) → IsTooLarge o → (s.0, (s.1.0, behind_front s.1.1 o)) ≡ s
-    go None h = absurd h
-    go (Some p) h = rw h refl
-
-pub none_stands : (s : State) (e : TokenFault) → GivesToken (Err e) (token_from s.1.1) → input s ≡ none_left (ending_by e (offset s) s.1.1)
-unfolding input cut
-none_stands s token_fault.Nothing given = ap (left_by (cut (length s.1.1) (width s.1.0)) (offset s) s.1.1) given
-none_stands s token_fault.TooLarge given = go (token_from s.1.1) given
-  where
-    go : (o : Option (Token × List ℕ)) → IsTooLarge o → left_by (cut (length s.1.1) (width s.1.0)) (offset s) s.1.1 o ≡ none_left (ending.TooLargeAt (offset s))
-    go None h = absurd h
-    go (Some p) h = rw h refl
-
--- one token further in the words of the code
-pub advanced : (s : State) (x : lent.Token × Bor (List ℕ)) (rest : List ℕ) → GivesToken (Ok x) (token_from s.1.1) → chars rest ≡ unspaced (chars x.1.now) → (s.0, (s.1.0, chars rest)) ≡ behind s
-unfolding stands
-advanced s x rest given is = ap (λ cs. (s.0, (s.1.0, cs))) is ∙ sym (behind_is s (token_of x.0) (stands s x given))
-
--- what is left is no longer
-pub left_narrower : (cs rest : List ℕ) (x : lent.Token × Bor (List ℕ)) (len : ℕ) → GivesToken (Ok x) (token_from cs) → chars rest ≡ unspaced (chars x.1.now) → width (chars rest) ≡ length rest → width cs ≤ len → length rest ≤ len
-left_narrower cs rest x len given is wide within = let less = (is_behind cs (token_of x.0) (chars x.1.now) given.0).narrower in let space = spaces (chars x.1.now) in omega (arith, ap width is)
-
--- where a token stands in front, it is cut
-pub first_stands : (s : State) (r : Result (lent.Token × Bor (List ℕ)) TokenFault) (t : Token) → GivesToken r (token_from s.1.1) → front (input s) ≡ Some t → Stands s t
-first_stands s (Ok x) t given e = subst (Stands s) (same_Some _ _ (sym (in_front s (token_of x.0) (stands s x given)) ∙ e)) (stands s x given)
-first_stands s (Err f) t given e = let bad : None ≡ Some t = sym (ap front (none_stands s f given)) ∙ e in absurd (none-some t bad)
-
--- an expression begins with a token in front where it begins with it among all occurrences of the text
-pub begins_same : (scope : Names) (s : State) (t : Token) → Stands s t → begins (everything s) scope t ≡ begins_here scope t
-begins_same scope s (token.Number n) st = refl
-begins_same scope s (token.Text bytes) st = refl
-begins_same scope s (token.Name name) st = refl
-begins_same scope s (token.Occurrence place attr) st = let k = has_number s.0 (record { place = place; attr = attr; at = offset s }) in rw (taken_number s place attr _ st refl k.0 k.1) refl
-begins_same scope s (token.Punctuation m) st = refl
-
--- why no expression begins here where no level is left
-module _ (scope : Names) (s : State) where
-  pub too_deep : (t : Token) → Stands s t → begins_here scope t ≡ true → no_level scope s ≡ fault.TooDeep (offset s)
-  too_deep t st h = ap (λ (i : Input). no_level_of (everything s) scope i.ending i.left) (input_is s t st) ∙ rw (begins_same scope s t st, h) refl
-
-  pub not_begun : (t : Token) → Stands s t → begins_here scope t ≡ false → no_level scope s ≡ refusal (input s)
-  not_begun t st h = ap (λ (i : Input). no_level_of (everything s) scope i.ending i.left) (input_is s t st) ∙ rw (begins_same scope s t st, h) (sym (ap refusal (input_is s t st)))
-
-  pub none_begun : (f : TokenFault) → GivesToken (Err f) (token_from s.1.1) → no_level scope s ≡ refusal (input s)
-  none_begun f given = let is = none_stands s f given in ap (λ (i : Input). no_level_of (everything s) scope i.ending i.left) is ∙ sym (ap refusal is)
-
-no_width : (cs : List ℕ) → width cs ≡ 0 → cs ≡ []
-no_width [] e = refl
-no_width (c ∷ cs) e = let some = (len_utf8_bounds c).0 in let bad : ⊥ = omega arith in absurd bad
-
--- at the end of the text
-module _ (s : State) (r : Result (lent.Token × Bor (List ℕ)) TokenFault) (given : GivesToken r (token_from s.1.1)) where
-  pub at_end : width s.1.1 ≡ 0 → input s ≡ none_left (ending.EndsAt (offset s))
-  unfolding input cut
-  at_end none = rw (no_width s.1.1 none, nothing_cut) refl
-
-  -- and before it
-  pub before_end : 0 < width s.1.1 → is_end (input s).ending (input s).left ≡ false
-  before_end some = go r given
-    where
-      nothing_at : (at : ℕ) (cs : List ℕ) → 0 < width cs → is_end (ending_at at cs) [] ≡ false
-      nothing_at at [] some = let bad : ⊥ = omega arith in absurd bad
-      nothing_at at (c ∷ cs) some = refl
-
-      no_end : (e : ending.Ending) (p : Placed) (ps : List Placed) → is_end e (p ∷ ps) ≡ false
-      no_end (ending.EndsAt at) p ps = refl
-      no_end (ending.NoTokenAt at) p ps = refl
-      no_end (ending.TooLargeAt at) p ps = refl
-
-      go : (r : Result (lent.Token × Bor (List ℕ)) TokenFault) → GivesToken r (token_from s.1.1) → is_end (input s).ending (input s).left ≡ false
-      go (Ok x) given = let is = input_is s (token_of x.0) (stands s x given) in subst (λ (i : Input). is_end i.ending i.left ≡ false) (sym is) (no_end _ _ _)
-      go (Err token_fault.Nothing) given = subst (λ (i : Input). is_end i.ending i.left ≡ false) (sym (none_stands s token_fault.Nothing given)) (nothing_at (offset s) s.1.1 some)
-      go (Err token_fault.TooLarge) given = subst (λ (i : Input). is_end i.ending i.left ≡ false) (sym (none_stands s token_fault.TooLarge given)) refl
-
-pub all_listed : (s : State) → width s.1.1 ≡ 0 → everything s ≡ s.0
-unfolding everything input cut
-all_listed s none = rw (no_width s.1.1 none, nothing_cut) refl
-
-pub not_empty : (n m : ℕ) → n ≡ m → (m == 0) ≡ false → 0 < n
-not_empty zero m same some = let bad : ⊥ = eqb-false m 0 some (sym same) in absurd bad
-not_empty (suc n) m same some = omega arith
-
--- where bytes are left, characters are
-pub no_token_at : (at : ℕ) (rest : List ℕ) → IsUtf8 rest → (length rest == 0) ≡ false → ending_at at (chars rest) ≡ ending.NoTokenAt at
-no_token_at at rest utf8 some = go (chars rest) refl
-  where
-    go : (cs : List ℕ) → chars rest ≡ cs → ending_at at cs ≡ ending.NoTokenAt at
-    go [] e = let bad : ⊥ = eqb-false (length rest) 0 some (sym (width-chars rest utf8) ∙ ap width e) in absurd bad
-    go (c ∷ cs) e = refl
-
--- the fault where bytes are left and no token
-pub fault_is : (f : TokenFault) (at : ℕ) (rest : List ℕ) → f ≡ token_fault.Nothing → ending_at at (chars rest) ≡ ending.NoTokenAt at → fault.NoToken at ≡ ending_fault (ending_by f at (chars rest))
-fault_is f at rest is ends = rw (is, ends) refl
-
-pub fault_at_end : (f : TokenFault) (at : ℕ) (rest : List ℕ) → f ≡ token_fault.Nothing → IsUtf8 rest → (length rest == 0) ≡ true → fault.Unexpected at ≡ ending_fault (ending_by f at (chars rest))
-fault_at_end f at rest is utf8 none = rw (is, no_width (chars rest) (width-chars rest utf8 ∙ eqb-true (length rest) 0 none)) refl
+    none : (e : Ending) (ps : List Placed) → is_end e ps ≡ true → ps ≡ []
+    none e [] h = refl
+    none (ending.EndsAt at) (p ∷ ps) h = let bad : ⊥ = cc in absurd bad
+    none (ending.NoTokenAt at) (p ∷ ps) h = let bad : ⊥ = cc in absurd bad
+    none (ending.TooLargeAt at) (p ∷ ps) h = let bad : ⊥ = cc in absurd bad

@@ -1,57 +1,41 @@
 -- What is answered is what reading the tokens of the text gives, and what follows of the text.
-use Rattle.std.proofs.Common.{◌≡◌, ◌≢◌, ℕ, ◌+◌, true, false, List, [], ◌∷◌, ◌++◌, length, Result, Ok, Err, IfOk, IfErr, chars, drop, IsUtf8, inl, inr, refl, ap, sym, ◌∙◌, subst, arith, append_assoc, append-nil, length-append}
+use Rattle.std.proofs.Common.{◌≡◌, ◌≢◌, ℕ, true, false, List, [], ◌∷◌, ◌++◌, length, Result, Ok, Err, IfOk, IfErr, chars, drop, IsUtf8, inl, inr, refl, ap, sym, ◌∙◌, subst, arith, append_assoc, append-nil, length-append}
 use Rattle.std.proofs.lemmas.Bool.{and_parts}
 use Rattle.std.specs.Result.{IsErrAnd}
-use Rattle.std.specs.Str.{IsCharBoundary}
-use Rattle.std.proofs.lemmas.Str.{IsUtf8-drop}
-use Rattle.std.proofs.lemmas.List.{length-drop}
 use Rattle.ag_expr.specs.declared.fault.ExprFault.{ExprFault}
 use Rattle.ag_expr.specs.declared.fault.ExprFault.TheVariants as fault
 use Rattle.ag_grammar.specs.declared.node.Node.{Node}
 use Rattle.ag_grammar.specs.declared.occurrence.Occ.{Occ}
-use Rattle.ag_expr.specs.language.Ending.{Ending, offset_of}
-use Rattle.ag_expr.specs.language.Ending as ending
+use Rattle.ag_tokens.specs.Ending.{Ending, offset_of}
+use Rattle.ag_tokens.specs.Ending as ending
 use Rattle.ag_expr.specs.language.Expression.{max_levels, ReadsAsExpr, ReadsAsNone, IsRefused, IsAt, Says, begins_expression}
-use Rattle.ag_expr.specs.language.Left.{State, start_of, start_at, input, everything}
+use Rattle.ag_expr.specs.language.State.{State, IsReadToEnd, start, input, everything}
 use Rattle.ag_expr.specs.language.Occurrences.{all_occurrences, different}
-use Rattle.ag_expr.specs.language.Placed.{Placed, Input, tokens}
-use Rattle.ag_expr.specs.language.Places.{IsFirstOf, IsRead, IsReadFrom, IsReadToEnd, IsToldFirst, answer_of, occurrences_of, read_from}
-use Rattle.ag_expr.specs.language.Reading.{Outcome, expr_from, expr_of, ending_fault, refusal, refusal_of, is_end}
+use Rattle.ag_tokens.specs.Placed.{Placed, Input, tokens}
+use Rattle.ag_expr.specs.language.Places.{IsFirstOf, IsRead, IsReadFrom, IsToldFirst, answer_of, occurrences_of, read_from}
+use Rattle.ag_tokens.specs.Parsing.{is_end}
+use Rattle.ag_expr.specs.language.Reading.{Outcome, expr_from, expr_in, expr_of, ending_fault, refusal, refusal_of}
 use Rattle.ag_expr.specs.language.Syntax.{IsExpr}
-use Rattle.ag_expr.specs.language.Tokens.{AreTokens, ended, separator, word, AnyTokenAt, TokenAt, HasNoToken, width, is_within, all_within, Lexes}
+use Rattle.ag_tokens.specs.Tokens.{AreTokens, ended, separator, word, AnyTokenAt, TokenAt, HasNoToken, width, is_within, all_within, Lexes}
 use Rattle.ag_expr.proofs.language.Agree.{whole_is, read_whole, read_to_end, read_of}
-use Rattle.ag_expr.proofs.language.Lexed.{separator_width, width-append, width-chars}
-use Rattle.ag_expr.proofs.language.Lexes.{cut_at, cut_first, cut_only}
+use Rattle.ag_tokens.proofs.Lexed.{width-chars}
+use Rattle.ag_tokens.proofs.Lexes.{ends_wide, one_input, same_input}
 use Rattle.ag_expr.proofs.language.Listing.{listed_are_different}
 use Rattle.ag_expr.proofs.language.Places.{refuses_at_the_first}
 
--- a reader has all tokens of the text before it from its offset on
-module _ (text : List ℕ) (from : ℕ) (fits : from + width (chars (drop from text)) ≡ width (chars text)) where
-  pub starts : Lexes from (chars (drop from text)) (input (start_at text from))
-  unfolding input cut_at
-  starts = cut_first from (width (chars text)) (chars (drop from text)) fits
-
-  pub only : (i : Input) → Lexes from (chars (drop from text)) i → i ≡ input (start_at text from)
-  unfolding input cut_at
-  only i lexes = cut_only from (width (chars text)) (chars (drop from text)) fits i lexes
-
-  all_different : everything (start_at text from) ≡ occurrences_of (input (start_at text from))
-  unfolding everything
-  all_different = listed_are_different (all_occurrences (input (start_at text from)).left)
-
-  -- what is read to the end is what reading gives
-  pub read_to : (r : Result (Node × List Occ) ExprFault) → IsReadToEnd (start_at text from) r → IsReadFrom text from r
-  read_to r is i lexes memory = ap read_from (only i lexes) ∙ ap (λ os. answer_of os (expr_of os max_levels (input (start_at text from)))) (sym all_different) ∙ is memory
-
-pub fits_at : (text : List ℕ) (from : ℕ) → IsUtf8 text → IsCharBoundary text from → from + width (chars (drop from text)) ≡ width (chars text)
-fits_at text from utf8 boundary = let within = boundary.0 in omega (arith, width-chars text utf8, width-chars (drop from text) (IsUtf8-drop text from utf8 boundary), length-drop from text)
-
-pub fits_first : (text : List ℕ) → 0 + width (chars (drop 0 text)) ≡ width (chars text)
-fits_first text = omega arith
+-- what reading the tokens of a text gives is the answer, since it has no others
+pub read_to : (text : List ℕ) (from : ℕ) (j : Input) → Lexes from (chars (drop from text)) j → (r : Result (Node × List Occ) ExprFault) → IsReadToEnd (start false j) r → IsReadFrom text from r
+unfolding everything input
+read_to text from j lexed r is i lexes memory =
+    ap read_from (same_input from (chars (drop from text)) i j lexes lexed) ∙ ap (λ os. answer_of os (expr_of os max_levels j)) (sym (listed_are_different (all_occurrences j.left))) ∙ is memory
 
 -- ---- what the parts of reading come to
 
 module _ (s : State) where
+  -- where no names are bound
+  pub unnamed : s.scope ≡ [] → (o : Outcome Node) → expr_in (everything s) max_levels s.scope (input s) ≡ o → expr_from (everything s) max_levels (input s) ≡ o
+  unnamed none o is = subst (λ names. expr_in (everything s) max_levels names (input s) ≡ o) none is
+
   pub refused_within : (r : Result (Node × List Occ) ExprFault) (e : ExprFault) → IsErrAnd r (λ x. x ≡ e) → (e ≢ fault.NoMemory → expr_from (everything s) max_levels (input s) ≡ Err e) → IsReadToEnd s r
   unfolding expr_of
   refused_within (Ok x) e is h = absurd is
@@ -66,11 +50,6 @@ module _ (s : State) where
   read_all f j listed read ends same = λ memory. ap (answer_of (everything s)) (read_of (everything s) max_levels (input s) j f read ends) ∙ ap (λ os. Ok (f, os)) (sym same)
 
 -- ---- what follows of the text
-
-pub ends_wide : {at : ℕ} {cs : List ℕ} {ps : List Placed} {end : ℕ} {rest : List ℕ} → AreTokens at cs ps end rest → at + width cs ≡ end + width rest
-ends_wide (ended at cs) = refl
-ends_wide (separator at c cs ps end rest h are) = let one = separator_width c h in let more = ends_wide are in omega arith
-ends_wide (word at all w cs t ps end rest split is longest are) = let more = ends_wide are in omega (arith, ap width split, width-append w cs)
 
 answered_tree : (listed : List Occ) (o : Outcome Node) (x : Node × List Occ) → answer_of listed o ≡ Ok x → (j : Input) × (o ≡ Ok (x.0, j)) × (x.1 ≡ listed)
 answered_tree listed (Ok (e, j)) x h = let same : (e, listed) ≡ x = cc in (j, ap (λ (y : Node × List Occ). Ok (y.0, j)) same, sym (ap (λ (y : Node × List Occ). y.1) same))
@@ -94,11 +73,11 @@ spells_of i x is =
     let all = whole_is (occurrences_of i) max_levels i one.0 x.0 read.0 read.1 in
     record { at = all.0; ends = all.1; listed = one.2; spells = all.2 }
 
-pub reads_of : (text : List ℕ) (x : Node × List Occ) → IsUtf8 text → IsRead text (Ok x) → ReadsAsExpr text x
+reads_of : (text : List ℕ) (x : Node × List Occ) → IsUtf8 text → IsRead text (Ok x) → ReadsAsExpr text x
 reads_of text x utf8 is =
-    let lexes = starts text 0 (fits_first text) in
-    let s = spells_of (input (start_of text)) x (is (input (start_of text)) lexes (λ q. cc)) in
-    go (input (start_of text)).left (input (start_of text)).ending lexes s.at s.ends s.listed s.spells
+    let i = one_input (chars text) in
+    let s = spells_of i.0 x (is i.0 i.1 (λ q. cc)) in
+    go i.0.left i.0.ending i.1 s.at s.ends s.listed s.spells
   where
     go : (ps : List Placed) (e : Ending) → Lexes 0 (chars text) (record { left = ps; ending = e }) → (at : ℕ) → e ≡ ending.EndsAt at → x.1 ≡ different (all_occurrences ps) → IsExpr (different (all_occurrences ps)) max_levels (tokens ps) x.0 → ReadsAsExpr text x
     go ps (ending.EndsAt n) lexes at ends listed spells =
@@ -219,13 +198,12 @@ unless_memory from cs (fault.TooDeep at) says = says (λ e. cc)
 pub places_of : (text : List ℕ) (r : Result (Node × List Occ) ExprFault) → IsRead text r → IfErr r (IsAt text)
 places_of text (Ok x) is = tt
 places_of text (Err e) is =
-    let i = input (start_of text) in
-    let lexes = starts text 0 (fits_first text) in
-    unless_memory 0 (chars text) e (λ memory. told_at 0 (chars text) i lexes (occurrences_of i) max_levels e (first_fault text e is i lexes memory))
+    let i = one_input (chars text) in
+    unless_memory 0 (chars text) e (λ memory. told_at 0 (chars text) i.0 i.1 (occurrences_of i.0) max_levels e (first_fault text e is i.0 i.1 memory))
 
 -- a text reads as one expression at most
 pub one_expression : (text : List ℕ) (one other : Node × List Occ) → ReadsAsExpr text one → ReadsAsExpr text other → one ≡ other
 one_expression text one other is also =
-    let same = only text 0 (fits_first text) _ is.lexes ∙ sym (only text 0 (fits_first text) _ also.lexes) in
+    let same = same_input 0 (chars text) _ _ is.lexes also.lexes in
     let both = sym (read_back text one is) ∙ ap read_from same ∙ read_back text other also in
     cc

@@ -1,32 +1,30 @@
--- An expression that is read up to a semicolon: the text before it is read as one that ends there.
-use Rattle.std.proofs.Common.{◌≡◌, ℕ, ◌+◌, ◌-◌, Bool, true, false, cond, List, [], ◌∷◌, ◌++◌, length, take, drop, Option, Some, None, Result, Ok, Err, IfOk, IfErr, chars, IsUtf8, encode_utf8_all, inl, inr, refl, ap, sym, ◌∙◌, subst, arith, append_assoc, length-append}
-use Rattle.std.proofs.lemmas.Bool.{and_parts}
-use Rattle.std.proofs.lemmas.List.{drop-take, length-take-le}
-use Rattle.std.proofs.lemmas.Str.{IsCharBoundary-at_seam, IsCharBoundary-from_drop, IsCharBoundary-from_rest, IsUtf8-drop, IsUtf8-take, chars-encodes, encodes-append, encodes-chars, scalars-chars}
-use Rattle.std.proofs.Math.Seq.{take-append_seam}
-use Rattle.std.proofs.Math.Utf8.{scalar, scalars}
+-- An expression that is read up to a semicolon: what is read on the tokens in front of it, and what follows of the text.
+use Rattle.std.proofs.Common.{◌≡◌, ◌≢◌, ℕ, Bool, true, false, cond, List, [], ◌∷◌, ◌++◌, drop, Option, Some, None, Result, Ok, Err, IfOk, IfErr, chars, inl, inr, refl, ap, sym, ◌∙◌, subst}
 use Rattle.std.specs.Result.{IsErrAnd}
-use Rattle.std.specs.Str.{IsCharBoundary}
+use Rattle.ag_tokens.specs.declared.token.Punctuation.TheVariants as punctuation
+use Rattle.ag_tokens.specs.Ending.{Ending}
+use Rattle.ag_tokens.specs.Ending as ending
+use Rattle.ag_tokens.specs.Parsing.{sees, is_sign, is_end, place, next}
+use Rattle.ag_tokens.specs.Placed.{Placed, Input, tokens}
+use Rattle.ag_tokens.specs.Token.{Token, mark}
+use Rattle.ag_tokens.specs.Tokens.{Lexes}
+use Rattle.ag_tokens.proofs.Lexes.{same_input}
 use Rattle.ag_expr.specs.declared.fault.ExprFault.{ExprFault}
 use Rattle.ag_expr.specs.declared.fault.ExprFault.TheVariants as fault
 use Rattle.ag_grammar.specs.declared.node.Node.{Node}
 use Rattle.ag_grammar.specs.declared.occurrence.Occ.{Occ}
-use Rattle.ag_expr.specs.declared.token.Punctuation.TheVariants as punctuation
-use Rattle.ag_expr.specs.language.Ending.{Ending, offset_of}
-use Rattle.ag_expr.specs.language.Ending as ending
-use Rattle.ag_expr.specs.language.Left.{State, start_at, input, offset, left_by, cut, none_left, one_before, unspaced}
-use Rattle.ag_expr.specs.language.Lexing.{token_from}
 use Rattle.ag_expr.specs.language.Expression.{max_levels, Says}
-use Rattle.ag_expr.specs.language.Placed.{Placed, Input, tokens}
+use Rattle.ag_expr.specs.language.Occurrences.{all_occurrences}
+use Rattle.ag_expr.specs.language.Places.{answer_of, read_from}
+use Rattle.ag_expr.specs.language.Reading.{ending_fault, expr_from, expr_of, refusal}
+use Rattle.ag_expr.specs.language.State.{IsReadEnded, Keeps, State, ended_by, everything, from_end, input, start, up_to}
 use Rattle.ag_expr.specs.language.Syntax.{IsExpr}
-use Rattle.ag_expr.specs.language.Places.{IsReadFrom, read_from}
-use Rattle.ag_expr.specs.language.Reading.{front, front_is, sees, is_sign, ending_fault}
-use Rattle.ag_expr.specs.language.Token.{Token, mark}
-use Rattle.ag_expr.specs.language.Tokens.{AreTokens, ended, separator, word, IsLongest, Lexes, all_within, is_within, width}
-use Rattle.ag_expr.specs.language.Until.{Ended, semicolon, first_semicolon, before_semicolon, with_offset, or_fault, until_by, read_until_from, IsReadUntil, ReadsUntil, IsRefusedUntil, IsToldUntil, IsFirstUntil}
-use Rattle.ag_expr.proofs.language.Exact.{sign_is}
-use Rattle.ag_expr.proofs.language.Lexed.{separator_width, width-append, width-chars, width-encoded}
-use Rattle.ag_expr.proofs.language.Texts.{starts, only, fits_at, ends_wide, spells_of, spelled_back, told_of, stands_at, ends_at, told_before, told_at, unless_memory}
+use Rattle.ag_expr.specs.language.Until.{Ended, semicolon, first_semicolon, before_semicolon, behind_semicolon, from_semicolon, with_offset, or_fault, until_by, read_until_from, IsReadUntil, ReadsUntil, IsRefusedUntil, IsToldUntil, IsFirstUntil}
+use Rattle.ag_expr.proofs.language.Agree.{read_of}
+use Rattle.ag_expr.proofs.language.Listing.{listed_are_different}
+use Rattle.ag_expr.proofs.language.Manner.{sign_is}
+use Rattle.ag_expr.proofs.language.States.{all_at_end}
+use Rattle.ag_expr.proofs.language.Texts.{spells_of, spelled_back, told_of, stands_at, ends_at, told_before, told_at, unless_memory}
 
 -- ---- the first semicolon
 
@@ -57,32 +55,143 @@ found_first (u ∷ us) at ps none = go (is_semicolon u.token) none (found_first 
     go true none more = let bad : ⊥ = cc in absurd bad
     go false none more = let found = more none in (found.0, ap (λ xs. u ∷ xs) found.1)
 
--- ---- looking for it
+-- where there is none all stand before it
+none_first : (qs : List Placed) → first_semicolon qs ≡ None → (before_semicolon qs ≡ qs) × (from_semicolon qs ≡ [])
+none_first [] h = (refl, refl)
+none_first (q ∷ qs) h = go (is_semicolon q.token) h (none_first qs)
+  where
+    go : (b : Bool) → cond b (Some q.at) (first_semicolon qs) ≡ None → (first_semicolon qs ≡ None → (before_semicolon qs ≡ qs) × (from_semicolon qs ≡ []))
+        → (cond b [] (q ∷ before_semicolon qs) ≡ q ∷ qs) × (cond b (q ∷ qs) (from_semicolon qs) ≡ [])
+    go true h more = let bad : ⊥ = cc in absurd bad
+    go false h more = let all = more h in (ap (λ ps. q ∷ ps) all.0, all.1)
 
-module _ (s : State) where
-  -- a token in front stands at the offset of what is left
-  front_at : (t : Token) → front (input s) ≡ Some t → (ps : List Placed) × ((input s).left ≡ record { at = offset s; token = t } ∷ ps)
-  unfolding input cut
-  front_at t h = go (token_from s.1.1) h
+-- and where it stands some do
+never : (qs : List Placed) (at : ℕ) → first_semicolon qs ≡ Some at → from_semicolon qs ≡ [] → ⊥
+never [] at h none = cc
+never (q ∷ qs) at h none = go (is_semicolon q.token) h none (never qs at)
+  where
+    go : (b : Bool) → cond b (Some q.at) (first_semicolon qs) ≡ Some at → cond b (q ∷ qs) (from_semicolon qs) ≡ [] → (first_semicolon qs ≡ Some at → from_semicolon qs ≡ [] → ⊥) → ⊥
+    go true h none more = cc
+    go false h none more = more h none
+
+-- from it on it and those behind it stand
+from_first : (qs : List Placed) (p : Placed) (ps : List Placed) → from_semicolon qs ≡ p ∷ ps → (first_semicolon qs ≡ Some p.at) × (behind_semicolon qs ≡ ps)
+from_first [] p ps h = let bad : ⊥ = cc in absurd bad
+from_first (q ∷ qs) p ps h = go (is_semicolon q.token) h (from_first qs p ps)
+  where
+    go : (b : Bool) → cond b (q ∷ qs) (from_semicolon qs) ≡ p ∷ ps → (from_semicolon qs ≡ p ∷ ps → (first_semicolon qs ≡ Some p.at) × (behind_semicolon qs ≡ ps))
+        → (cond b (Some q.at) (first_semicolon qs) ≡ Some p.at) × (cond b qs (behind_semicolon qs) ≡ ps)
+    go true h more = let same : q ≡ p = cc in let rest : qs ≡ ps = cc in (ap (λ (x : Placed). Some x.at) same, rest)
+    go false h more = more h
+
+-- ---- reading on the tokens up to it
+
+-- the answer by that of the tokens up to it
+abbrev by_end : Option ℕ → Ending → Result (Node × List Occ) ExprFault → Result Ended ExprFault
+by_end (Some at) e r = with_offset at r
+by_end None e r = or_fault (ending_fault e) r
+
+until_is : (i : Input) → read_until_from i ≡ by_end (first_semicolon i.left) i.ending (read_from (up_to true i))
+until_is i = go (first_semicolon i.left) refl
+  where
+    go : (o : Option ℕ) → first_semicolon i.left ≡ o → until_by o i ≡ by_end o i.ending (read_from (record { left = before_semicolon i.left; ending = ended_by i.ending o }))
+    go (Some at) h = refl
+    go None h = ap (λ ps. or_fault (ending_fault i.ending) (read_from (record i { left = ps }))) (sym (none_first i.left h).0)
+
+module _ (i : Input) where
+  abbrev all : List Occ
+  all = everything (start true i)
+
+  -- what reading a whole text of the tokens up to it gives
+  whole : (o : Result (Node × Input) ExprFault) → expr_of all max_levels (input (start true i)) ≡ o → read_from (up_to true i) ≡ answer_of all o
+  unfolding everything input
+  whole o h = ap (λ os. answer_of os (expr_of os max_levels (up_to true i))) (sym (listed_are_different (all_occurrences (up_to true i).left))) ∙ ap (answer_of all) h
+
+  pub refused_within : (f : ExprFault) → expr_from all max_levels (input (start true i)) ≡ Err f → read_until_from i ≡ Err f
+  unfolding expr_of
+  refused_within f h = until_is i ∙ ap (by_end (first_semicolon i.left) i.ending) (whole (Err f) (rw h refl)) ∙ go (first_semicolon i.left)
     where
-      more : List ℕ → Input
-      more = cut (length s.1.1) (width s.1.0)
+      go : (o : Option ℕ) → by_end o i.ending (Err f) ≡ Err f
+      go None = refl
+      go (Some at) = refl
 
-      go : (o : Option (Token × List ℕ)) → front (left_by more (offset s) s.1.1 o) ≡ Some t → (ps : List Placed) × ((left_by more (offset s) s.1.1 o).left ≡ record { at = offset s; token = t } ∷ ps)
-      go None h = let bad : ⊥ = cc in absurd bad
-      go (Some p) h = by (is_within p.0) h
-        where
-          by : (b : Bool) → front (cond b (one_before (offset s) p.0 (more (unspaced p.1))) (none_left (ending.TooLargeAt (offset s)))) ≡ Some t
-              → (ps : List Placed) × ((cond b (one_before (offset s) p.0 (more (unspaced p.1))) (none_left (ending.TooLargeAt (offset s)))).left ≡ record { at = offset s; token = t } ∷ ps)
-          by true h = let same : p.0 ≡ t = cc in ((more (unspaced p.1)).left, ap (λ u. record { at = offset s; token = u } ∷ (more (unspaced p.1)).left) same)
-          by false h = let bad : ⊥ = cc in absurd bad
+  module _ (c : Input) (e : Node) (read : expr_from all max_levels (input (start true i)) ≡ Ok (e, up_to true c)) (same : from_end true c ≡ from_end true i) where
+    rest : from_semicolon i.left ≡ from_semicolon c.left
+    rest = sym (ap (λ (k : Input). k.left) same)
 
-  pub there : sees is_semicolon (input s) ≡ true → first_semicolon (input s).left ≡ Some (offset s)
-  there h = go (front (input s)) refl h
+    ending_is : c.ending ≡ i.ending
+    ending_is = ap (λ (k : Input). k.ending) same
+
+    pub ended : sees is_semicolon c ≡ true → (read_until_from i ≡ Ok ((e, all), place c)) × (next c ≡ record i { left = behind_semicolon i.left })
+    ended h = go c.left refl h
+      where
+        go : (ps : List Placed) → c.left ≡ ps → sees is_semicolon (record c { left = ps }) ≡ true → (read_until_from i ≡ Ok ((e, all), place (record c { left = ps }))) × (next (record c { left = ps }) ≡ record i { left = behind_semicolon i.left })
+        go [] here h = let bad : ⊥ = cc in absurd bad
+        go (p ∷ ps) here h =
+            let from : from_semicolon i.left ≡ p ∷ ps = rest ∙ ap from_semicolon here ∙ rw h refl in
+            let first = from_first i.left p ps from in
+            let ends : is_end (up_to true c).ending (up_to true c).left ≡ true = rw (here, h) refl in
+            let all_read = whole (Ok (e, up_to true c)) (read_of all max_levels (input (start true i)) (up_to true c) e read ends) in
+            (until_is i ∙ ap (by_end (first_semicolon i.left) i.ending) all_read ∙ ap (λ o. by_end o i.ending (Ok (e, all))) first.0, ap (λ d. record { left = ps; ending = d }) ending_is ∙ ap (λ qs. record i { left = qs }) (sym first.1))
+
+    refused_at : is_end (up_to true c).ending (up_to true c).left ≡ false → expr_of all max_levels (input (start true i)) ≡ Err (refusal (up_to true c))
+    unfolding expr_of
+    refused_at more = rw (read, more) refl
+
+    pub refused_behind : sees is_semicolon c ≡ false → read_until_from i ≡ Err (refusal (up_to true c))
+    refused_behind h = until_is i ∙ by (is_end (up_to true c).ending (up_to true c).left) refl
+      where
+        -- at the end none is left, and none stands anywhere
+        at_end : is_end (up_to true c).ending (up_to true c).left ≡ true → c.left ≡ []
+        at_end ends = go c.left h ends
+          where
+            go : (ps : List Placed) → sees is_semicolon (record c { left = ps }) ≡ false → is_end (up_to true (record c { left = ps })).ending (up_to true (record c { left = ps })).left ≡ true → ps ≡ []
+            go [] h ends = refl
+            go (p ∷ ps) h ends = let other = no_end _ p (before_semicolon ps) (rw h at ends) in absurd other
+              where
+                no_end : (d : Ending) (q : Placed) (qs : List Placed) → is_end d (q ∷ qs) ≡ true → ⊥
+                no_end (ending.EndsAt at) q qs h = cc
+                no_end (ending.NoTokenAt at) q qs h = cc
+                no_end (ending.TooLargeAt at) q qs h = cc
+
+        ended_so : (o : Option ℕ) → first_semicolon i.left ≡ o → c.left ≡ [] → by_end o i.ending (Ok (e, all)) ≡ Err (refusal (up_to true c))
+        ended_so None none here = rw here (ap (λ (d : Ending). Err (ending_fault d)) (sym ending_is))
+        ended_so (Some at) first here = absurd (never i.left at first (rest ∙ ap from_semicolon here))
+
+        other : (o : Option ℕ) → by_end o i.ending (Err (refusal (up_to true c))) ≡ Err (refusal (up_to true c))
+        other None = refl
+        other (Some at) = refl
+
+        by : (b : Bool) → is_end (up_to true c).ending (up_to true c).left ≡ b → by_end (first_semicolon i.left) i.ending (read_from (up_to true i)) ≡ Err (refusal (up_to true c))
+        by true ends = ap (by_end (first_semicolon i.left) i.ending) (whole (Ok (e, up_to true c)) (read_of all max_levels (input (start true i)) (up_to true c) e read ends)) ∙ ended_so (first_semicolon i.left) refl (at_end ends)
+        by false more = ap (by_end (first_semicolon i.left) i.ending) (whole (Err (refusal (up_to true c))) (refused_at more)) ∙ other (first_semicolon i.left)
+
+-- by where a reader stands that has read an expression
+module _ (i : Input) (s : State) (e : Node) (read : expr_from (all i) max_levels (input (start true i)) ≡ Ok (e, input s)) (kept : Keeps (start true i) s) where
+  tokens_are : input s ≡ up_to true s.tokens
+  unfolding input
+  tokens_are = ap (λ b. up_to b s.tokens) kept.kind
+
+  behind : from_end true s.tokens ≡ from_end true i
+  behind = sym (ap (λ b. from_end b s.tokens) kept.kind) ∙ kept.behind
+
+  pub ended_of : sees is_semicolon s.tokens ≡ true → (read_until_from i ≡ Ok ((e, all i), place s.tokens)) × (next s.tokens ≡ record i { left = behind_semicolon i.left })
+  ended_of h = ended i s.tokens e (read ∙ ap (λ j. Ok (e, j)) tokens_are) behind h
+
+  pub refused_of : sees is_semicolon s.tokens ≡ false → read_until_from i ≡ Err (refusal (input s))
+  refused_of h = refused_behind i s.tokens e (read ∙ ap (λ j. Ok (e, j)) tokens_are) behind h ∙ ap (λ j. Err (refusal j)) (sym tokens_are)
+
+  pub all_of : sees is_semicolon s.tokens ≡ true → s.listed ≡ all i
+  all_of h = sym (all_at_end s (ap (λ (j : Input). is_end j.ending j.left) tokens_are ∙ go s.tokens.left h)) ∙ kept.occurrences
     where
-      go : (o : Option Token) → front (input s) ≡ o → front_is is_semicolon o ≡ true → first_semicolon (input s).left ≡ Some (offset s)
-      go None e h = let bad : ⊥ = cc in absurd bad
-      go (Some t) e h = let one = front_at t e in rw (one.1, h) refl
+      go : (ps : List Placed) → sees is_semicolon (record s.tokens { left = ps }) ≡ true → is_end (up_to true (record s.tokens { left = ps })).ending (up_to true (record s.tokens { left = ps })).left ≡ true
+      go [] h = let bad : ⊥ = cc in absurd bad
+      go (p ∷ ps) h = rw h refl
+
+-- a fault that is answered
+pub refused : (i new : Input) (r : Result Ended ExprFault) (e : ExprFault) → IsErrAnd r (λ x. x ≡ e) → (e ≢ fault.NoMemory → read_until_from i ≡ Err e) → IsReadEnded i r new
+refused i new (Ok x) e is read = absurd is
+refused i new (Err x) e is read = subst (λ y. y ≢ fault.NoMemory → read_until_from i ≡ Err y) (sym is) read
 
 -- ---- what a fault is told of
 
@@ -117,123 +226,12 @@ pub first_until : (text : List ℕ) (from : ℕ) (r : Result Ended ExprFault) �
 first_until text from (Ok x) is = tt
 first_until text from (Err f) is = λ i lexes memory. told_until i f (first_semicolon i.left) (is i lexes (λ q. memory cc))
 
--- ---- the text before it
+-- ---- what follows of the text
 
--- the characters before a token, whose tokens are those before it
-record Before (from : ℕ) (cs : List ℕ) (us : List Placed) (at : ℕ) : Type 0 where
-  front : List ℕ
-  back : List ℕ
-  split : cs ≡ front ++ back
-  wide : from + width front ≡ at
-  are : AreTokens from front us at []
-
-shorter_still : (w front back : List ℕ) → IsLongest w (front ++ back) → IsLongest w front
-shorter_still w front back longest longer more t split is = longest longer (more ++ back) t (sym (append_assoc w front back) ∙ ap (λ cs. cs ++ back) split ∙ append_assoc longer more back) is
-
-before : {from : ℕ} {cs : List ℕ} {qs : List Placed} {end : ℕ} {rest : List ℕ} → AreTokens from cs qs end rest → (us : List Placed) (p : Placed) (ps : List Placed) → qs ≡ us ++ p ∷ ps → Before from cs us p.at
-before (ended at cs) us p ps e = let bad : ⊥ = omega (arith, ap length e, length-append us (p ∷ ps)) in absurd bad
-before (separator at c cs qs end rest h are) us p ps e =
-    let b = before are us p ps e in
-    let one = separator_width c h in
-    record { front = c ∷ b.front; back = b.back; split = ap (λ x. c ∷ x) b.split; wide = omega (arith, b.wide); are = separator at c b.front us p.at [] h b.are }
-before (word at all w cs t qs end rest split is longest are) [] p ps e =
-    let same : record { at = at; token = t } ≡ p = cc in
-    subst (λ (q : Placed). Before at all [] q.at) same (record { front = []; back = all; split = refl; wide = omega arith; are = ended at [] })
-before (word at all w cs t qs end rest split is longest are) (u ∷ us) p ps e =
-    let tail : qs ≡ us ++ p ∷ ps = cc in
-    let same : record { at = at; token = t } ≡ u = cc in
-    let b = before are us p ps tail in
-    let longest' = shorter_still w b.front b.back (subst (IsLongest w) b.split longest) in
-    record {
-      front = w ++ b.front;
-      back = b.back;
-      split = split ∙ ap (λ x. w ++ x) b.split ∙ sym (append_assoc w b.front b.back);
-      wide = omega (arith, b.wide, width-append w b.front);
-      are = subst (λ (q : Placed). AreTokens at (w ++ b.front) (q ∷ us) p.at []) same (word at (w ++ b.front) w b.front t us p.at [] refl is longest' b.are);
-    }
-
-within_before : (us : List Placed) (ps : List Placed) → all_within (us ++ ps) ≡ true → all_within us ≡ true
-within_before [] ps h = refl
-within_before (u ∷ us) ps h = let both = and_parts (is_within u.token) (all_within (us ++ ps)) h in rw (both.0) (within_before us ps both.1)
-
-scalars_parts : (xs ys : List ℕ) → scalars (xs ++ ys) ≡ true → (scalars xs ≡ true) × (scalars ys ≡ true)
-scalars_parts [] ys h = (refl, h)
-scalars_parts (x ∷ xs) ys h =
-    let here = and_parts (scalar x) (scalars (xs ++ ys)) h in
-    let more = scalars_parts xs ys here.1 in
-    (rw (here.0) more.0, more.1)
-
-module _ (text : List ℕ) (from at : ℕ) (utf8 : IsUtf8 text) (from_here : IsCharBoundary text from) where
-  abbrev i : Input
-  i = input (start_at text from)
-
-  all : Lexes from (chars (drop from text)) i
-  all = starts text from (fits_at text from utf8 from_here)
-
-  module _ (h : first_semicolon i.left ≡ Some at) where
-    parts : Before from (chars (drop from text)) (before_semicolon i.left) at
-    parts = let cut = split_first i.left at h in before all.before (before_semicolon i.left) (semicolon at) cut.0 cut.1
-
-    utf8_behind : IsUtf8 (drop from text)
-    utf8_behind = IsUtf8-drop text from utf8 from_here
-
-    proper : (scalars parts.front ≡ true) × (scalars parts.back ≡ true)
-    proper = scalars_parts parts.front parts.back (ap scalars (sym parts.split) ∙ scalars-chars (drop from text) utf8_behind)
-
-    bytes : drop from text ≡ encode_utf8_all parts.front ++ encode_utf8_all parts.back
-    bytes = sym (encodes-chars (drop from text) utf8_behind) ∙ ap encode_utf8_all parts.split ∙ encodes-append parts.front parts.back
-
-    long : length (encode_utf8_all parts.front) ≡ at - from
-    long = omega (arith, parts.wide, width-encoded parts.front)
-
-    pub at_there : IsCharBoundary text at
-    at_there =
-        let within = from_here.0 in
-        let there = IsCharBoundary-at_seam (drop from text) (encode_utf8_all parts.front) (encode_utf8_all parts.back) bytes (parts.back, (proper.1, refl)) in
-        subst (IsCharBoundary text) (omega (arith, long, parts.wide)) (IsCharBoundary-from_rest text from (length (encode_utf8_all parts.front)) within there)
-
-    -- what stands from there on before the semicolon
-    part : drop from (take at text) ≡ encode_utf8_all parts.front
-    part =
-        let sum : at ≡ from + length (encode_utf8_all parts.front) = omega (arith, long, parts.wide) in
-        ap (λ n. drop from (take n text)) sum ∙ drop-take from (length (encode_utf8_all parts.front)) text ∙ ap (take (length (encode_utf8_all parts.front))) bytes ∙ take-append_seam (encode_utf8_all parts.front) (encode_utf8_all parts.back)
-
-    pub from_there : IsCharBoundary (take at text) from
-    from_there = IsCharBoundary-from_drop (take at text) from (omega (arith, parts.wide, length-take-le at text at_there.0)) (subst IsUtf8 (sym part) (parts.front, (proper.0, refl)))
-
-    pub lexes_before : Lexes from (chars (drop from (take at text))) (record { left = before_semicolon i.left; ending = ending.EndsAt at })
-    lexes_before =
-        let cut = split_first i.left at h in
-        let same : parts.front ≡ chars (drop from (take at text)) = sym (ap chars part ∙ chars-encodes parts.front proper.0) in
-        record { rest = []; before = subst (λ cs. AreTokens from cs (before_semicolon i.left) at []) same parts.are; within = within_before (before_semicolon i.left) _ (sym (ap all_within cut.1) ∙ all.within); stops = refl }
-
-    pub fits_before : from + width (chars (drop from (take at text))) ≡ width (chars (take at text))
-    fits_before = fits_at (take at text) from (IsUtf8-take text at utf8 at_there) from_there
-
-    -- what is read before the semicolon is the answer
-    pub read_before : (r : Result (Node × List Occ) ExprFault) → IsReadFrom (take at text) from r → IsReadUntil text from (with_offset at r)
-    read_before r is j lexes memory = ap read_until_from (only text from (fits_at text from utf8 from_here) j lexes) ∙ ap (λ o. until_by o i) h ∙ ap (with_offset at) (is _ lexes_before (λ q. memory (ap (with_offset at) q)))
-
-module _ (text : List ℕ) (from : ℕ) (utf8 : IsUtf8 text) (from_here : IsCharBoundary text from) where
-  abbrev j : Input
-  j = input (start_at text from)
-
-  lexes : Lexes from (chars (drop from text)) j
-  lexes = starts text from (fits_at text from utf8 from_here)
-
-  -- where there is no semicolon
-  pub read_without : first_semicolon j.left ≡ None → (r : Result (Node × List Occ) ExprFault) → IsReadFrom text from r → IsReadUntil text from (or_fault (fault.Unexpected (length text)) r)
-  read_without none r is k lexed memory =
-      ap read_until_from (only text from (fits_at text from utf8 from_here) k lexed) ∙ ap (λ o. until_by o j) none ∙ ap (or_fault (ending_fault j.ending)) (is j lexes (λ q. memory (ap (or_fault (fault.Unexpected (length text))) q))) ∙ go r is
-    where
-      ends : (e : Ending) (ps : List Placed) → Lexes from (chars (drop from text)) (record { left = ps; ending = e }) → (at : ℕ) → e ≡ ending.EndsAt at → ending_fault e ≡ fault.Unexpected (length text)
-      ends (ending.EndsAt n) ps is at same = ap fault.Unexpected (omega (arith, ends_wide is.before, ap width is.stops, width-chars text utf8, fits_at text from utf8 from_here))
-      ends (ending.NoTokenAt n) ps is at same = let bad : ⊥ = cc in absurd bad
-      ends (ending.TooLargeAt n) ps is at same = let bad : ⊥ = cc in absurd bad
-
-      go : (r : Result (Node × List Occ) ExprFault) → IsReadFrom text from r → or_fault (ending_fault j.ending) r ≡ or_fault (fault.Unexpected (length text)) r
-      go (Ok x) is = let s = spells_of j x (is j lexes (λ q. cc)) in ap (λ (e : ExprFault). Err e) (ends j.ending j.left lexes s.at s.ends)
-      go (Err f) is = refl
+module _ (text : List ℕ) (from : ℕ) (j : Input) (lexes : Lexes from (chars (drop from text)) j) where
+  pub is_read : (r : Result Ended ExprFault) (new : Input) → IsReadEnded j r new → IsReadUntil text from r
+  is_read (Ok x) new is k lexed memory = ap read_until_from (same_input from (chars (drop from text)) k j lexed lexes) ∙ is.0
+  is_read (Err e) new is k lexed memory = ap read_until_from (same_input from (chars (drop from text)) k j lexed lexes) ∙ is (λ q. memory (ap Err q))
 
   reads_by : (x : Ended) (o : Option ℕ) → first_semicolon j.left ≡ o → until_by o j ≡ Ok x → ReadsUntil text from x
   reads_by x None none is = go (read_from j) is
@@ -278,8 +276,3 @@ module _ (text : List ℕ) (from : ℕ) (utf8 : IsUtf8 text) (from_here : IsChar
   pub places_until : (r : Result Ended ExprFault) → IsReadUntil text from r → IfErr r (Says from (chars (drop from text)))
   places_until (Ok x) is = tt
   places_until (Err f) is = unless_memory from (chars (drop from text)) f (λ memory. says_until j f from (chars (drop from text)) lexes (first_semicolon j.left) refl (first_until text from (Err f) is j lexes memory))
-
--- a fault that is answered
-pub answered : (text : List ℕ) (from : ℕ) (r : Result Ended ExprFault) (e : ExprFault) → IsErrAnd r (λ x. x ≡ e) → IsReadUntil text from (Err e) → IsReadUntil text from r
-answered text from (Ok x) e is read = absurd is
-answered text from (Err x) e is read = subst (λ y. IsReadUntil text from (Err y)) (sym is) read

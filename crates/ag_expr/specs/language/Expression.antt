@@ -2,15 +2,15 @@
 use Rattle.std.specs.Prelude.{◌≡◌, ◌⊎◌, ℕ, Bool, true, false, not, ◌||◌, is_some, bytes_eq, codes, List, length, chars}
 use Rattle.ag_expr.specs.declared.fault.ExprFault.{ExprFault}
 use Rattle.ag_expr.specs.declared.fault.ExprFault.TheVariants as fault
-use Rattle.ag_expr.specs.declared.token.Punctuation.TheVariants as punctuation
-use Rattle.ag_expr.specs.language.Token.{Token}
-use Rattle.ag_expr.specs.language.Token as token
+use Rattle.ag_tokens.specs.declared.token.Punctuation.TheVariants as punctuation
+use Rattle.ag_tokens.specs.Token.{Token}
+use Rattle.ag_tokens.specs.Token as token
 use Rattle.ag_grammar.specs.declared.limits.TheConstants.{MOST_LEVELS}
 use Rattle.ag_grammar.specs.declared.node.Node.{Node}
 use Rattle.ag_grammar.specs.declared.occurrence.Occ.{Occ}
-use Rattle.ag_expr.specs.language.Ending as ending
-use Rattle.ag_expr.specs.language.Placed.{Placed, tokens}
-use Rattle.ag_expr.specs.language.Tokens.{Lexes, NoTokenAt, TooLargeAt, TokenAt, EndsAt}
+use Rattle.ag_tokens.specs.Ending as ending
+use Rattle.ag_tokens.specs.Placed.{Placed, tokens}
+use Rattle.ag_tokens.specs.Tokens.{Lexes, NoTokenAt, TooLargeAt, TokenAt, EndsAt}
 use Rattle.ag_expr.specs.language.Occurrences.{all_occurrences, different}
 use Rattle.ag_expr.specs.language.Names.{call_of, is_reserved}
 use Rattle.ag_expr.specs.language.Syntax.{IsExpr}

@@ -1,9 +1,9 @@
 -- The different occurrences of attributes in a text. All of this is this project's.
 use Rattle.std.specs.Prelude.{ℕ, Bool, not, ◌&&◌, ◌==◌, cond, List, [], ◌∷◌, ◌++◌, filter, Option, position, bytes_eq}
 use Rattle.std.specs.List.{list_any}
-use Rattle.ag_expr.specs.language.Placed.{Placed}
-use Rattle.ag_expr.specs.language.Token.{Token}
-use Rattle.ag_expr.specs.language.Token as token
+use Rattle.ag_tokens.specs.Placed.{Placed}
+use Rattle.ag_tokens.specs.Token.{Token}
+use Rattle.ag_tokens.specs.Token as token
 use Rattle.ag_grammar.specs.declared.occurrence.Occ.{Occ}
 
 -- an occurrence has this place and this name

@@ -4,16 +4,15 @@ use Rattle.ag_expr.specs.declared.fault.ExprFault.{ExprFault}
 use Rattle.ag_expr.specs.declared.fault.ExprFault.TheVariants as fault
 use Rattle.ag_grammar.specs.declared.node.Node.{Node}
 use Rattle.ag_grammar.specs.declared.occurrence.Occ.{Occ}
-use Rattle.ag_expr.specs.language.Ending.{Ending}
-use Rattle.ag_expr.specs.language.Ending as ending
+use Rattle.ag_tokens.specs.Ending.{Ending}
+use Rattle.ag_tokens.specs.Ending as ending
 use Rattle.ag_expr.specs.language.Expression.{begins_expression, max_levels}
-use Rattle.ag_expr.specs.language.Left.{State, everything, input}
 use Rattle.ag_expr.specs.language.Occurrences.{all_occurrences, different}
-use Rattle.ag_expr.specs.language.Placed.{Placed, Input, tokens}
+use Rattle.ag_tokens.specs.Placed.{Placed, Input, tokens}
 use Rattle.ag_expr.specs.language.Reading.{Outcome, refusal_of, expr_of}
 use Rattle.ag_expr.specs.language.Syntax.{IsExpr}
-use Rattle.ag_expr.specs.language.Token.{Token}
-use Rattle.ag_expr.specs.language.Tokens.{Lexes}
+use Rattle.ag_tokens.specs.Token.{Token}
+use Rattle.ag_tokens.specs.Tokens.{Lexes}
 
 -- the tokens are the beginning of an expression, of some number of levels
 abbrev pub Begins : List Occ → List Token → Type 0
@@ -58,10 +57,6 @@ occurrences_of i = different (all_occurrences i.left)
 
 abbrev pub read_from : Input → Result (Node × List Occ) ExprFault
 read_from i = answer_of (occurrences_of i) (expr_of (occurrences_of i) max_levels i)
-
--- The answer is what reading the tokens that are left gives, to their end, or that memory ran out.
-abbrev pub IsReadToEnd : State → Result (Node × List Occ) ExprFault → Type 0
-IsReadToEnd s answer = answer ≢ Err fault.NoMemory → answer_of (everything s) (expr_of (everything s) max_levels (input s)) ≡ answer
 
 -- The answer is what reading the tokens of the text gives from the offset `from` on, or that memory ran out.
 abbrev pub IsReadFrom : List ℕ → ℕ → Result (Node × List Occ) ExprFault → Type 0

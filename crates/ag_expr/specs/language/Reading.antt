@@ -1,18 +1,18 @@
 -- Reading an expression from the front of placed tokens: what is read, and what is left; or the fault of the first token that can't be taken.
-use Rattle.std.specs.Prelude.{ℕ, zero, suc, Bool, true, false, ◌||◌, if◌then◌else◌, List, [], ◌∷◌, ◌++◌, length, Option, Some, None, Result, Ok, Err, is_some, bytes_eq, codes}
-use denote.Enum.Bare.{sameb}
-use Rattle.ag_expr.specs.contracts.token.Punctuation.{the_type}
-use Rattle.ag_expr.specs.declared.token.Punctuation.{Punctuation}
-use Rattle.ag_expr.specs.declared.token.Punctuation.TheVariants as punctuation
+use Rattle.std.specs.Prelude.{◌≡◌, cond, ℕ, zero, suc, Bool, true, false, ◌||◌, if◌then◌else◌, List, [], ◌∷◌, ◌++◌, Option, Some, None, Err, is_some, codes}
+use Rattle.ag_tokens.specs.declared.token.Punctuation.TheVariants as punctuation
 use Rattle.ag_expr.specs.declared.fault.ExprFault.{ExprFault}
 use Rattle.ag_expr.specs.declared.fault.ExprFault.TheVariants as fault
 use Rattle.ag_grammar.specs.declared.node.Operator.{Operator}
 use Rattle.ag_grammar.specs.declared.node.Node.{Node}
 use Rattle.ag_grammar.specs.declared.occurrence.Occ.{Occ}
 use Rattle.ag_expr.specs.declared.parser.Precedence.{Precedence}
-use Rattle.ag_expr.specs.language.Ending.{Ending}
-use Rattle.ag_expr.specs.language.Ending as ending
-use Rattle.ag_expr.specs.language.Placed.{Placed, Input}
+use Rattle.ag_expr.specs.declared.parser.Atom.{Atom}
+use Rattle.ag_expr.specs.declared.parser.Atom.TheVariants as atom
+use Rattle.ag_tokens.specs.declared.token.Punctuation.{Punctuation}
+use Rattle.ag_tokens.specs.Ending.{Ending}
+use Rattle.ag_tokens.specs.Ending as ending
+use Rattle.ag_tokens.specs.Placed.{Placed, Input}
 use Rattle.ag_grammar.specs.declared.node.Node.TheVariants as node
 use Rattle.ag_expr.specs.declared.names.Call.{Call}
 use Rattle.ag_expr.specs.declared.names.Call.TheVariants as call
@@ -20,24 +20,12 @@ use Rattle.ag_grammar.specs.declared.node.UnaryCall.{UnaryCall}
 use Rattle.ag_grammar.specs.declared.node.BinaryCall.{BinaryCall}
 use Rattle.ag_expr.specs.language.Names.{Names}
 use Rattle.ag_expr.specs.language.Syntax.{operator_of, precedences, takes_one, chained, new_name, call_in, operand_of}
-use Rattle.ag_expr.specs.language.Token.{Token, Sign, mark, word}
-use Rattle.ag_expr.specs.language.Token as token
+use Rattle.ag_tokens.specs.Token.{Token, Sign, mark, word}
+use Rattle.ag_tokens.specs.Token as token
+use Rattle.ag_tokens.specs.Parsing as parsing
+use Rattle.ag_tokens.specs.Parsing.{◌>>=◌, ◌>>◌, pure, choose, one_from, further_from, end_from, is_sign, sees}
 
--- ---- the next token
-
-abbrev pub front_of : List Placed → Option Token
-front_of [] = None
-front_of (p ∷ ps) = Some p.token
-
-abbrev pub front : Input → Option Token
-front i = front_of i.left
-
-abbrev pub behind_front : List Placed → List Placed
-behind_front [] = []
-behind_front (p ∷ ps) = ps
-
-abbrev pub next : Input → Input
-next i = record i { left = behind_front i.left }
+-- ---- why reading stops
 
 -- why a text can't go on behind its last token
 abbrev pub ending_fault : Ending → ExprFault
@@ -53,80 +41,23 @@ refusal_of e (p ∷ ps) = fault.Unexpected p.at
 abbrev pub refusal : Input → ExprFault
 refusal i = refusal_of i.ending i.left
 
-abbrev pub front_is : (Token → Bool) → Option Token → Bool
-front_is test None = false
-front_is test (Some t) = test t
-
-abbrev pub sees : (Token → Bool) → Input → Bool
-sees test i = front_is test (front i)
-
-abbrev pub same_mark : Punctuation → Punctuation → Bool
-same_mark = sameb the_type
-
-abbrev pub is_sign : Sign → Token → Bool
-is_sign (mark m) (token.Punctuation other) = same_mark other m
-is_sign (word name) (token.Name other) = bytes_eq other name
-is_sign s t = false
-
 -- ---- parsers
 
 abbrev pub Outcome : Type 0 → Type 0
-Outcome A = Result (A × Input) ExprFault
+Outcome = parsing.Outcome ExprFault
 
 abbrev pub Parser : Type 0 → Type 0
-Parser A = Input → Outcome A
-
-abbrev pub and_then : {A B : Type 0} → Outcome A → (A → Parser B) → Outcome B
-and_then (Ok p) f = f p.0 p.1
-and_then (Err e) f = Err e
-
-infixl 10 ◌>>=◌
-abbrev pub ◌>>=◌ : {A B : Type 0} → Parser A → (A → Parser B) → Parser B
-p >>= f = λ i. and_then (p i) f
-
-infixl 10 ◌>>◌
-abbrev pub ◌>>◌ : {A B : Type 0} → Parser A → Parser B → Parser B
-p >> q = p >>= (λ _. q)
-
-abbrev pub pure : {A : Type 0} → A → Parser A
-pure a = λ i. Ok (a, i)
-
-abbrev pub refuse : {A : Type 0} → Parser A
-refuse = λ i. Err (refusal i)
+Parser = parsing.Parser ExprFault
 
 -- takes the next token for what it stands for, where it stands for something
-abbrev pub taken : {A : Type 0} → Option A → Parser A
-taken None = refuse
-taken (Some a) = λ i. Ok (a, next i)
-
-abbrev pub front_as : {A : Type 0} → (Token → Option A) → Option Token → Option A
-front_as meaning None = None
-front_as meaning (Some t) = meaning t
-
 abbrev pub token_as : {A : Type 0} → (Token → Option A) → Parser A
-token_as meaning = λ i. taken (front_as meaning (front i)) i
+token_as meaning = one_from refusal (λ at. meaning)
 
 abbrev pub as_sign : Sign → Token → Option (Unit {0})
 as_sign s t = if is_sign s t then Some tt else None
 
 abbrev pub expect : Sign → Parser (Unit {0})
 expect s = token_as (as_sign s)
-
-abbrev pub choose : {A : Type 0} → (Token → Bool) → Parser A → Parser A → Parser A
-choose test one other = λ i. if sees test i then one i else other i
-
--- as long as the next token begins a further one, so many turns at most
-unfoldable pub many_from : {A : Type 0} → (Token → Bool) → Parser A → ℕ → List A → Parser (List A)
-many_from begins item zero found = pure found
-many_from begins item (suc n) found = choose begins (item >>= λ x. many_from begins item n (found ++ x ∷ [])) (pure found)
-
-abbrev pub turns : Bool → List Placed → ℕ
-turns true ps = 1
-turns false ps = length ps
-
--- one at most where the test says so, else as many as there are, behind those that were found
-abbrev pub further : {A : Type 0} → Bool → (Token → Bool) → Parser A → List A → Parser (List A)
-further one begins item found = λ i. many_from begins item (turns one i.left) found i
 
 -- ---- chains of operators
 
@@ -143,7 +74,7 @@ other_from k operand = do
 unfoldable pub chain_from : Precedence → Parser Node → Parser Node
 chain_from k operand = do
   first ← operand
-  others ← further (takes_one k) (is_operator_of k) (other_from k operand) []
+  others ← further_from (takes_one k) (is_operator_of k) (other_from k operand) []
   pure (chained first others)
 
 unfoldable pub ranked_from : Parser Node → List Precedence → Parser Node
@@ -164,6 +95,28 @@ begins_atom listed scope t = is_sign (mark punctuation.Open) t || (is_sign (mark
 
 abbrev pub begins : List Occ → Names → Token → Bool
 begins listed scope t = is_sign (word (codes "let")) t || (is_sign (word (codes "if")) t || begins_atom listed scope t)
+
+-- which of its forms one begins with the token
+abbrev pub marked_atom : Punctuation → Atom
+marked_atom punctuation.Open = atom.Parenthesized
+marked_atom punctuation.OpenList = atom.List
+marked_atom punctuation.OpenTable = atom.Table
+marked_atom _ = atom.Operand
+
+abbrev pub atom_of : Token → Atom
+atom_of (token.Punctuation m) = marked_atom m
+atom_of (token.Name name) = cond (is_call (token.Name name)) atom.Call atom.Operand
+atom_of _ = atom.Operand
+
+-- that form alone begins with what stands in front
+abbrev pub BeginsAtom : Atom → Input → Type 0
+BeginsAtom atom.Parenthesized i = sees (is_sign (mark punctuation.Open)) i ≡ true
+BeginsAtom atom.List i = (sees (is_sign (mark punctuation.Open)) i ≡ false) × (sees (is_sign (mark punctuation.OpenList)) i ≡ true)
+BeginsAtom atom.Table i = (sees (is_sign (mark punctuation.Open)) i ≡ false) × (sees (is_sign (mark punctuation.OpenList)) i ≡ false) × (sees (is_sign (mark punctuation.OpenTable)) i ≡ true)
+BeginsAtom atom.Call i =
+    (sees (is_sign (mark punctuation.Open)) i ≡ false) × (sees (is_sign (mark punctuation.OpenList)) i ≡ false) × (sees (is_sign (mark punctuation.OpenTable)) i ≡ false) × (sees is_call i ≡ true)
+BeginsAtom atom.Operand i =
+    (sees (is_sign (mark punctuation.Open)) i ≡ false) × (sees (is_sign (mark punctuation.OpenList)) i ≡ false) × (sees (is_sign (mark punctuation.OpenTable)) i ≡ false) × (sees is_call i ≡ false)
 
 unfoldable pub none_from : Parser Node
 none_from = do
@@ -190,7 +143,7 @@ module _ (inner : Names → Parser Node) (scope : Names) where
     inner scope
 
   unfoldable pub items_from : Node → Parser (List Node)
-  items_from first = further false (is_sign (mark punctuation.Comma)) next_from (first ∷ [])
+  items_from first = further_from false (is_sign (mark punctuation.Comma)) next_from (first ∷ [])
 
   unfoldable pub some_from : Parser Node
   some_from = do
@@ -280,12 +233,8 @@ expr_from listed levels = expr_in listed levels []
 
 -- ---- a whole text
 
-abbrev pub is_end : Ending → List Placed → Bool
-is_end (ending.EndsAt at) [] = true
-is_end _ _ = false
-
 abbrev pub at_end : Parser (Unit {0})
-at_end = λ i. if is_end i.ending i.left then Ok (tt, i) else refuse i
+at_end = end_from refusal
 
 unfoldable pub expr_of : List Occ → ℕ → Parser Node
 expr_of listed levels = do

@@ -1,13 +1,13 @@
 -- Which tokens spell an expression, and of which tree, by levels and by precedences of operators: this project's grammar.
-use Rattle.std.specs.Prelude.{◌≡◌, ◌≤◌, ℕ, zero, suc, Bool, true, false, List, [], ◌∷◌, ◌++◌, length, Option, Some, None, cond, bytes_eq, codes, option_map, ◌⊎◌}
+use Rattle.std.specs.Prelude.{◌≡◌, ℕ, zero, suc, Bool, true, false, List, [], ◌∷◌, ◌++◌, Option, Some, None, cond, bytes_eq, codes, option_map}
 use denote.Enum.Bare.{sameb}
 use Rattle.ag_expr.specs.contracts.parser.Precedence.{the_type}
 use Rattle.ag_expr.specs.declared.parser.Precedence.{Precedence}
 use Rattle.ag_expr.specs.declared.parser.Precedence.TheVariants as precedence
-use Rattle.ag_expr.specs.declared.token.Punctuation.{Punctuation}
-use Rattle.ag_expr.specs.declared.token.Punctuation.TheVariants as punctuation
-use Rattle.ag_expr.specs.language.Token.{Token, Sign, mark, word, sign_token}
-use Rattle.ag_expr.specs.language.Token as token
+use Rattle.ag_tokens.specs.declared.token.Punctuation.{Punctuation}
+use Rattle.ag_tokens.specs.declared.token.Punctuation.TheVariants as punctuation
+use Rattle.ag_tokens.specs.Token.{Token, Sign, mark, word, sign_token}
+use Rattle.ag_tokens.specs.Token as token
 use Rattle.ag_grammar.specs.declared.node.Operator.{Operator}
 use Rattle.ag_grammar.specs.declared.node.Operator.TheVariants as operator
 use Rattle.ag_grammar.specs.declared.node.Node.{Node}
@@ -20,48 +20,13 @@ use Rattle.ag_grammar.specs.declared.node.UnaryCall.{UnaryCall}
 use Rattle.ag_grammar.specs.declared.node.BinaryCall.{BinaryCall}
 use Rattle.ag_expr.specs.language.Names.{Names, call_of, is_reserved, place_in}
 use Rattle.ag_expr.specs.language.Occurrences.{position_of}
+use Rattle.ag_tokens.specs.Words.{◌>>=◌, ◌>>◌, gives, one, ◌or◌, further}
 
--- ---- how languages are put together
-
--- one part, and behind it what goes on with it
-infixl 10 ◌>>=◌
-abbrev pub ◌>>=◌ : {A B : Type 0} → (List Token → A → Type 0) → (A → List Token → B → Type 0) → List Token → B → Type 0
-◌>>=◌ {A} first more ts b = (us : List Token) × (vs : List Token) × (a : A) × (ts ≡ us ++ vs) × first us a × more a vs b
-
-infixl 10 ◌>>◌
-abbrev pub ◌>>◌ : {A B : Type 0} → (List Token → A → Type 0) → (List Token → B → Type 0) → List Token → B → Type 0
-first >> more = first >>= (λ _. more)
-
--- no token
-abbrev pub gives : {A : Type 0} → A → List Token → A → Type 0
-gives a ts b = (ts ≡ []) × (b ≡ a)
-
--- one token, for what it stands for
-abbrev pub token_as : {A : Type 0} → (Token → Option A) → List Token → A → Type 0
-token_as meaning ts a = (t : Token) × (ts ≡ t ∷ []) × (meaning t ≡ Some a)
+-- ---- one sign
 
 -- this punctuation or this name alone
 abbrev pub spelled : Sign → List Token → Unit {0} → Type 0
 spelled s ts u = ts ≡ sign_token s ∷ []
-
--- one of two
-infixr 8 ◌or◌
-abbrev pub ◌or◌ : {A : Type 0} → (List Token → A → Type 0) → (List Token → A → Type 0) → List Token → A → Type 0
-(one or other) ts a = one ts a ⊎ other ts a
-
--- one behind the other, any number of times
-pub data Many {A : Type 0} (item : List Token → A → Type 0) : List Token → List A → Type 0 where
-  none : Many item [] []
-  more : (us vs : List Token) (x : A) (xs : List A) → item us x → Many item vs xs → Many item (us ++ vs) (x ∷ xs)
-
--- at most one, where the test says so
-abbrev pub IsFew : Bool → ℕ → Type 0
-IsFew true n = n ≤ 1
-IsFew false n = Unit {0}
-
--- further ones behind those that were found: one at most where the test says so, else any number
-abbrev pub further : {A : Type 0} → Bool → List A → (List Token → A → Type 0) → List Token → List A → Type 0
-further {A} one found item ts all = (xs : List A) × Many item ts xs × IsFew one (length xs) × (all ≡ found ++ xs)
 
 -- ---- the table of operators: the precedence of each, and what it does
 
@@ -116,15 +81,16 @@ abbrev pub new_name : Token → Option (List ℕ)
 new_name (token.Name name) = cond (is_reserved name) None (Some name)
 new_name _ = None
 
-abbrev pub bound_in : Names → List ℕ → Option Node
-bound_in scope name = option_map node.Bound (place_in scope name)
+-- a name means its binding where it is not reserved
+abbrev pub bound_operand : List ℕ → Option ℕ → Option Node
+bound_operand name place = cond (is_reserved name) None (option_map node.Bound place)
 
 -- The operand that one token is: a number, a text, an occurrence by its number among the different ones of the whole text, and a name by that of
 -- its binding.
 abbrev pub operand_of : List Occ → Names → Token → Option Node
 operand_of listed scope (token.Number n) = Some (node.Literal (value.Num n))
 operand_of listed scope (token.Text bytes) = Some (node.Literal (value.Text bytes))
-operand_of listed scope (token.Name name) = cond (is_reserved name) None (bound_in scope name)
+operand_of listed scope (token.Name name) = bound_operand name (place_in scope name)
 operand_of listed scope (token.Occurrence place attr) = option_map node.Occurrence (position_of listed place attr)
 operand_of listed scope (token.Punctuation m) = None
 
@@ -143,7 +109,7 @@ chained first (x ∷ xs) = node.Chain first (x ∷ xs)
 -- an operator of a precedence and the operand behind it
 abbrev pub IsOther : Precedence → (List Token → Node → Type 0) → List Token → Operator × Node → Type 0
 IsOther k operand = do
-  o ← token_as (operator_of k)
+  o ← one (operator_of k)
   e ← operand
   gives (o, e)
 
@@ -231,7 +197,7 @@ module _ (inner : Names → List Token → Node → Type 0) (scope : Names) wher
 
   abbrev pub IsCall : List Token → Node → Type 0
   IsCall = do
-    c ← token_as call_in
+    c ← one call_in
     spelled (mark punctuation.Open)
     AreArguments c
 
@@ -239,7 +205,7 @@ module _ (inner : Names → List Token → Node → Type 0) (scope : Names) wher
   abbrev pub IsLet : List Token → Node → Type 0
   IsLet = do
     spelled (word (codes "let"))
-    x ← token_as new_name
+    x ← one new_name
     spelled (mark punctuation.Equal)
     e ← inner scope
     spelled (word (codes "in"))
@@ -258,7 +224,7 @@ module _ (inner : Names → List Token → Node → Type 0) (scope : Names) wher
 
   module _ (listed : List Occ) where
     abbrev pub IsAtom : List Token → Node → Type 0
-    IsAtom = IsParenthesized or IsList or IsTable or IsCall or token_as (operand_of listed scope)
+    IsAtom = IsParenthesized or IsList or IsTable or IsCall or one (operand_of listed scope)
 
     abbrev pub IsWhole : List Token → Node → Type 0
     IsWhole = IsLet or IsIf or IsRanked IsAtom precedences

@@ -4,18 +4,19 @@ use Rattle.ag_expr.specs.declared.fault.ExprFault.{ExprFault}
 use Rattle.ag_expr.specs.declared.fault.ExprFault.TheVariants as fault
 use Rattle.ag_grammar.specs.declared.node.Node.{Node}
 use Rattle.ag_grammar.specs.declared.occurrence.Occ.{Occ}
-use Rattle.ag_expr.specs.declared.token.Punctuation.TheVariants as punctuation
-use Rattle.ag_expr.specs.language.Ending.{Ending}
-use Rattle.ag_expr.specs.language.Ending as ending
+use Rattle.ag_tokens.specs.declared.token.Punctuation.TheVariants as punctuation
+use Rattle.ag_tokens.specs.Ending.{Ending}
+use Rattle.ag_tokens.specs.Ending as ending
 use Rattle.ag_expr.specs.language.Expression.{max_levels}
 use Rattle.ag_expr.specs.language.Occurrences.{all_occurrences, different}
-use Rattle.ag_expr.specs.language.Placed.{Placed, Input, tokens}
+use Rattle.ag_tokens.specs.Placed.{Placed, Input, tokens}
 use Rattle.ag_expr.specs.language.Places.{IsToldFirst, occurrences_of, read_from}
-use Rattle.ag_expr.specs.language.Reading.{is_sign, ending_fault}
+use Rattle.ag_tokens.specs.Parsing.{is_sign}
+use Rattle.ag_expr.specs.language.Reading.{ending_fault}
 use Rattle.ag_expr.specs.language.Syntax.{IsExpr}
-use Rattle.ag_expr.specs.language.Token.{mark}
-use Rattle.ag_expr.specs.language.Token as token
-use Rattle.ag_expr.specs.language.Tokens.{Lexes}
+use Rattle.ag_tokens.specs.Token.{mark}
+use Rattle.ag_tokens.specs.Token as token
+use Rattle.ag_tokens.specs.Tokens.{Lexes}
 
 -- an expression that was read, with the offset of the semicolon behind it
 abbrev pub Ended : Type 0
@@ -33,6 +34,15 @@ first_semicolon (p ∷ ps) = cond (is_sign (mark punctuation.Semicolon) p.token)
 abbrev pub before_semicolon : List Placed → List Placed
 before_semicolon [] = []
 before_semicolon (p ∷ ps) = cond (is_sign (mark punctuation.Semicolon) p.token) [] (p ∷ before_semicolon ps)
+
+-- those from it on, and those behind it
+abbrev pub from_semicolon : List Placed → List Placed
+from_semicolon [] = []
+from_semicolon (p ∷ ps) = cond (is_sign (mark punctuation.Semicolon) p.token) (p ∷ ps) (from_semicolon ps)
+
+abbrev pub behind_semicolon : List Placed → List Placed
+behind_semicolon [] = []
+behind_semicolon (p ∷ ps) = cond (is_sign (mark punctuation.Semicolon) p.token) ps (behind_semicolon ps)
 
 abbrev pub with_offset : ℕ → Result (Node × List Occ) ExprFault → Result Ended ExprFault
 with_offset at (Ok x) = Ok (x, at)

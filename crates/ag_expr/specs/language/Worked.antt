@@ -1,9 +1,9 @@
 -- Tokens, numbers and trees for worked examples.
 use Rattle.std.specs.Prelude.{ℕ, List, [], ◌∷◌, ℤ, pos, negsuc, codes}
-use Rattle.ag_expr.specs.declared.token.Punctuation.TheVariants as punctuation
-use Rattle.ag_expr.specs.language.Placed.{Placed}
-use Rattle.ag_expr.specs.language.Token.{Token}
-use Rattle.ag_expr.specs.language.Token as token
+use Rattle.ag_tokens.specs.declared.token.Punctuation.TheVariants as punctuation
+use Rattle.ag_tokens.specs.Placed.{Placed}
+use Rattle.ag_tokens.specs.Token.{Token}
+use Rattle.ag_tokens.specs.Token as token
 use Rattle.ag_grammar.specs.declared.node.Operator.TheVariants as operator
 use Rattle.ag_grammar.specs.declared.node.Node.{Node}
 use Rattle.ag_grammar.specs.declared.node.Node.TheVariants as node

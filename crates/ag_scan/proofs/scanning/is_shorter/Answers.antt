@@ -1,5 +1,5 @@
 use Rattle.std.proofs.Common.{refl}
-use Rattle.ag_expr.proofs.language.Lexed.{width-chars}
+use Rattle.ag_tokens.proofs.Lexed.{width-chars}
 use Rattle.ag_scan.proofs.scanning.is_shorter.Goals as goal
 
 pub returns : goal.returns

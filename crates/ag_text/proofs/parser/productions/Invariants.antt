@@ -1,10 +1,10 @@
-use Rattle.std.proofs.Common.{length}
+use Rattle.std.proofs.Common.{false, length}
 use Rattle.ag_text.specs.Reading.{is_any, production_from, productions_from}
-use Rattle.ag_text.proofs.Turns.{Going}
+use Rattle.ag_tokens.proofs.Turns.{Going}
 use Rattle.ag_text.proofs.parser.productions.Given as goal
 
 abbrev pub invariant-loop-alloc : goal.invariant-loop-alloc
-invariant-loop-alloc l = Going is_any production_from l.productions.items l.reader (productions_from l.fn.reader)
+invariant-loop-alloc l = Going false is_any production_from l.productions.items l.cursor (productions_from l.fn.cursor)
 
 abbrev pub decreases-loop-alloc : goal.decreases-loop-alloc
-decreases-loop-alloc l = length l.reader.left
+decreases-loop-alloc l = length l.cursor.left

@@ -1,6 +1,6 @@
 use Rattle.std.proofs.Common.{◌≡◌, drop}
 use Rattle.std.specs.List.{list_any}
-use Rattle.ag_expr.specs.language.Tokens.{is_separator}
+use Rattle.ag_tokens.specs.Tokens.{is_separator}
 use Rattle.ag_text.proofs.tokens.has_separator.Given as goal
 
 abbrev pub invariant-loop-byte : goal.invariant-loop-byte

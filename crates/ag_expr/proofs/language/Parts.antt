@@ -1,0 +1,65 @@
+-- Parts of an expression that are read one after the other; and one level more.
+use Rattle.std.proofs.Common.{◌≡◌, ◌≢◌, ℕ, zero, suc, ◌-◌, ◌<◌, Bool, true, false, List, [], ◌∷◌, ◌++◌, length, Result, Ok, Err, refl, ap, sym, ◌∙◌, subst, arith}
+use Rattle.ag_tokens.specs.Parsing.{sees}
+use Rattle.ag_tokens.specs.Placed.{Input}
+use Rattle.ag_tokens.specs.Token.{Token}
+use Rattle.ag_tokens.proofs.Turns as turns
+use Rattle.ag_tokens.proofs.Turns.{Going, none_further}
+use Rattle.std.specs.Result.{IsErrAnd}
+use Rattle.ag_expr.specs.declared.fault.ExprFault.{ExprFault}
+use Rattle.ag_expr.specs.declared.fault.ExprFault.TheVariants as fault
+use Rattle.ag_grammar.specs.declared.node.Node.{Node}
+use Rattle.ag_grammar.specs.declared.occurrence.Occ.{Occ}
+use Rattle.ag_expr.specs.declared.parser.Precedence.{Precedence}
+use Rattle.ag_expr.specs.language.Names.{Names}
+use Rattle.ag_expr.specs.language.Reading.{Outcome, Parser, whole_from, expr_in, chain_from, is_operator_of, other_from}
+use Rattle.ag_expr.specs.language.State.{State, Keeps, Reads, ReadsAs, everything, input}
+use Rattle.ag_expr.specs.language.Syntax.{takes_one}
+
+-- an operand behind which no operator of its precedence stands is all of its chain
+pub alone : (k : Precedence) (operand : Parser Node) (i j : Input) (first : Node) → operand i ≡ Ok (first, j) → sees (is_operator_of k) j ≡ false → chain_from k operand i ≡ Ok (first, j)
+unfolding chain_from
+alone k operand i j first is none = rw (is, none_further (takes_one k) (is_operator_of k) (other_from k operand) [] j none) refl
+
+-- a fault that is answered
+pub answered : {X Y : Type 0} (view : X → Y) (read : List Occ → Names → Parser Y) (old new : State) (r : Result X ExprFault) (e : ExprFault) → IsErrAnd r (λ x. x ≡ e) → (e ≢ fault.NoMemory → read (everything old) old.scope (input old) ≡ Err e) → ReadsAs view read old r new
+answered view read old new (Ok x) e is refuses = absurd is
+answered view read old new (Err x) e is refuses = subst (λ x. x ≢ fault.NoMemory → read (everything old) old.scope (input old) ≡ Err x) (sym is) refuses
+
+-- one level more
+pub one_level : (n : ℕ) → 0 < n → (old new : State) (r : Result Node ExprFault) → Reads (λ all names. whole_from (expr_in all (n - 1)) names all) old r new → Reads (λ all. expr_in all n) old r new
+unfolding expr_in
+one_level zero some old new r is = let bad : ⊥ = omega arith in absurd bad
+one_level (suc n) some old new r is = subst (λ k. Reads (λ all names. whole_from (expr_in all k) names all) old r new) (let one : suc n - 1 ≡ n = omega arith in one) is
+
+-- ---- beside a loop
+
+-- Parts are read one after the other from where a reader stood first: what the further ones add to those that were found is the whole.
+pub record Looping {A : Type 0} (single : Bool) (begins : Token → Bool) (item : List Occ → Names → Parser A) (whole : List Occ → Names → Parser (List A)) (first s : State) (found : List A) : Type 0 where
+  pub keeps : Keeps first s
+  pub going : Going single begins (item (everything first) first.scope) found (input s) (whole (everything first) first.scope (input first))
+
+module _ {A : Type 0} (single : Bool) (begins : Token → Bool) (item : List Occ → Names → Parser A) (whole : List Occ → Names → Parser (List A)) (first s : State) (found : List A) (so_far : Looping single begins item whole first s found) where
+  here : (o : Outcome A) → item (everything s) s.scope (input s) ≡ o → item (everything first) first.scope (input s) ≡ o
+  here o is = ap (λ names. item (everything first) names (input s)) (sym so_far.keeps.names) ∙ ap (λ all. item all s.scope (input s)) (sym so_far.keeps.occurrences) ∙ is
+
+  pub stopped : sees begins (input s) ≡ false → whole (everything first) first.scope (input first) ≡ Ok (found, input s)
+  stopped none = turns.stopped single begins _ found (input s) _ so_far.going none
+
+  still : (t : State) → Keeps s t → Keeps first t
+  still t kept = record { occurrences = kept.occurrences ∙ so_far.keeps.occurrences; names = kept.names ∙ so_far.keeps.names; kind = kept.kind ∙ so_far.keeps.kind; behind = kept.behind ∙ so_far.keeps.behind }
+
+  pub goes_on : single ≡ false → sees begins (input s) ≡ true → (t : State) (x : A) → item (everything s) s.scope (input s) ≡ Ok (x, input t) → Keeps s t → Looping single begins item whole first t (found ++ x ∷ [])
+  goes_on more leads t x is kept = record {
+    keeps = still t kept;
+    going = turns.goes_on single begins _ found (input s) _ (input t) x so_far.going more leads (here _ is);
+  }
+
+  pub ends : single ≡ true → sees begins (input s) ≡ true → (t : State) (x : A) → item (everything s) s.scope (input s) ≡ Ok (x, input t) → Keeps s t → (whole (everything first) first.scope (input first) ≡ Ok (found ++ x ∷ [], input t)) × Keeps first t
+  ends last leads t x is kept = (turns.ends single begins _ found (input s) _ (input t) x so_far.going last leads (here _ is), still t kept)
+
+  pub failed : sees begins (input s) ≡ true → (e : ExprFault) → item (everything s) s.scope (input s) ≡ Err e → whole (everything first) first.scope (input first) ≡ Err e
+  failed leads e is = turns.failed single begins _ found (input s) _ e so_far.going leads (here _ is)
+
+  pub shorter : (j : Input) (x : A) → item (everything s) s.scope (input s) ≡ Ok (x, j) → length j.left < length (input s).left
+  shorter j x is = turns.shorter single begins _ found (input s) _ j x so_far.going (here _ is)

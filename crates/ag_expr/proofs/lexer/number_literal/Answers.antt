@@ -1,5 +1,0 @@
-use Rattle.ag_expr.proofs.language.Numerals.{number_refused}
-use Rattle.ag_expr.proofs.lexer.number_literal.Goals as goal
-
-pub returns-in-Err : goal.returns-in-Err
-returns-in-Err c = number_refused c.args.digits.now c.in-Err.field-0 c.requires c.in-Err.ensures.value.0

@@ -1,0 +1,287 @@
+//! A reader of an expression: a cursor over its tokens, the occurrences that it has passed, and the
+//! names that are bound where it stands.
+
+ghost use Rattle.std.specs.Prelude.{◌≡◌, ◌++◌, ◌∷◌, [], Some, true, IfOk, OnOk, is_some, option_map};
+ghost use Rattle.ag_tokens.specs.Lexing.{token_of};
+ghost use Rattle.ag_tokens.specs.Parsing.{front, is_end, is_sign, next, sees};
+ghost use Rattle.ag_tokens.specs.Token as tokens;
+ghost use Rattle.ag_tokens.specs.declared.token.Punctuation.TheVariants as punctuation;
+ghost use Rattle.ag_expr.specs.language.Names as names_spec;
+ghost use Rattle.ag_expr.specs.language.Reading as reading;
+ghost use Rattle.ag_expr.specs.language.State as state;
+ghost use Rattle.ag_expr.specs.language.State.{HasNumber, Keeps, PassesOther, Reads, ReadsAs};
+ghost use Rattle.ag_expr.specs.language.State.{Stays, input};
+ghost use Rattle.ag_expr.specs.language.Syntax as syntax;
+ghost use Rattle.ag_grammar.specs.expressions.Occurrences.{AreDifferent};
+
+use crate::fault::ExprFault;
+use crate::names::{Scope, call_of, is_reserved};
+use crate::occurrence_table::OccurrenceTable;
+use ag_grammar::Occ;
+use ag_tokens::{Cursor, Punctuation, Token, TokenFault, is_mark, is_word};
+use ag_value::NoMemory;
+use smallvec::SmallVec;
+use std::alloc::Global;
+use std::marker::Model;
+
+/// A reader of an expression. The tokens that it has are those of its cursor, or where it reads a
+/// statement those up to a `;`.
+///
+/// What it answers where a token cannot be taken is `refusal`.
+#[derive(Drop)]
+pub struct Reader<'t> {
+    alloc: Global,
+    cursor: Cursor<'t>,
+    occurrences: OccurrenceTable<'t>,
+    scope: Scope<'t>,
+    is_statement: bool,
+}
+
+impl<'t> Model for Reader<'t> {
+    ghost use Rattle.ag_expr.specs.language.State.{State};
+
+    ghost Value = { State };
+
+    ghost view = { λ r. record {
+      listed = r.occurrences;
+      scope = r.scope;
+      is_statement = r.is_statement;
+      tokens = r.cursor;
+    } };
+}
+
+/// Why no expression goes on with the token in front of a cursor: X2 at its offset. Where none is
+/// there: X1 where no token begins, X3 where its number is too large, X2 at the end of the text.
+pub fn refusal(cursor: &Cursor<'_>) -> ExprFault
+    ensures { result ≡ reading.refusal cursor.now }
+{
+    let at = cursor.place();
+    match cursor.fault() {
+        Some(TokenFault::Nothing) => ExprFault::NoToken(at),
+        Some(TokenFault::TooLarge) => ExprFault::NumberTooLarge(at),
+        None => ExprFault::Unexpected(at),
+    }
+}
+
+/// The token that stands before a `;`, where none ends the tokens.
+fn before_semicolon(front: Option<Token<'_>>) -> Option<Token<'_>>
+    ensures { option_map token_of result ≡ state.kept true (option_map token_of front.entry) }
+{
+    match front {
+        Some(token) if is_mark(Punctuation::Semicolon, token) => None,
+        _ => front,
+    }
+}
+
+/// Whether an expression begins with the name: a form, a call, or a bound name.
+fn begins_with(scope: &Scope<'_>, name: &str) -> bool
+    ensures { result ≡ state.begins_here scope.now (tokens.Name name.now) }
+{
+    name == "let"
+        || name == "if"
+        || call_of(name).is_some()
+        || !is_reserved(name) && scope.place_of(name).is_some()
+}
+
+/// Whether an expression begins with the token, where these names are bound around it.
+fn begins_expression(scope: &Scope<'_>, token: Token<'_>) -> bool
+    ensures { result ≡ state.begins_here scope.now (token_of token.entry) }
+{
+    match token {
+        Token::Number(_) | Token::Text(_) | Token::Occurrence(_, _) => true,
+        Token::Name(name) => begins_with(scope, name),
+        Token::Punctuation(mark) => matches!(
+            mark,
+            Punctuation::Open | Punctuation::OpenList | Punctuation::OpenTable
+        ),
+    }
+}
+
+impl<'t> Reader<'t> {
+    /// A reader of the tokens of a cursor, or of the statement that stands there. Takes no memory.
+    pub fn new(alloc: Global, cursor: Cursor<'t>, is_statement: bool) -> Reader<'t>
+        ensures { result ≡ state.start is_statement cursor.entry }
+    {
+        Reader {
+            alloc,
+            cursor,
+            occurrences: OccurrenceTable::new(alloc),
+            scope: Scope::new(alloc),
+            is_statement,
+        }
+    }
+
+    /// What grows takes its memory from here.
+    pub fn alloc(&self) -> Global {
+        self.alloc
+    }
+
+    /// The token in front. Takes no memory.
+    pub fn peek(&self) -> Option<Token<'t>>
+        ensures { option_map token_of result ≡ front (input self.now) }
+    {
+        let front = self.cursor.peek();
+        if self.is_statement {
+            return before_semicolon(front);
+        }
+        front
+    }
+
+    /// Why the token in front cannot be taken.
+    pub fn refusal(&self) -> ExprFault
+        ensures { result ≡ reading.refusal (input self.now) }
+    {
+        refusal(&self.cursor)
+    }
+
+    /// Why an expression that has no level left cannot begin here.
+    pub fn no_level(&self) -> ExprFault
+        ensures { result ≡ state.no_level self.now }
+    {
+        match self.peek() {
+            Some(token) if begins_expression(&self.scope, token) => ExprFault::TooDeep(
+                self.cursor.place(),
+            ),
+            _ => self.refusal(),
+        }
+    }
+
+    /// Passes the token in front. An occurrence that is passed so is not listed.
+    pub fn bump(&mut self)
+        requires { is_some (front (input self.old)) ≡ true }
+        ensures exact { self.new ≡ state.passed self.old }
+        ensures tokens { input self.new ≡ next (input self.old) }
+        ensures keeps { PassesOther self.old → Keeps self.old self.new }
+    {
+        self.cursor.bump();
+    }
+
+    /// Passes the occurrence in front, and answers its number among the different ones. Takes
+    /// memory where it is the first with its place and name.
+    pub fn take_occurrence(&mut self, place: u16, attr: &'t str) -> Result<usize, NoMemory>
+        requires { front (input self.old) ≡ Some (tokens.Occurrence place attr.now) }
+        ensures number { IfOk result (λ k. HasNumber self.old place attr.now k) }
+        ensures tokens { OnOk result (input self.new ≡ next (input self.old)) }
+        ensures keeps { OnOk result (Keeps self.old self.new) }
+    {
+        let at = self.cursor.place();
+        let number = self.occurrences.intern(self.alloc, place, attr, at)?;
+        self.cursor.bump();
+        Ok(number)
+    }
+
+    /// Binds a name within the others. Takes memory.
+    #[tactic(auto, unfolding(crate::specs::language::State::everything, crate::specs::language::State::input,))]
+    pub fn bind(&mut self, name: &'t str) -> Result<(), NoMemory>
+        ensures names { OnOk result (self.new.scope ≡ self.old.scope ++ name.now ∷ []) }
+        ensures others { OnOk result (Stays self.old self.new) }
+    {
+        self.scope.bind(name)
+    }
+
+    /// Takes the innermost name away.
+    #[tactic(auto, unfolding(crate::specs::language::State::everything, crate::specs::language::State::input,))]
+    pub fn unbind(&mut self)
+        ensures names { self.new.scope ≡ names_spec.outer self.old.scope }
+        ensures others { Stays self.old self.new }
+    {
+        self.scope.unbind();
+    }
+
+    /// The number of a bound name: its last place.
+    pub fn place_of(&self, name: &str) -> Option<usize>
+        ensures { result ≡ names_spec.place_in self.now.scope name.now }
+    {
+        self.scope.place_of(name)
+    }
+
+    /// Whether the tokens end here: at the end of the text, or at the `;` that ends them.
+    pub fn is_at_end(&self) -> bool
+        ensures { result ≡ is_end (input self.now).ending (input self.now).left }
+    {
+        match self.cursor.peek() {
+            Some(token) => self.is_statement && is_mark(Punctuation::Semicolon, token),
+            None => self.cursor.is_at_end(),
+        }
+    }
+
+    /// Whether a `;` stands in front.
+    pub fn sees_semicolon(&self) -> bool
+        ensures { result
+            ≡ sees (is_sign (tokens.mark punctuation.Semicolon)) self.now.tokens }
+    {
+        match self.cursor.peek() {
+            Some(token) => is_mark(Punctuation::Semicolon, token),
+            None => false,
+        }
+    }
+
+    /// The different occurrences that were passed, and the cursor behind them. Takes no memory.
+    pub fn into_parts(self) -> (SmallVec<Occ, 4>, Cursor<'t>)
+        ensures listed { result.0.items ≡ self.entry.listed }
+        ensures different { AreDifferent result.0.items }
+        ensures tokens { result.1 ≡ self.entry.tokens }
+    {
+        (self.occurrences.into_list(), self.cursor)
+    }
+
+    /// Whether this punctuation stands in front.
+    pub fn sees(&self, mark: Punctuation) -> bool
+        ensures { result ≡ sees (is_sign (tokens.mark mark)) (input self.now) }
+    {
+        match self.peek() {
+            Some(token) => is_mark(mark, token),
+            None => false,
+        }
+    }
+
+    /// Whether this name stands in front.
+    pub fn sees_word(&self, name: &str) -> bool
+        ensures { result ≡ sees (is_sign (tokens.word name.now)) (input self.now) }
+    {
+        match self.peek() {
+            Some(token) => is_word(name, token),
+            None => false,
+        }
+    }
+
+    /// Passes this punctuation. Takes no memory.
+    pub fn expect(&mut self, mark: Punctuation) -> Result<(), ExprFault>
+        ensures { Reads (λ _ _. reading.expect (tokens.mark mark)) self.old result self.new }
+    {
+        match self.peek() {
+            Some(token) if is_mark(mark, token) => {
+                self.bump();
+                Ok(())
+            }
+            _ => Err(self.refusal()),
+        }
+    }
+
+    /// Passes this name. Takes no memory.
+    pub fn expect_word(&mut self, name: &str) -> Result<(), ExprFault>
+        ensures { Reads (λ _ _. reading.expect (tokens.word name.now)) self.old result self.new }
+    {
+        match self.peek() {
+            Some(token) if is_word(name, token) => {
+                self.bump();
+                Ok(())
+            }
+            _ => Err(self.refusal()),
+        }
+    }
+
+    /// Passes a name that is not reserved in expressions. Takes no memory.
+    pub fn new_name(&mut self) -> Result<&'t str, ExprFault>
+        ensures { ReadsAs (λ name. name.now) (λ _ _. reading.token_as syntax.new_name)
+            self.old result self.new }
+    {
+        match self.peek() {
+            Some(Token::Name(name)) if !is_reserved(name) => {
+                self.bump();
+                Ok(name)
+            }
+            _ => Err(self.refusal()),
+        }
+    }
+}

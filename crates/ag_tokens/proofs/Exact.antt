@@ -1,0 +1,345 @@
+-- A parser that reads exactly a language, and what keeps this: one lemma for each way to put parsers together.
+use Rattle.std.proofs.Common.{◌≡◌, ℕ, zero, suc, ◌≤◌, ◌<◌, Bool, true, false, ◌||◌, if◌then◌else◌, List, [], ◌∷◌, ◌++◌, map, length, Option, Some, None, Ok, Err, ◌⊎◌, inl, inr, refl, ap, sym, ◌∙◌, subst, append_assoc, append-nil, arith, length-append}
+use Rattle.std.proofs.lemmas.List.{map-append}
+use Rattle.ag_tokens.specs.Ending.{Ending}
+use Rattle.ag_tokens.specs.Placed.{Placed, Input}
+use Rattle.ag_tokens.specs.Token.{Token}
+use Rattle.ag_tokens.specs.Parsing as parsing
+use Rattle.ag_tokens.specs.Parsing.{front_of, sees, Outcome, Parser, and_then, pure, taken, one_from, choose, many_from, further_from}
+use Rattle.ag_tokens.specs.Words as words
+use Rattle.ag_tokens.specs.Words.{gives, one, Many, none, more, IsFew, further}
+
+-- How a language is read: what a placed token is in its words, what is told of one that can't be taken, which faults are told of a token, and of which
+-- token it is told that it could be taken with more levels.
+pub record Manner (T Fault : Type 0) : Type 0 where
+  pub item : Placed → T
+  pub wrong : Input → Fault
+  pub is_told : Fault → Bool
+  pub is_deep : Fault → Placed → Bool
+
+-- the same input with these tokens before it
+abbrev pub before : List Placed → Input → Input
+before us i = record i { left = us ++ i.left }
+
+-- whether the first token is so
+abbrev pub first_is : (Token → Bool) → List Placed → Bool
+first_is test ps = parsing.front_is test (front_of ps)
+
+-- each word begins with such a token
+pub record Starts {T Fault A : Type 0} (m : Manner T Fault) (test : Token → Bool) (L : List T → A → Type 0) : Type 0 where
+  pub leads : (us : List Placed) (a : A) → L (map m.item us) a → first_is test us ≡ true
+
+-- what is read is spelled at the front, and what is spelled at the front is read, where none of the tokens `stops` comes behind it
+pub record Exact {T Fault A : Type 0} (m : Manner T Fault) (stops : Token → Bool) (L : List T → A → Type 0) (r : Parser Fault A) : Type 0 where
+  pub sound : (i j : Input) (a : A) → r i ≡ Ok (a, j) → (us : List Placed) × (i ≡ before us j) × L (map m.item us) a
+  pub complete : (us : List Placed) (j : Input) (a : A) → L (map m.item us) a → first_is stops j.left ≡ false → r (before us j) ≡ Ok (a, j)
+
+abbrev pub nowhere : Token → Bool
+nowhere t = false
+
+-- ---- lists of tokens
+
+split : {T : Type 0} (item : Placed → T) (us : List Placed) (vs ws : List T) → map item us ≡ vs ++ ws → (xs : List Placed) × (ys : List Placed) × (us ≡ xs ++ ys) × (map item xs ≡ vs) × (map item ys ≡ ws)
+split item us [] ws e = ([], us, refl, refl, e)
+split item [] (v ∷ vs) ws e = let bad : ⊥ = cc in absurd bad
+split item (u ∷ us) (v ∷ vs) ws e =
+    let rest : map item us ≡ vs ++ ws = cc in
+    let cut = split item us vs ws rest in
+    let first : item u ≡ v = cc in
+    (u ∷ cut.0, cut.1, ap (λ ys. u ∷ ys) cut.2, ap (λ t. t ∷ map item cut.0) first ∙ ap (λ ts. v ∷ ts) cut.3, cut.4)
+
+pub before-append : (us vs : List Placed) (k : Input) → before (us ++ vs) k ≡ before us (before vs k)
+before-append us vs k = ap (λ ys. record k { left = ys }) (append_assoc us vs k.left)
+
+leads-append : (test : Token → Bool) (us vs : List Placed) → first_is test us ≡ true → first_is test (us ++ vs) ≡ true
+leads-append test [] vs h = let bad : ⊥ = cc in absurd bad
+leads-append test (u ∷ us) vs h = h
+
+pub anywhere : (ps : List Placed) → first_is nowhere ps ≡ false
+anywhere [] = refl
+anywhere (p ∷ ps) = refl
+
+leading : (test : Token → Bool) (ps : List Placed) → first_is test ps ≡ true → 1 ≤ length ps
+leading test [] h = let bad : ⊥ = cc in absurd bad
+leading test (p ∷ ps) h = omega arith
+
+-- tokens of one kind are none of the other
+abbrev pub Apart : (Token → Bool) → (Token → Bool) → Type 0
+Apart these those = (t : Token) → these t ≡ true → those t ≡ false
+
+apart_back : (these those : Token → Bool) → Apart these those → Apart those these
+apart_back these those apart t h = go (these t) refl
+  where
+    go : (b : Bool) → these t ≡ b → these t ≡ false
+    go false e = e
+    go true e = let no = apart t e in let bad : ⊥ = cc in absurd bad
+
+led : (these those : Token → Bool) → Apart these those → (ps : List Placed) → first_is these ps ≡ true → first_is those ps ≡ false
+led these those apart [] h = refl
+led these those apart (p ∷ ps) h = apart p.token h
+
+pub neither : (a b : Bool) → (a || b) ≡ false → (a ≡ false) × (b ≡ false)
+neither false b h = (refl, h)
+neither true b h = let bad : ⊥ = cc in absurd bad
+
+-- where none of either kind comes first
+pub both_without : (these those : Token → Bool) (ps : List Placed) → first_is (λ t. these t || those t) ps ≡ false → (first_is these ps ≡ false) × (first_is those ps ≡ false)
+both_without these those [] h = (refl, refl)
+both_without these those (p ∷ ps) h = neither (these p.token) (those p.token) h
+
+-- where one of either comes first
+either : (these those : Token → Bool) (ps : List Placed) → first_is these ps ≡ true ⊎ first_is those ps ≡ true → first_is (λ t. these t || those t) ps ≡ true
+either these those [] (inl h) = h
+either these those [] (inr h) = h
+either these those (p ∷ ps) (inl h) = rw h refl
+either these those (p ∷ ps) (inr h) = rw h (other (these p.token))
+  where
+    other : (b : Bool) → (b || true) ≡ true
+    other true = refl
+    other false = refl
+
+-- ---- parsers
+
+pub opened : {Fault A B : Type 0} (o : Outcome Fault A) (f : A → Parser Fault B) (y : B × Input) → and_then o f ≡ Ok y → (p : A × Input) × (o ≡ Ok p) × (f p.0 p.1 ≡ Ok y)
+opened (Err x) f y e = let bad : ⊥ = cc in absurd bad
+opened (Ok p) f y e = (p, refl, e)
+
+pub answered : {Fault A : Type 0} (a b : A) (i j : Input) → (let o : Outcome Fault A = Ok (a, i) in o ≡ Ok (b, j)) → (b ≡ a) × (i ≡ j)
+answered {Fault} {A} a b i j e = let same : ◌≡◌ {A = A × Input} (a, i) (b, j) = cc in (ap (λ p. p.0) (sym same), ap (λ p. p.1) same)
+
+-- what is behind the first part
+abbrev pub Before : {T Fault B : Type 0} → Manner T Fault → (Token → Bool) → (Token → Bool) → (List T → B → Type 0) → Type 0
+Before {T} {Fault} {B} m outer inner L = (vs rest : List Placed) (b : B) → L (map m.item vs) b → first_is outer rest ≡ false → first_is inner (vs ++ rest) ≡ false
+
+module _ {T Fault : Type 0} {m : Manner T Fault} where
+  pub weaker : {A : Type 0} {stops : Token → Bool} {L : List T → A → Type 0} {r : Parser Fault A} → Exact m nowhere L r → Exact m stops L r
+  weaker x = record { sound = x.sound; complete = λ us j a is h. x.complete us j a is (anywhere j.left) }
+
+  pub pure_exact : {A : Type 0} {stops : Token → Bool} (a : A) → Exact m stops (gives a) (pure a)
+  pure_exact {A} {stops} a = record { sound = λ i j b e. let same = answered a b i j e in ([], same.1, (refl, same.0)); complete = done }
+    where
+      done : (us : List Placed) (j : Input) (b : A) → gives a (map m.item us) b → first_is stops j.left ≡ false → pure {Fault = Fault} a (before us j) ≡ Ok (b, j)
+      done [] j b (e, same) h = ap (λ x. Ok (x, j)) (sym same)
+      done (u ∷ us) j b (e, same) h = let bad : ⊥ = cc in absurd bad
+
+  pub then_exact : {A B : Type 0} {inner outer : Token → Bool} {R : List T → A → Type 0} {S : A → List T → B → Type 0} {r : Parser Fault A} {s : A → Parser Fault B}
+      → Exact m inner R r → ((a : A) → Exact m outer (S a) (s a)) → ((a : A) → Before m outer inner (S a)) → Exact m outer (words.◌>>=◌ R S) (parsing.◌>>=◌ r s)
+  then_exact {A} {B} {inner} {outer} {R} {S} {r} {s} x y behind = record { sound = found; complete = read }
+    where
+      found : (i j : Input) (b : B) → parsing.◌>>=◌ r s i ≡ Ok (b, j) → (us : List Placed) × (i ≡ before us j) × words.◌>>=◌ R S (map m.item us) b
+      found i j b h =
+          let one = opened (r i) s (b, j) h in
+          let first = x.sound i one.0.1 one.0.0 one.1 in
+          let second = (y one.0.0).sound one.0.1 j b one.2 in
+          (first.0 ++ second.0, first.1 ∙ ap (before first.0) second.1 ∙ sym (before-append first.0 second.0 j), (map m.item first.0, map m.item second.0, one.0.0, map-append m.item first.0 second.0, first.2, second.2))
+
+      read : (us : List Placed) (j : Input) (b : B) → words.◌>>=◌ R S (map m.item us) b → first_is outer j.left ≡ false → parsing.◌>>=◌ r s (before us j) ≡ Ok (b, j)
+      read us j b (vs, ws, a, e, is, later) h =
+          let cut = split m.item us vs ws e in
+          let text : before us j ≡ before cut.0 (before cut.1 j) = ap (λ xs. before xs j) cut.2 ∙ before-append cut.0 cut.1 j in
+          let rest : S a (map m.item cut.1) b = subst (λ ts. S a ts b) (sym cut.4) later in
+          let one = x.complete cut.0 (before cut.1 j) a (subst (λ ts. R ts a) (sym cut.3) is) (behind a cut.1 j.left b rest h) in
+          ap (λ i. and_then (r i) s) text ∙ ap (λ o. and_then o s) one ∙ (y a).complete cut.1 j b rest h
+
+  -- one of two, by the first token
+  pub or_exact : {A : Type 0} {test those stops : Token → Bool} {L M : List T → A → Type 0} {l n : Parser Fault A}
+      → Exact m stops L l → Exact m stops M n → Starts m test L → Starts m those M → Apart test those → Exact m stops (words.◌or◌ L M) (choose test l n)
+  or_exact {A} {test} {those} {stops} {L} {M} {l} {n} x y starts others apart = record { sound = λ i j a. found (sees test i) i j a; complete = read }
+    where
+      found : (b : Bool) (i j : Input) (a : A) → (if b then l i else n i) ≡ Ok (a, j) → (us : List Placed) × (i ≡ before us j) × words.◌or◌ L M (map m.item us) a
+      found true i j a h = let one = x.sound i j a h in (one.0, one.1, inl one.2)
+      found false i j a h = let one = y.sound i j a h in (one.0, one.1, inr one.2)
+
+      read : (us : List Placed) (j : Input) (a : A) → words.◌or◌ L M (map m.item us) a → first_is stops j.left ≡ false → choose test l n (before us j) ≡ Ok (a, j)
+      read us j a (inl is) h = rw (leads-append test us j.left (starts.leads us a is)) (x.complete us j a is h)
+      read us j a (inr is) h = rw (led those test (apart_back test those apart) (us ++ j.left) (leads-append those us j.left (others.leads us a is))) (y.complete us j a is h)
+
+  -- one of them, or nothing
+  pub maybe_exact : {A : Type 0} {test stops : Token → Bool} {L : List T → A → Type 0} {l : Parser Fault A} (a : A) → Exact m stops L l → Starts m test L → Exact m (λ t. test t || stops t) (words.◌or◌ L (gives a)) (choose test l (pure a))
+  maybe_exact {A} {test} {stops} {L} {l} a x starts = record { sound = λ i j b. found (sees test i) i j b; complete = read }
+    where
+      found : (b : Bool) (i j : Input) (c : A) → (if b then l i else pure a i) ≡ Ok (c, j) → (us : List Placed) × (i ≡ before us j) × words.◌or◌ L (gives a) (map m.item us) c
+      found true i j c h = let one = x.sound i j c h in (one.0, one.1, inl one.2)
+      found false i j c h = let same = answered a c i j h in ([], same.1, inr (refl, same.0))
+
+      read : (us : List Placed) (j : Input) (b : A) → words.◌or◌ L (gives a) (map m.item us) b → first_is (λ t. test t || stops t) j.left ≡ false → choose test l (pure a) (before us j) ≡ Ok (b, j)
+      read us j b (inl is) h = rw (leads-append test us j.left (starts.leads us b is)) (x.complete us j b is (both_without test stops j.left h).1)
+      read [] j b (inr (empty, same)) h = rw (same, (both_without test stops j.left h).0) refl
+      read (u ∷ us) j b (inr (empty, same)) h = let bad : ⊥ = cc in absurd bad
+
+  -- one token, for what it stands for
+  pub one_exact : {A : Type 0} {stops : Token → Bool} (sign : ℕ → Token → Option A) (meaning : T → Option A) → ((p : Placed) → sign p.at p.token ≡ meaning (m.item p)) → Exact m stops (one meaning) (one_from m.wrong sign)
+  one_exact {A} {stops} sign meaning agree = record { sound = λ i j a. found i.left i.ending j a; complete = read }
+    where
+      found : (ps : List Placed) (e : Ending) (j : Input) (a : A) → one_from m.wrong sign (record { left = ps; ending = e }) ≡ Ok (a, j) → (us : List Placed) × (record { left = ps; ending = e } ≡ before us j) × one meaning (map m.item us) a
+      found [] e j a h = let bad : ⊥ = cc in absurd bad
+      found (p ∷ ps) e j a h = go (sign p.at p.token) refl h
+        where
+          go : (o : Option A) → sign p.at p.token ≡ o → taken m.wrong o (record { left = p ∷ ps; ending = e }) ≡ Ok (a, j) → (us : List Placed) × (record { left = p ∷ ps; ending = e } ≡ before us j) × one meaning (map m.item us) a
+          go None q h = let bad : ⊥ = cc in absurd bad
+          go (Some b) q h = let same = answered {Fault = Fault} b a (record { left = ps; ending = e }) j h in (p ∷ [], ap (before (p ∷ [])) same.1, (m.item p, refl, sym (agree p) ∙ q ∙ ap Some (sym same.0)))
+
+      read : (us : List Placed) (j : Input) (a : A) → one meaning (map m.item us) a → first_is stops j.left ≡ false → one_from m.wrong sign (before us j) ≡ Ok (a, j)
+      read [] j a (t, is, means) h = let bad : ⊥ = cc in absurd bad
+      read (u ∷ v ∷ us) j a (t, is, means) h = let bad : ⊥ = cc in absurd bad
+      read (u ∷ []) j a (t, is, means) h = let same : m.item u ≡ t = cc in rw (agree u ∙ ap meaning same ∙ means) refl
+
+  many_sound : {A : Type 0} (begins stops : Token → Bool) (L : List T → A → Type 0) (r : Parser Fault A) → Exact m stops L r → (n : ℕ) (found : List A) (i j : Input) (all : List A) → many_from begins r n found i ≡ Ok (all, j)
+      → (us : List Placed) × (xs : List A) × (i ≡ before us j) × Many L (map m.item us) xs × (all ≡ found ++ xs) × (length xs ≤ n)
+  unfolding many_from
+  many_sound {A} begins stops L r x zero found i j all h = let same = answered {Fault = Fault} found all i j h in ([], [], same.1, none, same.0 ∙ sym (append-nil found), omega arith)
+  many_sound {A} begins stops L r x (suc n) found i j all h = go (sees begins i) (many_sound begins stops L r x n) h
+    where
+      go : (b : Bool) → ((found : List A) (i j : Input) (all : List A) → many_from begins r n found i ≡ Ok (all, j) → (us : List Placed) × (xs : List A) × (i ≡ before us j) × Many L (map m.item us) xs × (all ≡ found ++ xs) × (length xs ≤ n))
+          → (if b then parsing.◌>>=◌ r (λ a. many_from begins r n (found ++ a ∷ [])) i else pure found i) ≡ Ok (all, j)
+          → (us : List Placed) × (xs : List A) × (i ≡ before us j) × Many L (map m.item us) xs × (all ≡ found ++ xs) × (length xs ≤ suc n)
+      go true ih e =
+          let one = opened (r i) (λ a. many_from begins r n (found ++ a ∷ [])) (all, j) e in
+          let first = x.sound i one.0.1 one.0.0 one.1 in
+          let others = ih (found ++ one.0.0 ∷ []) one.0.1 j all one.2 in
+          let text : i ≡ before (first.0 ++ others.0) j = first.1 ∙ ap (before first.0) others.2 ∙ sym (before-append first.0 others.0 j) in
+          let long : length (one.0.0 ∷ others.1) ≤ suc n = omega (arith, others.5) in
+          let are : Many L (map m.item first.0 ++ map m.item others.0) (one.0.0 ∷ others.1) = more (map m.item first.0) (map m.item others.0) one.0.0 others.1 first.2 others.3 in
+          (first.0 ++ others.0, one.0.0 ∷ others.1, text, subst (λ ts. Many L ts (one.0.0 ∷ others.1)) (sym (map-append m.item first.0 others.0)) are, others.4 ∙ append_assoc found (one.0.0 ∷ []) others.1, long)
+      go false ih e = let same = answered {Fault = Fault} found all i j e in ([], [], same.1, none, same.0 ∙ sym (append-nil found), omega arith)
+
+  many_first : {A : Type 0} (begins : Token → Bool) (L : List T → A → Type 0) → Starts m begins L → (us : List Placed) (ts : List T) (x : A) (xs : List A) → map m.item us ≡ ts → Many L ts (x ∷ xs) → first_is begins us ≡ true
+  many_first begins L starts us ts x xs e (more vs ws y ys is others) =
+      let cut = split m.item us vs ws e in
+      subst (λ qs. first_is begins qs ≡ true) (sym cut.2) (leads-append begins cut.0 cut.1 (starts.leads cut.0 y (subst (λ zs. L zs y) (sym cut.3) is)))
+
+  pub many_leads : {A : Type 0} (begins stops : Token → Bool) (L : List T → A → Type 0) → Starts m begins L → Apart begins stops → (us : List Placed) (xs : List A) → Many L (map m.item us) xs → (rest : List Placed) → first_is stops rest ≡ false → first_is stops (us ++ rest) ≡ false
+  many_leads begins stops L starts apart [] xs are rest h = h
+  many_leads {A} begins stops L starts apart (u ∷ us) xs are rest h = go xs (m.item u ∷ map m.item us) refl are
+    where
+      go : (xs : List A) (ts : List T) → map m.item (u ∷ us) ≡ ts → Many L ts xs → first_is stops (u ∷ (us ++ rest)) ≡ false
+      go xs ts e none = let bad : ⊥ = cc in absurd bad
+      go xs ts e (more vs ws y ys is others) = apart u.token (many_first begins L starts (u ∷ us) ts y ys e (more vs ws y ys is others))
+
+  many_short : {A : Type 0} (begins : Token → Bool) (L : List T → A → Type 0) → Starts m begins L → (us : List Placed) (ts : List T) (xs : List A) → map m.item us ≡ ts → Many L ts xs → length xs ≤ length us
+  many_short begins L starts us ts xs e none = omega arith
+  many_short begins L starts us ts xs e (more vs ws y ys is others) =
+      let cut = split m.item us vs ws e in
+      let rest = many_short begins L starts cut.1 ws ys cut.4 others in
+      let some = leading begins cut.0 (starts.leads cut.0 y (subst (λ zs. L zs y) (sym cut.3) is)) in
+      omega (arith, length-append cut.0 cut.1, ap length cut.2)
+
+  many_complete : {A : Type 0} (begins stops : Token → Bool) (L : List T → A → Type 0) (r : Parser Fault A) → Exact m stops L r → Starts m begins L → Apart begins stops
+      → (n : ℕ) (found : List A) (ts : List T) (xs : List A) → Many L ts xs → (us : List Placed) → map m.item us ≡ ts → (j : Input) → first_is stops j.left ≡ false → first_is begins j.left ≡ false → length xs ≤ n
+      → many_from begins r n found (before us j) ≡ Ok (found ++ xs, j)
+  unfolding many_from
+  many_complete begins stops L r x starts apart n found ts xs none [] e j h g le = stop n
+    where
+      stop : (n : ℕ) → many_from begins r n found j ≡ Ok (found ++ [], j)
+      stop zero = ap (λ ys. Ok (ys, j)) (sym (append-nil found))
+      stop (suc n) = rw g (ap (λ ys. Ok (ys, j)) (sym (append-nil found)))
+  many_complete begins stops L r x starts apart n found ts xs none (u ∷ us) e j h g le = let bad : ⊥ = cc in absurd bad
+  many_complete begins stops L r x starts apart zero found ts xs (more vs ws y ys is others) us e j h g le = let bad : ⊥ = omega arith in absurd bad
+  many_complete {A} begins stops L r x starts apart (suc n) found ts xs (more vs ws y ys is others) us e j h g le =
+      let cut = split m.item us vs ws e in
+      let text : before us j ≡ before cut.0 (before cut.1 j) = ap (λ zs. before zs j) cut.2 ∙ before-append cut.0 cut.1 j in
+      let yes : sees begins (before us j) ≡ true = leads-append begins us j.left (many_first begins L starts us ts y ys e (more vs ws y ys is others)) in
+      let stop = many_leads begins stops L starts apart cut.1 ys (subst (λ zs. Many L zs ys) (sym cut.4) others) j.left h in
+      let one = x.complete cut.0 (before cut.1 j) y (subst (λ zs. L zs y) (sym cut.3) is) stop in
+      let two = many_complete begins stops L r x starts apart n (found ++ y ∷ []) ws ys others cut.1 cut.4 j h g (omega arith) in
+      let f : A → Parser Fault (List A) = λ a. many_from begins r n (found ++ a ∷ []) in
+      rw yes (ap (λ i. and_then (r i) f) text ∙ ap (λ o. and_then o f) one ∙ two ∙ ap (λ zs. Ok (zs, j)) (append_assoc found (y ∷ []) ys))
+
+  -- further ones behind those that were found
+  pub further_exact : {A : Type 0} (single : Bool) (found : List A) {begins stops : Token → Bool} {L : List T → A → Type 0} {r : Parser Fault A} → Exact m stops L r → Starts m begins L → Apart begins stops
+      → Exact m (λ t. begins t || stops t) (further single found L) (further_from single begins r found)
+  further_exact {A} single found {begins} {stops} {L} {r} x starts apart = record { sound = λ i j. read_as single i j; complete = λ us j all is. spelled_as single us j all is }
+    where
+      read_as : (single : Bool) (i j : Input) (all : List A) → further_from single begins r found i ≡ Ok (all, j) → (us : List Placed) × (i ≡ before us j) × further single found L (map m.item us) all
+      read_as true i j all h = let f = many_sound begins stops L r x 1 found i j all h in (f.0, f.2, (f.1, f.3, f.5, f.4))
+      read_as false i j all h = let f = many_sound begins stops L r x (length i.left) found i j all h in (f.0, f.2, (f.1, f.3, tt, f.4))
+
+      turn : (n : ℕ) (us : List Placed) (j : Input) (xs : List A) → Many L (map m.item us) xs → length xs ≤ n → first_is (λ t. begins t || stops t) j.left ≡ false → many_from begins r n found (before us j) ≡ Ok (found ++ xs, j)
+      turn n us j xs are le h = let both = both_without begins stops j.left h in many_complete begins stops L r x starts apart n found (map m.item us) xs are us refl j both.1 both.0 le
+
+      spelled_as : (single : Bool) (us : List Placed) (j : Input) (all : List A) → further single found L (map m.item us) all → first_is (λ t. begins t || stops t) j.left ≡ false → further_from single begins r found (before us j) ≡ Ok (all, j)
+      spelled_as true us j all (xs, are, le, same) h = rw same (turn 1 us j xs are le h)
+      spelled_as false us j all (xs, are, le, same) h =
+          let short = many_short begins L starts us (map m.item us) xs refl are in
+          rw same (turn (length (us ++ j.left)) us j xs are (omega (arith, length-append us j.left)) h)
+
+  -- any number of them
+  pub many_exact : {A : Type 0} {begins stops : Token → Bool} {L : List T → A → Type 0} {r : Parser Fault A} → Exact m stops L r → Starts m begins L → Apart begins stops → Exact m (λ t. begins t || stops t) (Many L) (further_from false begins r [])
+  many_exact {A} {L = L} x starts apart =
+      let y = further_exact false [] x starts apart in
+      record { sound = λ i j all h. (let f = y.sound i j all h in (f.0, f.1, subst (Many L (map m.item f.0)) (sym f.2.3) f.2.1)); complete = λ us j all are. y.complete us j all (all, are, tt, refl) }
+
+  -- what stands behind a part before them, with what goes on behind them
+  pub further_then : {A B : Type 0} (single : Bool) (found : List A) (begins inner outer : Token → Bool) {those : Token → Bool} {L : List T → A → Type 0} {S : List A → List T → B → Type 0} → Starts m begins L → Apart begins inner
+      → ((xs : List A) → Starts m those (S xs)) → Apart those inner → Before m outer inner (words.◌>>=◌ (further single found L) S)
+  further_then single found begins inner outer {those} {L} {S} starts apart behind away vs rest b (us, ws, all, e, (xs, are, le, is), later) h =
+      let cut = split m.item vs us ws e in
+      let next = led those inner away (cut.1 ++ rest) (leads-append those cut.1 rest ((behind all).leads cut.1 b (subst (λ ts. S all ts b) (sym cut.4) later))) in
+      rw (cut.2, append_assoc cut.0 cut.1 rest) (many_leads begins inner L starts apart cut.0 xs (subst (λ ts. Many L ts xs) (sym cut.3) are) (cut.1 ++ rest) next)
+
+  -- and with nothing behind them
+  pub further_behind : {A B : Type 0} (single : Bool) (found : List A) (begins stops : Token → Bool) {L : List T → A → Type 0} (f : List A → B) → Starts m begins L → Apart begins stops → Before m (λ t. begins t || stops t) stops (words.◌>>=◌ (further single found L) (λ xs. gives (f xs)))
+  further_behind single found begins stops {L} f starts apart vs rest b (us, ws, all, e, (xs, are, le, is), (no_more, same)) h =
+      let whole : map m.item vs ≡ us = e ∙ ap (λ ys. us ++ ys) no_more ∙ append-nil us in
+      many_leads begins stops L starts apart vs xs (subst (λ ts. Many L ts xs) (sym whole) are) rest (both_without begins stops rest h).1
+
+  -- ---- first tokens
+
+  pub then_starts : {A B : Type 0} {test : Token → Bool} {R : List T → A → Type 0} {S : A → List T → B → Type 0} → Starts m test R → Starts m test (words.◌>>=◌ R S)
+  then_starts {A} {B} {test} {R} {S} x = record {
+    leads = λ us b (vs, ws, a, e, is, later).
+        let cut = split m.item us vs ws e in
+        subst (λ qs. first_is test qs ≡ true) (sym cut.2) (leads-append test cut.0 cut.1 (x.leads cut.0 a (subst (λ ts. R ts a) (sym cut.3) is)));
+  }
+
+  pub one_starts : {A : Type 0} {test : Token → Bool} (meaning : T → Option A) → ((p : Placed) (a : A) → meaning (m.item p) ≡ Some a → test p.token ≡ true) → Starts m test (one meaning)
+  one_starts {A} {test} meaning h = record { leads = go }
+    where
+      go : (us : List Placed) (a : A) → one meaning (map m.item us) a → first_is test us ≡ true
+      go [] a (t, e, is) = let bad : ⊥ = cc in absurd bad
+      go (u ∷ us) a (t, e, is) = let same : m.item u ≡ t = cc in h u a (ap meaning same ∙ is)
+
+  pub or_starts : {A : Type 0} {these those : Token → Bool} {L M : List T → A → Type 0} → Starts m these L → Starts m those M → Starts m (λ t. these t || those t) (words.◌or◌ L M)
+  or_starts {A} {these} {those} {L} {M} x y = record { leads = first }
+    where
+      first : (us : List Placed) (a : A) → words.◌or◌ L M (map m.item us) a → first_is (λ t. these t || those t) us ≡ true
+      first us a (inl is) = either these those us (inl (x.leads us a is))
+      first us a (inr is) = either these those us (inr (y.leads us a is))
+
+  -- one of them, or nothing, and behind it what begins with another
+  pub maybe_starts : {A B : Type 0} {these those : Token → Bool} {L : List T → A → Type 0} {S : A → List T → B → Type 0} (c : A) → Starts m these L → ((a : A) → Starts m those (S a)) → Starts m (λ t. these t || those t) (words.◌>>=◌ (words.◌or◌ L (gives c)) S)
+  maybe_starts {A} {B} {these} {those} {L} {S} c x y = record { leads = go }
+    where
+      go : (us : List Placed) (b : B) → words.◌>>=◌ (words.◌or◌ L (gives c)) S (map m.item us) b → first_is (λ t. these t || those t) us ≡ true
+      go us b (vs, ws, a, e, inl is, later) =
+          let cut = split m.item us vs ws e in
+          either these those us (inl (subst (λ qs. first_is these qs ≡ true) (sym cut.2) (leads-append these cut.0 cut.1 (x.leads cut.0 a (subst (λ ts. L ts a) (sym cut.3) is)))))
+      go us b (vs, ws, a, e, inr (empty, same), later) = let all : map m.item us ≡ ws = rw (e, empty) refl in either these those us (inr ((y a).leads us b (subst (λ ts. S a ts b) (sym all) later)))
+
+  -- ---- what stands behind a part
+
+  -- an end
+  pub ends_exact : {A B : Type 0} {stops : Token → Bool} {R : List T → A → Type 0} {r : Parser Fault A} (f : A → B) → Exact m stops R r → Exact m stops (words.◌>>=◌ R (λ a. gives (f a))) (parsing.◌>>=◌ r (λ a. pure (f a)))
+  ends_exact {A} {B} {stops} f x = then_exact x (λ a. pure_exact (f a)) nothing
+    where
+      nothing : (a : A) → Before m stops stops (gives (f a))
+      nothing a [] rest b is h = h
+      nothing a (v ∷ vs) rest b (e, is) h = let bad : ⊥ = cc in absurd bad
+
+  -- anything
+  pub any_then : {A B : Type 0} {stops : Token → Bool} {R : List T → A → Type 0} {S : A → List T → B → Type 0} {r : Parser Fault A} {s : A → Parser Fault B}
+      → Exact m nowhere R r → ((a : A) → Exact m stops (S a) (s a)) → Exact m stops (words.◌>>=◌ R S) (parsing.◌>>=◌ r s)
+  any_then x y = then_exact x y (λ a vs rest b is h. anywhere (vs ++ rest))
+
+  -- what begins with a token that doesn't go on with the part
+  pub start_then : {A B : Type 0} {these inner stops : Token → Bool} {R : List T → A → Type 0} {S : A → List T → B → Type 0} {r : Parser Fault A} {s : A → Parser Fault B}
+      → Exact m inner R r → ((a : A) → Exact m stops (S a) (s a)) → ((a : A) → Starts m these (S a)) → Apart these inner → Exact m stops (words.◌>>=◌ R S) (parsing.◌>>=◌ r s)
+  start_then {these = these} {inner = inner} x y starts apart = then_exact x y (λ a vs rest b is h. led these inner apart (vs ++ rest) (leads-append these vs rest ((starts a).leads vs b is)))
+
+  -- ---- what is read shortens what is left
+
+  pub shortens : {A : Type 0} {stops test : Token → Bool} {L : List T → A → Type 0} {r : Parser Fault A} → Exact m stops L r → Starts m test L → (i j : Input) (a : A) → r i ≡ Ok (a, j) → length j.left < length i.left
+  shortens {A} {stops} {test} {L} {r} x starts i j a h =
+      let found = x.sound i j a h in
+      let some = leading test found.0 (starts.leads found.0 a found.2) in
+      omega (arith, ap (λ (k : Input). length k.left) found.1, length-append found.0 j.left)

@@ -1,0 +1,12 @@
+pub mod Exact
+pub mod Fronts
+pub mod Lexed
+pub mod Lexes
+pub mod Numerals
+pub mod Options
+pub mod Spans
+pub mod States
+pub mod Steady
+pub mod TextTurns
+pub mod TokenLaws
+pub mod Turns

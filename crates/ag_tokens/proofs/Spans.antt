@@ -1,0 +1,66 @@
+-- The longest front of a text whose characters pass, beside a loop over its characters.
+use Rattle.ag_tokens.proofs.Fronts.{front_is}
+use Rattle.std.proofs.Common.{◌≡◌, ℕ, ◌-◌, ◌<◌, ◌≤◌, Bool, true, List, [], ◌∷◌, ◌++◌, length, take, drop, Bor, Some, chars, IsUtf8, encode_utf8, encode_utf8_all, refl, ap, sym, ◌∙◌, subst, arith, append_assoc, append-nil, length-append}
+use Rattle.std.specs.List.{prefix_len, list_all}
+use Rattle.std.specs.Str.{IsCharBoundary}
+use Rattle.std.proofs.Math.Seq.{take-append_seam, drop-append_seam}
+use Rattle.std.proofs.lemmas.List.Folds.{list_all-append}
+use Rattle.std.proofs.lemmas.Str.{encodes-append, length-encode, len_utf8_bounds, chars-nil, IsCharBoundary-at_seam}
+use Rattle.ag_tokens.specs.declared.lexer.Class.{Class}
+use Rattle.ag_tokens.specs.Lexing.{is_in, front_in, back_of, PassesOne}
+use Rattle.ag_tokens.specs.Left.{unspaced}
+use Rattle.ag_tokens.specs.Tokens.{width}
+use Rattle.ag_tokens.proofs.Lexed.{spaces, width-chars}
+
+-- The characters in `front` pass, and `rest` stands behind them.
+pub record Passed (p : ℕ → Bool) (text rest : List ℕ) : Type 0 where
+  pub front : List ℕ
+  pub all : list_all p front ≡ true
+  pub split : text ≡ encode_utf8_all front ++ rest
+  pub characters : chars text ≡ front ++ chars rest
+
+pub goes_on : (class : Class) (text rest : List ℕ) (after : Bor (List ℕ)) → PassesOne class rest (Some after) → Passed (is_in class) text rest → Passed (is_in class) text after.now
+goes_on class text rest after (c, passes, characters, split) so_far = record {
+  front = so_far.front ++ c ∷ [];
+  all = list_all-append (is_in class) so_far.front (c ∷ []) ∙ rw (so_far.all, passes) refl;
+  split = so_far.split ∙ ap (λ x. encode_utf8_all so_far.front ++ x) split ∙ sym (append_assoc (encode_utf8_all so_far.front) (encode_utf8 c) after.now)
+      ∙ ap (λ x. (encode_utf8_all so_far.front ++ x) ++ after.now) (sym (append-nil (encode_utf8 c))) ∙ ap (λ x. x ++ after.now) (sym (encodes-append so_far.front (c ∷ [])));
+  characters = so_far.characters ∙ ap (λ x. so_far.front ++ x) characters ∙ sym (append_assoc so_far.front (c ∷ []) (chars after.now));
+}
+
+pub nearer : (class : Class) (rest : List ℕ) (after : Bor (List ℕ)) → PassesOne class rest (Some after) → length after.now < length rest
+nearer class rest after (c, passes, characters, split) = let some = (len_utf8_bounds c).0 in omega (arith, ap length split, length-append (encode_utf8 c) after.now, length-encode c)
+
+module _ (class : Class) (text rest : List ℕ) (so_far : Passed (is_in class) text rest) where
+  pub boundary : IsUtf8 rest → IsCharBoundary text (length text - length rest)
+  boundary utf8 =
+      let n : length (encode_utf8_all so_far.front) ≡ length text - length rest = omega (arith, ap length so_far.split, length-append (encode_utf8_all so_far.front) rest) in
+      subst (IsCharBoundary text) n (IsCharBoundary-at_seam text (encode_utf8_all so_far.front) rest so_far.split utf8)
+
+  module _ (none : prefix_len (is_in class) (chars rest) ≡ 0) where
+    length_is : prefix_len (is_in class) (chars text) ≡ length so_far.front
+    length_is = ap (prefix_len (is_in class)) so_far.characters ∙ front_is (is_in class) so_far.front (chars rest) so_far.all none
+
+    pub front_cut : take (length text - length rest) text ≡ encode_utf8_all (front_in class (chars text))
+    front_cut =
+        let n : length text - length rest ≡ length (encode_utf8_all so_far.front) = omega (arith, ap length so_far.split, length-append (encode_utf8_all so_far.front) rest) in
+        let bytes : take (length text - length rest) text ≡ encode_utf8_all so_far.front = rw n (ap (take (length (encode_utf8_all so_far.front))) so_far.split ∙ take-append_seam (encode_utf8_all so_far.front) rest) in
+        let characters : front_in class (chars text) ≡ so_far.front = rw length_is (ap (take (length so_far.front)) so_far.characters ∙ take-append_seam so_far.front (chars rest)) in
+        bytes ∙ sym (ap encode_utf8_all characters)
+
+    pub back_cut : chars (drop (length text - length rest) text) ≡ back_of class (chars text)
+    back_cut =
+        let n : length text - length rest ≡ length (encode_utf8_all so_far.front) = omega (arith, ap length so_far.split, length-append (encode_utf8_all so_far.front) rest) in
+        let bytes : drop (length text - length rest) text ≡ rest = rw n (ap (drop (length (encode_utf8_all so_far.front))) so_far.split ∙ drop-append_seam (encode_utf8_all so_far.front) rest) in
+        let characters : back_of class (chars text) ≡ chars rest = rw length_is (ap (drop (length so_far.front)) so_far.characters ∙ drop-append_seam so_far.front (chars rest)) in
+        ap chars bytes ∙ sym characters
+
+pub empty_text : (text : List ℕ) → length text ≡ 0 → chars text ≡ []
+empty_text [] e = chars-nil
+empty_text (b ∷ text) e = let bad : ⊥ = omega arith in absurd bad
+
+-- what is left behind separators has as many bytes as its characters are wide, and no more than the text
+pub left_within : (text rest : List ℕ) → IsUtf8 text → IsUtf8 rest → chars rest ≡ unspaced (chars text) → length rest ≤ length text
+left_within text rest utf8 utf8' is =
+    let space = spaces (chars text) in
+    omega (arith, width-chars text utf8, width-chars rest utf8', ap width is)

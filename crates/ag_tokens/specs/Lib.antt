@@ -1,0 +1,9 @@
+pub mod Ending
+pub mod Laws
+pub mod Left
+pub mod Lexing
+pub mod Parsing
+pub mod Placed
+pub mod Token
+pub mod Tokens
+pub mod Words

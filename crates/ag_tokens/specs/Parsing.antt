@@ -1,0 +1,122 @@
+-- Reading from the front of placed tokens, whatever the faults are: what is read, and what is left; or why reading stops. All of this is this project's.
+use Rattle.std.specs.Prelude.{◌≡◌, ◌≢◌, ℕ, zero, suc, Bool, true, false, if◌then◌else◌, List, [], ◌∷◌, ◌++◌, length, Option, Some, None, Result, Ok, Err, bytes_eq}
+use denote.Enum.Bare.{sameb}
+use Rattle.ag_tokens.specs.contracts.token.Punctuation.{the_type}
+use Rattle.ag_tokens.specs.declared.token.Punctuation.{Punctuation}
+use Rattle.ag_tokens.specs.declared.fault.TokenFault.{TokenFault}
+use Rattle.ag_tokens.specs.declared.fault.TokenFault.TheVariants as token_fault
+use Rattle.ag_tokens.specs.Ending.{Ending, offset_of}
+use Rattle.ag_tokens.specs.Ending as ending
+use Rattle.ag_tokens.specs.Placed.{Placed, Input}
+use Rattle.ag_tokens.specs.Token.{Token, Sign, mark, word}
+use Rattle.ag_tokens.specs.Token as token
+
+-- ---- the next token
+
+abbrev pub front_of : List Placed → Option Token
+front_of [] = None
+front_of (p ∷ ps) = Some p.token
+
+abbrev pub front : Input → Option Token
+front i = front_of i.left
+
+abbrev pub behind_front : List Placed → List Placed
+behind_front [] = []
+behind_front (p ∷ ps) = ps
+
+abbrev pub next : Input → Input
+next i = record i { left = behind_front i.left }
+
+-- where it stands, or the tokens end
+abbrev pub place_of : Ending → List Placed → ℕ
+place_of e [] = offset_of e
+place_of e (p ∷ ps) = p.at
+
+abbrev pub place : Input → ℕ
+place i = place_of i.ending i.left
+
+-- whether the text ends here
+abbrev pub is_end : Ending → List Placed → Bool
+is_end (ending.EndsAt at) [] = true
+is_end _ _ = false
+
+-- why no token stands where the tokens end before the text does
+abbrev pub ending_fault : Ending → Option TokenFault
+ending_fault (ending.EndsAt at) = None
+ending_fault (ending.NoTokenAt at) = Some token_fault.Nothing
+ending_fault (ending.TooLargeAt at) = Some token_fault.TooLarge
+
+abbrev pub fault_of : Ending → List Placed → Option TokenFault
+fault_of e [] = ending_fault e
+fault_of e (p ∷ ps) = None
+
+abbrev pub front_is : (Token → Bool) → Option Token → Bool
+front_is test None = false
+front_is test (Some t) = test t
+
+abbrev pub sees : (Token → Bool) → Input → Bool
+sees test i = front_is test (front i)
+
+abbrev pub same_mark : Punctuation → Punctuation → Bool
+same_mark = sameb the_type
+
+abbrev pub is_sign : Sign → Token → Bool
+is_sign (mark m) (token.Punctuation other) = same_mark other m
+is_sign (word name) (token.Name other) = bytes_eq other name
+is_sign s t = false
+
+-- ---- parsers
+
+abbrev pub Outcome : Type 0 → Type 0 → Type 0
+Outcome Fault A = Result (A × Input) Fault
+
+abbrev pub Parser : Type 0 → Type 0 → Type 0
+Parser Fault A = Input → Outcome Fault A
+
+abbrev pub and_then : {Fault A B : Type 0} → Outcome Fault A → (A → Parser Fault B) → Outcome Fault B
+and_then (Ok p) f = f p.0 p.1
+and_then (Err e) f = Err e
+
+infixl 10 ◌>>=◌
+abbrev pub ◌>>=◌ : {Fault A B : Type 0} → Parser Fault A → (A → Parser Fault B) → Parser Fault B
+p >>= f = λ i. and_then (p i) f
+
+infixl 10 ◌>>◌
+abbrev pub ◌>>◌ : {Fault A B : Type 0} → Parser Fault A → Parser Fault B → Parser Fault B
+p >> q = p >>= (λ _. q)
+
+abbrev pub pure : {Fault A : Type 0} → A → Parser Fault A
+pure a = λ i. Ok (a, i)
+
+-- takes the next token for what it stands for, where it stands for something, and else refuses it
+abbrev pub taken : {Fault A : Type 0} → (Input → Fault) → Option A → Parser Fault A
+taken wrong None = λ i. Err (wrong i)
+taken wrong (Some a) = λ i. Ok (a, next i)
+
+-- what a token stands for at an offset, where there is one
+abbrev pub sign_of : {A : Type 0} → (ℕ → Token → Option A) → ℕ → Option Token → Option A
+sign_of sign at None = None
+sign_of sign at (Some t) = sign at t
+
+abbrev pub one_from : {Fault A : Type 0} → (Input → Fault) → (ℕ → Token → Option A) → Parser Fault A
+one_from wrong sign = λ i. taken wrong (sign_of sign (place i) (front i)) i
+
+abbrev pub choose : {Fault A : Type 0} → (Token → Bool) → Parser Fault A → Parser Fault A → Parser Fault A
+choose test one other = λ i. if sees test i then one i else other i
+
+-- as long as the next token begins a further one, so many turns at most
+unfoldable pub many_from : {Fault A : Type 0} → (Token → Bool) → Parser Fault A → ℕ → List A → Parser Fault (List A)
+many_from begins item zero found = pure found
+many_from begins item (suc n) found = choose begins (item >>= λ x. many_from begins item n (found ++ x ∷ [])) (pure found)
+
+abbrev pub turns : Bool → List Placed → ℕ
+turns true ps = 1
+turns false ps = length ps
+
+-- one at most where the test says so, else as many as there are, behind those that were found
+abbrev pub further_from : {Fault A : Type 0} → Bool → (Token → Bool) → Parser Fault A → List A → Parser Fault (List A)
+further_from one begins item found = λ i. many_from begins item (turns one i.left) found i
+
+-- the end of a text
+abbrev pub end_from : {Fault : Type 0} → (Input → Fault) → Parser Fault (Unit {0})
+end_from wrong = λ i. if is_end i.ending i.left then Ok (tt, i) else Err (wrong i)

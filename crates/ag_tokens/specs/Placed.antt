@@ -1,0 +1,17 @@
+-- The tokens of a text, each with its offset, and what stands behind them: all that a text is to a reader of its tokens.
+use Rattle.std.specs.Prelude.{ℕ, List, map}
+use Rattle.ag_tokens.specs.Ending.{Ending}
+use Rattle.ag_tokens.specs.Token.{Token}
+
+-- a token and its offset in bytes
+pub record Placed : Type 0 where
+  pub at : ℕ
+  pub token : Token
+
+pub record Input : Type 0 where
+  pub left : List Placed
+  pub ending : Ending
+
+-- the tokens alone
+abbrev pub tokens : List Placed → List Token
+tokens = map (λ p. p.token)

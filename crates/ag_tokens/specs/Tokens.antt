@@ -1,0 +1,168 @@
+-- What the tokens of a text are, by longest match: this project's language. A text stands here as the list of its characters.
+use Rattle.std.specs.Prelude.{◌≡◌, ℕ, ◌+◌, ◌<◌, ◌≤◌, pos, int_le, nat_le, Bool, true, false, not, cond, ◌||◌, ◌&&◌, ◌==◌, ◌≢◌, List, [], ◌∷◌, ◌++◌, length, Option, Some, None, encode_utf8, encode_utf8_all}
+use Rattle.std.specs.Char.{is_ascii_digit, len_utf8}
+use Rattle.std.specs.List.{list_all}
+use Rattle.std.specs.Str.Parse.{digits_value}
+use Rattle.unicode_ident.specs.Ident.{is_xid_start, is_xid_continue}
+use Rattle.ag_tokens.specs.declared.token.Punctuation.{Punctuation}
+use Rattle.ag_tokens.specs.declared.token.Punctuation.TheVariants as punctuation
+use Rattle.ag_tokens.specs.Token.{Token}
+use Rattle.ag_tokens.specs.Token as token
+use Rattle.ag_tokens.specs.Ending.{Ending, offset_of}
+use Rattle.ag_tokens.specs.Ending as ending
+use Rattle.ag_tokens.specs.Placed.{Placed, Input}
+use Rattle.ag_grammar.specs.declared.limits.TheConstants.{MOST_PLACE}
+
+-- space, tab, CR and LF separate tokens
+abbrev pub is_separator : ℕ → Bool
+is_separator c = c == 32 || c == 9 || c == 13 || c == 10
+
+-- a name starts with an XID_Start character or `_`
+abbrev pub starts_name : ℕ → Bool
+starts_name c = is_xid_start c || c == 95
+
+-- what may stand between the quotes of a TEXT: any character but a double quote and LF, and there are no escapes
+abbrev pub is_quotable : ℕ → Bool
+is_quotable c = not (c == 34 || c == 10)
+
+-- one ASCII digit or more
+abbrev pub IsDigits : List ℕ → Type 0
+IsDigits word = (0 < length word) × (list_all is_ascii_digit word ≡ true)
+
+-- a start character, and XID_Continue characters behind it
+abbrev pub IsName : List ℕ → Type 0
+IsName [] = ⊥
+IsName (c ∷ cs) = (starts_name c ≡ true) × (list_all is_xid_continue cs ≡ true)
+
+-- what stands behind a backslash in a text literal, and the character that it stands for: `"`, `\`, `n`, `t` and `r`
+abbrev pub escaped : ℕ → Option ℕ
+escaped c = cond (c == 34) (Some 34) (cond (c == 92) (Some 92) (cond (c == 110) (Some 10) (cond (c == 116) (Some 9) (cond (c == 114) (Some 13) None))))
+
+-- what stands between the quotes of a text literal, and the bytes of the text that it stands for: a quote or a backslash only as an escape,
+-- and any other character for itself
+pub data IsBody : List ℕ → List ℕ → Type 0 where
+  empty : IsBody [] []
+  plain : (c : ℕ) (body bytes : List ℕ) → c ≢ 34 → c ≢ 92 → IsBody body bytes → IsBody (c ∷ body) (encode_utf8 c ++ bytes)
+  escape : (c d : ℕ) (body bytes : List ℕ) → escaped c ≡ Some d → IsBody body bytes → IsBody (92 ∷ c ∷ body) (encode_utf8 d ++ bytes)
+
+-- how punctuation is written
+abbrev pub punctuation_text : Punctuation → List ℕ
+punctuation_text punctuation.Plus = 43 ∷ []
+punctuation_text punctuation.Minus = 45 ∷ []
+punctuation_text punctuation.Times = 42 ∷ []
+punctuation_text punctuation.Join = 43 ∷ 43 ∷ []
+punctuation_text punctuation.EqualEqual = 61 ∷ 61 ∷ []
+punctuation_text punctuation.Less = 60 ∷ []
+punctuation_text punctuation.Equal = 61 ∷ []
+punctuation_text punctuation.Open = 40 ∷ []
+punctuation_text punctuation.Close = 41 ∷ []
+punctuation_text punctuation.OpenList = 91 ∷ []
+punctuation_text punctuation.CloseList = 93 ∷ []
+punctuation_text punctuation.OpenTable = 123 ∷ []
+punctuation_text punctuation.CloseTable = 125 ∷ []
+punctuation_text punctuation.Comma = 44 ∷ []
+punctuation_text punctuation.Semicolon = 59 ∷ []
+
+-- The word is this token. Numbers and places may be of any size here.
+abbrev pub IsToken : List ℕ → Token → Type 0
+IsToken word (token.Number n) = IsDigits word × (n ≡ pos (digits_value 10 word))
+IsToken word (token.Text bytes) = (body : List ℕ) × (word ≡ 34 ∷ (body ++ 34 ∷ [])) × IsBody body bytes
+IsToken word (token.Name bytes) = IsName word × (bytes ≡ encode_utf8_all word)
+IsToken word (token.Occurrence place attr) =
+    (digits : List ℕ) × (name : List ℕ) × (word ≡ 36 ∷ (digits ++ 46 ∷ name)) × IsDigits digits × IsName name × (place ≡ digits_value 10 digits) × (attr ≡ encode_utf8_all name)
+IsToken word (token.Punctuation s) = word ≡ punctuation_text s
+
+-- No longer beginning of the characters than the word is a token.
+abbrev pub IsLongest : List ℕ → List ℕ → Type 0
+IsLongest word rest = (longer more : List ℕ) (t : Token) → word ++ rest ≡ longer ++ more → IsToken longer t → length longer ≤ length word
+
+-- no beginning of the characters is a token
+abbrev pub BeginsNoToken : List ℕ → Type 0
+BeginsNoToken cs = (word more : List ℕ) (t : Token) → cs ≡ word ++ more → IsToken word t → ⊥
+
+-- how many bytes characters take
+abbrev pub width : List ℕ → ℕ
+width [] = 0
+width (c ∷ cs) = len_utf8 c + width cs
+
+-- From the byte offset `at` on, the characters are separators and the longest tokens `placed`, each at its offset, up to the offset `end`,
+-- from which on `rest` stands.
+pub data AreTokens : ℕ → List ℕ → List Placed → ℕ → List ℕ → Type 0 where
+  ended : (at : ℕ) (cs : List ℕ) → AreTokens at cs [] at cs
+  separator : (at c : ℕ) (cs : List ℕ) (placed : List Placed) (end : ℕ) (rest : List ℕ) → is_separator c ≡ true → AreTokens (at + 1) cs placed end rest → AreTokens at (c ∷ cs) placed end rest
+  word : (at : ℕ) (all word cs : List ℕ) (t : Token) (placed : List Placed) (end : ℕ) (rest : List ℕ) → all ≡ word ++ cs → IsToken word t → IsLongest word cs → AreTokens (at + width word) cs placed end rest
+      → AreTokens at all (record { at = at; token = t } ∷ placed) end rest
+
+-- A number literal is at most the greatest value of 64 bits with a sign, and a place at most the greatest of 16 bits.
+abbrev pub is_within : Token → Bool
+is_within (token.Number n) = int_le n (pos 9223372036854775807)
+is_within (token.Occurrence place attr) = nat_le place MOST_PLACE
+is_within _ = true
+
+-- From the byte offset `from` on, where the characters `cs` stand, whole tokens and separators stand up to the offset `at`,
+-- and `rest` stands there.
+pub record Reaches (from : ℕ) (cs : List ℕ) (at : ℕ) (rest : List ℕ) : Type 0 where
+  pub placed : List Placed
+  pub before : AreTokens from cs placed at rest
+
+-- At the offset `at`, which whole tokens and separators reach, stands a character that is no separator and begins no token.
+pub record NoTokenAt (from : ℕ) (cs : List ℕ) (at : ℕ) : Type 0 where
+  pub first : ℕ
+  pub rest : List ℕ
+  pub reaches : Reaches from cs at (first ∷ rest)
+  pub no_separator : is_separator first ≡ false
+  pub no_token : BeginsNoToken (first ∷ rest)
+
+-- At the offset `at`, which whole tokens and separators reach, stands a token, the longest there, of whatever number.
+pub record AnyTokenAt (from : ℕ) (cs : List ℕ) (at : ℕ) : Type 0 where
+  pub word : List ℕ
+  pub token : Token
+  pub rest : List ℕ
+  pub reaches : Reaches from cs at (word ++ rest)
+  pub is : IsToken word token
+  pub longest : IsLongest word rest
+
+-- There stands a token whose number is above its limit,
+abbrev pub TooLargeAt : ℕ → List ℕ → ℕ → Type 0
+TooLargeAt from cs at = (there : AnyTokenAt from cs at) × (is_within there.token ≡ false)
+
+-- or one whose number, if it has one, is within it;
+abbrev pub TokenAt : ℕ → List ℕ → ℕ → Type 0
+TokenAt from cs at = (there : AnyTokenAt from cs at) × (is_within there.token ≡ true)
+
+-- or the characters end there.
+abbrev pub EndsAt : ℕ → List ℕ → ℕ → Type 0
+EndsAt from cs at = Reaches from cs at []
+
+-- Each of the tokens has its number within the limit.
+abbrev pub all_within : List Placed → Bool
+all_within [] = true
+all_within (p ∷ ps) = is_within p.token && all_within ps
+
+-- a character that is no separator stands in front, and no token begins with it
+abbrev pub HasNoToken : List ℕ → Type 0
+HasNoToken [] = ⊥
+HasNoToken (c ∷ cs) = (is_separator c ≡ false) × BeginsNoToken (c ∷ cs)
+
+-- a token stands in front, the longest there, with a number above its limit
+pub record HasTooLarge (cs : List ℕ) : Type 0 where
+  pub word : List ℕ
+  pub token : Token
+  pub behind : List ℕ
+  pub split : cs ≡ word ++ behind
+  pub is : IsToken word token
+  pub longest : IsLongest word behind
+  pub large : is_within token ≡ false
+
+-- what stands where the tokens of a text end
+abbrev pub Stops : Ending → List ℕ → Type 0
+Stops (ending.EndsAt at) rest = rest ≡ []
+Stops (ending.NoTokenAt at) rest = HasNoToken rest
+Stops (ending.TooLargeAt at) rest = HasTooLarge rest
+
+-- From the byte offset `from` on, the characters are these tokens, each with its number within the limit, and this ending.
+pub record Lexes (from : ℕ) (cs : List ℕ) (i : Input) : Type 0 where
+  pub rest : List ℕ
+  pub before : AreTokens from cs i.left (offset_of i.ending) rest
+  pub within : all_within i.left ≡ true
+  pub stops : Stops i.ending rest

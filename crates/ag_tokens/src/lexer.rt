@@ -1,0 +1,337 @@
+//! Cutting the token at the front of a text.
+
+ghost use Rattle.std.specs.Prelude.{◌≡◌, ◌++◌, ◌∷◌, [], None, pos, false, length, chars, is_some};
+ghost use Rattle.std.specs.Prelude.{option_map};
+ghost use Rattle.std.specs.Prelude.{IfOk, IfSome, MatchOption, encode_utf8, encode_utf8_all};
+ghost use Rattle.std.specs.Str.Parse.{digits_value};
+ghost use Rattle.ag_tokens.specs.Left.{unspaced};
+ghost use Rattle.ag_tokens.specs.Lexing as lexing;
+ghost use Rattle.ag_tokens.specs.Lexing.{GivesToken, IsPast, back_of, front_in};
+ghost use Rattle.ag_tokens.specs.Token as token;
+ghost use Rattle.ag_tokens.specs.Tokens as tokens_spec;
+ghost use Rattle.ag_tokens.specs.Tokens.{IsDigits};
+
+use crate::fault::TokenFault;
+use crate::token::{Punctuation, Token};
+use ag_value::{NoMemory, Text};
+use std::alloc::Global;
+
+/// A class of characters.
+#[derive(Clone, Copy, Debug, PartialEq, Eq)]
+pub enum Class {
+    /// Space, tab, CR and LF.
+    Separator,
+    /// `0` to `9`.
+    Digit,
+    /// What a name goes on with.
+    NamePart,
+    /// All but a quote and LF: what stands between the quotes of a TEXT in a sentence.
+    Quotable,
+}
+
+/// Whether a character is of a class.
+fn is_in(class: Class, c: char) -> bool
+    ensures { result ≡ lexing.is_in class c }
+{
+    match class {
+        Class::Separator => c == ' ' || c == '\t' || c == '\r' || c == '\n',
+        Class::Digit => c.is_ascii_digit(),
+        Class::NamePart => unicode_ident::is_xid_continue(c),
+        Class::Quotable => c != '"' && c != '\n',
+    }
+}
+
+/// Whether a name starts with the character.
+pub fn starts_name(c: char) -> bool
+    ensures { result ≡ tokens_spec.starts_name c }
+{
+    unicode_ident::is_xid_start(c) || c == '_'
+}
+
+/// The first character, and what stands behind it. Takes no memory.
+pub fn first(text: &str) -> Option<(char, &str)>
+    ensures { MatchOption result (chars text.now ≡ []) (λ x. lexing.IsSplit text.now x.0 x.1.now) }
+{
+    let mut characters = text.chars();
+    match characters.next() {
+        Some(c) => Some((c, characters.as_str())),
+        None => None,
+    }
+}
+
+/// What stands behind the first character, where that is of a class.
+fn behind_one(class: Class, text: &str) -> Option<&str>
+    ensures { lexing.PassesOne class text.now result }
+{
+    match first(text) {
+        Some((c, rest)) if is_in(class, c) => Some(rest),
+        _ => None,
+    }
+}
+
+/// The longest front whose characters are of a class, and what stands behind it. Takes no
+/// memory.
+pub fn split_behind(class: Class, text: &str) -> (&str, &str)
+    ensures front { result.0.now ≡ encode_utf8_all (front_in class (chars text.now)) }
+    ensures back { chars result.1.now ≡ back_of class (chars text.now) }
+{
+    let mut rest = text;
+    while let Some(after) = behind_one(class, rest) {
+        rest = after;
+    }
+    text.split_at(text.len() - rest.len())
+}
+
+/// What stands behind the separators in front.
+pub fn skip_separators(text: &str) -> &str
+    ensures { chars result.now ≡ unspaced (chars text.now) }
+{
+    split_behind(Class::Separator, text).1
+}
+
+/// The digits in front, where there are some, and what stands behind them.
+fn digits_in_front(text: &str) -> Option<(&str, &str)>
+    ensures value { lexing.GivesDigits result (lexing.digits_from (chars text.now)) }
+    ensures digits { IfSome result (λ x. IsDigits x.0.now) }
+{
+    let (digits, rest) = split_behind(Class::Digit, text);
+    if digits.is_empty() {
+        return None;
+    }
+    Some((digits, rest))
+}
+
+/// The name in front, where one begins, and what stands behind it.
+fn name_in_front(text: &str) -> Option<(&str, &str)>
+    ensures { lexing.GivesName result (lexing.name_from (chars text.now)) }
+{
+    match first(text) {
+        Some((c, _)) if starts_name(c) => Some(split_behind(Class::NamePart, text)),
+        _ => None,
+    }
+}
+
+/// The punctuation that is one character.
+#[tactic(auto, using(crate::proofs::TokenLaws::no_start))]
+fn single_punctuation(c: char) -> Option<Punctuation>
+    ensures value { result ≡ lexing.single_punctuation c }
+    ensures unnamed { IfSome result (λ _. tokens_spec.starts_name c ≡ false) }
+{
+    match c {
+        '-' => Some(Punctuation::Minus),
+        '*' => Some(Punctuation::Times),
+        '<' => Some(Punctuation::Less),
+        '(' => Some(Punctuation::Open),
+        ')' => Some(Punctuation::Close),
+        '[' => Some(Punctuation::OpenList),
+        ']' => Some(Punctuation::CloseList),
+        '{' => Some(Punctuation::OpenTable),
+        '}' => Some(Punctuation::CloseTable),
+        ',' => Some(Punctuation::Comma),
+        ';' => Some(Punctuation::Semicolon),
+        _ => None,
+    }
+}
+
+/// One mark where its character stands twice, and another where it stands once, as it does before
+/// the text.
+fn doubled(twice: char, two: Punctuation, one: Punctuation, text: &str) -> (Punctuation, &str)
+    ensures { (result.0, chars result.1.now) ≡ lexing.doubled twice two one (chars text.now) }
+{
+    match first(text) {
+        Some((c, rest)) if c == twice => (two, rest),
+        _ => (one, text),
+    }
+}
+
+/// The punctuation in front, where no name begins, and what stands behind it.
+#[tactic(auto, using(crate::proofs::TokenLaws::no_start))]
+fn punctuation_in_front(text: &str) -> Option<(Punctuation, &str)>
+    ensures value { option_map (λ x. (x.0, chars x.1.now)) result
+        ≡ lexing.punctuation_from (chars text.now) }
+    ensures unnamed { IfSome result (λ _. lexing.name_from (chars text.now) ≡ None) }
+{
+    match first(text)? {
+        ('+', rest) => Some(doubled('+', Punctuation::Join, Punctuation::Plus, rest)),
+        ('=', rest) => Some(doubled('=', Punctuation::EqualEqual, Punctuation::Equal, rest)),
+        (c, rest) => Some((single_punctuation(c)?, rest)),
+    }
+}
+
+/// The character that a backslash and this one stand for.
+fn escape(c: char) -> Option<char>
+    ensures { result ≡ tokens_spec.escaped c }
+{
+    match c {
+        '"' => Some('"'),
+        '\\' => Some('\\'),
+        'n' => Some('\n'),
+        't' => Some('\t'),
+        'r' => Some('\r'),
+        _ => None,
+    }
+}
+
+/// Whether a backslash and the character are an escape.
+fn is_escape(c: char) -> bool
+    ensures { result ≡ is_some (tokens_spec.escaped c) }
+{
+    escape(c).is_some()
+}
+
+/// What stands behind an escape whose backslash stood before.
+fn past_escape(text: &str) -> Option<&str>
+    ensures { lexing.PassesEscape text.now result }
+{
+    match first(text) {
+        Some((c, rest)) if is_escape(c) => Some(rest),
+        _ => None,
+    }
+}
+
+/// What stands behind one character of a text literal: None at a quote, at an escape that is none,
+/// and at the end.
+#[tactic(auto, using(crate::proofs::TextTurns::past))]
+fn past_character(text: &str) -> Option<&str>
+    ensures { MatchOption result (lexing.character_from (chars text.now) ≡ None)
+        (λ rest. IsPast text.now rest.now) }
+{
+    match first(text)? {
+        ('"', _) => None,
+        ('\\', rest) => past_escape(rest),
+        (_, rest) => Some(rest),
+    }
+}
+
+/// What stands behind a closing quote.
+fn unquoted(text: &str) -> Option<&str>
+    ensures { option_map (λ x. chars x.now) result ≡ lexing.unquoted (chars text.now) }
+{
+    match first(text) {
+        Some(('"', rest)) => Some(rest),
+        _ => None,
+    }
+}
+
+/// What stands behind a dot.
+fn undotted(text: &str) -> Option<&str>
+    ensures { option_map (λ x. chars x.now) result ≡ lexing.undotted (chars text.now) }
+{
+    match first(text) {
+        Some(('.', rest)) => Some(rest),
+        _ => None,
+    }
+}
+
+/// The character that stands in front between the quotes of a text literal, an escape for what it
+/// stands for, and what stands behind it.
+fn character(text: &str) -> Option<(char, &str)>
+    ensures { option_map (λ x. (x.0, chars x.1.now)) result
+        ≡ lexing.piece_from (chars text.now) }
+{
+    match first(text)? {
+        ('\\', rest) => {
+            let (c, rest) = first(rest)?;
+            Some((escape(c)?, rest))
+        }
+        (c, rest) => Some((c, rest)),
+    }
+}
+
+/// The text that a text literal stands for, from what stands between its quotes. Takes memory.
+#[tactic(auto, using(crate::proofs::TextTurns::piece_some, crate::proofs::TextTurns::piece_none,))]
+pub fn unescaped(alloc: Global, body: &str) -> Result<Text, NoMemory>
+    ensures { IfOk result (λ text. text ≡ lexing.unescaped (chars body.now)) }
+{
+    let mut text = String::new(alloc);
+    let mut rest = body;
+    while let Some((c, behind)) = character(rest) {
+        text.push(c)?;
+        rest = behind;
+    }
+    Ok(Text::from_string(text))
+}
+
+/// The text literal whose first quote stood before the text.
+fn text_literal(text: &str) -> Result<(Token<'_>, &str), TokenFault>
+    ensures { GivesToken result (lexing.text_from (length (chars text.now)) [] (chars text.now)) }
+{
+    let mut rest = text;
+    while let Some(after) = past_character(rest) {
+        rest = after;
+    }
+    match unquoted(rest) {
+        Some(behind) => {
+            let (body, _) = text.split_at(text.len() - rest.len());
+            Ok((Token::Text(body), behind))
+        }
+        None => Err(TokenFault::Nothing),
+    }
+}
+
+/// The number literal of these digits, in front of `rest`.
+fn number_literal<'t>(digits: &str, rest: &'t str) -> Result<(Token<'t>, &'t str), TokenFault>
+    requires { IsDigits digits.now }
+    ensures { GivesToken result
+        (Some (token.Number (pos (digits_value 10 digits.now)), chars rest.now)) }
+{
+    match digits.parse::<i64>() {
+        Ok(number) => Ok((Token::Number(number), rest)),
+        Err(_) => Err(TokenFault::TooLarge),
+    }
+}
+
+/// The occurrence of these digits and this name, in front of `rest`.
+fn occurrence_of<'t>(
+    digits: &str,
+    attr: &'t str,
+    rest: &'t str,
+) -> Result<(Token<'t>, &'t str), TokenFault>
+    requires { IsDigits digits.now }
+    ensures { GivesToken result
+        (Some (token.Occurrence (digits_value 10 digits.now) attr.now, chars rest.now)) }
+{
+    match digits.parse::<u16>() {
+        Ok(place) => Ok((Token::Occurrence(place, attr), rest)),
+        Err(_) => Err(TokenFault::TooLarge),
+    }
+}
+
+/// The occurrence whose `$` stood before the text.
+fn occurrence(text: &str) -> Result<(Token<'_>, &str), TokenFault>
+    ensures { GivesToken result (lexing.occurrence_from (chars text.now)) }
+{
+    let (digits, rest) = digits_in_front(text).ok_or(TokenFault::Nothing)?;
+    let rest = undotted(rest).ok_or(TokenFault::Nothing)?;
+    let (attr, rest) = name_in_front(rest).ok_or(TokenFault::Nothing)?;
+    occurrence_of(digits, attr, rest)
+}
+
+/// The number, name or punctuation in front.
+fn plain_token(text: &str) -> Result<(Token<'_>, &str), TokenFault>
+    ensures { GivesToken result (lexing.plain_from (chars text.now)) }
+{
+    if let Some((digits, rest)) = digits_in_front(text) {
+        return number_literal(digits, rest);
+    }
+    if let Some((mark, rest)) = punctuation_in_front(text) {
+        return Ok((Token::Punctuation(mark), rest));
+    }
+    match name_in_front(text) {
+        Some((name, rest)) => Ok((Token::Name(name), rest)),
+        None => Err(TokenFault::Nothing),
+    }
+}
+
+/// The token in front, and what stands behind it. Takes no memory.
+#[tactic(auto, unfolding(crate::specs::Lexing::token_from))]
+pub fn token_in_front(text: &str) -> Result<(Token<'_>, &str), TokenFault>
+    ensures { GivesToken result (lexing.token_from (chars text.now)) }
+{
+    match first(text) {
+        Some(('"', rest)) => text_literal(rest),
+        Some(('$', rest)) => occurrence(rest),
+        Some(_) => plain_token(text),
+        None => Err(TokenFault::Nothing),
+    }
+}
