@@ -50,7 +50,7 @@ IsReason text (expr.Unexpected at) = (ReadsAsNone text × IsAt text (expr.Unexpe
 IsReason text expr.NoMemory = ⊥
 IsReason text e = ReadsAsNone text × IsAt text e
 
--- the tree file of version 1 and pass 0 whose one record is a token of number 0 with this value
+-- the tree file of version 2 and pass 0 whose one record is a token of number 0 with this value
 abbrev pub file_of : Value → List ℕ
 file_of is = file version_two 0 (body_of Token 0 (is ∷ []) ∷ [])
 
