@@ -13,7 +13,7 @@ use Rattle.ag_tokens.proofs.TokenLaws.{no_start}
 use Rattle.ag_scan.specs.Cutting.{CutsLiteral, CutsToken, class_from}
 use Rattle.ag_scan.specs.Tokens.{AreTokens, ended, separator, word}
 use Rattle.ag_scan.specs.Words.{Vocabulary, over, IsLiteral, IsLongest, BeginsNone}
-use Rattle.ag_scan.specs.declared.token.Token.{Token}
+use Rattle.ag_scan.specs.Tokens.{Token}
 use Rattle.ag_scan.specs.Worked.{LongestWins, UnusedIsNone}
 use Rattle.ag_scan.proofs.Choosing.{no_longer, class_wins, literal_wins, literal_alone, no_word}
 use Rattle.ag_scan.proofs.ClassWords.{class_cut, class_none}

@@ -2,9 +2,11 @@ pub mod Answered
 pub mod Beginnings
 pub mod Choosing
 pub mod ClassWords
+pub mod Cut
 pub mod Examples
-pub mod Fitting
 pub mod Listing
+pub mod Handing
+pub mod Lefts
 pub mod LiteralWords
 pub mod OneAnswer
 pub mod Orders

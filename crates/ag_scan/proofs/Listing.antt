@@ -15,7 +15,7 @@ use Rattle.ag_scan.specs.Cutting.{Front, CutsToken}
 use Rattle.ag_scan.specs.Tokens.{most_sentence_bytes, AreTokens, ended, separator, word, Reaches, AreTokensOf, IsRefused, IsStopped, IsTokenOf, FitAll, TakesToken, NoTokenAt}
 use Rattle.ag_scan.specs.declared.fault.ScanFault.{ScanFault}
 use Rattle.ag_scan.specs.declared.fault.ScanFault.TheVariants as fault
-use Rattle.ag_scan.specs.declared.token.Token.{Token}
+use Rattle.ag_scan.specs.Tokens.{Token}
 use Rattle.ag_scan.proofs.Tables.{pushed}
 
 -- ---- one token
@@ -105,7 +105,7 @@ starts v text rest utf8 utf8' is =
     }
 
 -- each character takes a byte at least
-length_width : (cs : List ℕ) → length cs ≤ width cs
+pub length_width : (cs : List ℕ) → length cs ≤ width cs
 length_width [] = omega arith
 length_width (c ∷ cs) = let some = (len_utf8_bounds c).0 in let more = length_width cs in omega arith
 

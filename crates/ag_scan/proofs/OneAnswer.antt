@@ -8,7 +8,6 @@ use Rattle.std.specs.List.{list_all}
 use Rattle.std.specs.Str.{is_utf8}
 use Rattle.std.specs.Str.Lossy.{utf8_valid_len}
 use Rattle.std.specs.Char.{is_ascii_digit, is_ascii_alphabetic}
-use Rattle.ag_grammar.specs.Lists.{Each, Differ}
 use Rattle.ag_grammar.specs.declared.grammar.Terminal.{Terminal}
 use Rattle.ag_grammar.specs.declared.grammar.Terminal.TheVariants.{Literal, Class}
 use Rattle.ag_grammar.specs.grammars.Accepted.{IsAccepted, IsSeparator}
@@ -18,20 +17,14 @@ use Rattle.ag_tokens.specs.Tokens.{is_separator, starts_name, width}
 use Rattle.ag_tokens.proofs.TokenLaws.{no_start}
 use Rattle.ag_scan.specs.Laws.{IsAnswer, AtMostOneAnswer}
 use Rattle.ag_scan.specs.Tokens.{most_sentence_bytes, AreTokens, ended, separator, word, AreShort, Reaches, IsReadable, HasLongToken}
-use Rattle.ag_scan.specs.Words.{Vocabulary, vocabulary_of, HasNoEmpty, IsWordOfClass, IsWord, IsAnyWord, BeginsNone, LiteralWins, IsToken}
+use Rattle.ag_scan.specs.Words.{Vocabulary, vocabulary_of, IsClean, IsWordOfClass, IsWord, IsAnyWord, BeginsNone, LiteralWins, IsToken}
 use Rattle.ag_scan.specs.declared.fault.ScanFault.{ScanFault}
 use Rattle.ag_scan.specs.declared.fault.ScanFault.TheVariants as fault
-use Rattle.ag_scan.specs.declared.token.Token.{Token}
+use Rattle.ag_scan.specs.Tokens.{Token}
 use Rattle.ag_scan.proofs.ClassWords.{digit_no_name}
 use Rattle.ag_scan.proofs.Listing.{word_some}
 
--- The literals are no two the same, none is empty, and none has a separator.
-pub record IsClean (v : Vocabulary) : Type 0 where
-  pub some : HasNoEmpty v.literals
-  pub plain : Each (Each (λ b. IsSeparator b → ⊥)) v.literals
-  pub differ : Differ v.literals
-
-accepted_clean : (g : Grammar) → IsAccepted g → IsClean (vocabulary_of g)
+pub accepted_clean : (g : Grammar) → IsAccepted g → IsClean (vocabulary_of g)
 accepted_clean g is = record { some = λ i x e. (is.limits.literal_bytes i x e).0; plain = is.named.without_separators; differ = is.named.literals_differ }
 
 -- ---- no word begins with a separator
@@ -124,7 +117,7 @@ one_class (suc (suc zero)) (suc (suc (suc d))) cs lex lex' a b = absurd b
 one_class (suc (suc (suc c))) d cs lex lex' a b = absurd a
 
 -- Tokens and what stands behind them are the same.
-record SameToken (t u : Terminal) (lex lex' w w' cs cs' : List ℕ) : Type 0 where
+pub record SameToken (t u : Terminal) (lex lex' w w' cs cs' : List ℕ) : Type 0 where
   pub kinds : t ≡ u
   pub texts : lex ≡ lex'
   pub words : w ≡ w'
@@ -136,7 +129,7 @@ one_kind v clean (Literal l) (Class d) cs lex lex' a wins b wins' = absurd (wins
 one_kind v clean (Class c) (Literal m) cs lex lex' a wins b wins' = absurd (wins (m, b.0))
 one_kind v clean (Class c) (Class d) cs lex lex' a wins b wins' = let one = one_class c d cs lex lex' a.1 b.1 in (ap Class one.0, one.1)
 
-one_token : (v : Vocabulary) → IsClean v → (t u : Terminal) (lex lex' w w' cs cs' : List ℕ) → IsToken v t lex w cs → IsToken v u lex' w' cs' → w ++ cs ≡ w' ++ cs' → SameToken t u lex lex' w w' cs cs'
+pub one_token : (v : Vocabulary) → IsClean v → (t u : Terminal) (lex lex' w w' cs cs' : List ℕ) → IsToken v t lex w cs → IsToken v u lex' w' cs' → w ++ cs ≡ w' ++ cs' → SameToken t u lex lex' w w' cs cs'
 one_token v clean t u lex lex' w w' cs cs' a b e =
     let less = a.longest w' cs' e (u, lex', b.is) in
     let more = b.longest w cs (sym e) (t, lex, a.is) in
@@ -166,7 +159,7 @@ no_word_end v clean cs (too_long long) t lex w rest split is short =
     bad
 
 -- no word stands where a separator does
-no_word_there : (v : Vocabulary) → IsClean v → (c : ℕ) (cs : List ℕ) → is_separator c ≡ true → (t : Terminal) (lex w rest : List ℕ) → c ∷ cs ≡ w ++ rest → IsToken v t lex w rest → ⊥
+pub no_word_there : (v : Vocabulary) → IsClean v → (c : ℕ) (cs : List ℕ) → is_separator c ≡ true → (t : Terminal) (lex w rest : List ℕ) → c ∷ cs ≡ w ++ rest → IsToken v t lex w rest → ⊥
 no_word_there v clean c cs h t lex [] rest split is = let some = word_some v t [] lex clean.some is.is in let bad : ⊥ = omega arith in bad
 no_word_there v clean c cs h t lex (d ∷ w) rest split is = let same : c ≡ d = cc in plain_front v clean t d w lex is.is (sym (ap is_separator same) ∙ h)
 
@@ -183,7 +176,7 @@ not_long v clean cs e long =
     bad
 
 -- Lists of tokens, where they end and what stands there are the same.
-record SameTokens (ts us : List Token) (end end' : ℕ) (rest rest' : List ℕ) : Type 0 where
+pub record SameTokens (ts us : List Token) (end end' : ℕ) (rest rest' : List ℕ) : Type 0 where
   pub tokens : ts ≡ us
   pub ends : end ≡ end'
   pub rests : rest ≡ rest'

@@ -1,12 +1,15 @@
--- Cutting the word of a class from the front of characters: the plain function, which agrees with the definition of words.
-use Rattle.std.specs.Prelude.{◌≡◌, ℕ, Bool, cond, ◌==◌, List, [], ◌∷◌, ◌++◌, take, drop, Option, Some, None, slice_get, chars, encode_utf8_all}
+-- Cutting words from the front of characters, and all tokens of a text: the plain functions, which agree with the definitions.
+use Rattle.std.specs.Prelude.{◌≡◌, ℕ, zero, suc, ◌+◌, ◌-◌, Bool, cond, nat_eq, nat_lt, ◌==◌, List, [], ◌∷◌, ◌++◌, length, take, drop, Option, Some, None, slice_get, chars, encode_utf8_all}
+use Rattle.std.specs.Cmp.Lexicographic.{pointwise}
 use Rattle.std.specs.Char.{is_ascii_digit}
 use Rattle.std.specs.List.{prefix_len, list_any}
 use Rattle.unicode_ident.specs.Ident.{is_xid_continue}
 use Rattle.ag_grammar.specs.declared.grammar.Terminal.{Terminal}
 use Rattle.ag_grammar.specs.declared.grammar.Terminal.TheVariants.{Literal, Class}
-use Rattle.ag_tokens.specs.Tokens.{is_quotable, starts_name}
+use Rattle.ag_tokens.specs.Left.{unspaced}
+use Rattle.ag_tokens.specs.Tokens.{is_quotable, is_separator, starts_name, width}
 use Rattle.ag_scan.specs.declared.front.Front as lent
+use Rattle.ag_scan.specs.Tokens.{Token}
 use Rattle.ag_scan.specs.Words.{Vocabulary, IsLiteral, IsLongest, IsToken}
 
 -- A word that is cut: its terminal, the text that it has, and what stands behind it.
@@ -65,3 +68,38 @@ pub record CutsToken (v : Vocabulary) (cs : List ℕ) (f : Front) : Type 0 where
   pub word : List ℕ
   pub split : cs ≡ word ++ f.rest
   pub token : IsToken v f.kind f.lex word f.rest
+
+-- the number of the first literal with a text, where they are numbered from n on
+abbrev pub number_from : ℕ → List (List ℕ) → List ℕ → Option ℕ
+number_from n [] text = None
+number_from n (x ∷ xs) text = cond (pointwise nat_eq x text) (Some n) (number_from (n + 1) xs text)
+
+-- the word of the literal that the first n characters are, and else another
+abbrev pub literal_or : List (List ℕ) → List ℕ → ℕ → Option Front → Option Front
+literal_or literals cs n other =
+    elim (number_from 0 literals (encode_utf8_all (take n cs))) [ Some l ↦ Some (record { kind = Literal l; lex = encode_utf8_all (take n cs); rest = drop n cs }) | None ↦ other ]
+
+-- the longest literal in front, of at most n characters
+abbrev pub literal_within : List (List ℕ) → List ℕ → ℕ → Option Front
+literal_within literals cs zero = literal_or literals cs zero None
+literal_within literals cs (suc n) = literal_or literals cs (suc n) (literal_within literals cs n)
+
+-- of the words in front the longer one, the literal where they are as long
+abbrev pub longer_of : Option Front → Option Front → Option Front
+longer_of None class = class
+longer_of (Some f) None = Some f
+longer_of (Some f) (Some g) = cond (nat_lt (width g.rest) (width f.rest)) (Some g) (Some f)
+
+-- the longest word in front
+abbrev pub word_from : Vocabulary → List ℕ → Option Front
+word_from v cs = longer_of (literal_within v.literals cs (length cs)) (class_from v.classes cs)
+
+-- the first n tokens from the offset `at` on, or fewer where there are no more
+abbrev pub tokens_from : Vocabulary → ℕ → ℕ → List ℕ → List Token
+tokens_from v zero at cs = []
+tokens_from v (suc n) at cs =
+    elim (word_from v (unspaced cs)) [ Some f ↦ record { kind = f.kind; lex = f.lex; at = at + prefix_len is_separator cs } ∷ tokens_from v n (at + (width cs - width f.rest)) f.rest | None ↦ [] ]
+
+-- the tokens of a text
+abbrev pub tokens_in : Vocabulary → List ℕ → List Token
+tokens_in v text = tokens_from v (length text) 0 (chars text)

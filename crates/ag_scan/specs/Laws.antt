@@ -6,7 +6,7 @@ use Rattle.ag_scan.specs.Tokens.{AreTokensOf, IsRefused}
 use Rattle.ag_scan.specs.Words.{Vocabulary, vocabulary_of}
 use Rattle.ag_scan.specs.declared.fault.ScanFault.{ScanFault}
 use Rattle.ag_scan.specs.declared.fault.ScanFault.TheVariants as fault
-use Rattle.ag_scan.specs.declared.token.Token.{Token}
+use Rattle.ag_scan.specs.Tokens.{Token}
 
 -- An answer to a sentence: its tokens, or why it has none. Want of memory is none.
 abbrev pub IsAnswer : Vocabulary → List ℕ → Result (List Token) ScanFault → Type 0

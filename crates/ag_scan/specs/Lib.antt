@@ -1,4 +1,5 @@
 pub mod Cutting
+pub mod Handed
 pub mod Laws
 pub mod Printed
 pub mod Table

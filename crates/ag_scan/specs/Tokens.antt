@@ -10,7 +10,12 @@ use Rattle.ag_tokens.specs.Tokens.{is_separator, width}
 use Rattle.ag_scan.specs.Words.{Vocabulary, IsAnyWord, BeginsNone, IsToken}
 use Rattle.ag_scan.specs.declared.fault.ScanFault.{ScanFault}
 use Rattle.ag_scan.specs.declared.fault.ScanFault.TheVariants as fault
-use Rattle.ag_scan.specs.declared.token.Token.{Token}
+
+-- A token of a sentence: what it is a word of, the text that it has, and where its word begins, in bytes from the front.
+pub record Token : Type 0 where
+  pub kind : Terminal
+  pub lex : List ℕ
+  pub at : ℕ
 
 -- how many bytes a sentence has at most: as many as the text of a grammar
 abbrev pub most_sentence_bytes : ℕ

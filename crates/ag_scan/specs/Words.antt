@@ -1,9 +1,10 @@
 -- The words of a sentence: what is a word of a literal or of a class. All of this is this project's. A text stands here as the list of its characters.
 use Rattle.std.specs.Prelude.{◌≡◌, ℕ, zero, suc, ◌≤◌, true, List, [], ◌∷◌, ◌++◌, length, Some, slice_get, encode_utf8_all}
 use Rattle.std.specs.List.{list_all}
-use Rattle.ag_grammar.specs.Lists.{Each, Has}
+use Rattle.ag_grammar.specs.Lists.{Differ, Each, Has}
 use Rattle.ag_grammar.specs.declared.grammar.Terminal.{Terminal}
 use Rattle.ag_grammar.specs.declared.grammar.Terminal.TheVariants.{Literal, Class}
+use Rattle.ag_grammar.specs.grammars.Accepted.{IsSeparator}
 use Rattle.ag_grammar.specs.grammars.AttributeGrammar.{Grammar}
 use Rattle.ag_tokens.specs.Tokens.{is_quotable, IsDigits, IsName}
 
@@ -67,3 +68,9 @@ pub record IsToken (v : Vocabulary) (t : Terminal) (lex word rest : List ℕ) : 
   pub is : IsWord v t word lex
   pub longest : IsLongest (IsAnyWord v) word rest
   pub tie : LiteralWins v t word
+
+-- The literals are no two the same, none is empty, and none has a separator.
+pub record IsClean (v : Vocabulary) : Type 0 where
+  pub some : HasNoEmpty v.literals
+  pub plain : Each (Each (λ b. IsSeparator b → ⊥)) v.literals
+  pub differ : Differ v.literals

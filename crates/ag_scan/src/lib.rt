@@ -1,16 +1,19 @@
 //! The tokens of a sentence, by longest match over a grammar's literals and the classes it uses.
 #![tactic(auto)]
 
+mod cutting;
 mod display;
 mod fault;
 mod front;
 pub mod laws;
 mod literals;
-mod scanning;
+mod sentence;
 mod starts;
 mod token;
+mod tokens;
 
 pub use ag_grammar::Terminal;
 pub use fault::ScanFault;
-pub use scanning::{fits, scan};
+pub use sentence::{Sentence, scan};
 pub use token::Token;
+pub use tokens::Tokens;

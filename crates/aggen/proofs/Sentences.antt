@@ -5,11 +5,10 @@ use Rattle.ag_grammar.specs.grammars.Accepted.{IsAccepted}
 use Rattle.ag_grammar.specs.grammars.AttributeGrammar.{Grammar}
 use Rattle.ag_grammar.specs.grammars.Tree.{Tree, most_depth, most_nodes}
 use Rattle.ag_scan.specs.Laws.{IsAnswer}
-use Rattle.ag_scan.specs.Tokens.{AreTokensOf, IsRefused}
+use Rattle.ag_scan.specs.Tokens.{Token, AreTokensOf, IsRefused}
 use Rattle.ag_scan.specs.Words.{vocabulary_of}
 use Rattle.ag_scan.specs.declared.fault.ScanFault.{ScanFault}
 use Rattle.ag_scan.specs.declared.fault.ScanFault.TheVariants as scan
-use Rattle.ag_scan.specs.declared.token.Token.{Token}
 use Rattle.ag_scan.proofs.OneAnswer.{at_most_one}
 use Rattle.llparse.specs.Sentences.{IsTreeWith, IsUnexpectedAt, LeavesOnlyDeeper, LeavesOnlyLarger, words_of}
 use Rattle.llparse.specs.Tables.{Choices, FitsGrammar}

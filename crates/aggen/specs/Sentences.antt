@@ -3,11 +3,10 @@ use Rattle.std.specs.Prelude.{◌≢◌, ◌++◌, ℕ, List, codes, decimal}
 use Rattle.ag_grammar.specs.grammars.AttributeGrammar.{Grammar}
 use Rattle.ag_grammar.specs.grammars.Tree.{Tree, most_depth, most_nodes}
 use Rattle.ag_grammar.specs.grammars.Yield.{Lexeme}
-use Rattle.ag_scan.specs.Tokens.{AreTokensOf, IsRefused}
+use Rattle.ag_scan.specs.Tokens.{Token, AreTokensOf, IsRefused}
 use Rattle.ag_scan.specs.Words.{vocabulary_of}
 use Rattle.ag_scan.specs.declared.fault.ScanFault.{ScanFault}
 use Rattle.ag_scan.specs.declared.fault.ScanFault.TheVariants as scan
-use Rattle.ag_scan.specs.declared.token.Token.{Token}
 use Rattle.llparse.specs.Sentences.{IsTreeWith, IsUnexpectedAt, LeavesOnlyDeeper, LeavesOnlyLarger, words_of}
 use Rattle.llparse.specs.declared.parse_fault.ParseFault.{ParseFault}
 use Rattle.llparse.specs.declared.parse_fault.ParseFault.TheVariants as parse

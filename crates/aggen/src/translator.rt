@@ -159,7 +159,7 @@ impl Translator {
             self.alloc,
             &self.grammar,
             &self.tables,
-            tokens.as_slice(),
+            &tokens,
             device,
             &mut writer,
         )?;

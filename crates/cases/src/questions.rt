@@ -5,7 +5,7 @@ use crate::passes::{pass_told, run_by_told, run_bytes_told, run_told, through_to
 use crate::plans::{list_told, listing_told, passes_told, plan_told};
 use crate::raw_grammars::chain_told;
 use crate::roots::{root_bytes_told, root_told};
-use crate::sentences::{choice_told, fits_told, parse_told, scan_told, stand_told, table_told};
+use crate::sentences::{choice_told, parse_told, scan_told, stand_told, table_told};
 use crate::stuck::{assign_told, stuck_told};
 use rows::{Answers, Mistake, Written, bytes_of, number};
 use std::alloc::Global;
@@ -94,7 +94,6 @@ fn answer_of_sentences(
             let bytes = bytes_of(alloc, sentence)?;
             scan_told(alloc, &grammar(alloc, text)?, bytes.as_slice())
         }
-        "fits" => fits_told(alloc, &grammar(alloc, text)?, rest),
         "parse" => parse_told(alloc, &grammar(alloc, text)?, sentence),
         "stand" => stand_told(alloc, &grammar(alloc, text)?, sentence),
         _ => rows::answer(alloc, written, verb, rest),

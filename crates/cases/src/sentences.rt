@@ -6,8 +6,7 @@ ghost use Rattle.ag_scan.specs.Words.{vocabulary_of};
 ghost use Rattle.llparse.specs.Tables.{FitsGrammar};
 
 use ag_grammar::{Grammar, Terminal};
-use ag_scan::{Token, fits, scan};
-use ag_value::Text;
+use ag_scan::{Sentence, Token, scan};
 use llparse::{Ahead, ParseFault, Tables, expected_at, parse, tables};
 use rows::{Mistake, first_word, printed, short_number, shown_bytes};
 use std::alloc::{AllocError, Global};
@@ -61,31 +60,32 @@ pub fn choice_told(alloc: Global, grammar: &Grammar, spelled: &str) -> Result<St
 /// The tokens of a sentence, or its fault.
 pub fn scan_told(alloc: Global, grammar: &Grammar, sentence: &[u8]) -> Result<String, Mistake> {
     match scan(alloc, grammar, sentence) {
-        Ok(tokens) if fits(grammar, tokens.as_slice()) => Ok(shown(alloc, tokens.as_slice())?),
-        Ok(_) => Ok(String::from_str(alloc, "they do not fit")?),
+        Ok(sentence) => Ok(shown(alloc, &sentence)?),
         Err(fault) => printed(alloc, &fault),
     }
 }
 
 /// How many tokens there are, and each with its text and its offset.
-fn shown(alloc: Global, tokens: &[Token]) -> Result<String, AllocError> {
-    let mut told = format!(in alloc; "{} tokens", tokens.len())?;
-    for token in tokens {
+fn shown(alloc: Global, sentence: &Sentence<'_>) -> Result<String, AllocError> {
+    let mut told = String::new(alloc);
+    let mut tokens = sentence.tokens();
+    while let Some(token) = tokens.ahead() {
         show_token(&mut told, token)?;
+        tokens.advance();
     }
-    Ok(told)
+    format!(in alloc; "{} tokens{told}", tokens.taken())
 }
 
 /// The most bytes of a token's text that are printed.
 const PRINTED: usize = 40;
 
-fn show_token(told: &mut String, token: &Token) -> Result<(), AllocError> {
+fn show_token(told: &mut String, token: Token<'_>) -> Result<(), AllocError> {
     let (kind, number) = match token.kind {
         Terminal::Literal(number) => ("literal", number),
         Terminal::Class(number) => ("class", number),
     };
     write!(told, "; {kind} {number} ")?;
-    show_lex(told, token.lex.as_str())?;
+    show_lex(told, token.lex)?;
     write!(told, " at {}", token.at)
 }
 
@@ -96,22 +96,13 @@ fn show_lex(told: &mut String, lex: &str) -> Result<(), AllocError> {
     write!(told, "[{lex}]")
 }
 
-/// Whether a token of this kind and text is one of a grammar.
-pub fn fits_told(alloc: Global, grammar: &Grammar, spelled: &str) -> Result<String, Mistake> {
-    let (word, rest) = first_word(spelled);
-    let (number, lex) = first_word(rest);
-    let token = Token {
-        kind: terminal(word, number)?,
-        lex: Text::from_str(alloc, lex)?,
-        at: 0,
-    };
-    let tokens = vec![in alloc; token]?;
-    Ok(format!(in alloc; "{}", fits(grammar, tokens.as_slice()))?)
-}
-
 /// The tokens of a sentence, which has some.
-fn tokens_of(alloc: Global, grammar: &Grammar, sentence: &str) -> Result<Vec<Token>, Mistake>
-    ensures { IfOk result (λ tokens. FitAll (vocabulary_of grammar.now) tokens.items) }
+fn tokens_of<'s>(
+    alloc: Global,
+    grammar: &'s Grammar,
+    sentence: &'s str,
+) -> Result<Sentence<'s>, Mistake>
+    ensures { IfOk result (λ tokens. FitAll (vocabulary_of grammar.now) tokens) }
 {
     match scan(alloc, grammar, sentence.as_bytes()) {
         Ok(tokens) => Ok(tokens),
@@ -124,7 +115,7 @@ fn parse_tokens(
     alloc: Global,
     grammar: &Grammar,
     tables: &Tables,
-    tokens: &[Token],
+    tokens: &Sentence<'_>,
     device: &mut MemDevice,
 ) -> Result<u32, ParseFault>
     requires tables { FitsGrammar grammar.now tables.now }
@@ -143,7 +134,7 @@ fn parse_sentence(
 ) -> Result<Result<u32, ParseFault>, Mistake> {
     let tokens = tokens_of(alloc, grammar, sentence)?;
     let tables = tables_of(alloc, grammar)?;
-    Ok(parse_tokens(alloc, grammar, &tables, tokens.as_slice(), device))
+    Ok(parse_tokens(alloc, grammar, &tables, &tokens, device))
 }
 
 /// How many nodes the tree of a sentence has and its file, or what is refused.
@@ -171,7 +162,7 @@ pub fn tree_of(alloc: Global, grammar: &Grammar, sentence: &str) -> Result<MemDe
 pub fn stand_told(alloc: Global, grammar: &Grammar, sentence: &str) -> Result<String, Mistake> {
     let tokens = tokens_of(alloc, grammar, sentence)?;
     let tables = tables_of(alloc, grammar)?;
-    stuck_told(alloc, grammar, &tables, tokens.as_slice())
+    stuck_told(alloc, grammar, &tables, &tokens)
 }
 
 /// Behind how many tokens a parse is refused, and what could stand there.
@@ -179,7 +170,7 @@ fn stuck_told(
     alloc: Global,
     grammar: &Grammar,
     tables: &Tables,
-    tokens: &[Token],
+    tokens: &Sentence<'_>,
 ) -> Result<String, Mistake> {
     let stuck = expected_at(alloc, grammar, tables, tokens)?;
     Ok(format!(in alloc; "{} {:?}", stuck.index, stuck.expected)?)

@@ -3,12 +3,13 @@ use Rattle.std.proofs.Common.{◌≡◌, ℕ, Bool, List, ◌++◌, drop, Result
 use Rattle.std.specs.Prelude.{IfErr, IfOk, OnOk}
 use Rattle.ag_grammar.specs.grammars.AttributeGrammar.{Grammar}
 use Rattle.ag_grammar.specs.grammars.Tree.{Tree}
-use Rattle.ag_scan.specs.declared.token.Token.{Token}
+use Rattle.ag_scan.specs.Tokens.{Token}
 use Rattle.treefile.specs.Device.{WhenHonest}
 use Rattle.treefile.specs.TreeFile.{header, version_two}
 use Rattle.llparse.specs.Parsing.{task_of, IsParsed, IsRefused, post}
 use Rattle.treefile.specs.FirstFile.{IsFirstFile}
-use Rattle.llparse.specs.Sentences.{offset_at, words_of, IsTreeWith}
+use Rattle.ag_scan.specs.Handed.{offset_at}
+use Rattle.llparse.specs.Sentences.{words_of, IsTreeWith}
 use Rattle.llparse.specs.declared.parse_fault.ParseFault.{ParseFault}
 use Rattle.llparse.specs.declared.parse_fault.ParseFault.TheVariants as fault
 use Rattle.llparse.proofs.FirstFile.{first_file}

@@ -17,7 +17,8 @@ use Rattle.llparse.specs.Sentences.{IsTreeWith, IsStuckAt}
 use Rattle.llparse.specs.declared.ahead.Ahead.TheVariants as ahead
 use Rattle.llparse.specs.declared.parser.OpenNode.{OpenNode}
 use Rattle.llparse.proofs.Begins.{begins_leaf, begins_reading}
-use Rattle.llparse.proofs.Fronts.{behind, one_more}
+use Rattle.ag_scan.proofs.Lefts.{behind}
+use Rattle.llparse.proofs.Fronts.{one_more}
 use Rattle.llparse.proofs.Kept.{texts-joined}
 use Rattle.llparse.proofs.Shown.{length-shows}
 use Rattle.llparse.proofs.Sizes as size

@@ -12,7 +12,8 @@ use Rattle.llparse.specs.Sentences.{IsTreeWith, IsStuckAt}
 use Rattle.llparse.specs.declared.ahead.Ahead.TheVariants as ahead
 use Rattle.llparse.specs.declared.parser.OpenNode.{OpenNode}
 use Rattle.llparse.proofs.Begins.{begins_reading}
-use Rattle.llparse.proofs.Fronts.{behind, one_more}
+use Rattle.ag_scan.proofs.Lefts.{behind}
+use Rattle.llparse.proofs.Fronts.{one_more}
 use Rattle.llparse.proofs.Steps as step
 
 module _ (k : Task) where

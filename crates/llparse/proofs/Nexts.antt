@@ -1,10 +1,13 @@
 -- The words that are left, as the tokens have them.
-use Rattle.std.proofs.Common.{◌≡◌, ℕ, zero, suc, ◌+◌, ◌≤◌, List, [], ◌∷◌, drop, length, slice_get, Some, None, refl, ap, sym, ◌∙◌, add-one, arith}
-use Rattle.ag_scan.specs.declared.token.Token.{Token}
+use Rattle.std.proofs.Common.{◌≡◌, ℕ, zero, suc, ◌+◌, ◌<◌, ◌≤◌, true, false, List, [], ◌∷◌, drop, length, slice_get, Option, Some, None, is_some, option_map, refl, ap, sym, ◌∙◌, add-one, arith}
+use Rattle.ag_scan.specs.Handed.{token_of}
+use Rattle.ag_scan.specs.Tokens.{Token}
+use Rattle.ag_scan.specs.declared.token.Token as lent
+use Rattle.ag_scan.proofs.Lefts.{behind, rest_at, rest_none, ended}
 use Rattle.ag_grammar.specs.declared.grammar.Terminal.{Terminal}
 use Rattle.llparse.specs.Ahead.{ahead_of}
 use Rattle.llparse.specs.declared.ahead.Ahead.TheVariants as ahead
-use Rattle.llparse.specs.Sentences.{last_offset, offset_at, words_of}
+use Rattle.llparse.specs.Sentences.{words_of}
 
 pub next_is : (xs : List Token) (i : ℕ) (x : Token) → slice_get xs i ≡ Some x → drop i (words_of xs) ≡ (x.kind, x.lex) ∷ drop (i + 1) (words_of xs)
 next_is [] i x e = absurd (cc)
@@ -18,29 +21,27 @@ no_next [] (suc i) e = refl
 no_next (y ∷ ys) zero e = absurd (cc)
 no_next (y ∷ ys) (suc i) e = no_next ys i e
 
-pub no_more : {A : Type 0} (xs : List A) (i : ℕ) → length xs ≤ i → slice_get xs i ≡ None
-no_more [] zero le = refl
-no_more [] (suc i) le = refl
-no_more (y ∷ ys) zero le = absurd (omega arith)
-no_more (y ∷ ys) (suc i) le = no_more ys i (omega arith)
-
 -- what comes next is of another terminal
 pub other_next : (xs : List Token) (i : ℕ) (x : Token) (a : Terminal) → slice_get xs i ≡ Some x → (x.kind ≡ a → ⊥) → ahead_of (drop i (words_of xs)) ≡ ahead.Terminal a → ⊥
 other_next xs i x a there other e =
     let same : ahead.Terminal x.kind ≡ ahead.Terminal a = sym (ap ahead_of (next_is xs i x there)) ∙ e in
     other (cc)
 
--- the offset where a token stands
-pub offset_there : (xs : List Token) (i : ℕ) (x : Token) → slice_get xs i ≡ Some x → offset_at xs i ≡ x.at
-offset_there xs i x e = rw (e, offset_at) refl
+-- and of none at the end
+pub none_is : (xs : List Token) (i : ℕ) (a : Terminal) → slice_get xs i ≡ None → ahead_of (drop i (words_of xs)) ≡ ahead.Terminal a → ⊥
+none_is xs i a none e = let bad : ahead.End ≡ ahead.Terminal a = sym (ap ahead_of (no_next xs i none)) ∙ e in cc
 
--- and from the end on that of the last
-pub offset_past : (xs : List Token) (i : ℕ) → slice_get xs i ≡ None → offset_at xs i ≡ last_offset xs
-offset_past xs i e = rw (e, offset_at) refl
+-- whether tokens are left
+pub is_left : (xs : List Token) (i : ℕ) (x : Token) → slice_get xs i ≡ Some x → i < length xs
+is_left xs i x e = let more = (behind xs i x (drop (i + 1) xs) (rest_at xs i x e)).1 in omega arith
 
-pub last_is : (xs : List Token) (j : ℕ) (x : Token) → suc j ≡ length xs → slice_get xs j ≡ Some x → last_offset xs ≡ x.at
-last_is [] j x n e = absurd (omega arith)
-last_is (t ∷ []) zero x n e = let same : t ≡ x = cc in ap (λ (y : Token). y.at) same
-last_is (t ∷ []) (suc j) x n e = absurd (omega arith)
-last_is (t ∷ u ∷ ts) zero x n e = absurd (omega arith)
-last_is (t ∷ u ∷ ts) (suc j) x n e = last_is (u ∷ ts) j x (omega arith) e
+pub none_left : (xs : List Token) (i : ℕ) → slice_get xs i ≡ None → length xs ≤ i
+none_left xs i e = (ended xs i (rest_none xs i e)).1
+
+pub some_left : (xs : List Token) (i : ℕ) (o : Option lent.Token) → option_map (λ t. token_of t) o ≡ slice_get xs i → is_some o ≡ true → i < length xs
+some_left xs i None e is = absurd (cc)
+some_left xs i (Some t) e is = is_left xs i (token_of t) (sym e)
+
+pub all_taken : (xs : List Token) (i : ℕ) (o : Option lent.Token) → option_map (λ t. token_of t) o ≡ slice_get xs i → is_some o ≡ false → length xs ≤ i
+all_taken xs i None e is = none_left xs i (sym e)
+all_taken xs i (Some t) e is = absurd (cc)

@@ -6,9 +6,10 @@ use Rattle.ag_grammar.specs.declared.grammar.Terminal.TheVariants.{Class}
 use Rattle.ag_grammar.specs.grammars.Accepted.{IsAccepted}
 use Rattle.ag_grammar.specs.grammars.AttributeGrammar.{Grammar, literal_text}
 use Rattle.ag_grammar.specs.grammars.Tree.{most_depth}
-use Rattle.ag_scan.specs.declared.token.Token.{Token}
+use Rattle.ag_scan.specs.Tokens.{Token}
 use Rattle.llparse.specs.Parsing.{task_of, IsRefused}
-use Rattle.llparse.specs.Sentences.{offset_at, words_of, IsStuckAt}
+use Rattle.ag_scan.specs.Handed.{offset_at}
+use Rattle.llparse.specs.Sentences.{words_of, IsStuckAt}
 use Rattle.llparse.specs.Turns.{Asks, Faces, IsFull, made_by}
 use Rattle.llparse.specs.declared.parse_fault.ParseFault.{ParseFault}
 use Rattle.llparse.specs.declared.parse_fault.ParseFault.TheVariants as fault
@@ -23,8 +24,8 @@ module _ (g : Grammar) (tokens : List Token) (honest : Bool) (front : List ℕ) 
   full_node accepted node p s bytes (fault.Unexpected at) full a = absurd full
   full_node accepted node p s bytes fault.TooDeep full a =
       let deep : most_depth ≤ length (node ∷ reverse p.waiting.items) = omega (arith, length-reverse p.waiting.items) in
-      starts.deep_node (task_of g tokens honest front) accepted s (node ∷ reverse p.waiting.items) p.taken p.count (made_by p bytes) deep a
-  full_node accepted node p s bytes fault.TooManyNodes full a = starts.large_node (task_of g tokens honest front) accepted s (node ∷ reverse p.waiting.items) p.taken p.count (made_by p bytes) full a
+      starts.deep_node (task_of g tokens honest front) accepted s (node ∷ reverse p.waiting.items) p.tokens.taken p.count (made_by p bytes) deep a
+  full_node accepted node p s bytes fault.TooManyNodes full a = starts.large_node (task_of g tokens honest front) accepted s (node ∷ reverse p.waiting.items) p.tokens.taken p.count (made_by p bytes) full a
   full_node accepted node p s bytes fault.Device full a = absurd full
   full_node accepted node p s bytes fault.NoMemory full a = absurd full
 
@@ -33,8 +34,8 @@ module _ (g : Grammar) (tokens : List Token) (honest : Bool) (front : List ℕ) 
   full_leaf accepted node p c bytes (fault.Unexpected at) full b = absurd full
   full_leaf accepted node p c bytes fault.TooDeep full b =
       let deep : most_depth ≤ length (node ∷ reverse p.waiting.items) = omega (arith, length-reverse p.waiting.items) in
-      stacks.deep_leaf (task_of g tokens honest front) accepted c (node ∷ reverse p.waiting.items) p.taken p.count (made_by p bytes) deep b
-  full_leaf accepted node p c bytes fault.TooManyNodes full b = stacks.large_leaf (task_of g tokens honest front) accepted c (node ∷ reverse p.waiting.items) p.taken p.count (made_by p bytes) full b
+      stacks.deep_leaf (task_of g tokens honest front) accepted c (node ∷ reverse p.waiting.items) p.tokens.taken p.count (made_by p bytes) deep b
+  full_leaf accepted node p c bytes fault.TooManyNodes full b = stacks.large_leaf (task_of g tokens honest front) accepted c (node ∷ reverse p.waiting.items) p.tokens.taken p.count (made_by p bytes) full b
   full_leaf accepted node p c bytes fault.Device full b = absurd full
   full_leaf accepted node p c bytes fault.NoMemory full b = absurd full
 

@@ -19,7 +19,7 @@ use Rattle.llparse.specs.Turns.{advanced}
 use Rattle.llparse.specs.declared.ahead.Ahead.TheVariants as ahead
 use Rattle.llparse.specs.declared.parser.OpenNode.{OpenNode}
 use Rattle.llparse.proofs.Closing as closing
-use Rattle.llparse.proofs.Fronts.{rest_at, rest_none}
+use Rattle.ag_scan.proofs.Lefts.{rest_at, rest_none}
 use Rattle.llparse.proofs.Leaves as leaves
 use Rattle.llparse.proofs.Literals as literals
 use Rattle.llparse.proofs.Starts as starts

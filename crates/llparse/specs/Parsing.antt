@@ -1,13 +1,13 @@
 -- What a parser keeps true while it runs (this project's).
 use Rattle.std.specs.Prelude.{◌≡◌, ℕ, Bool, suc, ◌+◌, ◌-◌, ◌*◌, ◌≤◌, List, [], ◌∷◌, ◌++◌, length, take, drop, slice_get}
-use Rattle.ag_value.specs.declared.value.Value.{Value, Text}
+use Rattle.ag_value.specs.declared.value.Value.{Value}
 use Rattle.ag_grammar.specs.declared.grammar.Item.{Item}
 use Rattle.ag_grammar.specs.declared.grammar.Production.{Production}
 use Rattle.ag_grammar.specs.grammars.AttributeGrammar.{Grammar}
 use Rattle.ag_grammar.specs.grammars.Tree.{Tree, leaf, node, Forest, none, more, depth_of, deepest, node_count, most_depth, most_nodes}
 use Rattle.ag_grammar.specs.grammars.Yield.{Lexeme}
 use Rattle.ag_grammar.specs.grammars.Yield as yields
-use Rattle.ag_scan.specs.declared.token.Token.{Token}
+use Rattle.ag_scan.specs.Tokens.{Token}
 use Rattle.treefile.specs.Device.{WhenHonest}
 use Rattle.treefile.specs.FirstFile.{leaf_texts}
 use Rattle.treefile.specs.Records.{token_body}

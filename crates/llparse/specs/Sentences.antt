@@ -1,9 +1,10 @@
 -- What parsing a sentence answers: the tree that its tokens have and the file of it, or why it has none.
-use Rattle.std.specs.Prelude.{ℕ, ◌≡◌, ◌<◌, ◌≤◌, ◌++◌, List, [], ◌∷◌, length, map, take, drop, slice_get, Some, None}
+use Rattle.std.specs.Prelude.{ℕ, ◌≡◌, ◌<◌, ◌≤◌, ◌++◌, List, length, map, take, drop}
 use Rattle.ag_grammar.specs.grammars.AttributeGrammar.{Grammar}
 use Rattle.ag_grammar.specs.grammars.Tree.{Tree, IsTreeOf, depth_of, node_count}
 use Rattle.ag_grammar.specs.grammars.Yield.{Lexeme, yield_of}
-use Rattle.ag_scan.specs.declared.token.Token.{Token}
+use Rattle.ag_scan.specs.Handed.{offset_at}
+use Rattle.ag_scan.specs.Tokens.{Token}
 use Rattle.llparse.specs.Ahead.{ahead_of}
 use Rattle.llparse.specs.Opened.{Open, opened, IsCutAt}
 
@@ -15,16 +16,6 @@ words_of ts = map (λ t. (t.kind, t.lex)) ts
 pub record IsTreeWith (g : Grammar) (words : List Lexeme) (t : Tree) : Type 0 where
   pub tree : IsTreeOf g t
   pub yields : yield_of g t ≡ words
-
--- the offset of the last token, 0 where there is none
-abbrev pub last_offset : List Token → ℕ
-last_offset [] = 0
-last_offset (t ∷ []) = t.at
-last_offset (t ∷ u ∷ ts) = last_offset (u ∷ ts)
-
--- the offset of the token of an index, and from the end on that of the last one
-abbrev pub offset_at : List Token → ℕ → ℕ
-offset_at ts i = elim (slice_get ts i) [ Some t ↦ t.at | None ↦ last_offset ts ]
 
 -- The token of an index can't be taken, or where it is the length, the sentence can't end: the words before it are the
 -- beginning of some sentence, and with a word of its terminal behind them, or ended there, they are of none.

@@ -4,11 +4,10 @@ use Rattle.ag_grammar.specs.declared.grammar.Item.{Item}
 use Rattle.ag_grammar.specs.grammars.Accepted.{IsAccepted}
 use Rattle.ag_grammar.specs.grammars.AttributeGrammar.{Grammar}
 use Rattle.ag_grammar.specs.grammars.Tree.{most_depth, most_nodes}
-use Rattle.ag_scan.specs.Tokens.{FitAll}
+use Rattle.ag_scan.specs.Handed.{offset_at}
+use Rattle.ag_scan.specs.Tokens.{Token, FitAll}
 use Rattle.ag_scan.specs.Words.{vocabulary_of}
-use Rattle.ag_scan.specs.declared.token.Token.{Token}
 use Rattle.llparse.specs.Parsing.{Task, task_of, Made, Asked, Between, Before, IsRefused, steps_left}
-use Rattle.llparse.specs.Sentences.{offset_at}
 use Rattle.llparse.specs.Tables.{Choices, FitsGrammar}
 use Rattle.llparse.specs.declared.parse_fault.ParseFault.{ParseFault}
 use Rattle.llparse.specs.declared.parse_fault.ParseFault.TheVariants as fault
@@ -21,15 +20,15 @@ made_by p bytes = record { bytes = bytes; texts = p.texts.items }
 
 -- a parser is between two steps, with this innermost open node
 abbrev pub IsBetween : Task → OpenNode → Parser → List ℕ → Type 0
-IsBetween k node p bytes = Between k (node ∷ reverse p.waiting.items) p.taken p.count (made_by p bytes)
+IsBetween k node p bytes = Between k (node ∷ reverse p.waiting.items) p.tokens.taken p.count (made_by p bytes)
 
 -- a tree of a symbol comes next in the innermost open node
 abbrev pub Asks : Task → ℕ → OpenNode → Parser → List ℕ → Type 0
-Asks k s node p bytes = Asked k s (node ∷ reverse p.waiting.items) p.taken p.count (made_by p bytes)
+Asks k s node p bytes = Asked k s (node ∷ reverse p.waiting.items) p.tokens.taken p.count (made_by p bytes)
 
 -- the innermost open node has an item next, which its place is behind
 abbrev pub Faces : Task → Item → OpenNode → Parser → List ℕ → Type 0
-Faces k x node p bytes = Before k x (node ∷ reverse p.waiting.items) p.taken p.count (made_by p bytes)
+Faces k x node p bytes = Before k x (node ∷ reverse p.waiting.items) p.tokens.taken p.count (made_by p bytes)
 
 -- an accepted grammar that tables fit
 abbrev pub HasTables : Choices → Grammar → Type 0

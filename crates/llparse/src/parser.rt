@@ -1,29 +1,31 @@
 //! How far a sentence is parsed, and the steps that go on with it.
 ghost use Rattle.std.specs.Prelude.{◌≡◌, ◌≤◌, ◌<◌, ◌+◌, ◌++◌, ◌∷◌, [], ℕ, true, false, All};
 ghost use Rattle.std.specs.Prelude.{drop, length, Some, None};
-ghost use Rattle.std.specs.Prelude.{IfErr, IfOk, IsErrOf, OnErr, OnOk};
+ghost use Rattle.std.specs.Prelude.{option_map, IfErr, IfOk, IfSome, IsErrOf, OnErr, OnOk};
 ghost use Rattle.ag_value.specs.Well.{IsWell};
 ghost use Rattle.ag_grammar.specs.declared.grammar.Item.TheVariants as item;
 ghost use Rattle.ag_grammar.specs.declared.grammar.Terminal.TheVariants as terminal;
 ghost use Rattle.ag_grammar.specs.grammars.AttributeGrammar.{Grammar as AGrammar};
 ghost use Rattle.ag_grammar.specs.grammars.Tree.{IsTokenText, most_depth, most_nodes};
+ghost use Rattle.ag_scan.specs.Handed.{handed, offset_at};
 ghost use Rattle.treefile.specs.Beginning.{AddsFrames};
 ghost use Rattle.treefile.specs.Device.{Persists, WhenHonest};
 ghost use Rattle.treefile.specs.TreeFile.{version_two};
 ghost use Rattle.llparse.specs.Ahead.{ahead_of};
 ghost use Rattle.llparse.specs.Parsing.{leaf_frame, node_frame, right_side};
 ghost use Rattle.llparse.specs.Refusals.{IsWant};
-ghost use Rattle.llparse.specs.Sentences.{offset_at, words_of};
+ghost use Rattle.llparse.specs.Sentences.{words_of};
 ghost use Rattle.llparse.specs.Tables.{choice_of};
 ghost use Rattle.llparse.specs.Turns.{left_of, Asks, Faces, IsFull, Leads, Advances, IsBetween};
 ghost use Rattle.llparse.specs.Turns.{HasTables, HasTokens, Refuses, Writes};
 
+use crate::ahead::Ahead;
 use crate::lookup::Tables;
 use crate::parse_fault::ParseFault;
 use crate::tokens::{expect, next_of, unexpected};
 use ag_grammar::limits::{MOST_DEPTH, MOST_NODES};
 use ag_grammar::{Grammar, Item, Terminal};
-use ag_scan::Token;
+use ag_scan::{Sentence, Tokens};
 use ag_value::{Text, Value};
 use std::alloc::Global;
 use treefile::{Device, Kind, Writer};
@@ -53,32 +55,45 @@ pub(crate) fn next_item(grammar: &Grammar, node: &mut OpenNode) -> Option<Item>
     Some(item)
 }
 
-/// A node of the symbol that comes next behind so many tokens, open at its beginning, whose texts are
-/// to come behind so many.
+/// A node of a symbol at a look-ahead, open at its beginning, whose texts are to come behind so many.
+#[inline(always)]
+pub(crate) fn node_at(tables: &Tables, symbol: u16, ahead: Ahead, base: usize) -> Option<OpenNode>
+    ensures begins { IfSome result (λ node. node.place ≡ 0) }
+    ensures base { IfSome result (λ node. node.base ≡ base) }
+    ensures chosen { choice_of tables.now symbol ahead
+        ≡ option_map (λ node. node.production) result }
+{
+    match tables.choice(symbol, ahead) {
+        Some(production) => Some(OpenNode {
+            production,
+            place: 0,
+            base,
+        }),
+        None => None,
+    }
+}
+
+/// A node of the symbol that comes next, open at its beginning, whose texts are to come behind so
+/// many.
 #[inline(always)]
 pub(crate) fn new_node(
     tables: &Tables,
-    tokens: &[Token],
-    at: usize,
+    tokens: &Tokens<'_>,
     symbol: u16,
     base: usize,
 ) -> Result<OpenNode, ParseFault>
     ensures begins { IfOk result (λ node. node.place ≡ 0) }
     ensures base { IfOk result (λ node. node.base ≡ base) }
-    ensures chosen { IfOk result (λ node.
-        choice_of tables.now symbol (ahead_of (drop at (words_of tokens.now)))
-        ≡ Some node.production) }
-    ensures none { OnErr result
-        (choice_of tables.now symbol (ahead_of (drop at (words_of tokens.now))) ≡ None) }
-    ensures place { IfErr result (λ e. e ≡ ParseFault.Unexpected (offset_at tokens.now at)) }
+    ensures chosen { IfOk result (λ node. choice_of tables.now symbol
+        (ahead_of (drop tokens.now.taken (words_of tokens.now.list))) ≡ Some node.production) }
+    ensures none { OnErr result (choice_of tables.now symbol
+        (ahead_of (drop tokens.now.taken (words_of tokens.now.list))) ≡ None) }
+    ensures place { IfErr result (λ e.
+        e ≡ ParseFault.Unexpected (offset_at tokens.now.list tokens.now.taken)) }
 {
-    match tables.choice(symbol, next_of(tokens, at)) {
-        Some(production) => Ok(OpenNode {
-            production,
-            place: 0,
-            base,
-        }),
-        None => Err(unexpected(tokens, at)),
+    match node_at(tables, symbol, next_of(tokens), base) {
+        Some(node) => Ok(node),
+        None => Err(unexpected(tokens)),
     }
 }
 
@@ -87,7 +102,7 @@ pub(crate) fn new_node(
 fn put_leaf<D: Device>(
     alloc: Global,
     class: u16,
-    lex: &Text,
+    lex: &str,
     texts: &mut Vec<Value>,
     device: &mut D,
     writer: &mut Writer,
@@ -109,7 +124,7 @@ fn put_leaf<D: Device>(
     ensures persists { Persists (D.is_honest device.old) (D.is_honest device.new)
         (D.failures device.old) (D.failures device.new) (IsErrOf result ParseFault.Device) }
 {
-    let values = [Value::Text(Text::from_str(alloc, lex.as_str())?)];
+    let values = [Value::Text(Text::from_str(alloc, lex)?)];
     writer.put(device, Kind::Token, class, &values)?;
     let [text] = values;
     texts.push(text)?;
@@ -146,28 +161,28 @@ pub(crate) fn put_node<D: Device>(
 
 /// How far a sentence is parsed: the nodes that wait for the innermost open one, the outermost
 /// first, the texts of the tokens among the children of open nodes, those of the innermost one
-/// last, how many tokens are taken, and how many nodes are opened, leaves among them. It takes
+/// last, the place in the tokens, and how many nodes are opened, leaves among them. It takes
 /// sixteen bytes for a node that waits, and memory for the texts.
 #[derive(Drop)]
-pub(crate) struct Parser {
+pub(crate) struct Parser<'t> {
     pub(crate) waiting: Vec<OpenNode>,
     pub(crate) texts: Vec<Value>,
-    pub(crate) taken: usize,
+    pub(crate) tokens: Tokens<'t>,
     pub(crate) count: u32,
 }
 
-impl Parser {
+impl<'t> Parser<'t> {
     /// A parser whose root alone is open, and which has taken no token.
-    pub(crate) fn new(alloc: Global) -> Parser
+    pub(crate) fn new(alloc: Global, sentence: &'t Sentence<'t>) -> Parser<'t>
         ensures waiting { result.waiting.items ≡ [] }
         ensures texts { result.texts.items ≡ [] }
-        ensures taken { result.taken ≡ 0 }
+        ensures tokens { result.tokens ≡ handed sentence.now 0 }
         ensures count { result.count ≡ 1 }
     {
         Parser {
             waiting: Vec::new(alloc),
             texts: Vec::new(alloc),
-            taken: 0,
+            tokens: sentence.tokens(),
             count: 1,
         }
     }
@@ -202,21 +217,21 @@ impl Parser {
     pub(crate) fn open(
         &mut self,
         tables: &Tables,
-        tokens: &[Token],
         outer: OpenNode,
         symbol: u16,
     ) -> Result<OpenNode, ParseFault>
-        ensures opens { IfOk result (λ node. Leads (HasTables tables.now) tokens.now
+        ensures opens { IfOk result (λ node. Leads (HasTables tables.now) self.old.tokens.list
             (λ k. Asks k symbol outer self.old) (λ k. IsBetween k node self.new)) }
-        ensures refuses { IfErr result (Refuses (HasTables tables.now) tokens.now
+        ensures refuses { IfErr result (Refuses (HasTables tables.now) self.old.tokens.list
             (λ k. Asks k symbol outer self.old)) }
+        ensures tokens { self.new.tokens ≡ self.old.tokens }
         ensures steps { IfOk result (λ node. (g : AGrammar)
             → left_of g node self.new < left_of g outer self.old) }
         ensures counted { OnOk result (length self.new.waiting.items + self.old.count
             ≡ length self.old.waiting.items + self.new.count) }
         ensures calm { IsErrOf result ParseFault.Device → ⊥ }
     {
-        let node = new_node(tables, tokens, self.taken, symbol, self.texts.len())?;
+        let node = new_node(tables, &self.tokens, symbol, self.texts.len())?;
         self.has_room()?;
         self.waiting.push(outer)?;
         self.count += 1;
@@ -225,18 +240,21 @@ impl Parser {
 
     /// Takes a token of a literal, which has no record.
     #[inline(always)]
-    fn take_literal(&mut self, tokens: &[Token], literal: u16) -> Result<(), ParseFault>
-        ensures takes { OnOk result ((node : OpenNode) → Leads (HasTokens tokens.now) tokens.now
+    fn take_literal(&mut self, literal: u16) -> Result<(), ParseFault>
+        ensures takes { OnOk result ((node : OpenNode)
+            → Leads (HasTokens self.old.tokens.list) self.old.tokens.list
             (λ k. Faces k (item.Terminal (terminal.Literal literal)) node self.old)
             (λ k. IsBetween k node self.new)) }
-        ensures refuses { (node : OpenNode) → IfErr result (Refuses (HasTokens tokens.now)
-            tokens.now (λ k. Faces k (item.Terminal (terminal.Literal literal)) node self.old)) }
+        ensures refuses { (node : OpenNode)
+            → IfErr result (Refuses (HasTokens self.old.tokens.list) self.old.tokens.list
+            (λ k. Faces k (item.Terminal (terminal.Literal literal)) node self.old)) }
+        ensures list { OnOk result (self.new.tokens.list ≡ self.old.tokens.list) }
         ensures waiting { OnOk result (self.new.waiting.items ≡ self.old.waiting.items) }
         ensures count { OnOk result (self.new.count ≡ self.old.count) }
         ensures calm { IsErrOf result ParseFault.Device → ⊥ }
     {
-        expect(tokens, self.taken, Terminal::Literal(literal))?;
-        self.taken += 1;
+        expect(&self.tokens, Terminal::Literal(literal))?;
+        self.tokens.advance();
         Ok(())
     }
 
@@ -245,21 +263,23 @@ impl Parser {
     fn take_class<D: Device>(
         &mut self,
         alloc: Global,
-        tokens: &[Token],
         class: u16,
         device: &mut D,
         writer: &mut Writer,
     ) -> Result<(), ParseFault>
-        requires fits { (g : AGrammar) × HasTokens tokens.now g }
+        requires fits { (g : AGrammar) × HasTokens self.old.tokens.list g }
         requires written { writer.old.written + length self.old.waiting.items + 1
             ≡ self.old.count }
         requires fine { writer.old.is_broken ≡ false }
-        ensures takes { OnOk result ((node : OpenNode) → Writes (HasTokens tokens.now) tokens.now
+        ensures takes { OnOk result ((node : OpenNode)
+            → Writes (HasTokens self.old.tokens.list) self.old.tokens.list
             (D.is_honest device.old) (D.content device.old) (D.content device.new)
             (λ k. Faces k (item.Terminal (terminal.Class class)) node self.old)
             (λ k. IsBetween k node self.new)) }
-        ensures refuses { (node : OpenNode) → IfErr result (Refuses (HasTokens tokens.now)
-            tokens.now (λ k. Faces k (item.Terminal (terminal.Class class)) node self.old)) }
+        ensures refuses { (node : OpenNode)
+            → IfErr result (Refuses (HasTokens self.old.tokens.list) self.old.tokens.list
+            (λ k. Faces k (item.Terminal (terminal.Class class)) node self.old)) }
+        ensures list { OnOk result (self.new.tokens.list ≡ self.old.tokens.list) }
         ensures waiting { OnOk result (self.new.waiting.items ≡ self.old.waiting.items) }
         ensures count { OnOk result (self.new.count ≡ self.old.count + 1) }
         ensures written { OnOk result (writer.new
@@ -271,11 +291,11 @@ impl Parser {
         ensures persists { Persists (D.is_honest device.old) (D.is_honest device.new)
             (D.failures device.old) (D.failures device.new) (IsErrOf result ParseFault.Device) }
     {
-        let lex = expect(tokens, self.taken, Terminal::Class(class))?;
+        let lex = expect(&self.tokens, Terminal::Class(class))?;
         self.has_room()?;
         put_leaf(alloc, class, lex, &mut self.texts, device, writer)?;
         self.count += 1;
-        self.taken += 1;
+        self.tokens.advance();
         Ok(())
     }
 
@@ -284,21 +304,23 @@ impl Parser {
     pub(crate) fn take<D: Device>(
         &mut self,
         alloc: Global,
-        tokens: &[Token],
         terminal: Terminal,
         device: &mut D,
         writer: &mut Writer,
     ) -> Result<(), ParseFault>
-        requires fits { (g : AGrammar) × HasTokens tokens.now g }
+        requires fits { (g : AGrammar) × HasTokens self.old.tokens.list g }
         requires written { writer.old.written + length self.old.waiting.items + 1
             ≡ self.old.count }
         requires fine { writer.old.is_broken ≡ false }
-        ensures takes { OnOk result ((node : OpenNode) → Writes (HasTokens tokens.now) tokens.now
+        ensures takes { OnOk result ((node : OpenNode)
+            → Writes (HasTokens self.old.tokens.list) self.old.tokens.list
             (D.is_honest device.old) (D.content device.old) (D.content device.new)
             (λ k. Faces k (item.Terminal terminal) node self.old)
             (λ k. IsBetween k node self.new)) }
-        ensures refuses { (node : OpenNode) → IfErr result (Refuses (HasTokens tokens.now)
-            tokens.now (λ k. Faces k (item.Terminal terminal) node self.old)) }
+        ensures refuses { (node : OpenNode)
+            → IfErr result (Refuses (HasTokens self.old.tokens.list) self.old.tokens.list
+            (λ k. Faces k (item.Terminal terminal) node self.old)) }
+        ensures list { OnOk result (self.new.tokens.list ≡ self.old.tokens.list) }
         ensures waiting { OnOk result (self.new.waiting.items ≡ self.old.waiting.items) }
         ensures count { OnOk result (self.old.count ≤ self.new.count) }
         ensures written { OnOk result
@@ -312,8 +334,8 @@ impl Parser {
             (D.failures device.old) (D.failures device.new) (IsErrOf result ParseFault.Device) }
     {
         match terminal {
-            Terminal::Literal(literal) => self.take_literal(tokens, literal),
-            Terminal::Class(class) => self.take_class(alloc, tokens, class, device, writer),
+            Terminal::Literal(literal) => self.take_literal(literal),
+            Terminal::Class(class) => self.take_class(alloc, class, device, writer),
         }
     }
 }

@@ -3,6 +3,7 @@
 ghost use Rattle.std.specs.Prelude.{◌≡◌, ◌+◌, ℕ, true, false, Err, IfErr, IfOk, IsErrOf, OnOk};
 ghost use Rattle.ag_grammar.specs.grammars.Tree.{node_count, IsWithinLimits, Tree};
 ghost use Rattle.ag_grammar.specs.grammars.Tree.{most_depth, most_nodes};
+ghost use Rattle.ag_scan.specs.Handed.{offset_at};
 ghost use Rattle.ag_scan.specs.Tokens.{FitAll};
 ghost use Rattle.ag_scan.specs.Words.{vocabulary_of};
 ghost use Rattle.treefile.specs.FirstFile.{IsFirstFile};
@@ -11,7 +12,7 @@ ghost use Rattle.treefile.specs.Device.{Persists, WhenHonest};
 ghost use Rattle.treefile.specs.TreeFile.{header, version_two};
 ghost use Rattle.treefile.specs.Writing.{Progress};
 ghost use Rattle.llparse.specs.Parsing.{task_of, IsParsed, IsRefused};
-ghost use Rattle.llparse.specs.Sentences.{offset_at, words_of, IsTreeWith};
+ghost use Rattle.llparse.specs.Sentences.{words_of, IsTreeWith};
 ghost use Rattle.llparse.specs.Sentences.{IsUnexpectedAt, LeavesOnlyDeeper, LeavesOnlyLarger};
 ghost use Rattle.llparse.specs.Tables.{FitsGrammar};
 
@@ -20,7 +21,7 @@ use crate::parse_fault::ParseFault;
 use crate::parser::{Parser, new_node, next_item, put_node};
 use crate::tokens::unexpected;
 use ag_grammar::{Grammar, Item};
-use ag_scan::Token;
+use ag_scan::Sentence;
 use std::alloc::Global;
 use treefile::{Device, Writer};
 
@@ -30,19 +31,19 @@ fn run<D: Device>(
     alloc: Global,
     grammar: &Grammar,
     tables: &Tables,
-    tokens: &[Token],
+    sentence: &Sentence<'_>,
     device: &mut D,
     writer: &mut Writer,
 ) -> Result<u32, ParseFault>
     requires tables { FitsGrammar grammar.now tables.now }
-    requires tokens { FitAll (vocabulary_of grammar.now) tokens.now }
+    requires tokens { FitAll (vocabulary_of grammar.now) sentence.now }
     requires begun { writer.old ≡ record { written = 0; is_broken = false } }
-    ensures parsed { IfOk result (λ count. IsParsed (task_of grammar.now tokens.now
+    ensures parsed { IfOk result (λ count. IsParsed (task_of grammar.now sentence.now
         (D.is_honest device.old) (D.content device.old)) count (D.content device.new)) }
     ensures written { IfOk result (λ count. writer.new
         ≡ record { written = count; is_broken = false }) }
-    ensures refused { IfErr result (IsRefused (task_of grammar.now tokens.now
-        (D.is_honest device.old) (D.content device.old)) (offset_at tokens.now)) }
+    ensures refused { IfErr result (IsRefused (task_of grammar.now sentence.now
+        (D.is_honest device.old) (D.content device.old)) (offset_at sentence.now)) }
     ensures left { IfErr result (λ fault. WhenHonest (D.is_honest device.old)
         (AddsFrames (D.content device.old) (D.content device.new) (Err fault))) }
     ensures breaks { IsErrOf result ParseFault.Device → writer.new.is_broken ≡ true }
@@ -50,14 +51,14 @@ fn run<D: Device>(
     ensures persists { Persists (D.is_honest device.old) (D.is_honest device.new)
         (D.failures device.old) (D.failures device.new) (IsErrOf result ParseFault.Device) }
 {
-    let mut parser = Parser::new(alloc);
-    let mut node = new_node(tables, tokens, 0, grammar.start(), 0)?;
+    let mut parser = Parser::new(alloc, sentence);
+    let mut node = new_node(tables, &parser.tokens, grammar.start(), 0)?;
     loop {
         match next_item(grammar, &mut node) {
             Some(Item::Terminal(terminal)) => {
-                parser.take(alloc, tokens, terminal, device, writer)?;
+                parser.take(alloc, terminal, device, writer)?;
             }
-            Some(Item::Symbol(symbol)) => node = parser.open(tables, tokens, node, symbol)?,
+            Some(Item::Symbol(symbol)) => node = parser.open(tables, node, symbol)?,
             None => {
                 let texts = parser.texts_from(node.base);
                 put_node(node.production, texts, device, writer)?;
@@ -69,8 +70,8 @@ fn run<D: Device>(
             }
         }
     }
-    if parser.taken < tokens.len() {
-        return Err(unexpected(tokens, parser.taken));
+    if parser.tokens.ahead().is_some() {
+        return Err(unexpected(&parser.tokens));
     }
     Ok(parser.count)
 }
@@ -80,8 +81,8 @@ fn run<D: Device>(
 /// left to right, and for each token of a class; a literal has none. The record of a node has the
 /// texts of the tokens of a class among its children.
 ///
-/// Asks for tables of the grammar, tokens that fit it, and a writer that was just begun on the
-/// device with pass 0. Takes memory for a stack of sixteen bytes an open node but the innermost
+/// Asks for tables of the grammar, a sentence whose tokens fit it, and a writer that was just begun on
+/// the device with pass 0. The tokens are taken one by one, and none is kept but its text. Takes memory for a stack of sixteen bytes an open node but the innermost
 /// one, for the texts of the tokens of a class among the children of open nodes, and for one frame.
 ///
 /// P1 Unexpected where no tree has these tokens; P2 TooDeep and P3 TooManyNodes where each that has
@@ -93,26 +94,26 @@ pub fn parse<D: Device>(
     alloc: Global,
     grammar: &Grammar,
     tables: &Tables,
-    tokens: &[Token],
+    sentence: &Sentence<'_>,
     device: &mut D,
     writer: &mut Writer,
 ) -> Result<u32, ParseFault>
     requires tables { FitsGrammar grammar.now tables.now }
-    requires tokens { FitAll (vocabulary_of grammar.now) tokens.now }
+    requires tokens { FitAll (vocabulary_of grammar.now) sentence.now }
     requires begun { writer.old ≡ record { written = 0; is_broken = false } }
     requires header { WhenHonest (D.is_honest device.old)
         (D.content device.old ≡ header version_two 0) }
 
     // an answer: there is one tree, it is within the limits, and its file is written
     ensures tree { IfOk result (λ _. (t : Tree)
-        × IsTreeWith grammar.now (words_of tokens.now) t) }
-    ensures one { (t u : Tree) → IsTreeWith grammar.now (words_of tokens.now) t
-        → IsTreeWith grammar.now (words_of tokens.now) u → t ≡ u }
-    ensures limits { (t : Tree) → IsTreeWith grammar.now (words_of tokens.now) t
+        × IsTreeWith grammar.now (words_of sentence.now) t) }
+    ensures one { (t u : Tree) → IsTreeWith grammar.now (words_of sentence.now) t
+        → IsTreeWith grammar.now (words_of sentence.now) u → t ≡ u }
+    ensures limits { (t : Tree) → IsTreeWith grammar.now (words_of sentence.now) t
         → OnOk result (IsWithinLimits most_depth most_nodes t) }
-    ensures count { (t : Tree) → IsTreeWith grammar.now (words_of tokens.now) t
+    ensures count { (t : Tree) → IsTreeWith grammar.now (words_of sentence.now) t
         → IfOk result (λ count. count ≡ node_count t) }
-    ensures file { (t : Tree) → IsTreeWith grammar.now (words_of tokens.now) t
+    ensures file { (t : Tree) → IsTreeWith grammar.now (words_of sentence.now) t
         → OnOk result (WhenHonest (D.is_honest device.old)
         (IsFirstFile version_two grammar.now t (D.content device.new))) }
     ensures written { IfOk result (λ count. writer.new
@@ -120,13 +121,13 @@ pub fn parse<D: Device>(
 
     // a refusal: no tree has the tokens, or each is beyond the limit, which was reached
     ensures unexpected { (at : ℕ) → result ≡ Err (ParseFault.Unexpected at)
-        → IsUnexpectedAt grammar.now tokens.now at }
+        → IsUnexpectedAt grammar.now sentence.now at }
     ensures none { (at : ℕ) (t : Tree) → result ≡ Err (ParseFault.Unexpected at)
-        → IsTreeWith grammar.now (words_of tokens.now) t → ⊥ }
+        → IsTreeWith grammar.now (words_of sentence.now) t → ⊥ }
     ensures deep { IsErrOf result ParseFault.TooDeep
-        → LeavesOnlyDeeper most_depth grammar.now (words_of tokens.now) }
+        → LeavesOnlyDeeper most_depth grammar.now (words_of sentence.now) }
     ensures large { IsErrOf result ParseFault.TooManyNodes
-        → LeavesOnlyLarger most_nodes grammar.now (words_of tokens.now) }
+        → LeavesOnlyLarger most_nodes grammar.now (words_of sentence.now) }
 
     // a refusal leaves a beginning of a file of pass 0, maybe its header alone
     ensures left { IfErr result (λ _. WhenHonest (D.is_honest device.old)
@@ -138,5 +139,5 @@ pub fn parse<D: Device>(
     ensures persists { Persists (D.is_honest device.old) (D.is_honest device.new)
         (D.failures device.old) (D.failures device.new) (IsErrOf result ParseFault.Device) }
 {
-    run(alloc, grammar, tables, tokens, device, writer)
+    run(alloc, grammar, tables, sentence, device, writer)
 }

@@ -1,41 +1,35 @@
 //! The next token of a sentence.
 ghost use Rattle.std.specs.Prelude.{◌≡◌, ◌≢◌, ◌∷◌, ◌+◌, ◌<◌, ◌↔◌, drop, length, IfErr, IfOk};
 ghost use Rattle.std.specs.Prelude.{IsTrue};
+ghost use Rattle.ag_scan.specs.Handed.{offset_at};
 ghost use Rattle.ag_scan.specs.Tokens.{FitAll, IsTokenOf};
 ghost use Rattle.ag_scan.specs.Words.{Vocabulary};
 ghost use Rattle.llparse.specs.Ahead.{ahead_of};
-ghost use Rattle.llparse.specs.Sentences.{offset_at, words_of};
+ghost use Rattle.llparse.specs.Sentences.{words_of};
 ghost use Rattle.llparse.specs.declared.ahead.Ahead.TheVariants as look;
 
 use crate::ahead::Ahead;
 use crate::parse_fault::ParseFault;
 use ag_grammar::Terminal;
-use ag_scan::Token;
-use ag_value::Text;
+use ag_scan::Tokens;
 
-/// What comes next behind so many tokens.
+/// What comes next.
 #[inline(always)]
-pub(crate) fn next_of(tokens: &[Token], at: usize) -> Ahead
-    ensures { result ≡ ahead_of (drop at (words_of tokens.now)) }
+pub(crate) fn next_of(tokens: &Tokens<'_>) -> Ahead
+    ensures { result ≡ ahead_of (drop tokens.now.taken (words_of tokens.now.list)) }
 {
-    match tokens.get(at) {
+    match tokens.ahead() {
         Some(token) => Ahead::Terminal(token.kind),
         None => Ahead::End,
     }
 }
 
-/// The refusal of the token behind so many, or of the end.
+/// The refusal of the next token, or of the end.
 #[cold]
-pub(crate) fn unexpected(tokens: &[Token], at: usize) -> ParseFault
-    ensures { result ≡ ParseFault.Unexpected (offset_at tokens.now at) }
+pub(crate) fn unexpected(tokens: &Tokens<'_>) -> ParseFault
+    ensures { result ≡ ParseFault.Unexpected (offset_at tokens.now.list tokens.now.taken) }
 {
-    match tokens.get(at) {
-        Some(token) => ParseFault::Unexpected(token.at),
-        None => match tokens.last() {
-            Some(token) => ParseFault::Unexpected(token.at),
-            None => ParseFault::Unexpected(0),
-        },
-    }
+    ParseFault::Unexpected(tokens.at())
 }
 
 #[inline(always)]
@@ -49,23 +43,24 @@ fn same(a: Terminal, b: Terminal) -> bool
     }
 }
 
-/// The text of the token behind so many, where it is one of a terminal.
+/// The text of the next token, where it is one of a terminal.
 #[inline(always)]
-pub(crate) fn expect(tokens: &[Token], at: usize, kind: Terminal) -> Result<&Text, ParseFault>
-    ensures taken { IfOk result (λ lex. drop at (words_of tokens.now)
-        ≡ (kind, lex.now) ∷ drop (at + 1) (words_of tokens.now)) }
-    ensures within { IfOk result (λ _. at < length tokens.now) }
-    ensures fits { IfOk result (λ lex. (v : Vocabulary) → FitAll v tokens.now
+pub(crate) fn expect<'t>(tokens: &Tokens<'t>, kind: Terminal) -> Result<&'t str, ParseFault>
+    ensures taken { IfOk result (λ lex. drop tokens.now.taken (words_of tokens.now.list)
+        ≡ (kind, lex.now) ∷ drop (tokens.now.taken + 1) (words_of tokens.now.list)) }
+    ensures within { IfOk result (λ _. tokens.now.taken < length tokens.now.list) }
+    ensures fits { IfOk result (λ lex. (v : Vocabulary) → FitAll v tokens.now.list
         → IsTokenOf v kind lex.now) }
-    ensures place { IfErr result (λ e. e ≡ ParseFault.Unexpected (offset_at tokens.now at)) }
-    ensures other { IfErr result (λ _. ahead_of (drop at (words_of tokens.now))
-        ≢ look.Terminal kind) }
+    ensures place { IfErr result (λ e.
+        e ≡ ParseFault.Unexpected (offset_at tokens.now.list tokens.now.taken)) }
+    ensures other { IfErr result (λ _. ahead_of (drop tokens.now.taken
+        (words_of tokens.now.list)) ≢ look.Terminal kind) }
 {
-    let Some(token) = tokens.get(at) else {
-        return Err(unexpected(tokens, at));
+    let Some(token) = tokens.ahead() else {
+        return Err(unexpected(tokens));
     };
     if !same(token.kind, kind) {
-        return Err(unexpected(tokens, at));
+        return Err(unexpected(tokens));
     }
-    Ok(&token.lex)
+    Ok(token.lex)
 }

@@ -17,8 +17,7 @@ pub struct ParseMessage<'a> {
     fault: ParseFault,
     text: &'a str,
     grammar: &'a Grammar,
-    tokens: Vec<Token>,
-    index: usize,
+    found: Option<&'a str>,
     expected: Vec<Ahead>,
 }
 
@@ -37,8 +36,7 @@ impl<'a> ParseMessage<'a> {
             fault,
             text: front_of(sentence),
             grammar,
-            tokens: Vec::new(alloc),
-            index: 0,
+            found: None,
             expected: Vec::new(alloc),
         };
         if let ParseFault::Unexpected(_) = fault {
@@ -52,25 +50,23 @@ impl<'a> ParseMessage<'a> {
     /// memory.
     fn look(&mut self, alloc: Global, tables: &Tables, sentence: &[u8]) -> Option<()> {
         let tokens = scan(alloc, self.grammar, sentence).ok()?;
-        let stuck = expected_at(alloc, self.grammar, tables, tokens.as_slice()).ok()?;
-        self.index = stuck.index;
+        let stuck = expected_at(alloc, self.grammar, tables, &tokens).ok()?;
         self.expected = stuck.expected;
-        self.tokens = tokens;
+        self.found = as_it_stands(self.text, stuck.found?);
         Some(())
     }
+}
 
-    /// What can't be taken: a token as it stands in the sentence, a TEXT with its quotes. None at the
-    /// sentence's end.
-    fn found(&self) -> Option<&str> {
-        let token = self.tokens.get(self.index)?;
-        let lex = token.lex.as_str();
-        let length = match token.kind {
-            Terminal::Class(number) if class_name(number) == "TEXT" => lex.len().saturating_add(2),
-            _ => lex.len(),
-        };
-        let at = token.at as usize;
-        Some(self.text.get(at..at.saturating_add(length)).unwrap_or(lex))
-    }
+/// A token as it stands in the text of a sentence, a TEXT with its quotes.
+fn as_it_stands<'a>(text: &'a str, token: Token<'_>) -> Option<&'a str> {
+    let length = match token.kind {
+        Terminal::Class(number) if class_name(number) == "TEXT" => {
+            token.lex.len().saturating_add(2)
+        }
+        _ => token.lex.len(),
+    };
+    let at = token.at as usize;
+    text.get(at..at.saturating_add(length))
 }
 
 impl fmt::Display for ParseMessage<'_> {
@@ -82,7 +78,7 @@ impl fmt::Display for ParseMessage<'_> {
                     return Ok(());
                 }
                 write!(f, ": found ")?;
-                tell_found(f, self.found())?;
+                tell_found(f, self.found)?;
                 write!(f, ", where only ")?;
                 tell_aheads(f, self.grammar, self.expected.as_slice())?;
                 write!(f, " can stand")

@@ -24,7 +24,7 @@ fn told(alloc: Global, call: u64) -> Result<String, Fail> {
         alloc,
         &grammar,
         &tables,
-        tokens.as_slice(),
+        &tokens,
         &mut device,
         &mut writer,
     );

@@ -1,25 +1,25 @@
-use Rattle.std.proofs.Common.{◌+◌, ◌∷◌, drop, length, refl, sym, ap, subst, ◌∙◌}
+use Rattle.std.proofs.Common.{◌+◌, ◌∷◌, drop, sym, ap, subst, ◌∙◌}
 use Rattle.std.proofs.lemmas.Bool.{false≢true}
-use Rattle.std.proofs.lemmas.Option.{slice_get_read}
+use Rattle.ag_scan.specs.Handed.{token_of}
 use Rattle.ag_scan.specs.Tokens.{IsTokenOf}
 use Rattle.llparse.specs.Sentences.{words_of}
-use Rattle.llparse.proofs.Nexts.{next_is, other_next}
+use Rattle.llparse.proofs.Nexts.{next_is, none_is, other_next, is_left}
 use Rattle.llparse.proofs.tokens.expect.Goals as goal
+
+pub returns-in_default-clause-other : goal.returns-in_default-clause-other
+returns-in_default-clause-other c = none_is c.args.tokens.now.list c.args.tokens.now.taken c.args.kind (sym c.in_default.ensures)
 
 pub returns-then-not-same-clause-other : goal.returns-then-not-same-clause-other
 returns-then-not-same-clause-other c =
-    let h = c.in-Some.ensures.lookup in
-    let there = slice_get_read c.args.tokens.now (length c.args.tokens.now) c.args.at c.in-Some.token.now refl h.3.0 h.1 in
-    other_next c.args.tokens.now c.args.at c.in-Some.token.now c.args.kind there (λ same. false≢true (sym c.if-not-same.true ∙ c.same.ensures.1 same))
+    other_next c.args.tokens.now.list c.args.tokens.now.taken (token_of c.in-Some.token) c.args.kind (sym c.in-Some.ensures) (λ same. false≢true (sym c.if-not-same.true ∙ c.same.ensures.1 same))
 
 pub returns-clause-taken : goal.returns-clause-taken
 returns-clause-taken c =
-    let h = c.in-Some.ensures.lookup in
-    let there = slice_get_read c.args.tokens.now (length c.args.tokens.now) c.args.at c.in-Some.token.now refl h.3.0 h.1 in
-    next_is c.args.tokens.now c.args.at c.in-Some.token.now there ∙ ap (λ x. (x, c.in-Some.token.now.lex) ∷ drop (c.args.at + 1) (words_of c.args.tokens.now)) (c.same.ensures.0 c.if-not-same.false)
+    next_is c.args.tokens.now.list c.args.tokens.now.taken (token_of c.in-Some.token) (sym c.in-Some.ensures)
+    ∙ ap (λ x. (x, c.in-Some.token.lex.now) ∷ drop (c.args.tokens.now.taken + 1) (words_of c.args.tokens.now.list)) (c.same.ensures.0 c.if-not-same.false)
+
+pub returns-clause-within : goal.returns-clause-within
+returns-clause-within c = is_left c.args.tokens.now.list c.args.tokens.now.taken (token_of c.in-Some.token) (sym c.in-Some.ensures)
 
 pub returns-clause-fits : goal.returns-clause-fits
-returns-clause-fits c = λ v all.
-    let h = c.in-Some.ensures.lookup in
-    let there = slice_get_read c.args.tokens.now (length c.args.tokens.now) c.args.at c.in-Some.token.now refl h.3.0 h.1 in
-    subst (λ x. IsTokenOf v x c.in-Some.token.now.lex) (c.same.ensures.0 c.if-not-same.false) (all c.args.at c.in-Some.token.now there)
+returns-clause-fits c = λ v all. subst (λ x. IsTokenOf v x c.in-Some.token.lex.now) (c.same.ensures.0 c.if-not-same.false) (all c.args.tokens.now.taken (token_of c.in-Some.token) (sym c.in-Some.ensures))

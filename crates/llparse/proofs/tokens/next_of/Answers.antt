@@ -1,11 +1,11 @@
-use Rattle.std.proofs.Common.{length, refl, sym, ap}
-use Rattle.std.proofs.lemmas.Option.{slice_get_read}
+use Rattle.std.proofs.Common.{sym, ap}
+use Rattle.ag_scan.specs.Handed.{token_of}
 use Rattle.llparse.specs.Ahead.{ahead_of}
-use Rattle.llparse.proofs.Nexts.{next_is}
+use Rattle.llparse.proofs.Nexts.{next_is, no_next}
 use Rattle.llparse.proofs.tokens.next_of.Goals as goal
 
 pub returns-in-Some : goal.returns-in-Some
-returns-in-Some c =
-    let h = c.in-Some.ensures.lookup in
-    let there = slice_get_read c.args.tokens.now (length c.args.tokens.now) c.args.at c.in-Some.token.now refl h.3.0 h.1 in
-    sym (ap ahead_of (next_is c.args.tokens.now c.args.at c.in-Some.token.now there))
+returns-in-Some c = sym (ap ahead_of (next_is c.args.tokens.now.list c.args.tokens.now.taken (token_of c.in-Some.token) (sym c.in-Some.ensures)))
+
+pub returns-in-None : goal.returns-in-None
+returns-in-None c = sym (ap ahead_of (no_next c.args.tokens.now.list c.args.tokens.now.taken (sym c.in-None.ensures)))

@@ -1,7 +1,5 @@
 use Rattle.std.proofs.Common.{Err, ap, inr, refl, sym, ◌∙◌}
 use Rattle.std.proofs.lemmas.Result.{err_from_is_err_and}
-use Rattle.ag_scan.specs.Tokens.{AreTokensOf}
-use Rattle.ag_scan.specs.Words.{vocabulary_of}
 use Rattle.treefile.proofs.Beginning.{not_begun}
 use Rattle.aggen.specs.Sentences.{IsTreeOfSentence}
 use Rattle.aggen.proofs.Sentences.{one_of, parse_told, scan_told, with_tokens}
@@ -24,19 +22,19 @@ returns-clause-one g c = rw (sym c.self.view_is) (one_of _ c.self.invariant.0 _ 
 pub returns-clause-limits : goal.returns-clause-limits
 returns-clause-limits g c = λ t is.
     let i : IsTreeOfSentence c.self.inside.grammar c.args.sentence.now t = rw c.self.view_is is in
-    let cut : AreTokensOf (vocabulary_of c.self.inside.grammar) c.args.sentence.now c.as_slice.result.now = rw c.as_slice.ensures.value c.in_ok-tokens.ensures.tokens in
+    let cut = c.in_ok-tokens.ensures.tokens in
     c.in_ok-count.ensures.limits t (with_tokens _ c.self.invariant.0 c.args.sentence.now _ cut t i)
 
 pub returns-clause-count : goal.returns-clause-count
 returns-clause-count g c = λ t is.
     let i : IsTreeOfSentence c.self.inside.grammar c.args.sentence.now t = rw c.self.view_is is in
-    let cut : AreTokensOf (vocabulary_of c.self.inside.grammar) c.args.sentence.now c.as_slice.result.now = rw c.as_slice.ensures.value c.in_ok-tokens.ensures.tokens in
+    let cut = c.in_ok-tokens.ensures.tokens in
     c.in_ok-count.ensures.count t (with_tokens _ c.self.invariant.0 c.args.sentence.now _ cut t i)
 
 pub returns-clause-file : goal.returns-clause-file
 returns-clause-file g c = λ t is.
     let i : IsTreeOfSentence c.self.inside.grammar c.args.sentence.now t = rw c.self.view_is is in
-    let cut : AreTokensOf (vocabulary_of c.self.inside.grammar) c.args.sentence.now c.as_slice.result.now = rw c.as_slice.ensures.value c.in_ok-tokens.ensures.tokens in
+    let cut = c.in_ok-tokens.ensures.tokens in
     let h = c.in_ok-count.ensures.file t (with_tokens _ c.self.invariant.0 c.args.sentence.now _ cut t i) in
     let b = c.begin.ensures.persists in
     rw (sym c.self.view_is) (λ honest. h (b.honest ∙ honest))
@@ -50,7 +48,7 @@ returns-in_err-tokens-clause-refused g c =
 pub returns-in_err-count-clause-refused : goal.returns-in_err-count-clause-refused
 returns-in_err-count-clause-refused g c =
     let p = err_from_is_err_and c.from_residual-in_err-count.result c.from_residual-in_err-count.ensures.1 in
-    let cut : AreTokensOf (vocabulary_of c.self.inside.grammar) c.args.sentence.now c.as_slice.result.now = rw c.as_slice.ensures.value c.in_ok-tokens.ensures.tokens in
+    let cut = c.in_ok-tokens.ensures.tokens in
     let e = c.in_err-count.ensures in
     rw (p.1, p.2, sym c.self.view_is) (parse_told _ c.self.invariant.0 c.args.sentence.now _ cut (Err c.in_err-count.field-0.0) c.in_err-count.field-0.0 refl e.unexpected e.none e.deep e.large)
 

@@ -1,0 +1,194 @@
+-- The plain functions cut the words and the tokens that the definitions say.
+use Rattle.std.proofs.Common.{◌≡◌, ℕ, zero, suc, ◌+◌, ◌-◌, ◌<◌, ◌≤◌, Bool, true, false, cond, nat_eq, nat_lt, List, [], ◌∷◌, ◌++◌, length, take, drop, Option, Some, None, MatchOption, slice_get, chars, encode_utf8_all, refl, ap, sym, ◌∙◌, subst, arith}
+use Rattle.std.proofs.lemmas.List.{length-append, length-take-le, take-append-drop}
+use Rattle.std.proofs.Math.Seq.{take-append_seam}
+use Rattle.std.specs.Bool.{MatchBool}
+use Rattle.std.specs.Cmp.Lexicographic.{pointwise, told_text}
+use Rattle.std.specs.List.{prefix_len}
+use Rattle.ag_grammar.specs.Lists.{Has}
+use Rattle.ag_grammar.specs.declared.grammar.Terminal.{Terminal}
+use Rattle.ag_grammar.specs.declared.grammar.Terminal.TheVariants.{Literal}
+use Rattle.ag_tokens.specs.Left.{unspaced}
+use Rattle.ag_tokens.specs.Tokens.{is_separator, width}
+use Rattle.ag_tokens.proofs.Lexed.{width-append, width-chars, separator_width}
+use Rattle.ag_scan.specs.Cutting.{Front, CutsLiteral, CutsToken, class_from, number_from, literal_or, literal_within, longer_of, word_from, tokens_from, tokens_in}
+use Rattle.ag_scan.specs.Handed.{HasTokens}
+use Rattle.ag_scan.specs.Tokens.{Token, AreTokens, ended, separator, word, AreTokensOf}
+use Rattle.ag_scan.specs.Words.{Vocabulary, HasNoEmpty, IsClean, IsLiteral, IsAnyWord, BeginsNone, IsLongest, IsToken}
+use Rattle.ag_scan.proofs.Choosing.{no_word, class_alone, literal_alone, class_wins, literal_wins, told_shorter, told_not}
+use Rattle.ag_scan.proofs.ClassWords.{class_cut, class_none}
+use Rattle.ag_scan.proofs.Listing.{word_some, length_width}
+use Rattle.ag_scan.proofs.OneAnswer.{one_token, no_word_there}
+use Rattle.ag_scan.proofs.Tables.{compared}
+
+-- ---- the word in front
+
+-- a literal's number is found where there is one
+numbered : (n : ℕ) (xs : List (List ℕ)) (x : List ℕ) → MatchOption (number_from n xs x) (Has xs x → ⊥) (λ l. (i : ℕ) × (l ≡ n + i) × (slice_get xs i ≡ Some x))
+numbered n [] x = λ h. (let e = h.1 in cc)
+numbered n (y ∷ ys) x = go (pointwise nat_eq y x) (told_text y x (pointwise nat_eq y x) refl) (number_from (n + 1) ys x) (numbered (n + 1) ys x)
+  where
+    other : (y ≡ x → ⊥) → (Has ys x → ⊥) → (i : ℕ) → slice_get (y ∷ ys) i ≡ Some x → ⊥
+    other apart none zero e = let same : y ≡ x = cc in apart same
+    other apart none (suc i) e = none (i, e)
+
+    go : (b : Bool) → MatchBool b (y ≡ x) (y ≡ x → ⊥) → (o : Option ℕ) → MatchOption o (Has ys x → ⊥) (λ l. (i : ℕ) × (l ≡ (n + 1) + i) × (slice_get ys i ≡ Some x))
+        → MatchOption (cond b (Some n) o) (Has (y ∷ ys) x → ⊥) (λ l. (i : ℕ) × (l ≡ n + i) × (slice_get (y ∷ ys) i ≡ Some x))
+    go true same o more = (0, omega arith, ap Some same)
+    go false apart None none = λ h. other apart none h.0 h.1
+    go false apart (Some l) (i, e, at) = (suc i, omega arith, at)
+
+-- no front of more than n characters is a literal
+abbrev NoneLonger : List (List ℕ) → List ℕ → ℕ → Type 0
+NoneLonger literals cs n = (w more : List ℕ) → cs ≡ w ++ more → n < length w → IsLiteral literals w → ⊥
+
+front_of_length : (cs w more : List ℕ) → cs ≡ w ++ more → take (length w) cs ≡ w
+front_of_length cs w more split = ap (take (length w)) split ∙ take-append_seam w more
+
+-- what is looked for: the longest literal in front, or that there is none
+abbrev IsLiteralIn : List (List ℕ) → List ℕ → Option Front → Type 0
+IsLiteralIn literals cs o = MatchOption o (BeginsNone (IsLiteral literals) cs) (λ f. CutsLiteral literals cs f)
+
+module _ (literals : List (List ℕ)) (cs : List ℕ) where
+  found : (n l : ℕ) → n ≤ length cs → NoneLonger literals cs n → slice_get literals l ≡ Some (encode_utf8_all (take n cs)) → CutsLiteral literals cs (record { kind = Literal l; lex = encode_utf8_all (take n cs); rest = drop n cs })
+  found n l within none there = record { number = l; word = take n cs; kind = refl; split = sym (take-append-drop n cs); there = there; text = refl; longest = longest }
+    where
+      longest : IsLongest (IsLiteral literals) (take n cs) (drop n cs)
+      longest longer more same is =
+          let len = length-take-le n cs within in
+          compared (length longer) n (λ less. omega arith) (λ equal. omega arith) (λ far. absurd (none longer more (sym (take-append-drop n cs) ∙ same) far is))
+
+  -- where the first n characters are no literal, no front of as many or more is one
+  none_from : (n : ℕ) → (Has literals (encode_utf8_all (take n cs)) → ⊥) → NoneLonger literals cs n → (w more : List ℕ) → cs ≡ w ++ more → n ≤ length w → IsLiteral literals w → ⊥
+  none_from n not none w more split le is = compared (length w) n
+      (λ less. (let bad : ⊥ = omega arith in bad))
+      (λ same. not (subst (λ x. Has literals (encode_utf8_all x)) (sym (front_of_length cs w more split) ∙ ap (λ k. take k cs) same) is))
+      (λ far. none w more split far is)
+
+  or_else : (n : ℕ) → n ≤ length cs → NoneLonger literals cs n → (other : Option Front) → ((Has literals (encode_utf8_all (take n cs)) → ⊥) → IsLiteralIn literals cs other) → IsLiteralIn literals cs (literal_or literals cs n other)
+  or_else n within none other more = go (number_from 0 literals (encode_utf8_all (take n cs))) (numbered 0 literals (encode_utf8_all (take n cs)))
+    where
+      go : (o : Option ℕ) → MatchOption o (Has literals (encode_utf8_all (take n cs)) → ⊥) (λ l. (i : ℕ) × (l ≡ 0 + i) × (slice_get literals i ≡ Some (encode_utf8_all (take n cs))))
+          → IsLiteralIn literals cs (elim o [ Some l ↦ Some (record { kind = Literal l; lex = encode_utf8_all (take n cs); rest = drop n cs }) | None ↦ other ])
+      go None not = more not
+      go (Some l) (i, e, at) = let same : i ≡ l = omega (arith, e) in found n l within none (subst (λ k. slice_get literals k ≡ Some (encode_utf8_all (take n cs))) same at)
+
+  literal_is : (n : ℕ) → n ≤ length cs → NoneLonger literals cs n → IsLiteralIn literals cs (literal_within literals cs n)
+  literal_is zero within none = or_else zero within none None (λ not w more split is. none_from zero not none w more split (omega arith) is)
+  literal_is (suc n) within none = or_else (suc n) within none (literal_within literals cs n) (λ not. literal_is n (omega arith) (λ w more split far is. none_from (suc n) not none w more split (omega arith) is))
+
+-- what is cut is the token in front, and nothing where no word is
+abbrev pub IsWordIn : Vocabulary → List ℕ → Option Front → Type 0
+IsWordIn v cs o = MatchOption o (BeginsNone (IsAnyWord v) cs) (λ f. CutsToken v cs f)
+
+pub word_is : (v : Vocabulary) (cs : List ℕ) → IsWordIn v cs (word_from v cs)
+word_is v cs = go (literal_within v.literals cs (length cs)) (literal_is v.literals cs (length cs) (omega arith) too_long) (class_from v.classes cs) refl
+  where
+    too_long : NoneLonger v.literals cs (length cs)
+    too_long w more split far is = let bad : ⊥ = omega (arith, ap length split, length-append w more) in bad
+
+    both : (f g : Front) → CutsLiteral v.literals cs f → class_from v.classes cs ≡ Some g → (b : Bool) → nat_lt (width g.rest) (width f.rest) ≡ b → IsWordIn v cs (cond b (Some g) (Some f))
+    both f g literal e true h = class_wins v.literals v.classes cs f g literal (class_cut v.classes cs g e) (told_shorter (width g.rest) (width f.rest) (sym h))
+    both f g literal e false h = literal_wins v.literals v.classes cs f g literal (class_cut v.classes cs g e) (told_not (width g.rest) (width f.rest) (sym h))
+
+    go : (a : Option Front) → IsLiteralIn v.literals cs a → (b : Option Front) → class_from v.classes cs ≡ b → IsWordIn v cs (longer_of a b)
+    go None none None e = no_word v.literals v.classes cs none (class_none v.classes cs e)
+    go None none (Some g) e = class_alone v.literals v.classes cs g none (class_cut v.classes cs g e)
+    go (Some f) literal None e = literal_alone v.literals v.classes cs f literal (class_none v.classes cs e)
+    go (Some f) literal (Some g) e = both f g literal e (nat_lt (width g.rest) (width f.rest)) refl
+
+-- ---- the tokens of a text
+
+-- each token has a character
+fewer : {v : Vocabulary} {at : ℕ} {cs : List ℕ} {ts : List Token} {end : ℕ} {rest : List ℕ} → HasNoEmpty v.literals → AreTokens v at cs ts end rest → length ts ≤ length cs
+fewer some (ended at cs) = omega arith
+fewer some (separator at c cs ts end rest h are) = let n = fewer some are in omega arith
+fewer some (word at whole w cs lex t ts end rest split is are) =
+    let n = fewer some are in
+    let m = word_some _ t w lex some is.is in
+    omega (arith, ap length split, length-append w cs)
+
+-- tokens are as wide as the characters that they stand for
+pub as_wide : {v : Vocabulary} {at : ℕ} {cs : List ℕ} {ts : List Token} {end : ℕ} {rest : List ℕ} → AreTokens v at cs ts end rest → at + width cs ≡ end + width rest
+as_wide (ended at cs) = refl
+as_wide (separator at c cs ts end rest h are) = let one = separator_width c h in let more = as_wide are in omega arith
+as_wide (word at whole w cs lex t ts end rest split is are) = let more = as_wide are in omega (arith, ap width split, width-append w cs)
+
+-- The tokens up to the end of a text begin with the word in front of it, behind the separators there.
+abbrev pub BeginWith : Vocabulary → ℕ → List ℕ → List Token → ℕ → Option Front → Type 0
+BeginWith v at cs ts end None = ts ≡ []
+BeginWith v at cs ts end (Some f) =
+    (more : List Token) × (ts ≡ record { kind = f.kind; lex = f.lex; at = at + prefix_len is_separator cs } ∷ more) × (width f.rest ≤ width cs) × AreTokens v (at + (width cs - width f.rest)) f.rest more end []
+
+module _ (v : Vocabulary) (clean : IsClean v) where
+  separators : (c : ℕ) (cs : List ℕ) → is_separator c ≡ true → prefix_len is_separator (c ∷ cs) ≡ suc (prefix_len is_separator cs)
+  separators c cs h = rw h (omega arith)
+
+  no_separators : (cs : List ℕ) (t : Terminal) (lex w rest : List ℕ) → cs ≡ w ++ rest → IsToken v t lex w rest → prefix_len is_separator cs ≡ 0
+  no_separators [] t lex w rest split is = refl
+  no_separators (c ∷ cs) t lex w rest split is = go (is_separator c) refl
+    where
+      go : (b : Bool) → is_separator c ≡ b → prefix_len is_separator (c ∷ cs) ≡ 0
+      go true h = absurd (no_word_there v clean c cs h t lex w rest split is)
+      go false h = rw h refl
+
+  pub begin_with : {at : ℕ} {cs : List ℕ} {ts : List Token} {end : ℕ} {rest : List ℕ} → AreTokens v at cs ts end rest → rest ≡ [] → (o : Option Front) → IsWordIn v (unspaced cs) o → BeginWith v at cs ts end o
+  begin_with (ended at cs) e None is = refl
+  begin_with (ended at cs) e (Some f) is =
+      let some = word_some v f.kind is.word f.lex clean.some is.token.is in
+      let none : unspaced cs ≡ [] = ap unspaced e in
+      let bad : ⊥ = omega (arith, ap length (sym none ∙ is.split), length-append is.word f.rest) in
+      absurd bad
+  begin_with (separator at c cs ts end rest h are) e o is = go o (begin_with are e o (subst (λ xs. IsWordIn v xs o) same is))
+    where
+      same : unspaced (c ∷ cs) ≡ unspaced cs
+      same = ap (λ n. drop n (c ∷ cs)) (separators c cs h)
+
+      go : (o : Option Front) → BeginWith v (at + 1) cs ts end o → BeginWith v at (c ∷ cs) ts end o
+      go None none = none
+      go (Some f) (more, first, narrow, behind) =
+          let one = separator_width c h in
+          let n : (at + 1) + prefix_len is_separator cs ≡ at + prefix_len is_separator (c ∷ cs) = omega (arith, separators c cs h) in
+          let m : (at + 1) + (width cs - width f.rest) ≡ at + (width (c ∷ cs) - width f.rest) = omega arith in
+          (more, first ∙ ap (λ k. record { kind = f.kind; lex = f.lex; at = k } ∷ more) n, omega arith, subst (λ k. AreTokens v k f.rest more end []) m behind)
+  begin_with (word at cs w behind lex t ts end rest split token are) e o is = go o (subst (λ n. IsWordIn v (drop n cs) o) none is)
+    where
+      none : prefix_len is_separator cs ≡ 0
+      none = no_separators cs t lex w behind split token
+
+      go : (o : Option Front) → IsWordIn v cs o → BeginWith v at cs (record { kind = t; lex = lex; at = at } ∷ ts) end o
+      go None no_word = absurd (no_word w behind split (t, lex, token.is))
+      go (Some f) cut =
+          let same = one_token v clean t f.kind lex f.lex w cut.word behind f.rest token cut.token (sym split ∙ cut.split) in
+          let wide : width cs ≡ width w + width behind = ap width split ∙ width-append w behind in
+          let rests = ap width same.rests in
+          let n : at ≡ at + prefix_len is_separator cs = omega (arith, none) in
+          let m : at + width w ≡ at + (width cs - width f.rest) = omega arith in
+          (ts, (λ i. record { kind = same.kinds i; lex = same.texts i; at = n i } ∷ ts), omega arith,
+          subst (λ xs. AreTokens v (at + (width cs - width f.rest)) xs ts end []) same.rests (subst (λ xs. AreTokens v (at + (width cs - width f.rest)) behind ts end xs) e (subst (λ k. AreTokens v k behind ts end rest) m are)))
+
+  agrees : (n at : ℕ) (cs : List ℕ) (ts : List Token) (end : ℕ) → AreTokens v at cs ts end [] → length ts ≤ n → tokens_from v n at cs ≡ ts
+  agrees zero at cs [] end are few = refl
+  agrees zero at cs (t ∷ ts) end are few = let bad : ⊥ = omega arith in absurd bad
+  agrees (suc n) at cs ts end are few = go (word_from v (unspaced cs)) (begin_with are refl (word_from v (unspaced cs)) (word_is v (unspaced cs))) (agrees n)
+    where
+      go : (o : Option Front) → BeginWith v at cs ts end o → ((at : ℕ) (cs : List ℕ) (ts : List Token) (end : ℕ) → AreTokens v at cs ts end [] → length ts ≤ n → tokens_from v n at cs ≡ ts)
+          → elim o [ Some f ↦ record { kind = f.kind; lex = f.lex; at = at + prefix_len is_separator cs } ∷ tokens_from v n (at + (width cs - width f.rest)) f.rest | None ↦ [] ] ≡ ts
+      go None none recur = sym none
+      go (Some f) (more, first, narrow, behind) recur =
+          ap (λ us. record { kind = f.kind; lex = f.lex; at = at + prefix_len is_separator cs } ∷ us) (recur (at + (width cs - width f.rest)) f.rest more end behind (omega (arith, ap length first))) ∙ sym first
+
+  -- there are no more tokens than bytes
+  few : (text : List ℕ) (ts : List Token) → AreTokensOf v text ts → length ts ≤ length text
+  few text ts is =
+      let some = fewer clean.some is.tokens.are in
+      let wide = length_width (chars text) in
+      let bytes = width-chars text is.readable.utf8 in
+      omega arith
+
+  -- the tokens of a text are those that are cut
+  pub are_cut : (text : List ℕ) (ts : List Token) → AreTokensOf v text ts → tokens_in v text ≡ ts
+  are_cut text ts is = agrees (length text) 0 (chars text) ts (length text) is.tokens.are (few text ts is)
+
+pub few_tokens : (v : Vocabulary) (text : List ℕ) → HasTokens v text → length (tokens_in v text) ≤ length text
+few_tokens v text has = few v has.clean text (tokens_in v text) has.tokens

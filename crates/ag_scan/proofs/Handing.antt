@@ -1,0 +1,102 @@
+-- Tokens that are handed out one by one are those of the text.
+use Rattle.std.proofs.Common.{◌≡◌, ℕ, zero, suc, ◌+◌, ◌-◌, ◌≤◌, List, [], ◌∷◌, length, drop, Option, Some, None, IsUtf8, slice_get, chars, option_map, refl, ap, sym, ◌∙◌, subst, arith}
+use Rattle.std.specs.List.{prefix_len}
+use Rattle.ag_tokens.specs.Left.{unspaced}
+use Rattle.ag_tokens.specs.Tokens.{is_separator, width}
+use Rattle.ag_tokens.proofs.Lexed.{width-chars, spaces}
+use Rattle.ag_scan.specs.Cutting.{Front, front_of, tokens_in}
+use Rattle.ag_scan.specs.declared.front.Front as lent
+use Rattle.ag_scan.specs.Handed.{HasTokens, IsFrontOf, IsLookedAt, IsAt, last_offset, offset_at}
+use Rattle.ag_scan.specs.Tokens.{Token, AreTokens}
+use Rattle.ag_scan.specs.Words.{Vocabulary}
+use Rattle.ag_scan.proofs.Cut.{IsWordIn, BeginWith, begin_with, few_tokens}
+use Rattle.ag_scan.proofs.Lefts.{behind, there, ended}
+
+-- what stands behind separators is no longer
+pub no_longer : (behind left : List ℕ) → IsUtf8 behind → IsUtf8 left → chars left ≡ unspaced (chars behind) → length left ≤ length behind
+no_longer behind left utf8 utf8' is =
+    let w = width-chars behind utf8 in
+    let w' : width (unspaced (chars behind)) ≡ length left = ap width (sym is) ∙ width-chars left utf8' in
+    let s = spaces (chars behind) in
+    omega arith
+
+-- the word that is cut behind separators is in front of the tokens that stand there
+pub front_told : (v : Vocabulary) (text behind left : List ℕ) → HasTokens v text → length behind ≤ length text → IsUtf8 behind → IsUtf8 left → chars left ≡ unspaced (chars behind) → (o : Option Front) → IsWordIn v (chars left) o
+    → (ts : List Token) → AreTokens v (length text - length behind) (chars behind) ts (length text) [] → IsFrontOf v (length text) ts o (length text - length left)
+front_told v text behind left has within utf8 utf8' is o cut ts are = go o (begin_with v has.clean are refl o (subst (λ cs. IsWordIn v cs o) is cut))
+  where
+    go : (o : Option Front) → BeginWith v (length text - length behind) (chars behind) ts (length text) o → IsFrontOf v (length text) ts o (length text - length left)
+    go None none = none
+    go (Some f) (more, first, narrow, after) =
+        let w = width-chars behind utf8 in
+        let w' : width (unspaced (chars behind)) ≡ length left = ap width (sym is) ∙ width-chars left utf8' in
+        let s = spaces (chars behind) in
+        let at : (length text - length behind) + prefix_len is_separator (chars behind) ≡ length text - length left = omega arith in
+        let end : (length text - length behind) + (width (chars behind) - width f.rest) ≡ length text - width f.rest = omega arith in
+        (more, first ∙ ap (λ n. record { kind = f.kind; lex = f.lex; at = n } ∷ more) at, omega arith, subst (λ n. AreTokens v n f.rest more (length text) []) end after)
+
+-- ---- offsets
+
+offset_there : (ts : List Token) (i : ℕ) (t : Token) → slice_get ts i ≡ Some t → offset_at ts i ≡ t.at
+offset_there ts i t e = rw (e, offset_at) refl
+
+offset_past : (ts : List Token) (i : ℕ) → slice_get ts i ≡ None → offset_at ts i ≡ last_offset ts
+offset_past ts i e = rw (e, offset_at) refl
+
+last_is : (ts : List Token) (i : ℕ) (t : Token) → drop i ts ≡ t ∷ [] → last_offset ts ≡ t.at
+last_is ts zero t e = ap last_offset e
+last_is [] (suc i) t e = absurd (cc)
+last_is (u ∷ []) (suc zero) t e = absurd (cc)
+last_is (u ∷ []) (suc (suc i)) t e = absurd (cc)
+last_is (u ∷ w ∷ ts) (suc i) t e = last_is (w ∷ ts) i t e
+
+-- the offset of the token in front, or of the last one
+place_told : (v : Vocabulary) (end : ℕ) (ts : List Token) (i at : ℕ) (o : Option Front) → IsFrontOf v end (drop i ts) o at → (o ≡ None → at ≡ last_offset ts) → at ≡ offset_at ts i
+place_told v end ts i at None none last = last refl ∙ sym (offset_past ts i (ended ts i none).0)
+place_told v end ts i at (Some f) (more, first, narrow, are) last = sym (offset_there ts i _ (there ts i _ more first))
+
+module _ (v : Vocabulary) (text : List ℕ) (has : HasTokens v text) where
+  ts : List Token
+  ts = tokens_in v text
+
+  -- at the front of a text
+  pub begins : (o : Option Front) (at : ℕ) → IsLookedAt v text text o at → (o ≡ None → at ≡ 0) → IsAt v text 0 o at
+  begins o at told end =
+      let none : 0 ≡ length text - length text = omega arith in
+      let left = told (tokens_in v text) (subst (λ n. AreTokens v n (chars text) (tokens_in v text) (length text) []) none has.tokens.tokens.are) in
+      record { has = has; within = omega arith; left = left; place = place_told v (length text) (tokens_in v text) 0 at o left (last o left end) }
+    where
+      last : (o : Option Front) → IsFrontOf v (length text) (tokens_in v text) o at → (o ≡ None → at ≡ 0) → o ≡ None → at ≡ last_offset (tokens_in v text)
+      last None none end e = end e ∙ sym (ap last_offset none)
+      last (Some f) is end e = absurd (cc)
+
+  -- behind the token in front
+  pub goes_on : (i : ℕ) (f : Front) (at : ℕ) (rest : List ℕ) → IsAt v text i (Some f) at → f.rest ≡ chars rest → IsUtf8 rest → (o : Option Front) (next : ℕ)
+      → IsLookedAt v text rest o next → (o ≡ None → next ≡ at) → IsAt v text (i + 1) o next
+  goes_on i f at rest is same utf8 o next told end =
+      let (more, first, narrow, are) = is.left in
+      let w : width f.rest ≡ length rest = ap width same ∙ width-chars rest utf8 in
+      let stand = subst (λ n. AreTokens v (length text - n) (chars rest) more (length text) []) w (subst (λ cs. AreTokens v (length text - width f.rest) cs more (length text) []) same are) in
+      let after = behind (tokens_in v text) i _ more first in
+      let left = subst (λ us. IsFrontOf v (length text) us o next) (sym after.0) (told more stand) in
+      record { has = has; within = after.1; left = left; place = place_told v (length text) (tokens_in v text) (i + 1) next o left (last o more first (told more stand) end) }
+    where
+      last : (o : Option Front) (more : List Token) → drop i (tokens_in v text) ≡ record { kind = f.kind; lex = f.lex; at = at } ∷ more → IsFrontOf v (length text) more o next → (o ≡ None → next ≡ at) → o ≡ None → next ≡ last_offset (tokens_in v text)
+      last None more first none end e = end e ∙ sym (last_is (tokens_in v text) i _ (first ∙ ap (λ us. record { kind = f.kind; lex = f.lex; at = at } ∷ us) none))
+      last (Some g) more first is end e = absurd (cc)
+
+-- the token in front is the one of that index
+pub is_next : (v : Vocabulary) (text : List ℕ) (i at : ℕ) (f : Front) → IsAt v text i (Some f) at → slice_get (tokens_in v text) i ≡ Some (record { kind = f.kind; lex = f.lex; at = at })
+is_next v text i at f is = let (more, first, narrow, are) = is.left in there (tokens_in v text) i _ more first
+
+pub none_next : (v : Vocabulary) (text : List ℕ) (i at : ℕ) → IsAt v text i None at → (slice_get (tokens_in v text) i ≡ None) × (length (tokens_in v text) ≤ i)
+none_next v text i at is = ended (tokens_in v text) i is.left
+
+-- so many tokens can be counted
+pub counted : (v : Vocabulary) (text : List ℕ) (i at : ℕ) (o : Option Front) → IsAt v text i o at → (length text ≤ 1048576) × (i ≤ length text)
+counted v text i at o is = let few = few_tokens v text is.has in (is.has.tokens.readable.short, omega (arith, is.within))
+
+-- no front is seen where none is lent
+pub none_there : (o : Option lent.Front) → option_map (λ f. front_of f) o ≡ None → o ≡ None
+none_there None e = refl
+none_there (Some f) e = absurd (cc)

@@ -1,0 +1,91 @@
+//! The token in front of a text: the longest word that stands there.
+
+ghost use Rattle.std.specs.Prelude.{◌≡◌, ◌++◌, nat_lt, chars, encode_utf8_all};
+ghost use Rattle.std.specs.Prelude.{IfOk, IfErr, MatchOption};
+ghost use Rattle.ag_tokens.specs.Tokens.{width};
+ghost use Rattle.ag_scan.specs.Cutting.{CutsLiteral, CutsToken, front_of};
+ghost use Rattle.ag_scan.specs.Table.{IsFront};
+ghost use Rattle.ag_scan.specs.Tokens.{IsStopped, TakesToken, Token};
+ghost use Rattle.ag_scan.specs.Words.{BeginsNone, IsAnyWord, IsLiteral, over};
+
+use crate::fault::ScanFault;
+use crate::front::{Front, class_in_front};
+use crate::literals::Literals;
+use ag_grammar::Terminal;
+use ag_grammar::limits::MOST_TOKEN_BYTES;
+
+/// What stands in a text behind a word in front.
+fn split_word<'t>(text: &'t str, word: &str) -> (&'t str, &'t str)
+    requires { IsFront word.now text.now }
+    ensures word { chars result.0.now ≡ chars word.now }
+    ensures text { result.0.now ≡ word.now }
+    ensures split { chars text.now ≡ chars word.now ++ chars result.1.now }
+    ensures encoded { encode_utf8_all (chars word.now) ≡ word.now }
+{
+    text.split_at(word.len())
+}
+
+/// The longest literal at the front.
+fn literal_in_front<'t>(literals: &Literals<'_>, text: &'t str) -> Option<Front<'t>>
+    ensures { MatchOption result (BeginsNone (IsLiteral literals.now) (chars text.now))
+        (λ f. CutsLiteral literals.now (chars text.now) (front_of f)) }
+{
+    let Some(word) = literals.longest(text) else {
+        return None;
+    };
+    let (lex, rest) = split_word(text, word.text);
+    Some(Front {
+        kind: Terminal::Literal(word.number),
+        lex,
+        rest,
+    })
+}
+
+/// Whether a text is shorter than another.
+fn is_shorter(text: &str, other: &str) -> bool
+    ensures { result ≡ nat_lt (width (chars text.now)) (width (chars other.now)) }
+{
+    text.len() < other.len()
+}
+
+/// The longest word at the front; a literal wins a tie.
+pub fn word_in_front<'t>(literals: &Literals<'_>, classes: &[u16], text: &'t str) -> Option<Front<'t>>
+    ensures { MatchOption result
+        (BeginsNone (IsAnyWord (over literals.now classes.now)) (chars text.now))
+        (λ f. CutsToken (over literals.now classes.now) (chars text.now) (front_of f)) }
+{
+    let Some(literal) = literal_in_front(literals, text) else {
+        return class_in_front(classes, text);
+    };
+    let Some(class) = class_in_front(classes, text) else {
+        return Some(literal);
+    };
+    if is_shorter(class.rest, literal.rest) {
+        return Some(class);
+    }
+    Some(literal)
+}
+
+/// What stands behind the token in front of what is left of a text, which stands at the offset `at`.
+pub fn behind_token<'t>(
+    literals: &Literals<'_>,
+    classes: &[u16],
+    text: &'t str,
+    at: usize,
+) -> Result<&'t str, ScanFault>
+    ensures took { IfOk result (λ rest. (t : Token) × TakesToken (over literals.now classes.now)
+        (chars text.now) at t (chars rest.now)) }
+    ensures stopped { IfErr result (λ e.
+        IsStopped (over literals.now classes.now) (chars text.now) at e) }
+{
+    let Some(front) = word_in_front(literals, classes, text) else {
+        return Err(ScanFault::NoToken(at));
+    };
+    let Front { lex, rest, .. } = front;
+    if lex.len() > MOST_TOKEN_BYTES {
+        return Err(ScanFault::LongToken(at));
+    }
+    // a look tells the prover that a text is UTF-8
+    let _utf8 = lex.as_bytes();
+    Ok(rest)
+}

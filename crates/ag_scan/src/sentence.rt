@@ -1,0 +1,132 @@
+//! A sentence that is known to have tokens.
+
+ghost use Rattle.std.specs.Prelude.{◌≡◌, ◌≤◌, length, IfErr, IfOk, OnOk};
+ghost use Rattle.ag_grammar.specs.grammars.Accepted.{most_literals};
+ghost use Rattle.ag_scan.specs.Cutting.{tokens_in};
+ghost use Rattle.ag_scan.specs.Handed.{handed};
+ghost use Rattle.ag_scan.specs.Tokens.{AreTokensOf, FitAll, IsRefused, most_sentence_bytes};
+ghost use Rattle.ag_scan.specs.Words.{IsClean, over, vocabulary_of};
+
+use crate::cutting::behind_token;
+use crate::fault::ScanFault;
+use crate::literals::Literals;
+use crate::tokens::Tokens;
+use ag_grammar::Grammar;
+use ag_grammar::limits::MOST_TEXT_BYTES;
+use ag_tokens::skip_separators;
+use ag_value::Text;
+use std::alloc::Global;
+use std::marker::Model;
+
+/// A sentence that is known to have tokens, which it hands out one by one. It keeps the sentence's text
+/// and a table of the literals, and no token. Contracts see it as the list of its tokens.
+#[derive(Drop)]
+pub struct Sentence<'s> {
+    literals: Literals<'s>,
+    classes: &'s [u16],
+    text: &'s str,
+}
+
+impl<'s> Model for Sentence<'s> {
+    ghost use Rattle.std.specs.Prelude.{List};
+    ghost use Rattle.ag_scan.specs.Handed.{HasTokens};
+    ghost use Rattle.ag_scan.specs.Cutting.{tokens_in};
+    ghost use Rattle.ag_scan.specs.Tokens.{Token};
+    ghost use Rattle.ag_scan.specs.Words.{over};
+
+    ghost Value = { List Token };
+
+    ghost view = { λ s. tokens_in (over s.literals s.classes.now) s.text.now };
+
+    ghost invariant = { λ s. HasTokens (over s.literals s.classes.now) s.text.now };
+}
+
+/// Cuts a text that is no longer than a sentence to its end.
+#[inline(never)]
+fn cut(literals: &Literals<'_>, classes: &[u16], text: &str) -> Result<(), ScanFault>
+    requires short { length text.now ≤ most_sentence_bytes }
+    requires clean { IsClean (over literals.now classes.now) }
+    ensures tokens { OnOk result (AreTokensOf (over literals.now classes.now) text.now
+        (tokens_in (over literals.now classes.now) text.now)) }
+    ensures fit { OnOk result (FitAll (over literals.now classes.now)
+        (tokens_in (over literals.now classes.now) text.now)) }
+    ensures refused { IfErr result (λ e. IsRefused (over literals.now classes.now) text.now e) }
+{
+    let mut rest = skip_separators(text);
+    while !rest.is_empty() {
+        let at = text.len() - rest.len();
+        let behind = match behind_token(literals, classes, rest, at) {
+            Ok(behind) => behind,
+            Err(fault) => return Err(fault),
+        };
+        rest = skip_separators(behind);
+    }
+    Ok(())
+}
+
+/// The tokens of a sentence over the texts of literals and over classes in use.
+fn scan_over<'s>(
+    alloc: Global,
+    literals: &'s [Text],
+    classes: &'s [u16],
+    sentence: &'s [u8],
+) -> Result<Sentence<'s>, ScanFault>
+    requires many { length literals.now ≤ most_literals }
+    requires clean { IsClean (over literals.now classes.now) }
+    ensures tokens { IfOk result (λ ts.
+        AreTokensOf (over literals.now classes.now) sentence.now ts) }
+    ensures fit { IfOk result (λ ts. FitAll (over literals.now classes.now) ts) }
+    ensures refused { IfErr result (λ e.
+        IsRefused (over literals.now classes.now) sentence.now e) }
+{
+    if sentence.len() > MOST_TEXT_BYTES {
+        return Err(ScanFault::TooLong);
+    }
+    let text = match str::from_utf8(sentence) {
+        Ok(text) => text,
+        Err(error) => return Err(ScanFault::BadUtf8(error.valid_up_to())),
+    };
+    let literals = Literals::new(alloc, literals)?;
+    cut(&literals, classes, text)?;
+    Ok(Sentence::new(literals, classes, text))
+}
+
+/// The tokens of a sentence, by longest match over the grammar's literals and the classes that it
+/// uses, or the first of these refusals: S4 TooLong, above 1,048,576 bytes; S1 BadUtf8; then from
+/// the left S2 NoToken, where no word begins, and S3 LongToken, a text above 65,535 bytes. Takes
+/// memory for a table of the literals, and none for the tokens, which are cut anew when they are
+/// handed out.
+pub fn scan<'s>(
+    alloc: Global,
+    grammar: &'s Grammar,
+    sentence: &'s [u8],
+) -> Result<Sentence<'s>, ScanFault>
+    ensures tokens { IfOk result (λ ts. AreTokensOf (vocabulary_of grammar.now) sentence.now ts) }
+    ensures fit { IfOk result (λ ts. FitAll (vocabulary_of grammar.now) ts) }
+    ensures refused { IfErr result (λ e. IsRefused (vocabulary_of grammar.now) sentence.now e) }
+{
+    scan_over(alloc, grammar.literals(), grammar.classes(), sentence)
+}
+
+impl<'s> Sentence<'s> {
+    /// The sentence with this text, which has tokens.
+    fn new(literals: Literals<'s>, classes: &'s [u16], text: &'s str) -> Sentence<'s>
+        requires clean { IsClean (over literals classes.now) }
+        requires tokens { AreTokensOf (over literals classes.now) text.now
+            (tokens_in (over literals classes.now) text.now) }
+        ensures { result ≡ tokens_in (over literals.entry classes.now) text.now }
+    {
+        Sentence {
+            literals,
+            classes,
+            text,
+        }
+    }
+
+    /// The tokens from the first one on. Takes no memory.
+    pub fn tokens(&self) -> Tokens<'_>
+        ensures { result ≡ handed self.now 0 }
+    {
+        Tokens::new(&self.literals, self.classes, self.text)
+    }
+}
