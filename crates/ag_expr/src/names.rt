@@ -141,6 +141,7 @@ impl<'t> Scope<'t> {
     }
 
     /// Takes the innermost name away.
+    #[tactic(auto, using(crate::proofs::language::Scopes::unbound))]
     pub fn unbind(&mut self)
         ensures { self.new ≡ names_spec.outer self.old }
     {
@@ -148,6 +149,7 @@ impl<'t> Scope<'t> {
     }
 
     /// The number of a bound name: its last place.
+    #[tactic(auto, using(crate::proofs::language::Scopes::last_lent))]
     pub fn place_of(&self, name: &str) -> Option<usize>
         ensures { result ≡ names_spec.place_in self.now name.now }
     {

@@ -52,6 +52,7 @@ impl<'t> Model for Reader<'t> {
 
 /// Why no expression goes on with the token in front of a cursor: X2 at its offset. Where none is
 /// there: X1 where no token begins, X3 where its number is too large, X2 at the end of the text.
+#[tactic(auto, using(crate::proofs::language::States::told_is))]
 pub fn refusal(cursor: &Cursor<'_>) -> ExprFault
     ensures { result ≡ reading.refusal cursor.now }
 {
@@ -117,6 +118,7 @@ impl<'t> Reader<'t> {
     }
 
     /// The token in front. Takes no memory.
+    #[tactic(auto, using(crate::proofs::language::States::front_is))]
     pub fn peek(&self) -> Option<Token<'t>>
         ensures { option_map token_of result ≡ front (input self.now) }
     {
@@ -128,6 +130,7 @@ impl<'t> Reader<'t> {
     }
 
     /// Why the token in front cannot be taken.
+    #[tactic(auto, using(crate::proofs::language::States::refusal_is))]
     pub fn refusal(&self) -> ExprFault
         ensures { result ≡ reading.refusal (input self.now) }
     {
@@ -135,6 +138,7 @@ impl<'t> Reader<'t> {
     }
 
     /// Why an expression that has no level left cannot begin here.
+    #[tactic(auto, using(crate::proofs::language::States::too_deep, crate::proofs::language::States::not_begun, crate::proofs::language::States::none_begun))]
     pub fn no_level(&self) -> ExprFault
         ensures { result ≡ state.no_level self.now }
     {
@@ -158,6 +162,7 @@ impl<'t> Reader<'t> {
 
     /// Passes the occurrence in front, and answers its number among the different ones. Takes
     /// memory where it is the first with its place and name.
+    #[tactic(auto, using(crate::proofs::language::States::taken_number))]
     pub fn take_occurrence(&mut self, place: u16, attr: &'t str) -> Result<usize, NoMemory>
         requires { front (input self.old) ≡ Some (tokens.Occurrence place attr.now) }
         ensures number { IfOk result (λ k. HasNumber self.old place attr.now k) }
@@ -196,6 +201,7 @@ impl<'t> Reader<'t> {
     }
 
     /// Whether the tokens end here: at the end of the text, or at the `;` that ends them.
+    #[tactic(auto, using(crate::proofs::language::States::ends_is))]
     pub fn is_at_end(&self) -> bool
         ensures { result ≡ is_end (input self.now).ending (input self.now).left }
     {

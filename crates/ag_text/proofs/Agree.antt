@@ -1,5 +1,5 @@
 -- The laws of the grammar language.
-use Rattle.std.proofs.Common.{◌≡◌, ℕ, Bool, true, false, if◌then◌else◌, List, [], ◌∷◌, ◌++◌, map, Ok, Err, ◌⊎◌, inl, inr, chars, refl, ap, sym, ◌∙◌, subst, append_assoc, append-nil}
+use Rattle.std.proofs.Common.{◌≡◌, ℕ, true, false, if◌then◌else◌, List, [], ◌∷◌, ◌++◌, map, Ok, Err, ◌⊎◌, inl, inr, chars, refl, ap, sym, ◌∙◌, subst, append_assoc, append-nil, arith}
 use Rattle.ag_tokens.specs.Ending.{Ending}
 use Rattle.ag_tokens.specs.Ending as ending
 use Rattle.ag_tokens.specs.Placed.{Placed, Input}
@@ -9,37 +9,29 @@ use Rattle.ag_tokens.proofs.Lexes.{one_input}
 use Rattle.ag_grammar.specs.declared.raw.RawGrammar.{RawGrammar}
 use Rattle.ag_text.specs.Laws.{ReadingAgrees, RefusesAtTheFirst, OneGrammar}
 use Rattle.ag_text.specs.Places.{NoneGoesOn, IsFirstWrong}
-use Rattle.ag_text.specs.Reading.{Outcome, at_end, grammar_from, grammar_of}
+use Rattle.ag_text.specs.Reading.{Outcome, grammar_from, grammar_of}
 use Rattle.ag_text.specs.declared.stop.Stop.TheVariants.{WrongAt}
 use Rattle.ag_text.specs.Syntax.{IsGrammar}
 use Rattle.ag_text.proofs.Grammars.{grammar_exact, grammar_steady}
-use Rattle.ag_tokens.proofs.Exact.{before, opened, answered}
-use Rattle.ag_tokens.proofs.Steady.{Deep, Refused, Stuck, first, first_of}
+use Rattle.ag_expr.proofs.reading.Exact.{before, opened, answered}
+use Rattle.ag_expr.proofs.reading.Steady.{Deep, Refused, Stuck, first, first_of}
 use Rattle.ag_text.proofs.Manner.{itself, manner}
 
 end_left : (e : Ending) (ps : List Placed) → is_end e ps ≡ true → ps ≡ []
-end_left e [] h = refl
-end_left (ending.EndsAt n) (p ∷ ps) h = let bad : ⊥ = cc in absurd bad
-end_left (ending.NoTokenAt n) (p ∷ ps) h = let bad : ⊥ = cc in absurd bad
-end_left (ending.TooLargeAt n) (p ∷ ps) h = let bad : ⊥ = cc in absurd bad
+end_left e ps h = grind arith
 
 -- what is read to the end
 pub record Whole (i j : Input) (raw : RawGrammar) : Type 0 where
   pub read : grammar_from i ≡ Ok (raw, j)
   pub ends : is_end j.ending j.left ≡ true
 
-ended : (i k j : Input) (raw other : RawGrammar) → grammar_from i ≡ Ok (raw, k) → (b : Bool) → is_end k.ending k.left ≡ b → reading.and_then {A = Unit {0}} (if b then Ok (tt {0}, k) else Err (WrongAt (place k))) (λ u. reading.pure raw) ≡ Ok (other, j) → Whole i j other
-ended i k j raw other read true ends h =
-    let same = reading_same in
-    record { read = read ∙ ap (λ x. Ok (x, k)) (sym same.0) ∙ ap (λ x. Ok (other, x)) same.1; ends = subst (λ (x : Input). is_end x.ending x.left ≡ true) same.1 ends }
-  where
-    reading_same : (other ≡ raw) × (k ≡ j)
-    reading_same = answered raw other k j h
-ended i k j raw other read false ends h = let bad : ⊥ = cc in absurd bad
-
 pub whole_of : (i j : Input) (raw : RawGrammar) → grammar_of i ≡ Ok (raw, j) → Whole i j raw
 unfolding grammar_of
-whole_of i j raw h = let one = opened (grammar_from i) _ _ h in ended i one.0.1 j one.0.0 raw one.1 (is_end one.0.1.ending one.0.1.left) refl one.2
+whole_of i j raw h =
+    let one = opened (grammar_from i) _ _ h in
+    let read = one.1 in
+    let closed : reading.and_then {A = Unit {0}} (if is_end one.0.1.ending one.0.1.left then Ok (tt {0}, one.0.1) else Err (WrongAt (place one.0.1))) (λ u. reading.pure one.0.0) ≡ Ok (raw, j) = one.2 in
+    record { read = grind arith; ends = grind arith }
 
 pub sound : (at : ℕ) (ps : List Placed) (j : Input) (raw : RawGrammar) → grammar_of (record { left = ps; ending = ending.EndsAt at }) ≡ Ok (raw, j) → IsGrammar ps raw
 sound at ps j raw h =
@@ -80,8 +72,7 @@ module _ (us : List Placed) where
   none_goes_on e (p ∷ ps) refutes = λ (more, raw, is). refutes (record { left = p ∷ more; ending = e }) refl raw (settled e (p ∷ more) raw (subst (λ qs. IsGrammar qs raw) (append_assoc us (p ∷ []) more) is))
 
 nothing : (qs : List Placed) (p : Placed) (ps : List Placed) → first_of qs ≡ first_of (p ∷ ps) → qs ≡ [] → ⊥
-nothing [] p ps h e = cc
-nothing (q ∷ qs) p ps h e = cc
+nothing qs p ps h e = let bad : ⊥ = grind arith in bad
 
 refused : (i : Input) (at : ℕ) → Refused manner IsGrammar grammar_from grammar_from i (WrongAt at) → IsFirstWrong i at
 refused i at x = go x.how
@@ -122,12 +113,8 @@ followed i j raw read open_end =
 
 pub refuses_at_the_first : RefusesAtTheFirst
 unfolding grammar_of
-refuses_at_the_first i at h = go (grammar_from i) refl h
+refuses_at_the_first i at h = go (grammar_from i) refl
   where
-    behind : (j : Input) (raw : RawGrammar) → grammar_from i ≡ Ok (raw, j) → (b : Bool) → is_end j.ending j.left ≡ b → reading.and_then {A = Unit {0}} (if b then Ok (tt {0}, j) else Err (WrongAt (place j))) (λ u. reading.pure raw) ≡ Err (WrongAt at) → IsFirstWrong i at
-    behind j raw read true e h = let bad : ⊥ = cc in absurd bad
-    behind j raw read false e h = let same : place j ≡ at = cc in subst (IsFirstWrong i) same (followed i j raw read e)
-
-    go : (o : Outcome RawGrammar) → grammar_from i ≡ o → reading.and_then o (λ g. reading.◌>>◌ at_end (reading.pure g)) ≡ Err (WrongAt at) → IsFirstWrong i at
-    go (Ok (raw, j)) read h = behind j raw read (is_end j.ending j.left) refl h
-    go (Err s) read h = let same : s ≡ WrongAt at = cc in refused i at ((grammar_steady.at i).err (WrongAt at) refl (read ∙ ap Err same))
+    go : (o : Outcome RawGrammar) → grammar_from i ≡ o → IsFirstWrong i at
+    go (Ok (raw, j)) read = let open_end : is_end j.ending j.left ≡ false = grind arith in let same : place j ≡ at = grind arith in subst (IsFirstWrong i) same (followed i j raw read open_end)
+    go (Err s) read = let same : s ≡ WrongAt at = grind arith in refused i at ((grammar_steady.at i).err (WrongAt at) refl (read ∙ ap Err same))

@@ -13,7 +13,7 @@ use Rattle.ag_tokens.specs.Token as token
 use Rattle.ag_tokens.specs.Tokens.{AreTokens, ended, separator, Lexes}
 use Rattle.ag_tokens.proofs.Lexed.{one_more}
 use Rattle.ag_tokens.proofs.Lexes.{one_input}
-use Rattle.ag_tokens.proofs.TokenLaws.{no_start, punctuation_cut}
+use Rattle.ag_tokens.proofs.TokenLaws.{mark_is}
 use Rattle.ag_text.specs.Grammar.{ReadsAsGrammar, ReadsAsNone}
 use Rattle.ag_text.specs.Reading.{next_name_from, names_from, section_from, attributes_from, symbol_from, ended_expr_from, rule_from, production_from, grammar_from, grammar_of}
 use Rattle.ag_text.specs.declared.stop.Stop.TheVariants.{WrongAt}
@@ -41,7 +41,7 @@ unfolding token_from
 cut_name = rw (is_xid_start-ascii 83 (lit< tt), is_xid_continue-ascii 83 (lit< tt), is_xid_continue-ascii 59 (lit< tt), encode_ascii 83 (lit< tt)) refl
 
 cut_semicolon : token_from (codes ";") ≡ Some (token.Punctuation punctuation.Semicolon, [])
-cut_semicolon = punctuation_cut 59 [] (punctuation.Semicolon, []) (no_start 59 (lit< tt) refl refl) refl refl refl refl
+cut_semicolon = mark_is punctuation.Semicolon []
 
 start_characters : (chars (codes "start S;") ≡ codes "start S;") × (chars (codes "start ;") ≡ codes "start ;")
 unfolding chars

@@ -1,5 +1,5 @@
 -- Reading agrees with the syntax of grammars, and stops at the first token that can't be taken.
-use Rattle.std.proofs.Common.{◌≡◌, ℕ, Bool, true, false, not, ◌||◌, List, [], ◌∷◌, ◌++◌, map, Some, codes, bytes_eq, inl, inr, refl, ap, sym, ◌∙◌, subst, append-nil}
+use Rattle.std.proofs.Common.{◌≡◌, ℕ, Bool, true, false, not, ◌||◌, List, [], ◌∷◌, ◌++◌, map, Some, codes, bytes_eq, refl, ap, sym, ◌∙◌, subst, append-nil, arith}
 use denote.Enum.Bare.{true_same}
 use Rattle.std.proofs.lemmas.Slice.Eq.{bytes_eq-Decides}
 use Rattle.ag_tokens.specs.contracts.token.Punctuation.{the_type}
@@ -19,16 +19,15 @@ use Rattle.ag_tokens.specs.Words as spelling
 use Rattle.ag_tokens.specs.Words.{gives, Many, further}
 use Rattle.ag_text.specs.Syntax.{one, mark, word, IsFurther, IsNames, IsSection, IsAttributes, IsSymbol, IsRule, IsProduction, IsGrammar}
 use Rattle.ag_text.specs.Words.{some_where, is_mark, is_word, is_reserved, mark_in, word_in, name_in, item_in, target_in}
-use Rattle.ag_tokens.proofs.Exact.{Apart, Before, ends_exact, first_is, further_exact, many_exact, many_leads, maybe_exact, maybe_starts, nowhere, any_then, start_then, then_exact, then_starts, shortens}
-use Rattle.ag_tokens.proofs.Steady.{Shortens, ends_steady, further_steady, many_steady, or_steady, pure_steady, then_steady}
+use Rattle.ag_expr.proofs.reading.Exact.{Apart, Before, ends_exact, first_is, further_exact, many_exact, many_leads, maybe_exact, maybe_starts, nowhere, any_then, start_then, then_exact, then_starts, shortens}
+use Rattle.ag_expr.proofs.reading.Steady.{Shortens, ends_steady, further_steady, many_steady, or_steady, pure_steady, then_steady}
 use Rattle.ag_text.proofs.Expressions.{ended_exact, ended_steady}
 use Rattle.ag_text.proofs.Manner.{Exact, Starts, Steady, manner, token_exact, token_starts, token_steady}
 
 -- ---- what one token is
 
 held : {A : Type 0} (b : Bool) (x a : A) → some_where b x ≡ Some a → b ≡ true
-held true x a h = refl
-held false x a h = let bad : ⊥ = cc in absurd bad
+held b x a h = grind arith
 
 abbrev is_comma : Token → Bool
 is_comma = is_mark punctuation.Comma
@@ -48,30 +47,15 @@ is_plain (token.Name name) = not (is_reserved name)
 is_plain _ = false
 
 plain : (at : ℕ) (t : Token) (a : Named) → name_in at t ≡ Some a → is_plain t ≡ true
-plain at (token.Name name) a h = held (not (is_reserved name)) _ a h
-plain at (token.Number n) a h = let bad : ⊥ = cc in absurd bad
-plain at (token.Text bytes) a h = let bad : ⊥ = cc in absurd bad
-plain at (token.Occurrence place attr) a h = let bad : ⊥ = cc in absurd bad
-plain at (token.Punctuation m) a h = let bad : ⊥ = cc in absurd bad
+plain at t a h = grind arith
 
 -- an item is no `{`
 item_goes_on : (at : ℕ) (t : Token) (a : RawItem) → item_in at t ≡ Some a → is_other_than punctuation.OpenTable t ≡ true
-item_goes_on at (token.Name name) a h = refl
-item_goes_on at (token.Number n) a h = refl
-item_goes_on at (token.Text bytes) a h = refl
-item_goes_on at (token.Occurrence place attr) a h = refl
-item_goes_on at (token.Punctuation m) a h = let bad : ⊥ = cc in absurd bad
+item_goes_on at t a h = grind arith
 
 -- a target is no `}`
 target_goes_on : (at : ℕ) (t : Token) (a : Occ) → target_in at t ≡ Some a → is_other_than punctuation.CloseTable t ≡ true
-target_goes_on at (token.Occurrence place attr) a h = refl
-target_goes_on at (token.Name name) a h = refl
-target_goes_on at (token.Number n) a h = refl
-target_goes_on at (token.Text bytes) a h = refl
-target_goes_on at (token.Punctuation m) a h = let bad : ⊥ = cc in absurd bad
-
-any_one : (t : Token) → is_any t ≡ true
-any_one t = refl
+target_goes_on at t a h = grind arith
 
 -- a name is one of two different ones at most
 one_word : (v w name : List ℕ) → bytes_eq v w ≡ false → bytes_eq name v ≡ true → bytes_eq name w ≡ false
@@ -79,18 +63,10 @@ one_word v w name other h = subst (λ x. bytes_eq x w ≡ false) (sym ((bytes_eq
 
 -- and none of the reserved ones, where it is not reserved
 not_symbol : (name : List ℕ) → not (is_reserved name) ≡ true → bytes_eq name (codes "symbol") ≡ false
-not_symbol name h = go (bytes_eq name (codes "symbol")) refl
-  where
-    go : (b : Bool) → bytes_eq name (codes "symbol") ≡ b → b ≡ false
-    go false e = refl
-    go true e = let same : false ≡ true = subst (λ x. not (is_reserved x) ≡ true) ((bytes_eq-Decides name (codes "symbol")).0 e) h in let bad : ⊥ = cc in absurd bad
+not_symbol name h = let is = bytes_eq-Decides name (codes "symbol") in grind arith
 
 plain_apart : Apart is_plain (λ t. is_word (codes "symbol") t || nowhere t)
-plain_apart (token.Name name) h = rw (not_symbol name h) refl
-plain_apart (token.Number n) h = refl
-plain_apart (token.Text bytes) h = refl
-plain_apart (token.Occurrence place attr) h = refl
-plain_apart (token.Punctuation m) h = refl
+plain_apart t h = grind (arith, not_symbol)
 
 -- what goes on with the names of a section
 abbrev names_go_on : Token → Bool
@@ -104,24 +80,11 @@ abbrev behind_syn : Token → Bool
 behind_syn t = is_word (codes "inh") t || is_semi t
 
 behind_syn_apart : Apart behind_syn (section_goes_on (codes "syn"))
-behind_syn_apart (token.Name name) h = go (bytes_eq name (codes "inh")) refl h
-  where
-    go : (b : Bool) → bytes_eq name (codes "inh") ≡ b → (b || false) ≡ true → section_goes_on (codes "syn") (token.Name name) ≡ false
-    go true e h = rw (one_word (codes "inh") (codes "syn") name refl e) refl
-    go false e h = let bad : ⊥ = cc in absurd bad
-behind_syn_apart (token.Punctuation punctuation.Comma) h = let bad : ⊥ = cc in absurd bad
-behind_syn_apart (token.Punctuation _) h = refl
-behind_syn_apart (token.Number n) h = refl
-behind_syn_apart (token.Text bytes) h = refl
-behind_syn_apart (token.Occurrence place attr) h = refl
+behind_syn_apart (token.Name name) h = let other = one_word (codes "inh") (codes "syn") name refl in grind (arith, other)
+behind_syn_apart t h = grind arith
 
 semi_apart : Apart is_semi (section_goes_on (codes "inh"))
-semi_apart (token.Punctuation punctuation.Comma) h = let bad : ⊥ = cc in absurd bad
-semi_apart (token.Punctuation _) h = refl
-semi_apart (token.Name name) h = let bad : ⊥ = cc in absurd bad
-semi_apart (token.Number n) h = refl
-semi_apart (token.Text bytes) h = refl
-semi_apart (token.Occurrence place attr) h = refl
+semi_apart t h = grind arith
 
 -- punctuation ends what goes on with other tokens
 mark_ends : (m : Punctuation) → Apart (is_mark m) (λ t. is_other_than m t || nowhere t)
@@ -190,8 +153,7 @@ abbrev any_goes_on : Token → Bool
 any_goes_on t = is_any t || nowhere t
 
 nothing_goes_on : (test : Token → Bool) (ps : List Placed) → first_is any_goes_on ps ≡ false → first_is test ps ≡ false
-nothing_goes_on test [] h = refl
-nothing_goes_on test (p ∷ ps) h = let bad : ⊥ = cc in absurd bad
+nothing_goes_on test ps h = grind arith
 
 productions_start : Starts is_plain IsProduction
 productions_start = then_starts (token_starts plain)

@@ -1,11 +1,11 @@
 -- Grammars as a language of placed tokens that a parser reads.
 use Rattle.std.proofs.Common.{◌≡◌, ℕ, Bool, true, false, List, [], ◌∷◌, map, Option, Some, refl, ap}
-use Rattle.ag_tokens.specs.Placed.{Placed, Input}
+use Rattle.ag_tokens.specs.Placed.{Placed}
 use Rattle.ag_tokens.specs.Token.{Token}
-use Rattle.ag_tokens.proofs.Exact as theory
-use Rattle.ag_tokens.proofs.Exact.{Manner, one_exact, one_starts}
-use Rattle.ag_tokens.proofs.Steady as steady
-use Rattle.ag_tokens.proofs.Steady.{one_steady}
+use Rattle.ag_expr.proofs.reading.Exact as theory
+use Rattle.ag_expr.proofs.reading.Exact.{Manner, one_exact, one_starts}
+use Rattle.ag_expr.proofs.reading.Steady as steady
+use Rattle.ag_expr.proofs.reading.Steady.{one_steady}
 use Rattle.ag_text.specs.Reading.{Parser, one_from, wrong}
 use Rattle.ag_text.specs.Syntax.{one}
 use Rattle.ag_text.specs.declared.stop.Stop.{Stop}

@@ -1,6 +1,6 @@
 -- What is answered of a text is what reading its tokens gives, and what follows of the text.
-use Rattle.std.proofs.Common.{◌≡◌, ◌≢◌, ◌≤◌, ◌<◌, ℕ, nat_lt, Bool, true, false, List, length, Result, Ok, Err, IfOk, IfErr, chars, IsUtf8, refl, ap, sym, ◌∙◌, subst, arith}
-use Rattle.std.proofs.lemmas.Bool.{ltb-true}
+use Rattle.std.proofs.Common.{◌≡◌, ◌≢◌, ◌≤◌, ℕ, nat_lt, Bool, true, false, List, length, Result, Ok, Err, IfOk, IfErr, chars, IsUtf8, refl, ap, sym, ◌∙◌, subst, arith}
+use Rattle.std.proofs.lemmas.Bool.Decides.{nat_tests}
 use Rattle.std.proofs.lemmas.Str.{IsUtf8-from_is_utf8, is_utf8-from_IsUtf8}
 use Rattle.std.specs.Str.{is_utf8}
 use Rattle.std.specs.Str.Lossy.{utf8_valid_len}
@@ -43,93 +43,59 @@ no_end e ps raw j never read =
     let i : Input = record { left = ps; ending = e } in
     let whole = whole_of i j raw read in
     let found = grammar_exact.sound i j raw whole.read in
-    let same : e ≡ j.ending = ap (λ (k : Input). k.ending) found.1 in
-    let ends : is_end e j.left ≡ true = subst (λ x. is_end x j.left ≡ true) (sym same) whole.ends in
+    let same = found.1 in
+    let ends = whole.ends in
     let open_end = never j.left in
-    cc
+    let bad : ⊥ = grind arith in bad
 
 -- ---- of a whole text
 
-module _ (text : List ℕ) (utf8 : IsUtf8 text) (short : length text ≤ most_text_bytes) where
-  within : (b : Bool) → nat_lt most_text_bytes (length text) ≡ b → b ≡ false
-  within false e = refl
-  within true e = let less : most_text_bytes < length text = ltb-true most_text_bytes (length text) e in let bad : ⊥ = omega (arith, short, less) in absurd bad
+pub is_read : (text : List ℕ) → IsUtf8 text → length text ≤ most_text_bytes → (r : Result RawGrammar TextFault) → IsReadText text r → IsRead text r
+is_read text utf8 short r is i lexes memory = let valid = is_utf8-from_IsUtf8 text utf8 in let read = is i lexes memory in grind (arith, nat_tests)
 
-  read_short : (i : Input) → read_text text i ≡ answer_of text (grammar_of i)
-  read_short i = rw (within (nat_lt most_text_bytes (length text)) refl, is_utf8-from_IsUtf8 text utf8) refl
+reads_at : (text : List ℕ) → IsUtf8 text → length text ≤ most_text_bytes → (e : Ending) (ps : List Placed) (raw : RawGrammar) (j : Input) → Lexes 0 (chars text) (record { left = ps; ending = e }) → grammar_of (record { left = ps; ending = e }) ≡ Ok (raw, j) → ReadsAsGrammar text raw
+reads_at text utf8 short (ending.EndsAt n) ps raw j lexes read =
+    let wide : n ≡ length text = omega (arith, ends_wide lexes.before, ap width lexes.stops, width-chars text utf8) in
+    record { short = short; utf8 = utf8; placed = ps; lexes = subst (λ m. Lexes 0 (chars text) (record { left = ps; ending = ending.EndsAt m })) wide lexes; spells = sound n ps j raw read }
+reads_at text utf8 short e ps raw j lexes read = absurd (no_end e ps raw j (λ qs. refl) read)
 
-  pub is_read : (r : Result RawGrammar TextFault) → IsReadText text r → IsRead text r
-  is_read r is i lexes memory = read_short i ∙ is i lexes memory
+answered_raw : (text : List ℕ) (o : Outcome RawGrammar) (raw : RawGrammar) → answer_of text o ≡ Ok raw → (j : Input) × (o ≡ Ok (raw, j))
+answered_raw text (Ok (a, j)) raw h = (j, cc)
+answered_raw text (Err s) raw h = let bad : ⊥ = cc in absurd bad
 
-  reads_at : (e : Ending) (ps : List Placed) (raw : RawGrammar) (j : Input) → Lexes 0 (chars text) (record { left = ps; ending = e }) → grammar_of (record { left = ps; ending = e }) ≡ Ok (raw, j) → ReadsAsGrammar text raw
-  reads_at (ending.EndsAt n) ps raw j lexes read =
-      let wide : n ≡ length text = omega (arith, ends_wide lexes.before, ap width lexes.stops, width-chars text utf8) in
-      record { short = short; utf8 = utf8; placed = ps; lexes = subst (λ m. Lexes 0 (chars text) (record { left = ps; ending = ending.EndsAt m })) wide lexes; spells = sound n ps j raw read }
-  reads_at (ending.NoTokenAt n) ps raw j lexes read = absurd (no_end (ending.NoTokenAt n) ps raw j (λ qs. refl) read)
-  reads_at (ending.TooLargeAt n) ps raw j lexes read = absurd (no_end (ending.TooLargeAt n) ps raw j (λ qs. refl) read)
+pub reads_of : (text : List ℕ) (r : Result RawGrammar TextFault) → IsRead text r → IfOk r (ReadsAsGrammar text)
+reads_of text (Err f) is = tt
+reads_of text (Ok raw) is =
+    let input = one_input (chars text) in
+    let all = is input.0 input.1 (λ e. cc) in
+    let short : length text ≤ most_text_bytes = grind (arith, nat_tests) in
+    let valid : is_utf8 text ≡ true = grind arith in
+    let read = answered_raw text (grammar_of input.0) raw (grind arith) in
+    reads_at text (IsUtf8-from_is_utf8 text valid) short input.0.ending input.0.left raw read.0 input.1 read.1
 
-  answered_raw : (o : Outcome RawGrammar) (raw : RawGrammar) → answer_of text o ≡ Ok raw → (j : Input) × (o ≡ Ok (raw, j))
-  answered_raw (Ok (a, j)) raw h = let same : a ≡ raw = cc in (j, ap (λ x. Ok (x, j)) same)
-  answered_raw (Err s) raw h = let bad : ⊥ = cc in absurd bad
+none_of : (text : List ℕ) (e : TextFault) → e ≢ fault.NoMemory → IsRead text (Err e) → ReadsAsNone text
+none_of text e memory is raw reads =
+    let all = is _ reads.lexes (λ q. memory cc) in
+    let read = complete (length text) reads.placed raw reads.spells in
+    let valid = is_utf8-from_IsUtf8 text reads.utf8 in
+    let short = reads.short in
+    let bad : ⊥ = grind (arith, nat_tests) in bad
 
-  pub reads_of : (r : Result RawGrammar TextFault) → IsReadText text r → IfOk r (ReadsAsGrammar text)
-  reads_of (Err f) is = tt
-  reads_of (Ok raw) is =
-      let input = one_input (chars text) in
-      let read = answered_raw (grammar_of input.0) raw (is input.0 input.1 (λ e. cc)) in
-      reads_at input.0.ending input.0.left raw read.0 input.1 read.1
+pub refuses_of : (text : List ℕ) (r : Result RawGrammar TextFault) → IsRead text r → IfErr r (IsRefused text)
+refuses_of text (Ok raw) is = tt
+refuses_of text (Err fault.NoMemory) is = tt
+refuses_of text (Err f) is = none_of text _ (λ e. cc) is
 
-  none_of : (e : TextFault) → e ≢ fault.NoMemory → IsReadText text (Err e) → ReadsAsNone text
-  none_of e memory is raw reads = let clash = sym (is _ reads.lexes (λ q. memory cc)) ∙ ap (answer_of text) (complete (length text) reads.placed raw reads.spells) in cc
+first_wrong : (text : List ℕ) (i : Input) (line at : ℕ) → read_text text i ≡ Err (fault.Unexpected line at) → IsFirstWrong i at × (line ≡ line_of text at)
+first_wrong text i line at h = (refuses_at_the_first i at (grind arith), grind arith)
 
-  pub refuses_of : (r : Result RawGrammar TextFault) → IsReadText text r → IfErr r (IsRefused text)
-  refuses_of (Ok raw) is = tt
-  refuses_of (Err fault.NoMemory) is = tt
-  refuses_of (Err (fault.BadUtf8 at)) is = none_of _ (λ e. cc) is
-  refuses_of (Err (fault.Unexpected line at)) is = none_of _ (λ e. cc) is
-  refuses_of (Err (fault.Expr f)) is = none_of _ (λ e. cc) is
-  refuses_of (Err fault.TooLong) is = none_of _ (λ e. cc) is
+pub first_of : (text : List ℕ) (r : Result RawGrammar TextFault) → IsRead text r → IfErr r (IsFirstOf text)
+first_of text (Err (fault.Unexpected line at)) is = λ i lexes. first_wrong text i line at (is i lexes (λ e. cc))
+first_of text r is = tt
 
-  stopped_at : (s : Stop) (line at : ℕ) → fault_of text s ≡ fault.Unexpected line at → (s ≡ stop.WrongAt at) × (line ≡ line_of text at)
-  stopped_at (stop.WrongAt n) line at h = let there : n ≡ at = cc in let counted : line_of text n ≡ line = cc in (ap stop.WrongAt there, sym counted ∙ ap (line_of text) there)
-  stopped_at (stop.InExpr expr.NoMemory) line at h = let bad : ⊥ = cc in absurd bad
-  stopped_at (stop.InExpr (expr.NoToken n)) line at h = let bad : ⊥ = cc in absurd bad
-  stopped_at (stop.InExpr (expr.Unexpected n)) line at h = let bad : ⊥ = cc in absurd bad
-  stopped_at (stop.InExpr (expr.NumberTooLarge n)) line at h = let bad : ⊥ = cc in absurd bad
-  stopped_at (stop.InExpr (expr.TooDeep n)) line at h = let bad : ⊥ = cc in absurd bad
-  stopped_at stop.NoMemory line at h = let bad : ⊥ = cc in absurd bad
-
-  first_wrong : (i : Input) (line at : ℕ) (o : Outcome RawGrammar) → grammar_of i ≡ o → answer_of text o ≡ Err (fault.Unexpected line at) → IsFirstWrong i at × (line ≡ line_of text at)
-  first_wrong i line at (Ok p) e h = let bad : ⊥ = cc in absurd bad
-  first_wrong i line at (Err s) e h = let same : fault_of text s ≡ fault.Unexpected line at = cc in let there = stopped_at s line at same in (refuses_at_the_first i at (e ∙ ap Err there.0), there.1)
-
-  pub first_of : (r : Result RawGrammar TextFault) → IsReadText text r → IfErr r (IsFirstOf text)
-  first_of (Ok raw) is = tt
-  first_of (Err fault.NoMemory) is = tt
-  first_of (Err (fault.BadUtf8 at)) is = tt
-  first_of (Err (fault.Expr f)) is = tt
-  first_of (Err fault.TooLong) is = tt
-  first_of (Err (fault.Unexpected line at)) is = λ i lexes. first_wrong i line at (grammar_of i) refl (is i lexes (λ e. cc))
-
-  never_told : (s : Stop) → fault_of text s ≡ fault.Expr expr.NoMemory → ⊥
-  never_told (stop.WrongAt n) h = cc
-  never_told (stop.InExpr expr.NoMemory) h = cc
-  never_told (stop.InExpr (expr.NoToken n)) h = cc
-  never_told (stop.InExpr (expr.Unexpected n)) h = cc
-  never_told (stop.InExpr (expr.NumberTooLarge n)) h = cc
-  never_told (stop.InExpr (expr.TooDeep n)) h = cc
-  never_told stop.NoMemory h = cc
-
-  never_answered : (o : Outcome RawGrammar) → answer_of text o ≡ Err (fault.Expr expr.NoMemory) → ⊥
-  never_answered (Ok p) h = cc
-  never_answered (Err s) h = let same : fault_of text s ≡ fault.Expr expr.NoMemory = cc in never_told s same
-
-  pub never_of : (r : Result RawGrammar TextFault) → IsReadText text r → IfErr r (λ e. e ≢ fault.Expr expr.NoMemory)
-  never_of (Ok raw) is = tt
-  never_of (Err f) is = λ e.
-      let input = one_input (chars text) in
-      let same : IsReadText text (Err (fault.Expr expr.NoMemory)) = subst (λ x. IsReadText text (Err x)) e is in
-      never_answered (grammar_of input.0) (same input.0 input.1 (λ q. cc))
+pub never_of : (text : List ℕ) (r : Result RawGrammar TextFault) → IsRead text r → IfErr r (λ e. e ≢ fault.Expr expr.NoMemory)
+never_of text (Ok raw) is = tt
+never_of text (Err f) is = λ e. let input = one_input (chars text) in let all = is input.0 input.1 (λ q. cc) in let bad : ⊥ = grind arith in bad
 
 -- the same in the words of the code
 pub is_text : (text part : List ℕ) → part ≡ text → (r : Result RawGrammar TextFault) → IsReadText part r → IsReadText text r
@@ -137,12 +103,8 @@ is_text text part same r is = subst (λ t. IsReadText t r) same is
 
 -- a text that is not UTF-8
 pub bad_utf8 : (text : List ℕ) (at : ℕ) → (IsUtf8 text → ⊥) → at ≡ utf8_valid_len text → length text ≤ most_text_bytes → IsRead text (Err (fault.BadUtf8 at))
-bad_utf8 text at bad there short i lexes memory = rw (inside (nat_lt most_text_bytes (length text)) refl, none (is_utf8 text) refl) (ap (λ n. Err (fault.BadUtf8 n)) (sym there))
+bad_utf8 text at bad there short i lexes memory = let none : is_utf8 text ≡ false = none (is_utf8 text) refl in let inside : nat_lt most_text_bytes (length text) ≡ false = grind (arith, nat_tests) in rw (inside, none) (ap (λ n. Err (fault.BadUtf8 n)) (sym there))
   where
-    inside : (b : Bool) → nat_lt most_text_bytes (length text) ≡ b → b ≡ false
-    inside false e = refl
-    inside true e = let less : most_text_bytes < length text = ltb-true most_text_bytes (length text) e in let never : ⊥ = omega (arith, short, less) in absurd never
-
     none : (b : Bool) → is_utf8 text ≡ b → b ≡ false
     none false e = refl
     none true e = absurd (bad (IsUtf8-from_is_utf8 text e))

@@ -1,10 +1,10 @@
 -- Parts that are read one after the other, beside a loop: what the theory of reading says of grammars.
-use Rattle.std.proofs.Common.{◌≡◌, ◌<◌, Bool, true, false, List, [], ◌∷◌, ◌++◌, length, Ok, Err, refl}
+use Rattle.std.proofs.Common.{◌≡◌, Bool, true, false, List, [], ◌∷◌, ◌++◌, Ok, Err, refl}
 use Rattle.ag_tokens.specs.Placed.{Input}
 use Rattle.ag_tokens.specs.Parsing.{sees}
 use Rattle.ag_tokens.specs.Token.{Token}
-use Rattle.ag_tokens.proofs.Turns as turns
-use Rattle.ag_tokens.proofs.Turns.{Going}
+use Rattle.ag_expr.proofs.reading.Turns as turns
+use Rattle.ag_expr.proofs.reading.Turns.{Going}
 use Rattle.ag_text.specs.Reading.{Outcome, Parser}
 use Rattle.ag_text.specs.declared.stop.Stop.{Stop}
 

@@ -5,7 +5,7 @@ use Rattle.ag_grammar.specs.declared.node.Node.{Node}
 use Rattle.ag_grammar.specs.declared.occurrence.Occ.{Occ}
 use Rattle.ag_tokens.specs.declared.token.Punctuation.{Punctuation}
 use Rattle.ag_tokens.specs.declared.token.Punctuation.TheVariants as punctuation
-use Rattle.ag_tokens.specs.Placed.{Placed, Input}
+use Rattle.ag_tokens.specs.Placed.{Input}
 use Rattle.ag_tokens.specs.Parsing as parsing
 use Rattle.ag_tokens.specs.Parsing.{◌>>=◌, ◌>>◌, pure, choose, further_from, end_from, place}
 use Rattle.ag_expr.specs.language.Until.{Ended, behind_semicolon, read_until_from}

@@ -1,5 +1,5 @@
 -- Tokens that are cut one after the other, and the separators between them.
-use Rattle.std.proofs.Common.{◌≡◌, ℕ, suc, ◌+◌, ◌-◌, ◌<◌, ◌≤◌, Bool, true, false, cond, List, [], ◌∷◌, ◌++◌, length, drop, Some, chars, IsUtf8, encode_utf8, encode_utf8_all, refl, ap, ◌∙◌, subst, arith}
+use Rattle.std.proofs.Common.{◌≡◌, ℕ, ◌+◌, ◌-◌, ◌<◌, ◌≤◌, Bool, true, false, List, [], ◌∷◌, ◌++◌, length, drop, Some, chars, IsUtf8, encode_utf8, encode_utf8_all, refl, ap, ◌∙◌, subst, arith}
 use Rattle.std.proofs.lemmas.List.{length-append}
 use Rattle.std.proofs.lemmas.Bool.Decides.{nat_tests}
 use Rattle.std.specs.Char.{len_utf8}
@@ -10,7 +10,8 @@ use Rattle.ag_tokens.specs.Token.{Token}
 use Rattle.ag_tokens.specs.Tokens.{is_separator, width, AreTokens, separator, word}
 use Rattle.ag_tokens.specs.Left.{StartsPlain}
 use Rattle.ag_tokens.specs.Lexing.{token_from}
-use Rattle.ag_tokens.proofs.TokenLaws.{token_sound, cut_longest}
+use Rattle.ag_tokens.proofs.Fronts.{drop_more}
+use Rattle.ag_tokens.proofs.TokenLaws.{token_sound, cut_longest, word_some}
 
 -- What stands behind a token that was cut is shorter, and less wide.
 pub record IsBehind (cs rest : List ℕ) : Type 0 where
@@ -24,7 +25,7 @@ width-append (x ∷ xs) ys = let more = width-append xs ys in omega arith
 pub is_behind : (cs : List ℕ) (t : Token) (rest : List ℕ) → token_from cs ≡ Some (t, rest) → IsBehind cs rest
 is_behind cs t rest e =
     let cut = token_sound cs t rest e in
-    let some = cut.some in
+    let some = word_some cut.word t cut.token in
     record { shorter = omega (arith, ap length cut.split, length-append cut.word rest); narrower = omega (arith, ap width cut.split, width-append cut.word rest) }
 
 pub separator_width : (c : ℕ) → is_separator c ≡ true → len_utf8 c ≡ 1
@@ -32,41 +33,20 @@ separator_width c h = grind (arith, nat_tests)
 
 pub spaces : (cs : List ℕ) → prefix_len is_separator cs + width (drop (prefix_len is_separator cs) cs) ≡ width cs
 spaces [] = refl
-spaces (c ∷ cs) = go (is_separator c) refl (spaces cs)
-  where
-    n : ℕ
-    n = prefix_len is_separator cs
-
-    go : (b : Bool) → is_separator c ≡ b → n + width (drop n cs) ≡ width cs → cond b (1 + n) 0 + width (drop (cond b (1 + n) 0) (c ∷ cs)) ≡ width (c ∷ cs)
-    go false h more = omega arith
-    go true h more = let k : 1 + n ≡ suc n = omega arith in let one = separator_width c h in rw k (omega arith)
+spaces (c ∷ cs) = let more = spaces cs in grind (arith, separator_width, drop_more)
 
 -- tokens behind separators
 pub spaced : (at : ℕ) (cs : List ℕ) (ps : List Placed) (end : ℕ) (rest : List ℕ) → AreTokens (at + prefix_len is_separator cs) (drop (prefix_len is_separator cs) cs) ps end rest → AreTokens at cs ps end rest
 spaced at [] ps end rest are = subst (λ n. AreTokens n [] ps end rest) (omega arith) are
-spaced at (c ∷ cs) ps end rest are = go (is_separator c) refl are (spaced (at + 1) cs ps end rest)
+spaced at (c ∷ cs) ps end rest are = go (is_separator c) refl (spaced (at + 1) cs ps end rest)
   where
-    n : ℕ
-    n = prefix_len is_separator cs
-
-    go : (b : Bool) → is_separator c ≡ b → AreTokens (at + cond b (1 + n) 0) (drop (cond b (1 + n) 0) (c ∷ cs)) ps end rest → (AreTokens ((at + 1) + n) (drop n cs) ps end rest → AreTokens (at + 1) cs ps end rest) → AreTokens at (c ∷ cs) ps end rest
-    go false h here more = subst (λ m. AreTokens m (c ∷ cs) ps end rest) (omega arith) here
-    go true h here more =
-        let k : 1 + n ≡ suc n = omega arith in
-        let there : at + suc n ≡ (at + 1) + n = omega arith in
-        let skipped : AreTokens (at + suc n) (drop (suc n) (c ∷ cs)) ps end rest = rw k at here in
-        separator at c cs ps end rest h (more (subst (λ m. AreTokens m (drop n cs) ps end rest) there skipped))
+    go : (b : Bool) → is_separator c ≡ b → (AreTokens ((at + 1) + prefix_len is_separator cs) (drop (prefix_len is_separator cs) cs) ps end rest → AreTokens (at + 1) cs ps end rest) → AreTokens at (c ∷ cs) ps end rest
+    go false h more = let k : at + 0 ≡ at = omega arith in rw (h, k) at are
+    go true h more = let k : at + (1 + prefix_len is_separator cs) ≡ (at + 1) + prefix_len is_separator cs = omega arith in separator at c cs ps end rest h (more (rw (h, k, drop_more) at are))
 
 pub plain_behind : (cs : List ℕ) → StartsPlain (drop (prefix_len is_separator cs) cs)
 plain_behind [] = tt
-plain_behind (c ∷ cs) = go (is_separator c) refl (plain_behind cs)
-  where
-    n : ℕ
-    n = prefix_len is_separator cs
-
-    go : (b : Bool) → is_separator c ≡ b → StartsPlain (drop n cs) → StartsPlain (drop (cond b (1 + n) 0) (c ∷ cs))
-    go false h more = h
-    go true h more = let k : 1 + n ≡ suc n = omega arith in rw k more
+plain_behind (c ∷ cs) = let more = plain_behind cs in grind (arith, drop_more)
 
 -- a token that is cut, and those behind it
 pub one_more : (at : ℕ) (cs : List ℕ) (t : Token) (behind : List ℕ) (ps : List Placed) (end : ℕ) (rest : List ℕ) → token_from cs ≡ Some (t, behind) → AreTokens (at + (width cs - width behind)) behind ps end rest
@@ -82,3 +62,6 @@ width-encoded (c ∷ cs) = let more = width-encoded cs in omega (arith, length-a
 
 pub width-chars : (bs : List ℕ) → IsUtf8 bs → width (chars bs) ≡ length bs
 width-chars bs is = width-encoded (chars bs) ∙ ap length (encodes-chars bs is)
+
+-- the same for a function of the code
+pub ruleset wide = (width-chars)

@@ -12,7 +12,7 @@ use Rattle.ag_tokens.specs.Placed.{Placed, Input}
 use Rattle.ag_tokens.specs.Token.{Token}
 use Rattle.ag_tokens.specs.Tokens.{is_separator, is_within, all_within, width, IsToken, IsLongest, AreTokens, ended, separator, word, HasNoToken, Stops, Lexes}
 use Rattle.ag_tokens.proofs.Lexed.{is_behind, spaces, spaced, one_more, plain_behind, separator_width, width-append}
-use Rattle.ag_tokens.proofs.TokenLaws.{token_sound, cut_longest, cut_none, one_token, begins_plain}
+use Rattle.ag_tokens.proofs.TokenLaws.{token_sound, cut_longest, cut_none, one_token, begins_plain, word_some}
 
 pub nothing_cut : token_from [] ≡ None
 unfolding token_from
@@ -28,14 +28,9 @@ same_cut zero m len cs h k = let bad : ⊥ = omega arith in absurd bad
 same_cut (suc n) zero len cs h k = let bad : ⊥ = omega arith in absurd bad
 same_cut (suc n) (suc m) len cs h k = go (token_from cs) refl (same_cut n m len)
   where
-    at : ℕ
-    at = len - width cs
-
-    go : (o : Option (Token × List ℕ)) → token_from cs ≡ o → ((ds : List ℕ) → length ds < n → length ds < m → cut n len ds ≡ cut m len ds) → left_by (cut n len) at cs o ≡ left_by (cut m len) at cs o
+    go : (o : Option (Token × List ℕ)) → token_from cs ≡ o → ((ds : List ℕ) → length ds < n → length ds < m → cut n len ds ≡ cut m len ds) → left_by (cut n len) (len - width cs) cs o ≡ left_by (cut m len) (len - width cs) cs o
     go None e more = refl
-    go (Some p) e more =
-        let less = shorter cs p.0 p.1 e in
-        ap (λ left. cond (is_within p.0) (one_before at p.0 left) (none_left (ending.TooLargeAt at))) (more (unspaced p.1) (omega arith) (omega arith))
+    go (Some p) e more = let less = shorter cs p.0 p.1 e in rw (more (unspaced p.1) (omega arith) (omega arith)) refl
 
 none_cut : (at : ℕ) (cs : List ℕ) → StartsPlain cs → token_from cs ≡ None → Lexes at cs (none_left (ending_at at cs))
 none_cut at [] plain e = record { rest = []; before = ended at []; within = refl; stops = refl }
@@ -84,22 +79,14 @@ cons_head c d cs ds e = cc
 
 -- where a word of a token stands no separator does
 plain_word : (cs w rest : List ℕ) (t : Token) → cs ≡ w ++ rest → IsToken w t → (unspaced cs ≡ cs) × (0 < length w)
-plain_word [] w rest t split is = let begins = begins_plain w t is in let bad : ⊥ = omega (arith, ap length split, ap length begins.2, length-append w rest) in absurd bad
-plain_word (c ∷ cs) w rest t split is =
-    let begins = begins_plain w t is in
-    let same : c ≡ begins.0 = cons_head c begins.0 cs (begins.1 ++ rest) (split ∙ ap (λ x. x ++ rest) begins.2) in
-    let plain : is_separator c ≡ false = ap is_separator same ∙ begins.3 in
-    (rw plain refl, subst (λ x. 0 < length x) (sym begins.2) (omega arith))
+plain_word cs w rest t split is = let plain = begins_plain w t is in (grind arith, word_some w t is)
 
 -- two fronts of one length are one
 same_fronts : (xs ys us vs : List ℕ) → xs ++ us ≡ ys ++ vs → length xs ≡ length ys → (xs ≡ ys) × (us ≡ vs)
 same_fronts [] [] us vs e n = (refl, e)
 same_fronts [] (y ∷ ys) us vs e n = let bad : ⊥ = omega arith in absurd bad
 same_fronts (x ∷ xs) [] us vs e n = let bad : ⊥ = omega arith in absurd bad
-same_fronts (x ∷ xs) (y ∷ ys) us vs e n =
-    let tails : xs ++ us ≡ ys ++ vs = cc in
-    let more = same_fronts xs ys us vs tails (omega arith) in
-    (ap (λ z. z ∷ xs) (cons_head x y (xs ++ us) (ys ++ vs) e) ∙ ap (λ zs. y ∷ zs) more.0, more.1)
+same_fronts (x ∷ xs) (y ∷ ys) us vs e n = let tails : xs ++ us ≡ ys ++ vs = cc in let more = same_fronts xs ys us vs tails (omega arith) in (cc, more.1)
 
 -- the longest token is cut
 cut_there : (cs w rest : List ℕ) (t : Token) → cs ≡ w ++ rest → IsToken w t → IsLongest w rest → token_from cs ≡ Some (t, rest)
@@ -135,7 +122,7 @@ cut_end (ending.TooLargeAt at) rest h n len place =
     rw (plain, cut_there rest h.word h.behind h.token h.split h.is h.longest, h.large, there) refl
 
 separated : (c : ℕ) (cs : List ℕ) → is_separator c ≡ true → unspaced (c ∷ cs) ≡ unspaced cs
-separated c cs h = let k : 1 + prefix_len is_separator cs ≡ suc (prefix_len is_separator cs) = omega arith in rw (h, k) refl
+separated c cs h = grind arith
 
 -- what stands there is what is cut
 cut_is : {at : ℕ} {cs : List ℕ} {ps : List Placed} {end : ℕ} {rest : List ℕ} → AreTokens at cs ps end rest → (e : Ending) → end ≡ offset_of e → Stops e rest → all_within ps ≡ true

@@ -1,4 +1,3 @@
-pub mod Exact
 pub mod Fronts
 pub mod Lexed
 pub mod Lexes
@@ -6,7 +5,5 @@ pub mod Numerals
 pub mod Options
 pub mod Spans
 pub mod States
-pub mod Steady
 pub mod TextTurns
 pub mod TokenLaws
-pub mod Turns

@@ -1,19 +1,17 @@
 -- What is left of a text, by the token in front.
-use Rattle.std.proofs.Common.{◌≡◌, ◌==◌, ℕ, zero, suc, ◌-◌, ◌<◌, ◌≤◌, ◌+◌, Bool, true, false, List, [], ◌∷◌, length, drop, Option, Some, None, Result, Ok, Err, Bor, IsUtf8, chars, refl, ap, sym, ◌∙◌, subst, arith}
-use Rattle.std.proofs.lemmas.Bool.{eqb-false, eqb-true}
+use Rattle.std.proofs.Common.{◌≡◌, ◌==◌, ℕ, suc, ◌-◌, ◌<◌, ◌≤◌, ◌+◌, Bool, true, false, List, [], ◌∷◌, length, drop, Some, None, Result, Ok, Err, Bor, IsUtf8, chars, refl, ap, sym, ◌∙◌, subst, arith}
+use Rattle.std.proofs.lemmas.Bool.{eqb-true}
 use Rattle.std.proofs.lemmas.List.{length-drop}
-use Rattle.std.proofs.lemmas.Str.{len_utf8_bounds, chars-nil, IsUtf8-drop}
+use Rattle.std.proofs.lemmas.Str.{len_utf8_bounds, IsUtf8-drop}
+use Rattle.std.proofs.lemmas.Bool.Decides.{nat_tests}
 use Rattle.std.specs.Str.{IsCharBoundary}
-use Rattle.ag_tokens.specs.Ending.{Ending}
-use Rattle.ag_tokens.specs.Ending as ending
-use Rattle.ag_tokens.specs.Placed.{Placed, Input}
-use Rattle.ag_tokens.specs.Token.{Token}
+use Rattle.ag_tokens.specs.Placed.{Input}
 use Rattle.ag_tokens.specs.declared.token.Token as lent
 use Rattle.ag_tokens.specs.declared.fault.TokenFault.{TokenFault}
 use Rattle.ag_tokens.specs.declared.fault.TokenFault.TheVariants as fault
-use Rattle.ag_tokens.specs.Tokens.{width, is_within, Lexes}
-use Rattle.ag_tokens.specs.Lexing.{token_from, token_of, GivesToken, IsTooLarge}
-use Rattle.ag_tokens.specs.Left.{unspaced, none_left, one_before, ending_at, ending_by, left_by, cut, input}
+use Rattle.ag_tokens.specs.Tokens.{width, Lexes}
+use Rattle.ag_tokens.specs.Lexing.{token_from, token_of, GivesToken}
+use Rattle.ag_tokens.specs.Left.{unspaced, none_left, one_before, ending_by, left_by, cut, input}
 use Rattle.ag_tokens.specs.Parsing.{ending_fault, place, is_end}
 use Rattle.ag_tokens.proofs.Lexed.{is_behind, spaces, width-chars}
 use Rattle.ag_tokens.proofs.Lexes.{nothing_cut, same_cut, shorter, cut_at, cut_first}
@@ -21,7 +19,7 @@ use Rattle.ag_tokens.proofs.Lexes.{nothing_cut, same_cut, shorter, cut_at, cut_f
 abbrev Front : Type 0
 Front = Result (lent.Token × Bor (List ℕ)) TokenFault
 
-no_width : (cs : List ℕ) → width cs ≡ 0 → cs ≡ []
+pub no_width : (cs : List ℕ) → width cs ≡ 0 → cs ≡ []
 no_width [] e = refl
 no_width (c ∷ cs) e = let some = (len_utf8_bounds c).0 in let bad : ⊥ = omega arith in absurd bad
 
@@ -38,42 +36,15 @@ module _ (len : ℕ) (cs : List ℕ) where
       let less = shorter cs (token_of x.0) (chars x.1.now) given.0 in
       rw (given.0, given.1, same_cut (length cs) (suc (length rest)) len rest less (omega arith)) refl
   front_is (Err fault.Nothing) given = ap (left_by (cut (length cs) len) (len - width cs) cs) given
-  front_is (Err fault.TooLarge) given = go (token_from cs) given
-    where
-      go : (o : Option (Token × List ℕ)) → IsTooLarge o → left_by (cut (length cs) len) (len - width cs) cs o ≡ none_left (ending.TooLargeAt (len - width cs))
-      go None h = absurd h
-      go (Some p) h = rw h refl
+  front_is (Err fault.TooLarge) given = let read = token_from cs in grind arith
 
   -- it stands at the offset of what is left, and so do the tokens end there
   pub place_is : (r : Front) → GivesToken r (token_from cs) → place (input len cs) ≡ len - width cs
-  place_is r given = ap place (front_is r given) ∙ go r
-    where
-      ending_place : (f : TokenFault) (ds : List ℕ) → place (none_left (ending_by f (len - width cs) ds)) ≡ len - width cs
-      ending_place fault.TooLarge ds = refl
-      ending_place fault.Nothing [] = refl
-      ending_place fault.Nothing (d ∷ ds) = refl
-
-      go : (r : Front) → place (by_front r) ≡ len - width cs
-      go (Ok x) = refl
-      go (Err f) = ending_place f cs
+  place_is r given = let is = front_is r given in grind arith
 
   -- and no text ends there where characters are left
   before_end : (r : Front) → GivesToken r (token_from cs) → 0 < width cs → is_end (input len cs).ending (input len cs).left ≡ false
-  before_end r given some = ap (λ (i : Input). is_end i.ending i.left) (front_is r given) ∙ go r
-    where
-      no_end : (e : Ending) (p : Placed) (ps : List Placed) → is_end e (p ∷ ps) ≡ false
-      no_end (ending.EndsAt at) p ps = refl
-      no_end (ending.NoTokenAt at) p ps = refl
-      no_end (ending.TooLargeAt at) p ps = refl
-
-      none_at : (f : TokenFault) (ds : List ℕ) → 0 < width ds → is_end (ending_by f (len - width cs) ds) [] ≡ false
-      none_at fault.TooLarge ds more = refl
-      none_at fault.Nothing [] more = let bad : ⊥ = omega arith in absurd bad
-      none_at fault.Nothing (d ∷ ds) more = refl
-
-      go : (r : Front) → is_end (by_front r).ending (by_front r).left ≡ false
-      go (Ok x) = no_end _ _ _
-      go (Err f) = none_at f cs some
+  before_end r given some = let is = front_is r given in grind arith
 
   at_end : width cs ≡ 0 → is_end (input len cs).ending (input len cs).left ≡ true
   unfolding cut input
@@ -81,15 +52,7 @@ module _ (len : ℕ) (cs : List ℕ) where
 
   -- the text ends where no bytes are left
   pub ends_here : (r : Front) → GivesToken r (token_from cs) → (n : ℕ) → width cs ≡ n → (b : Bool) → b ≡ (n == 0) → b ≡ is_end (input len cs).ending (input len cs).left
-  ends_here r given n wide b is = is ∙ go (n == 0) refl
-    where
-      some : (m : ℕ) → m ≡ n → (n == 0) ≡ false → 0 < m
-      some zero same e = let bad : ⊥ = eqb-false n 0 e (sym same) in absurd bad
-      some (suc m) same e = omega arith
-
-      go : (b : Bool) → (n == 0) ≡ b → b ≡ is_end (input len cs).ending (input len cs).left
-      go true e = sym (at_end (wide ∙ eqb-true n 0 e))
-      go false e = sym (before_end r given (some (width cs) wide e))
+  ends_here r given n wide b is = let here = before_end r given in let none = at_end in grind (arith, nat_tests, here, none)
 
 -- ---- in the words of the code
 
@@ -114,8 +77,4 @@ pub fault_at_end : (f : TokenFault) (rest : List ℕ) → f ≡ fault.Nothing �
 fault_at_end f rest is utf8 none at = rw (is, no_width (chars rest) (width-chars rest utf8 ∙ eqb-true (length rest) 0 none)) refl
 
 pub fault_before_end : (f : TokenFault) (rest : List ℕ) → f ≡ fault.Nothing → IsUtf8 rest → (length rest == 0) ≡ false → (at : ℕ) → Some fault.Nothing ≡ ending_fault (ending_by f at (chars rest))
-fault_before_end f rest is utf8 some at = rw is (go (chars rest) (width-chars rest utf8))
-  where
-    go : (cs : List ℕ) → width cs ≡ length rest → Some fault.Nothing ≡ ending_fault (ending_at at cs)
-    go [] wide = let bad : ⊥ = eqb-false (length rest) 0 some (sym wide) in absurd bad
-    go (c ∷ cs) wide = refl
+fault_before_end f rest is utf8 some at = let wide = width-chars rest utf8 in grind (arith, nat_tests)

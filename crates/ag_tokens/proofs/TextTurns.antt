@@ -1,15 +1,15 @@
 -- A text literal read character by character, beside a loop.
-use Rattle.std.proofs.lemmas.Option.{same_Some}
 use Rattle.std.specs.Option.{option_and_then}
-use Rattle.std.proofs.Common.{◌≡◌, ℕ, zero, suc, ◌≤◌, ◌<◌, ◌≢◌, ◌==◌, Bool, true, false, cond, List, [], ◌∷◌, ◌++◌, length, Option, Some, None, chars, encode_utf8, encode_utf8_all, ◌∙◌, refl, sym, ap, subst, arith, append_assoc, append-nil, length-append, take, ◌-◌, IsUtf8, is_some, Bor, MatchOption, lit<}
+use Rattle.std.proofs.Common.{◌≡◌, ℕ, zero, suc, ◌≤◌, ◌<◌, ◌≢◌, true, List, [], ◌∷◌, ◌++◌, length, Option, Some, None, chars, encode_utf8, encode_utf8_all, ◌∙◌, refl, sym, ap, subst, arith, append_assoc, append-nil, length-append, take, ◌-◌, IsUtf8, is_some, Bor, MatchOption, lit<}
 use Rattle.std.specs.Str.{IsCharBoundary}
 use Rattle.std.proofs.Math.Seq.{take-append_seam}
 use Rattle.std.proofs.lemmas.Str.{encode_ascii, encodes-append, chars_from_encodes, IsUtf8-take, IsCharBoundary-at_seam}
-use Rattle.std.proofs.lemmas.Bool.{eqb-true, ne_eqb}
+use Rattle.std.proofs.lemmas.Bool.{ne_eqb}
+use Rattle.std.proofs.lemmas.Bool.Decides.{nat_tests}
 use Rattle.ag_tokens.specs.Token.{Token}
 use Rattle.ag_tokens.specs.Token as token
 use Rattle.ag_tokens.specs.Tokens.{IsBody, empty, plain, escape, escaped}
-use Rattle.ag_tokens.specs.Lexing.{where_some, piece_from, character_from, escape_from, text_from, unquoted, unescaped, after_backslash, IsPast, PassesEscape}
+use Rattle.ag_tokens.specs.Lexing.{piece_from, character_from, escape_from, text_from, unquoted, unescaped, IsPast, PassesEscape}
 
 -- The characters in `taken` were read, which stand for the bytes in `front`; `rest` is left, and with turns enough for it the total is read.
 pub record Within (text rest : List ℕ) (total : Option (Token × List ℕ)) : Type 0 where
@@ -31,26 +31,12 @@ joined (plain c body bytes quote slash so_far) ys more is =
 joined (escape c d body bytes same so_far) ys more is =
     subst (IsBody (92 ∷ c ∷ (body ++ ys))) (sym (append_assoc (encode_utf8 d) bytes more)) (escape c d (body ++ ys) (bytes ++ more) same (joined so_far ys more is))
 
-second_same : {A B : Type 0} (a c : A) (b d : B) → (let one : Option (A × B) = Some (a, b) in one ≡ Some (c, d)) → b ≡ d
-second_same {A = A} {B = B} a c b d e = let both : (a, b) ≡ (c, d) = same_Some _ _ e in ap (λ (p : A × B). p.1) both
-
 -- what a character leaves is shorter
 shorter_escape : (cs rest : List ℕ) (c : ℕ) → escape_from cs ≡ Some (c, rest) → length rest < length cs
-shorter_escape [] rest c e = let bad : ⊥ = cc in absurd bad
-shorter_escape (d ∷ cs) rest c e = go (escaped d) e
-  where
-    go : (o : Option ℕ) → option_and_then {U = ℕ × List ℕ} (λ x. Some (x, cs)) o ≡ Some (c, rest) → length rest < length (d ∷ cs)
-    go None h = let bad : ⊥ = cc in absurd bad
-    go (Some x) h = let same = second_same x c cs rest h in omega (arith, ap length same)
+shorter_escape cs rest c e = grind arith
 
 shorter : (cs rest : List ℕ) (c : ℕ) → character_from cs ≡ Some (c, rest) → length rest < length cs
-shorter [] rest c e = let bad : ⊥ = cc in absurd bad
-shorter (d ∷ cs) rest c e = go (d == 34) (d == 92) e
-  where
-    go : (quote slash : Bool) → cond quote None (cond slash (escape_from cs) (Some (d, cs))) ≡ Some (c, rest) → length rest < length (d ∷ cs)
-    go true slash h = let bad : ⊥ = cc in absurd bad
-    go false true h = let less = shorter_escape cs rest c h in omega arith
-    go false false h = let same = second_same d c cs rest h in omega (arith, ap length same)
+shorter cs rest c e = grind (arith, shorter_escape)
 
 pub goes_on : (text rest after : List ℕ) (total : Option (Token × List ℕ)) → IsPast rest after → Within text rest total → Within text after total
 unfolding text_from
@@ -75,26 +61,20 @@ goes_on text rest after total past so_far = go so_far.turns so_far.enough so_far
         }
 
 none_unquoted : (cs : List ℕ) → length cs ≤ 0 → unquoted cs ≡ None
-none_unquoted [] h = refl
-none_unquoted (c ∷ cs) h = let bad : ⊥ = omega arith in absurd bad
+none_unquoted cs h = grind arith
 
 pub stopped : (text rest : List ℕ) (total : Option (Token × List ℕ)) → character_from (chars rest) ≡ None → (so_far : Within text rest total)
     → total ≡ option_and_then (λ behind. Some (token.Text so_far.front, behind)) (unquoted (chars rest))
 unfolding text_from
-stopped text rest total is so_far = go so_far.turns so_far.enough so_far.same
+stopped text rest total is so_far = let none = none_unquoted (chars rest) in let same = so_far.same in let enough = so_far.enough in go so_far.turns enough same
   where
     go : (n : ℕ) → length (chars rest) ≤ n → text_from n so_far.front (chars rest) ≡ total → total ≡ option_and_then (λ behind. Some (token.Text so_far.front, behind)) (unquoted (chars rest))
-    go zero enough same = sym same ∙ sym (ap (λ o. option_and_then (λ behind. Some (token.Text so_far.front, behind)) o) (none_unquoted (chars rest) enough))
+    go zero enough same = rw (none_unquoted (chars rest) enough) (sym same)
     go (suc n) enough same = sym same ∙ rw is refl
-
--- what a body stands for is worked out from it
-plain_first : (c : ℕ) (body bytes : List ℕ) (b : Bool) → c ≢ 92 → (c == 92) ≡ b → unescaped body ≡ bytes → cond b (after_backslash body) (encode_utf8 c ++ unescaped body) ≡ encode_utf8 c ++ bytes
-plain_first c body bytes true slash h is = let bad : ⊥ = slash (eqb-true c 92 h) in absurd bad
-plain_first c body bytes false slash h is = ap (λ x. encode_utf8 c ++ x) is
 
 unescapes : {body bytes : List ℕ} → IsBody body bytes → unescaped body ≡ bytes
 unescapes empty = refl
-unescapes (plain c body bytes quote slash is) = plain_first c body bytes (c == 92) slash refl (unescapes is)
+unescapes (plain c body bytes quote slash is) = rw (ne_eqb c 92 slash) (ap (λ x. encode_utf8 c ++ x) (unescapes is))
 unescapes (escape c d body bytes same is) = rw same (ap (λ x. encode_utf8 d ++ x) (unescapes is))
 
 -- the body that was read is what stands before the rest
@@ -112,11 +92,7 @@ module _ (text rest : List ℕ) (total : Option (Token × List ℕ)) (so_far : W
       ap (λ x. unescaped (chars x)) bytes ∙ ap unescaped characters ∙ unescapes so_far.is
 
 some_escape : (c : ℕ) → is_some (escaped c) ≡ true → (d : ℕ) × (escaped c ≡ Some d)
-some_escape c h = go (escaped c) refl h
-  where
-    go : (o : Option ℕ) → escaped c ≡ o → is_some o ≡ true → (d : ℕ) × (escaped c ≡ Some d)
-    go None e h = let bad : ⊥ = cc in absurd bad
-    go (Some d) e h = (d, e)
+some_escape c h = grind arith
 
 encoded_escape : (c : ℕ) (rest : List ℕ) → 92 ∷ (encode_utf8 c ++ rest) ≡ encode_utf8_all (92 ∷ c ∷ []) ++ rest
 encoded_escape c rest = rw (encode_ascii 92 (lit< tt), append-nil (encode_utf8 c)) refl
@@ -152,40 +128,10 @@ pub ruleset past = (past_escape, past_plain)
 
 pub piece_some : (cs : List ℕ) (c : ℕ) (rest : List ℕ) → Some (c, rest) ≡ piece_from cs → (unescaped cs ≡ encode_utf8 c ++ unescaped rest) × (length rest < length cs)
 piece_some [] c rest h = let bad : ⊥ = cc in absurd bad
-piece_some (d ∷ cs) c rest h = go (d == 92) h
-  where
-    escapes : (cs : List ℕ) → Some (c, rest) ≡ escape_from cs → (after_backslash cs ≡ encode_utf8 c ++ unescaped rest) × (length rest < suc (length cs))
-    escapes [] h = let bad : ⊥ = cc in absurd bad
-    escapes (e ∷ cs) h = by (escaped e) h
-      where
-        by : (o : Option ℕ) → ◌≡◌ {A = Option (ℕ × List ℕ)} (Some (c, rest)) (option_and_then (λ d. Some (d, cs)) o) → (where_some o [] (λ d. encode_utf8 d ++ unescaped cs) ≡ encode_utf8 c ++ unescaped rest) × (length rest < suc (suc (length cs)))
-        by None h = let bad : ⊥ = cc in absurd bad
-        by (Some f) h =
-            let pair = same_Some _ _ h in
-            let same = ap (λ (x : ℕ × List ℕ). x.0) pair in
-            let left = ap (λ (x : ℕ × List ℕ). x.1) pair in
-            (rw (same, left) refl, omega (arith, ap length left))
-
-    go : (b : Bool) → Some (c, rest) ≡ cond b (escape_from cs) (Some (d, cs)) → (cond b (after_backslash cs) (encode_utf8 d ++ unescaped cs) ≡ encode_utf8 c ++ unescaped rest) × (length rest < suc (length cs))
-    go true h = escapes cs h
-    go false h =
-        let pair = same_Some _ _ h in
-        let same = ap (λ (x : ℕ × List ℕ). x.0) pair in
-        let left = ap (λ (x : ℕ × List ℕ). x.1) pair in
-        (rw (same, left) refl, omega (arith, ap length left))
+piece_some (d ∷ []) c rest h = (grind (arith, nat_tests), grind (arith, nat_tests))
+piece_some (d ∷ e ∷ cs) c rest h = (grind (arith, nat_tests), grind (arith, nat_tests))
 
 pub piece_none : (cs : List ℕ) → None ≡ piece_from cs → unescaped cs ≡ []
 piece_none [] h = refl
-piece_none (d ∷ cs) h = go (d == 92) h
-  where
-    escapes : (cs : List ℕ) → None ≡ escape_from cs → after_backslash cs ≡ []
-    escapes [] h = refl
-    escapes (e ∷ cs) h = by (escaped e) h
-      where
-        by : (o : Option ℕ) → ◌≡◌ {A = Option (ℕ × List ℕ)} None (option_and_then (λ d. Some (d, cs)) o) → where_some o [] (λ d. encode_utf8 d ++ unescaped cs) ≡ []
-        by None h = refl
-        by (Some d) h = let bad : ⊥ = cc in absurd bad
-
-    go : (b : Bool) → None ≡ cond b (escape_from cs) (Some (d, cs)) → cond b (after_backslash cs) (encode_utf8 d ++ unescaped cs) ≡ []
-    go true h = escapes cs h
-    go false h = let bad : ⊥ = cc in absurd bad
+piece_none (d ∷ []) h = grind (arith, nat_tests)
+piece_none (d ∷ e ∷ cs) h = grind (arith, nat_tests)

@@ -1,5 +1,5 @@
 -- What is left of a text that is read from its front: the tokens from there on, and how they end. All of this is this project's.
-use Rattle.std.specs.Prelude.{◌≡◌, ℕ, zero, suc, ◌-◌, ◌≤◌, Bool, false, cond, List, [], ◌∷◌, drop, length, Option, Some, None, Result, chars}
+use Rattle.std.specs.Prelude.{◌≡◌, ℕ, zero, suc, ◌-◌, ◌≤◌, false, cond, List, [], ◌∷◌, drop, length, Option, Some, None, Result, chars}
 use Rattle.std.specs.Borrow.{Bor}
 use Rattle.std.specs.List.{prefix_len}
 use Rattle.ag_tokens.specs.Token.{Token}

@@ -1,5 +1,5 @@
 -- Reading from the front of placed tokens, whatever the faults are: what is read, and what is left; or why reading stops. All of this is this project's.
-use Rattle.std.specs.Prelude.{◌≡◌, ◌≢◌, ℕ, zero, suc, Bool, true, false, if◌then◌else◌, List, [], ◌∷◌, ◌++◌, length, Option, Some, None, Result, Ok, Err, bytes_eq}
+use Rattle.std.specs.Prelude.{ℕ, zero, suc, Bool, true, false, if◌then◌else◌, List, [], ◌∷◌, ◌++◌, length, Option, Some, None, Result, Ok, Err, bytes_eq}
 use denote.Enum.Bare.{sameb}
 use Rattle.ag_tokens.specs.contracts.token.Punctuation.{the_type}
 use Rattle.ag_tokens.specs.declared.token.Punctuation.{Punctuation}

@@ -39,6 +39,7 @@ impl<'t> Model for Cursor<'t> {
 }
 
 /// Why no token stands in front of what is left, where this is why none is cut.
+#[tactic(auto, using(crate::proofs::States::no_width, crate::proofs::Lexed::wide))]
 fn fault_before(fault: TokenFault, rest: &str) -> Option<TokenFault>
     ensures { (at : ℕ) → result ≡ ending_fault (ending_by fault at (chars rest.now)) }
 {
@@ -89,6 +90,7 @@ impl<'t> Cursor<'t> {
     }
 
     /// The offset of the token in front, or of the place where the tokens end. Takes no memory.
+    #[tactic(auto, using(crate::proofs::States::place_is))]
     pub fn place(&self) -> usize
         ensures { result ≡ place self.now }
     {
@@ -96,6 +98,7 @@ impl<'t> Cursor<'t> {
     }
 
     /// Whether the text ends here. Takes no memory.
+    #[tactic(auto, using(crate::proofs::States::ends_here))]
     pub fn is_at_end(&self) -> bool
         ensures { result ≡ is_end self.now.ending self.now.left }
     {

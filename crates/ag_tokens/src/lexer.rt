@@ -90,6 +90,7 @@ pub fn skip_separators(text: &str) -> &str
 }
 
 /// The digits in front, where there are some, and what stands behind them.
+#[tactic(auto, using(crate::proofs::Numerals::no_digits_cut, crate::proofs::Numerals::digits_cut, crate::proofs::Numerals::digits_are))]
 fn digits_in_front(text: &str) -> Option<(&str, &str)>
     ensures value { lexing.GivesDigits result (lexing.digits_from (chars text.now)) }
     ensures digits { IfSome result (λ x. IsDigits x.0.now) }

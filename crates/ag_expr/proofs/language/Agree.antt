@@ -1,10 +1,9 @@
 -- Reading agrees with the syntax.
-use Rattle.std.proofs.Common.{option_map, rules, ◌≡◌, ℕ, zero, suc, Bool, true, false, not, cond, ◌||◌, if◌then◌else◌, ◌&&◌, List, [], ◌∷◌, ◌++◌, length, ◌<◌, Option, Some, None, Ok, Err, is_some, refl, ap, sym, ◌∙◌, subst, append-nil, ◌↔◌, codes}
+use Rattle.std.proofs.Common.{rules, ◌≡◌, ℕ, zero, suc, Bool, true, false, not, ◌||◌, if◌then◌else◌, ◌&&◌, List, [], ◌∷◌, ◌++◌, length, ◌<◌, Option, Some, None, Ok, Err, is_some, refl, ap, sym, ◌∙◌, subst, append-nil, ◌↔◌, codes, arith}
 use denote.Enum.Bare.{same_true}
 use Rattle.std.proofs.lemmas.Bool.{and_parts}
 use Rattle.ag_expr.specs.contracts.parser.Precedence.{the_type}
 use Rattle.ag_expr.specs.declared.parser.Precedence.{Precedence}
-use Rattle.ag_expr.specs.declared.parser.Precedence.TheVariants as precedence
 use Rattle.ag_expr.specs.declared.names.Call.{Call}
 use Rattle.ag_expr.specs.declared.names.Call.TheVariants as call
 use Rattle.ag_tokens.specs.declared.token.Punctuation.TheVariants as punctuation
@@ -14,7 +13,7 @@ use Rattle.ag_grammar.specs.declared.node.Node.TheVariants as node
 use Rattle.ag_grammar.specs.declared.occurrence.Occ.{Occ}
 use Rattle.ag_tokens.specs.Ending.{Ending}
 use Rattle.ag_tokens.specs.Ending as ending
-use Rattle.ag_expr.specs.language.Names.{Names, place_in, is_keyword}
+use Rattle.ag_expr.specs.language.Names.{Names}
 use Rattle.ag_tokens.specs.Placed.{Placed, Input, tokens}
 use Rattle.ag_tokens.specs.Words as syntax
 use Rattle.ag_tokens.specs.Words.{gives, one, ◌or◌, further}
@@ -23,8 +22,7 @@ use Rattle.ag_tokens.specs.Parsing as reading
 use Rattle.ag_tokens.specs.Parsing.{pure, is_end, is_sign}
 use Rattle.ag_expr.specs.language.Reading.{expect, expr_of, refusal, Parser, is_call, is_operand, is_operator_of, begins, begins_atom, other_from, chain_from, ranked_from, none_from, table_from, parenthesized_from, next_from, items_from, some_from, list_from, unary_from, binary_from, put_from, arguments_from, call_from, let_from, if_from, atom_from, whole_from, expr_from, expr_in}
 use Rattle.ag_tokens.specs.Token.{Token, Sign, mark, word, sign_token}
-use Rattle.ag_tokens.specs.Token as token
-use Rattle.ag_tokens.proofs.Exact.{nowhere, Apart, then_exact, or_exact, further_exact, further_behind, further_then, then_starts, ends_exact, any_then, start_then, opened, answered, shortens}
+use Rattle.ag_expr.proofs.reading.Exact.{nowhere, Apart, then_exact, or_exact, further_exact, further_behind, further_then, then_starts, ends_exact, any_then, start_then, opened, shortens}
 use Rattle.ag_expr.proofs.language.Manner.{Starts, Exact, First, token_exact, token_starts, sign_exact, sign_is, sign_first, or_first, starts_with}
 
 -- ---- precedences
@@ -43,19 +41,11 @@ AllApart (r ∷ rs) = Apart (is_operator_of r) (in_precedences rs) × AllApart r
 
 of_one : (r : Precedence) (o : Option (Precedence × Operator)) → is_some (of_precedence r o) ≡ true → (x : Operator) × (o ≡ Some (r, x))
 of_one r None h = let bad : ⊥ = cc in absurd bad
-of_one r (Some (q, x)) h = go (same_precedence r q) refl h
-  where
-    go : (b : Bool) → same_precedence r q ≡ b → is_some (cond b (Some x) None) ≡ true → (y : Operator) × ◌≡◌ {A = Option (Precedence × Operator)} (Some (q, x)) (Some (r, y))
-    go true e h = (x, ap (λ z. Some (z, x)) (sym (same_true the_type (search rules) r q e)))
-    go false e h = let bad : ⊥ = cc in absurd bad
+of_one r (Some (q, x)) h = let same = same_true the_type (search rules) r q in (x, grind (arith, same))
 
 apart : (r : Precedence) (rs : List Precedence) → absent r rs ≡ true → Apart (is_operator_of r) (in_precedences rs)
 apart r [] a t h = refl
-apart r (q ∷ qs) a t h = go (same_precedence q r) refl (apart r qs) a
-  where
-    go : (b : Bool) → same_precedence q r ≡ b → (absent r qs ≡ true → Apart (is_operator_of r) (in_precedences qs)) → (not b && absent r qs) ≡ true → in_precedences (q ∷ qs) t ≡ false
-    go true e ih a = let bad : ⊥ = cc in absurd bad
-    go false e ih a = let one = of_one r (binary_operator t) h in let others = ih a t h in rw (one.1, e) others
+apart r (q ∷ qs) a t h = let ih = apart r qs in let one = of_one r (binary_operator t) h in let is = one.1 in grind (arith, ih)
 
 abbrev distinct : List Precedence → Bool
 distinct [] = true
@@ -98,15 +88,7 @@ sign_apart s stops no_stop t h = ap stops (sign_is s t h) ∙ no_stop
 
 -- a call is no operand, since its name is reserved
 call_apart : (listed : List Occ) (scope : Names) → Apart is_call (is_operand listed scope)
-call_apart listed scope (token.Name name) h = rw h (go (is_keyword name))
-  where
-    go : (b : Bool) → is_some (cond (b || true) None (option_map node.Bound (place_in scope name))) ≡ false
-    go true = refl
-    go false = refl
-call_apart listed scope (token.Number n) h = let bad : ⊥ = cc in absurd bad
-call_apart listed scope (token.Text bytes) h = let bad : ⊥ = cc in absurd bad
-call_apart listed scope (token.Occurrence place attr) h = let bad : ⊥ = cc in absurd bad
-call_apart listed scope (token.Punctuation m) h = let bad : ⊥ = cc in absurd bad
+call_apart listed scope t h = grind arith
 
 -- ---- expressions
 
@@ -197,10 +179,7 @@ pub expr_exact : (listed : List Occ) (levels : ℕ) (scope : Names) → Exact op
 expr_exact listed levels scope = (expr_first listed levels scope).exact
 
 closer_apart : (k : Precedence) → AllApart (closer k)
-closer_apart precedence.Comparison = all_apart (closer precedence.Comparison) refl
-closer_apart precedence.Join = all_apart (closer precedence.Join) refl
-closer_apart precedence.Sum = all_apart (closer precedence.Sum) refl
-closer_apart precedence.Product = tt
+closer_apart k = grind (arith, all_apart)
 
 pub other_shortens : (listed : List Occ) (levels : ℕ) (scope : Names) (k : Precedence) (i j : Input) (a : Operator × Node) → other_from k (ranked_from (atom_from (expr_in listed levels) scope listed) (closer k)) i ≡ Ok (a, j) → length j.left < length i.left
 other_shortens listed levels scope k =
@@ -211,10 +190,7 @@ pub next_shortens : (listed : List Occ) (levels : ℕ) (scope : Names) (i j : In
 next_shortens listed levels scope = shortens (next_exact listed (IsExprIn listed levels) (expr_in listed levels) (expr_first listed levels) scope) (next_starts listed (IsExprIn listed levels) (expr_in listed levels) (expr_first listed levels) scope)
 
 end_left : (e : Ending) (ps : List Placed) → is_end e ps ≡ true → (at : ℕ) × (e ≡ ending.EndsAt at) × (ps ≡ [])
-end_left (ending.EndsAt n) [] h = (n, refl, refl)
-end_left (ending.EndsAt n) (p ∷ ps) h = let bad : ⊥ = cc in absurd bad
-end_left (ending.NoTokenAt n) ps h = let bad : ⊥ = cc in absurd bad
-end_left (ending.TooLargeAt n) ps h = let bad : ⊥ = cc in absurd bad
+end_left e ps h = grind arith
 
 -- what is read to the end of a text is an expression
 pub whole_is : (listed : List Occ) (levels : ℕ) (i j : Input) (e : Node) → expr_from listed levels i ≡ Ok (e, j) → is_end j.ending j.left ≡ true → (at : ℕ) × (i.ending ≡ ending.EndsAt at) × IsExpr listed levels (tokens i.left) e
@@ -241,11 +217,9 @@ pub read_to_end : (listed : List Occ) (levels : ℕ) (i j : Input) (e : Node) �
 unfolding expr_of
 read_to_end listed levels i j e h =
     let one = opened (expr_from listed levels i) _ _ h in
-    go one.0.1 one.0.0 one.1 (is_end one.0.1.ending one.0.1.left) refl one.2
-  where
-    go : (k : Input) (f : Node) → expr_from listed levels i ≡ Ok (f, k) → (b : Bool) → is_end k.ending k.left ≡ b → reading.and_then {A = Unit {0}} (if b then Ok (tt {0}, k) else Err (refusal k)) (λ u. pure f) ≡ Ok (e, j) → (expr_from listed levels i ≡ Ok (e, j)) × (is_end j.ending j.left ≡ true)
-    go k f read true ends h = let same = answered f e k j h in (read ∙ ap (λ x. Ok (x, k)) (sym same.0) ∙ ap (λ x. Ok (e, x)) same.1, subst (λ (x : Input). is_end x.ending x.left ≡ true) same.1 ends)
-    go k f read false ends h = let bad : ⊥ = cc in absurd bad
+    let read = one.1 in
+    let ended : reading.and_then {A = Unit {0}} (if is_end one.0.1.ending one.0.1.left then Ok (tt {0}, one.0.1) else Err (refusal one.0.1)) (λ u. pure one.0.0) ≡ Ok (e, j) = one.2 in
+    (grind arith, grind arith)
 
 pub exact : (listed : List Occ) (levels at : ℕ) (ps : List Placed) (e : Node) → (expr_of listed levels (record { left = ps; ending = ending.EndsAt at }) ≡ Ok (e, record { left = []; ending = ending.EndsAt at })) ↔ IsExpr listed levels (tokens ps) e
 exact listed levels at ps e = (λ h. let all = read_to_end listed levels _ _ e h in (whole_is listed levels _ _ e all.0 all.1).2, read_whole listed levels at ps e)

@@ -1,6 +1,5 @@
 -- The numbers in the tree of an expression: those of occurrences are of the list, and those of bound names of the scope.
 use Rattle.std.proofs.lemmas.Bool.{lt-ltb}
-use Rattle.std.proofs.lemmas.Option.{same_Some}
 use Rattle.std.proofs.Common.{◌≡◌, ◌<◌, ◌+◌, ℕ, zero, suc, length, Option, Some, None, IfSome, subst, List, [], ◌∷◌, ◌++◌, Bool, true, false, cond, inl, inr, refl, sym, arith, length-append, bytes_eq}
 use Rattle.std.specs.Prelude.{option_map}
 use Rattle.ag_expr.specs.declared.names.Call.{Call}
@@ -69,12 +68,9 @@ module _ (n bound : ℕ) where
 last_below : {A : Type 0} (test : A → Bool) (at : ℕ) (found : Option ℕ) (ys : List A) → IfSome found (λ k. k < at) → IfSome (last_from test at found ys) (λ k. k < at + length ys)
 last_below test at None [] h = tt
 last_below test at (Some k) [] h = omega arith
-last_below test at found (y ∷ ys) h = subst (λ m. IfSome (last_from test (at + 1) (cond (test y) (Some at) found) ys) (λ k. k < m)) (omega arith) (last_below test (at + 1) (cond (test y) (Some at) found) ys (go (test y) found h))
-  where
-    go : (b : Bool) (found : Option ℕ) → IfSome found (λ k. k < at) → IfSome (cond b (Some at) found) (λ k. k < at + 1)
-    go true found h = omega arith
-    go false None h = tt
-    go false (Some k) h = omega arith
+last_below test at found (y ∷ ys) h =
+    let more = last_below test (at + 1) (cond (test y) (Some at) found) ys in
+    grind (arith, more)
 
 -- ---- expressions
 
@@ -83,26 +79,23 @@ module _ (listed : List Occ) where
   n = length listed
 
   operand_within : (scope : Names) → Holds (Within n (length scope)) (one (operand_of listed scope))
-  operand_within scope = record { of = λ ts e (t, is, means). go t e means }
+  operand_within scope = record { of = λ ts e (t, is, means). subst (λ o. IfSome o (Within n (length scope))) means (operand t) }
     where
-      occurrence : (o : Option ℕ) (e : Node) → IfSome o (λ k. k < n) → option_map node.Occurrence o ≡ Some e → Within n (length scope) e
-      occurrence None e h means = let bad : ⊥ = cc in absurd bad
-      occurrence (Some k) e h means = subst (Within n (length scope)) (same_Some _ _ means) (occurrence_within n (length scope) k (lt-ltb k n h))
+      occurrence : (o : Option ℕ) → IfSome o (λ k. k < n) → IfSome (option_map node.Occurrence o) (Within n (length scope))
+      occurrence None h = tt
+      occurrence (Some k) h = occurrence_within n (length scope) k (lt-ltb k n h)
 
-      name : (reserved : Bool) (o : Option ℕ) (e : Node) → IfSome o (λ k. k < length scope) → cond reserved None (option_map node.Bound o) ≡ Some e → Within n (length scope) e
-      name true o e h means = let bad : ⊥ = cc in absurd bad
-      name false None e h means = let bad : ⊥ = cc in absurd bad
-      name false (Some k) e h means = subst (Within n (length scope)) (same_Some _ _ means) (rolled n (length scope) (Node-F.Bound k) _ (node.rolls-Bound k) (lt-ltb k (length scope) h))
+      name : (reserved : Bool) (o : Option ℕ) → IfSome o (λ k. k < length scope) → IfSome (cond reserved None (option_map node.Bound o)) (Within n (length scope))
+      name true o h = tt
+      name false None h = tt
+      name false (Some k) h = rolled n (length scope) (Node-F.Bound k) _ (node.rolls-Bound k) (lt-ltb k (length scope) h)
 
-      bound : (x : List ℕ) → IfSome (place_in scope x) (λ k. k < length scope)
-      bound x = subst (λ m. IfSome (place_in scope x) (λ k. k < m)) (omega arith) (last_below (λ y. bytes_eq y x) 0 None scope tt)
-
-      go : (t : Token) (e : Node) → operand_of listed scope t ≡ Some e → Within n (length scope) e
-      go (token.Number z) e means = subst (Within n (length scope)) (same_Some _ _ means) (literal_within n (length scope) _)
-      go (token.Text bytes) e means = subst (Within n (length scope)) (same_Some _ _ means) (literal_within n (length scope) _)
-      go (token.Name x) e means = name (is_reserved x) (place_in scope x) e (bound x) means
-      go (token.Occurrence place attr) e means = occurrence (position_of listed place attr) e (within (is_of place attr) listed) means
-      go (token.Punctuation m) e means = let bad : ⊥ = cc in absurd bad
+      operand : (t : Token) → IfSome (operand_of listed scope t) (Within n (length scope))
+      operand (token.Number z) = literal_within n (length scope) _
+      operand (token.Text bytes) = literal_within n (length scope) _
+      operand (token.Name x) = name (is_reserved x) (place_in scope x) (subst (λ m. IfSome (place_in scope x) (λ k. k < m)) (omega arith) (last_below (λ y. bytes_eq y x) 0 None scope tt))
+      operand (token.Occurrence place attr) = occurrence (position_of listed place attr) (within (is_of place attr) listed)
+      operand (token.Punctuation m) = tt
 
   other_within : (bound : ℕ) (k : Precedence) {L : List Token → Node → Type 0} → Holds (Within n bound) L → Holds (λ (p : Operator × Node). Within n bound p.1) (IsOther k L)
   other_within bound k x = then_holds any (λ o h. then_holds x (λ e h. gives_holds (λ (p : Operator × Node). Within n bound p.1) (o, e) h))

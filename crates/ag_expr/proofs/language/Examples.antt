@@ -17,17 +17,17 @@ use Rattle.ag_expr.specs.language.Syntax.{IsExpr}
 use Rattle.ag_expr.specs.language.Worked.{placed, sum_and_product, let_and_compare, bound_and_compared}
 use Rattle.ag_expr.proofs.language.Agree as agree
 use Rattle.ag_tokens.proofs.Lexed.{one_more}
-use Rattle.ag_tokens.proofs.TokenLaws.{no_start, punctuation_cut}
+use Rattle.ag_tokens.proofs.TokenLaws.{mark_is}
 
 cut_occurrence : token_from (codes "$1.a + 2") ≡ Some (token.Occurrence 1 (codes "a"), codes " + 2")
 unfolding token_from
 cut_occurrence = rw (is_xid_start-ascii 97 (lit< tt), is_xid_continue-ascii 97 (lit< tt), is_xid_continue-ascii 32 (lit< tt), encode_ascii 97 (lit< tt)) refl
 
 cut_plus : (rest : List ℕ) → token_from (43 ∷ 32 ∷ rest) ≡ Some (token.Punctuation punctuation.Plus, 32 ∷ rest)
-cut_plus rest = punctuation_cut 43 (32 ∷ rest) (punctuation.Plus, 32 ∷ rest) (no_start 43 (lit< tt) refl refl) refl refl refl refl
+cut_plus rest = mark_is punctuation.Plus (32 ∷ rest)
 
 cut_times : (rest : List ℕ) → token_from (42 ∷ rest) ≡ Some (token.Punctuation punctuation.Times, rest)
-cut_times rest = punctuation_cut 42 rest (punctuation.Times, rest) (no_start 42 (lit< tt) refl refl) refl refl refl refl
+cut_times rest = mark_is punctuation.Times rest
 
 abbrev IsNumber : ℤ → List ℕ → List ℕ → Type 0
 IsNumber n cs rest = token_from cs ≡ Some (token.Number n, rest)

@@ -1,19 +1,19 @@
 -- Expressions as a language of tokens that a parser reads, and the signs in it.
-use Rattle.std.proofs.Common.{◌||◌, rules, ◌≡◌, ◌==◌, ◌&&◌, Bool, true, false, if◌then◌else◌, List, [], ◌∷◌, Option, Some, None, is_some, refl, ap, ◌∙◌}
+use Rattle.std.proofs.Common.{◌||◌, rules, arith, ℕ, bytes_eq, ◌≡◌, ◌==◌, ◌&&◌, Bool, true, false, List, Option, Some, is_some, refl}
 use denote.Enum.Bare.{same_true, true_same}
-use Rattle.std.proofs.lemmas.Bool.{and_parts, eqb-true, eq-eqb}
+use Rattle.std.proofs.lemmas.Bool.Decides.{nat_tests}
 use Rattle.std.proofs.lemmas.Slice.Eq.{bytes_eq-Decides}
 use Rattle.ag_tokens.specs.contracts.token.Punctuation.{the_type}
+use Rattle.ag_tokens.specs.declared.token.Punctuation.{Punctuation}
 use Rattle.ag_tokens.specs.Placed.{Placed}
-use Rattle.ag_tokens.specs.Parsing.{is_sign, choose}
+use Rattle.ag_tokens.specs.Parsing.{is_sign, same_mark, choose}
 use Rattle.ag_tokens.specs.Token.{Token, Sign, mark, word, sign_token}
-use Rattle.ag_tokens.specs.Token as token
 use Rattle.ag_tokens.specs.Words as words
 use Rattle.ag_tokens.specs.Words.{one, ◌or◌}
-use Rattle.ag_tokens.proofs.Exact as theory
-use Rattle.ag_tokens.proofs.Exact.{Manner, Apart, nowhere, one_exact, one_starts, then_starts, or_starts, or_exact}
-use Rattle.ag_tokens.proofs.Steady as steady
-use Rattle.ag_tokens.proofs.Steady.{one_steady, wider_steady}
+use Rattle.ag_expr.proofs.reading.Exact as theory
+use Rattle.ag_expr.proofs.reading.Exact.{Manner, Apart, nowhere, one_exact, one_starts, then_starts, or_starts, or_exact}
+use Rattle.ag_expr.proofs.reading.Steady as steady
+use Rattle.ag_expr.proofs.reading.Steady.{one_steady, wider_steady}
 use Rattle.ag_expr.specs.declared.fault.ExprFault.{ExprFault}
 use Rattle.ag_expr.specs.declared.fault.ExprFault.TheVariants as fault
 use Rattle.ag_expr.specs.language.Expression.{begins_expression}
@@ -29,14 +29,10 @@ abbrev pub manner : Manner Token ExprFault
 manner = record { item = λ p. p.token; wrong = refusal; is_told = λ f. true; is_deep = is_deep }
 
 pub deep_is : (f : ExprFault) (p : Placed) → is_deep f p ≡ true → (f ≡ fault.TooDeep p.at) × (begins_expression p.token ≡ true)
-deep_is (fault.TooDeep at) p h = let both = and_parts (at == p.at) (begins_expression p.token) h in (ap fault.TooDeep (eqb-true at p.at both.0), both.1)
-deep_is (fault.NoToken at) p h = let bad : ⊥ = cc in absurd bad
-deep_is (fault.Unexpected at) p h = let bad : ⊥ = cc in absurd bad
-deep_is (fault.NumberTooLarge at) p h = let bad : ⊥ = cc in absurd bad
-deep_is fault.NoMemory p h = let bad : ⊥ = cc in absurd bad
+deep_is f p h = (grind (arith, nat_tests), grind arith)
 
 pub is_too_deep : (p : Placed) → begins_expression p.token ≡ true → is_deep (fault.TooDeep p.at) p ≡ true
-is_too_deep p h = rw (eq-eqb p.at p.at refl, h) refl
+is_too_deep p h = grind (arith, nat_tests)
 
 abbrev pub Exact : {A : Type 0} → (Token → Bool) → (List Token → A → Type 0) → Parser A → Type 0
 Exact = theory.Exact manner
@@ -62,16 +58,13 @@ token_steady meaning = one_steady (λ at. meaning) meaning (λ p. refl)
 
 -- a token that is a sign is written so
 pub sign_is : (s : Sign) (t : Token) → is_sign s t ≡ true → t ≡ sign_token s
-sign_is (mark m) (token.Punctuation n) h = ap token.Punctuation (same_true the_type (search rules) n m h)
-sign_is (mark m) (token.Number n) h = let bad : ⊥ = cc in absurd bad
-sign_is (mark m) (token.Text bytes) h = let bad : ⊥ = cc in absurd bad
-sign_is (mark m) (token.Name name) h = let bad : ⊥ = cc in absurd bad
-sign_is (mark m) (token.Occurrence place attr) h = let bad : ⊥ = cc in absurd bad
-sign_is (word m) (token.Name n) h = ap token.Name ((bytes_eq-Decides n m).0 h)
-sign_is (word m) (token.Number n) h = let bad : ⊥ = cc in absurd bad
-sign_is (word m) (token.Text bytes) h = let bad : ⊥ = cc in absurd bad
-sign_is (word m) (token.Occurrence place attr) h = let bad : ⊥ = cc in absurd bad
-sign_is (word m) (token.Punctuation n) h = let bad : ⊥ = cc in absurd bad
+sign_is s t h = grind (arith, mark_is, name_is)
+  where
+    mark_is : (m n : Punctuation) → same_mark n m ≡ true → n ≡ m
+    mark_is m n h = same_true the_type (search rules) n m h
+
+    name_is : (m n : List ℕ) → bytes_eq n m ≡ true → n ≡ m
+    name_is m n h = (bytes_eq-Decides n m).0 h
 
 sign_same : (s : Sign) → is_sign s (sign_token s) ≡ true
 sign_same (mark m) = true_same the_type m m refl
@@ -81,11 +74,7 @@ means_sign : (s : Sign) → as_sign s (sign_token s) ≡ Some tt
 means_sign s = rw (sign_same s) refl
 
 spelled_is : (s : Sign) (ts : List Token) (a : Unit {0}) → one (as_sign s) ts a → spelled s ts a
-spelled_is s ts a (t, e, means) = go (is_sign s t) refl means
-  where
-    go : (b : Bool) → is_sign s t ≡ b → (if b then Some (tt {0}) else None) ≡ Some a → ts ≡ sign_token s ∷ []
-    go true is h = e ∙ ap (λ u. u ∷ []) (sign_is s t is)
-    go false is h = let bad : ⊥ = cc in absurd bad
+spelled_is s ts a (t, e, means) = let is = sign_is s t in grind arith
 
 pub sign_exact : {stops : Token → Bool} (s : Sign) → Exact stops (spelled s) (expect s)
 sign_exact {stops} s =
@@ -93,14 +82,7 @@ sign_exact {stops} s =
     record { sound = λ i j a h. let found = x.sound i j a h in (found.0, found.1, spelled_is s _ a found.2); complete = λ us j a is h. x.complete us j a (sign_token s, is, means_sign s) h }
 
 pub starts_with : {B : Type 0} {S : Unit {0} → List Token → B → Type 0} (s : Sign) → Starts (is_sign s) (words.◌>>=◌ (spelled s) S)
-starts_with s = then_starts (record { leads = λ us a e. (one_starts {m = manner} (as_sign s) (λ p b h. held p.token b h)).leads us tt (sign_token s, e, means_sign s) })
-  where
-    held : (t : Token) (b : Unit {0}) → as_sign s t ≡ Some b → is_sign s t ≡ true
-    held t b h = go (is_sign s t) h
-      where
-        go : (c : Bool) → (if c then Some (tt {0}) else None) ≡ Some b → c ≡ true
-        go true h = refl
-        go false h = let bad : ⊥ = cc in absurd bad
+starts_with s = then_starts (record { leads = λ us a e. (one_starts {m = manner} (as_sign s) (λ p b h. grind arith)).leads us tt (sign_token s, e, means_sign s) })
 
 pub sign_steady : (s : Sign) → Steady (spelled s) (expect s) (expect s)
 sign_steady s = wider_steady (spelled_is s) (token_steady (as_sign s) (sign_token s) tt (means_sign s))

@@ -1,11 +1,12 @@
 -- A map that follows a list follows it on with one more occurrence in both.
-use Rattle.std.proofs.Common.{ℕ, ◌≡◌, ◌+◌, Bool, true, false, cond, ◌||◌, List, [], ◌∷◌, ◌++◌, length, Option, Some, None, position, nat_lt, get_or, is_some, IfSome, ◌<◌, subst, refl, ap, sym, ◌∙◌, arith}
-use Rattle.std.proofs.lemmas.Bool.{ltb-true, eq-eqb}
+use Rattle.std.proofs.Common.{ℕ, ◌≡◌, ◌+◌, Bool, true, false, cond, List, [], ◌∷◌, ◌++◌, length, Some, None, position, get_or, is_some, IfSome, ◌<◌, refl, ap, sym, ◌∙◌, arith}
+use Rattle.std.proofs.lemmas.Bool.{eq-eqb}
+use Rattle.std.proofs.lemmas.Bool.Decides.{nat_tests}
 use Rattle.std.proofs.lemmas.Slice.Eq.{bytes_eq-Decides}
 use Rattle.std.proofs.lemmas.Iterator.Adapters.{position_from-zero}
 use Rattle.std.proofs.lemmas.List.Folds.{list_any-append, list_any_at}
 use Rattle.std.proofs.lemmas.List.Quantifiers.{all_pairs_push}
-use Rattle.std.specs.HashMap.{HashMap, get, Updates}
+use Rattle.std.specs.HashMap.{HashMap, Updates}
 use Rattle.std.specs.List.{list_any, position_from, position_or_len}
 use Rattle.ag_grammar.specs.declared.occurrence.Occ.{Occ}
 use Rattle.ag_grammar.specs.expressions.Occurrences.{AreApart, AreDifferent}
@@ -16,28 +17,12 @@ use Rattle.ag_expr.proofs.language.Listing.{listed_alike}
 -- where one is found, one passes
 found_from : {X : Type 0} (p : X → Bool) (i : ℕ) (xs : List X) → is_some (position_from p i xs) ≡ list_any p xs
 found_from p i [] = refl
-found_from p i (x ∷ xs) = go (p x) (found_from p (i + 1) xs)
-  where
-    go : (b : Bool) → is_some (position_from p (i + 1) xs) ≡ list_any p xs → is_some (cond b (Some i) (position_from p (i + 1) xs)) ≡ (b || list_any p xs)
-    go true more = refl
-    go false more = more
-
-none_from : {X : Type 0} (p : X → Bool) (i : ℕ) (xs : List X) → list_any p xs ≡ false → position_from p i xs ≡ None
-none_from p i [] none = refl
-none_from p i (x ∷ xs) none = go (p x) none (none_from p (i + 1) xs)
-  where
-    go : (b : Bool) → (b || list_any p xs) ≡ false → (list_any p xs ≡ false → position_from p (i + 1) xs ≡ None) → cond b (Some i) (position_from p (i + 1) xs) ≡ None
-    go true none more = cc
-    go false none more = more none
+found_from p i (x ∷ xs) = let more = found_from p (i + 1) xs in grind arith
 
 -- the one more is found, where it passes and no other does
 new_from : {X : Type 0} (p : X → Bool) (i : ℕ) (xs : List X) (x : X) → p x ≡ true → list_any p xs ≡ false → position_from p i (xs ++ x ∷ []) ≡ Some (i + length xs)
 new_from p i [] x h none = rw h (ap Some (omega arith))
-new_from p i (y ∷ ys) x h none = go (p y) none (new_from p (i + 1) ys x h)
-  where
-    go : (b : Bool) → (b || list_any p ys) ≡ false → (list_any p ys ≡ false → position_from p (i + 1) (ys ++ x ∷ []) ≡ Some (i + 1 + length ys)) → cond b (Some i) (position_from p (i + 1) (ys ++ x ∷ [])) ≡ Some (i + length (y ∷ ys))
-    go true none more = cc
-    go false none more = more none ∙ ap Some (omega arith)
+new_from p i (y ∷ ys) x h none = let more = new_from p (i + 1) ys x h in grind (arith, more)
 
 -- and changes nothing where it does not pass
 old_from : {X : Type 0} (p : X → Bool) (i : ℕ) (xs : List X) (x : X) → p x ≡ false → position_from p i (xs ++ x ∷ []) ≡ position_from p i xs
@@ -55,11 +40,7 @@ old_at p xs x h = position_from-zero p (xs ++ x ∷ []) ∙ old_from p 0 xs x h 
 
 -- what is found stands in the list
 pub within : {X : Type 0} (p : X → Bool) (xs : List X) → IfSome (position p xs) (λ k. k < length xs)
-within p xs = go (nat_lt (position_or_len p xs) (length xs)) refl
-  where
-    go : (b : Bool) → nat_lt (position_or_len p xs) (length xs) ≡ b → IfSome (cond b (Some (position_or_len p xs)) None) (λ k. k < length xs)
-    go true e = ltb-true (position_or_len p xs) (length xs) e
-    go false e = tt
+within p xs = grind (arith, nat_tests)
 
 -- one is listed where a number is found, and none where none is
 pub listed_where : (listed : List Occ) (place : ℕ) (attr : List ℕ) (k : ℕ) → position_of listed place attr ≡ Some k → list_any (is_of place attr) listed ≡ true
@@ -83,19 +64,10 @@ number_pushed listed kept pushed place number at attr name none same count more 
 
 stays_from : {X : Type 0} (p : X → Bool) (i k : ℕ) (xs : List X) (x : X) → position_from p i xs ≡ Some k → position_from p i (xs ++ x ∷ []) ≡ Some k
 stays_from p i k [] x e = cc
-stays_from p i k (y ∷ ys) x e = go (p y) e (stays_from p (i + 1) k ys x)
-  where
-    go : (b : Bool) → cond b (Some i) (position_from p (i + 1) ys) ≡ Some k → (position_from p (i + 1) ys ≡ Some k → position_from p (i + 1) (ys ++ x ∷ []) ≡ Some k)
-        → cond b (Some i) (position_from p (i + 1) (ys ++ x ∷ [])) ≡ Some k
-    go true e more = e
-    go false e more = more e
+stays_from p i k (y ∷ ys) x e = let more = stays_from p (i + 1) k ys x in grind (arith, more)
 
 stays_with : (listed : List Occ) (place : ℕ) (attr : List ℕ) (k : ℕ) (x : Occ) → position_of listed place attr ≡ Some k → position_of (listed_with listed x) place attr ≡ Some k
-stays_with listed place attr k x e = go (list_any (is_of x.place x.attr) listed)
-  where
-    go : (b : Bool) → position_of (cond b listed (listed ++ x ∷ [])) place attr ≡ Some k
-    go true = e
-    go false = position_from-zero (is_of place attr) (listed ++ x ∷ []) ∙ stays_from (is_of place attr) 0 k listed x (sym (position_from-zero (is_of place attr) listed) ∙ e)
+stays_with listed place attr k x e = let zero = position_from-zero (is_of place attr) in let stays = stays_from (is_of place attr) 0 k listed x in grind (arith, zero, stays)
 
 -- a number stays where more are listed
 pub position_stays : (listed : List Occ) (place : ℕ) (attr : List ℕ) (k : ℕ) (more : List Occ) → position_of listed place attr ≡ Some k → position_of (listed_with_all listed more) place attr ≡ Some k
@@ -104,15 +76,7 @@ position_stays listed place attr k (x ∷ more) e = position_stays (listed_with 
 
 -- one that is listed has a number
 pub has_number : (listed : List Occ) (x : Occ) → (k : ℕ) × (position_of (listed_with listed x) x.place x.attr ≡ Some k)
-has_number listed x = some (position_of (listed_with listed x) x.place x.attr) (found (is_of x.place x.attr) (listed_with listed x) ∙ go (list_any (is_of x.place x.attr) listed) refl)
-  where
-    go : (b : Bool) → list_any (is_of x.place x.attr) listed ≡ b → list_any (is_of x.place x.attr) (cond b listed (listed ++ x ∷ [])) ≡ true
-    go true h = h
-    go false h = rw (list_any-append, h, is_own x.place x.attr x.at) refl
-
-    some : (o : Option ℕ) → is_some o ≡ true → (k : ℕ) × (o ≡ Some k)
-    some None h = let bad : ⊥ = cc in absurd bad
-    some (Some k) h = (k, refl)
+has_number listed x = (position_or_len (is_of x.place x.attr) (listed_with listed x), let own = is_own x.place x.attr x.at in let is = found (is_of x.place x.attr) (listed_with listed x) in grind (arith, list_any-append))
 
 -- an occurrence of a key
 abbrev at_key : Key → ℕ → Occ
@@ -121,31 +85,24 @@ at_key key at = record { place = key.0; attr = key.1.now; at = at }
 -- the map with the number of one more follows the list with it
 follows_on : {S : Type 0} (numbers new : HashMap Key ℕ S) (listed : List Occ) (key : Key) (at : ℕ) → list_any (is_of key.0 key.1.now) listed ≡ false → Follows numbers listed
     → Updates same_key numbers new key (Some (length listed)) → Follows new (listed ++ at_key key at ∷ [])
-follows_on numbers new listed key at none follows updates q = updates.0 q ∙ go (same_key key q) refl
-  where
-    go : (b : Bool) → same_key key q ≡ b → cond b (Some (length listed)) (get same_key numbers q) ≡ position (is_of q.0 q.1.now) (listed ++ at_key key at ∷ [])
-    go true h = sym (new_at (is_of q.0 q.1.now) listed (at_key key at) h (sym (listed_alike listed (at_key key at) (at_key q 0) h) ∙ none))
-    go false h = follows q ∙ sym (old_at (is_of q.0 q.1.now) listed (at_key key at) h)
+follows_on numbers new listed key at none follows updates q =
+    let is = updates.0 q in
+    let so_far = follows q in
+    let alike = listed_alike listed (at_key key at) (at_key q 0) in
+    let one_more = new_at (is_of q.0 q.1.now) listed (at_key key at) in
+    let as_before = old_at (is_of q.0 q.1.now) listed (at_key key at) in
+    grind (arith, alike, one_more, as_before)
 
 -- the same in the words of the code
 pub follows_pushed : {S : Type 0} (numbers new : HashMap Key ℕ S) (listed kept pushed : List Occ) (key : Key) (number at : ℕ) (attr : List ℕ) → list_any (is_of key.0 key.1.now) listed ≡ false → Follows numbers listed → kept ≡ listed → number ≡ length kept
     → Updates same_key numbers new key (Some number) → pushed ≡ kept ++ record { place = key.0; attr = attr; at = at } ∷ [] → attr ≡ key.1.now → Follows new pushed
 follows_pushed numbers new listed kept pushed key number at attr none follows same count updates more name =
-    let updates' : Updates same_key numbers new key (Some (length listed)) = rw (count, same) at updates in
-    let more' : pushed ≡ listed ++ at_key key at ∷ [] = rw (same, name) at more in
-    let P : List Occ → Type 0 = λ occurrences. Follows new occurrences in
-    subst P (sym more') (follows_on numbers new listed key at none follows updates')
+    rw (more, same, name) (follows_on numbers new listed key at none follows (rw (count, same) at updates))
 
 -- one of a place and a name that are not listed is another one than each that is
 pub pushed_apart : (listed kept pushed : List Occ) (place at : ℕ) (attr name : List ℕ) → list_any (is_of place attr) listed ≡ false → AreDifferent listed → kept ≡ listed → pushed ≡ kept ++ record { place = place; attr = name; at = at } ∷ [] → name ≡ attr
     → AreDifferent pushed
 pushed_apart listed kept pushed place at attr name none different same more is =
     let one : Occ = record { place = place; attr = attr; at = at } in
-    let pushed_is : pushed ≡ listed ++ one ∷ [] = rw (same, is) at more in
-    subst AreDifferent (sym pushed_is) (all_pairs_push AreApart listed one different (λ i d below. apart (get_or listed i d) (list_any_at (is_of place attr) listed i d below)))
-  where
-    apart : (x : Occ) → (is_of place attr x ≡ true → list_any (is_of place attr) listed ≡ true) → AreApart x (record { place = place; attr = attr; at = at })
-    apart x found here named =
-        let same : is_of place attr x ≡ true = rw (here, named) (is_own place attr x.at) in
-        let bad : true ≡ false = sym (found same) ∙ none in
-        let no_such : ⊥ = cc in absurd no_such
+    let apart : (x : Occ) → (is_of place attr x ≡ true → list_any (is_of place attr) listed ≡ true) → AreApart x one = λ x found here named. let same : is_of place attr x ≡ true = rw (here, named) (is_own place attr x.at) in let bad : true ≡ false = sym (found same) ∙ none in cc in
+    rw (more, same, is) (all_pairs_push AreApart listed one different (λ i d below. apart (get_or listed i d) (list_any_at (is_of place attr) listed i d below)))

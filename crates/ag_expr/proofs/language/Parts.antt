@@ -3,8 +3,8 @@ use Rattle.std.proofs.Common.{◌≡◌, ◌≢◌, ℕ, zero, suc, ◌-◌, ◌
 use Rattle.ag_tokens.specs.Parsing.{sees}
 use Rattle.ag_tokens.specs.Placed.{Input}
 use Rattle.ag_tokens.specs.Token.{Token}
-use Rattle.ag_tokens.proofs.Turns as turns
-use Rattle.ag_tokens.proofs.Turns.{Going, none_further}
+use Rattle.ag_expr.proofs.reading.Turns as turns
+use Rattle.ag_expr.proofs.reading.Turns.{Going, none_further}
 use Rattle.std.specs.Result.{IsErrAnd}
 use Rattle.ag_expr.specs.declared.fault.ExprFault.{ExprFault}
 use Rattle.ag_expr.specs.declared.fault.ExprFault.TheVariants as fault

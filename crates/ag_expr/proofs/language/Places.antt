@@ -1,5 +1,5 @@
 -- The first token that can't be taken: what stands before it is the beginning of an expression, and with it of none.
-use Rattle.std.proofs.Common.{option_map, ◌≡◌, ℕ, zero, suc, ◌+◌, pos, Bool, true, false, if◌then◌else◌, ◌||◌, List, [], ◌∷◌, ◌++◌, Option, Some, None, is_some, Ok, Err, ◌⊎◌, inl, inr, refl, ap, sym, ◌∙◌, subst, append_assoc, append-nil, arith, codes, bytes_eq, cond, not}
+use Rattle.std.proofs.Common.{◌≡◌, ℕ, zero, suc, ◌+◌, pos, Bool, true, false, if◌then◌else◌, ◌||◌, List, [], ◌∷◌, ◌++◌, Option, Some, None, is_some, Ok, Err, ◌⊎◌, inl, inr, refl, ap, sym, ◌∙◌, subst, append_assoc, append-nil, arith, codes}
 use Rattle.ag_expr.specs.declared.fault.ExprFault.{ExprFault}
 use Rattle.ag_expr.specs.declared.fault.ExprFault.TheVariants as fault
 use Rattle.ag_expr.specs.declared.names.Call.{Call}
@@ -17,7 +17,7 @@ use Rattle.ag_tokens.specs.Ending.{Ending}
 use Rattle.ag_tokens.specs.Ending as ending
 use Rattle.ag_expr.specs.language.Expression.{begins_expression}
 use Rattle.ag_expr.specs.language.Laws.{RefusesAtTheFirst}
-use Rattle.ag_expr.specs.language.Names.{Names, place_in, call_of, is_reserved}
+use Rattle.ag_expr.specs.language.Names.{Names}
 use Rattle.ag_tokens.specs.Placed.{Placed, Input, tokens}
 use Rattle.ag_expr.specs.language.Places.{NoneGoesOn, IsToldFirst}
 use Rattle.ag_tokens.specs.Parsing as reading
@@ -29,11 +29,11 @@ use Rattle.ag_expr.specs.language.Syntax.{spelled, operator_of, precedences, tak
 use Rattle.ag_tokens.specs.Token.{Token, Sign, mark, word, sign_token}
 use Rattle.ag_tokens.specs.Token as token
 use Rattle.std.proofs.lemmas.List.{map-append}
-use Rattle.ag_tokens.proofs.Exact.{answered, before, nowhere, neither, shortens}
+use Rattle.ag_expr.proofs.reading.Exact.{answered, before, nowhere, shortens}
 use Rattle.ag_expr.proofs.language.Manner.{Exact, First, Steady, manner, deep_is, is_too_deep, sign_is, sign_steady, token_steady}
 use Rattle.ag_expr.proofs.language.Agree.{AllApart, operators, other_exact, other_starts, ranked_exact, all_apart, next_exact, next_starts, atom_exact, expr_exact, expr_first}
-use Rattle.ag_tokens.proofs.Steady as steady
-use Rattle.ag_tokens.proofs.Steady.{Heads, first, first_of, same_front, then_steady, or_steady, ends_steady, further_steady}
+use Rattle.ag_expr.proofs.reading.Steady as steady
+use Rattle.ag_expr.proofs.reading.Steady.{Heads, first, first_of, same_front, then_steady, or_steady, ends_steady, further_steady}
 
 -- ---- chains
 
@@ -222,22 +222,10 @@ pub record Refuses {A : Type 0} (test : Token → Bool) (r : Parser A) : Type 0 
   pub at : (k : Input) → sees test k ≡ false → r k ≡ Err (refusal k)
 
 token_refuses : {A : Type 0} (meaning : Token → Option A) → Refuses (λ t. is_some (meaning t)) (token_as meaning)
-token_refuses {A} meaning = record { at = λ k h. go k (front k) h }
-  where
-    none_of : (o : Option A) → is_some o ≡ false → o ≡ None
-    none_of None h = refl
-    none_of (Some a) h = let bad : ⊥ = cc in absurd bad
-
-    go : (k : Input) (o : Option Token) → front_is (λ t. is_some (meaning t)) o ≡ false → reading.taken refusal (reading.sign_of (λ at. meaning) (reading.place k) o) k ≡ Err (refusal k)
-    go k None h = refl
-    go k (Some t) h = rw (none_of (meaning t) h) refl
+token_refuses {A} meaning = record { at = λ k h. grind arith }
 
 choose_refuses : {A : Type 0} {these those : Token → Bool} {l m : Parser A} → Refuses those m → Refuses (λ t. these t || those t) (choose these l m)
-choose_refuses {A} {these} {those} {l} {m} x = record { at = λ k h. go k (front k) refl h }
-  where
-    go : (k : Input) (o : Option Token) → front k ≡ o → front_is (λ t. these t || those t) o ≡ false → choose these l m k ≡ Err (refusal k)
-    go k None e h = rw e (x.at k (ap (front_is those) e))
-    go k (Some t) e h = let both = neither (these t) (those t) h in rw (e, both.0) (x.at k (ap (front_is those) e ∙ both.1))
+choose_refuses {A} {these} {those} {l} {m} x = record { at = λ k h. let other = x.at k in grind arith }
 
 ranked_refuses : {test : Token → Bool} {l : Parser Node} → Refuses test l → (ks : List Precedence) → Refuses test (ranked_from l ks)
 unfolding ranked_from chain_from
@@ -251,21 +239,7 @@ refused_first listed levels scope = choose_refuses (choose_refuses (ranked_refus
 
 -- what one begins with among these occurrences and names, one can begin with
 begins_one : (listed : List Occ) (scope : Names) (t : Token) → begins listed scope t ≡ true → begins_expression t ≡ true
-begins_one listed scope (token.Number n) h = refl
-begins_one listed scope (token.Text bytes) h = refl
-begins_one listed scope (token.Name name) h = go (bytes_eq name (codes "let")) (bytes_eq name (codes "if")) (is_some (call_of name)) (is_reserved name) (option_map node.Bound (place_in scope name)) h
-  where
-    go : (a b c reserved : Bool) (o : Option Node) → (a || (b || (c || is_some (cond reserved None o)))) ≡ true → (not reserved || (a || (b || c))) ≡ true
-    go a b c false o h = refl
-    go true b c true o h = refl
-    go false true c true o h = refl
-    go false false true true o h = refl
-    go false false false true o h = let bad : ⊥ = cc in absurd bad
-begins_one listed scope (token.Occurrence place attr) h = refl
-begins_one listed scope (token.Punctuation punctuation.Open) h = refl
-begins_one listed scope (token.Punctuation punctuation.OpenList) h = refl
-begins_one listed scope (token.Punctuation punctuation.OpenTable) h = refl
-begins_one listed scope (token.Punctuation _) h = let bad : ⊥ = cc in absurd bad
+begins_one listed scope t h = grind arith
 
 -- ---- by levels
 
@@ -331,10 +305,7 @@ tokens-placed [] = refl
 tokens-placed (t ∷ ts) = ap (λ us. t ∷ us) (tokens-placed ts)
 
 not_deep : (e : Ending) (ps : List Placed) (at : ℕ) → refusal_of e ps ≡ fault.TooDeep at → ⊥
-not_deep e (p ∷ ps) at h = cc
-not_deep (ending.EndsAt n) [] at h = cc
-not_deep (ending.NoTokenAt n) [] at h = cc
-not_deep (ending.TooLargeAt n) [] at h = cc
+not_deep e ps at h = let bad : ⊥ = grind arith in bad
 
 module _ (listed : List Occ) (n : ℕ) (us : List Placed) where
   -- where reading settles, nothing else is an expression

@@ -8,8 +8,8 @@ last_map name at found [] = refl
 last_map name at found (y ∷ ys) = last_map name (at + 1) (cond (bytes_eq y.now name) (Some at) found) ys
 
 -- the place of a name among lent ones
-pub last_lent : (name : List ℕ) (ys : List (Bor (List ℕ))) → last_from (λ y. bytes_eq y.now name) 0 None ys ≡ place_in (map (λ y. y.now) ys) name
-last_lent name ys = sym (last_map name 0 None ys)
+pub last_lent : (name : List ℕ) (ys : List (Bor (List ℕ))) → place_in (map (λ y. y.now) ys) name ≡ last_from (λ y. bytes_eq y.now name) 0 None ys
+last_lent name ys = last_map name 0 None ys
 
 -- what stands around the innermost name
 pub outer_end : (names : Names) (name : List ℕ) → outer (names ++ name ∷ []) ≡ names
@@ -19,9 +19,6 @@ outer_end (x ∷ y ∷ ys) name = ap (λ zs. x ∷ zs) (outer_end (y ∷ ys) nam
 
 -- the innermost is taken away
 pub unbound : (old new : List (Bor (List ℕ))) (r : Option (Bor (List ℕ))) → old ≡ new ++ option_to_list r → (r ≡ None → length old ≡ 0) → map (λ y. y.now) new ≡ outer (map (λ y. y.now) old)
-unbound old new None e none = go old new (e ∙ append-nil new) (none refl)
-  where
-    go : (old new : List (Bor (List ℕ))) → old ≡ new → length old ≡ 0 → map (λ y. y.now) new ≡ outer (map (λ y. y.now) old)
-    go [] new same h = ap (map (λ y. y.now)) (sym same)
-    go (x ∷ xs) new same h = let bad : ⊥ = omega arith in absurd bad
+unbound [] new None e none = let same = e ∙ append-nil new in ap (map (λ y. y.now)) (sym same)
+unbound (x ∷ old) new None e none = let bad : ⊥ = omega (arith, none refl) in absurd bad
 unbound old new (Some x) e none = sym (ap (λ ys. outer (map (λ y. y.now) ys)) e ∙ ap outer (map-append (λ y. y.now) new (x ∷ [])) ∙ outer_end (map (λ y. y.now) new) x.now)

@@ -1,6 +1,5 @@
 -- What is answered is what reading the tokens of the text gives, and what follows of the text.
 use Rattle.std.proofs.Common.{◌≡◌, ◌≢◌, ℕ, true, false, List, [], ◌∷◌, ◌++◌, length, Result, Ok, Err, IfOk, IfErr, chars, drop, IsUtf8, inl, inr, refl, ap, sym, ◌∙◌, subst, arith, append_assoc, append-nil, length-append}
-use Rattle.std.proofs.lemmas.Bool.{and_parts}
 use Rattle.std.specs.Result.{IsErrAnd}
 use Rattle.ag_expr.specs.declared.fault.ExprFault.{ExprFault}
 use Rattle.ag_expr.specs.declared.fault.ExprFault.TheVariants as fault
@@ -16,7 +15,7 @@ use Rattle.ag_expr.specs.language.Places.{IsFirstOf, IsRead, IsReadFrom, IsToldF
 use Rattle.ag_tokens.specs.Parsing.{is_end}
 use Rattle.ag_expr.specs.language.Reading.{Outcome, expr_from, expr_in, expr_of, ending_fault, refusal, refusal_of}
 use Rattle.ag_expr.specs.language.Syntax.{IsExpr}
-use Rattle.ag_tokens.specs.Tokens.{AreTokens, ended, separator, word, AnyTokenAt, TokenAt, HasNoToken, width, is_within, all_within, Lexes}
+use Rattle.ag_tokens.specs.Tokens.{AreTokens, ended, separator, word, AnyTokenAt, TokenAt, HasNoToken, Stops, width, is_within, all_within, Lexes}
 use Rattle.ag_expr.proofs.language.Agree.{whole_is, read_whole, read_to_end, read_of}
 use Rattle.ag_tokens.proofs.Lexed.{width-chars}
 use Rattle.ag_tokens.proofs.Lexes.{ends_wide, one_input, same_input}
@@ -52,12 +51,11 @@ module _ (s : State) where
 -- ---- what follows of the text
 
 answered_tree : (listed : List Occ) (o : Outcome Node) (x : Node × List Occ) → answer_of listed o ≡ Ok x → (j : Input) × (o ≡ Ok (x.0, j)) × (x.1 ≡ listed)
-answered_tree listed (Ok (e, j)) x h = let same : (e, listed) ≡ x = cc in (j, ap (λ (y : Node × List Occ). Ok (y.0, j)) same, sym (ap (λ (y : Node × List Occ). y.1) same))
+answered_tree listed (Ok (e, j)) x h = (j, cc, cc)
 answered_tree listed (Err f) x h = let bad : ⊥ = cc in absurd bad
 
 answered_fault : (listed : List Occ) (o : Outcome Node) (e : ExprFault) → answer_of listed o ≡ Err e → o ≡ Err e
-answered_fault listed (Ok x) e h = let bad : ⊥ = cc in absurd bad
-answered_fault listed (Err f) e h = let same : f ≡ e = cc in ap Err same
+answered_fault listed o e h = grind arith
 
 -- what reading answers of tokens that end a text
 pub record Spells (i : Input) (x : Node × List Occ) : Type 0 where
@@ -77,14 +75,14 @@ reads_of : (text : List ℕ) (x : Node × List Occ) → IsUtf8 text → IsRead t
 reads_of text x utf8 is =
     let i = one_input (chars text) in
     let s = spells_of i.0 x (is i.0 i.1 (λ q. cc)) in
-    go i.0.left i.0.ending i.1 s.at s.ends s.listed s.spells
+    let lexes = i.1 in
+    go i.0 lexes s
   where
-    go : (ps : List Placed) (e : Ending) → Lexes 0 (chars text) (record { left = ps; ending = e }) → (at : ℕ) → e ≡ ending.EndsAt at → x.1 ≡ different (all_occurrences ps) → IsExpr (different (all_occurrences ps)) max_levels (tokens ps) x.0 → ReadsAsExpr text x
-    go ps (ending.EndsAt n) lexes at ends listed spells =
-        let wide : n ≡ length text = omega (arith, ends_wide lexes.before, ap width lexes.stops, width-chars text utf8) in
-        record { placed = ps; lexes = subst (λ m. Lexes 0 (chars text) (record { left = ps; ending = ending.EndsAt m })) wide lexes; listed = listed; spells = subst (λ os. IsExpr os max_levels (tokens ps) x.0) (sym listed) spells }
-    go ps (ending.NoTokenAt n) lexes at ends listed spells = let bad : ⊥ = cc in absurd bad
-    go ps (ending.TooLargeAt n) lexes at ends listed spells = let bad : ⊥ = cc in absurd bad
+    go : (i : Input) → Lexes 0 (chars text) i → Spells i x → ReadsAsExpr text x
+    go i lexes s =
+        let stops : lexes.rest ≡ [] = subst (λ e. Stops e lexes.rest) s.ends lexes.stops in
+        let wide : s.at ≡ length text = omega (arith, ends_wide lexes.before, ap width stops, ap offset_of s.ends, width-chars text utf8) in
+        record { placed = i.left; lexes = subst (λ e. Lexes 0 (chars text) (record { left = i.left; ending = e })) (s.ends ∙ ap ending.EndsAt wide) lexes; listed = s.listed; spells = subst (λ os. IsExpr os max_levels (tokens i.left) x.0) (sym s.listed) s.spells }
 
 pub reads_as : (text : List ℕ) (r : Result (Node × List Occ) ExprFault) → IsUtf8 text → IsRead text r → IfOk r (ReadsAsExpr text)
 reads_as text (Ok x) utf8 is = reads_of text x utf8 is
@@ -105,10 +103,7 @@ none_of text e memory is x reads = let clash = sym (is _ reads.lexes (λ q. memo
 pub refuses_of : (text : List ℕ) (r : Result (Node × List Occ) ExprFault) → IsRead text r → IfErr r (IsRefused text)
 refuses_of text (Ok x) is = tt
 refuses_of text (Err fault.NoMemory) is = tt
-refuses_of text (Err (fault.NoToken at)) is = none_of text _ (λ e. cc) is
-refuses_of text (Err (fault.Unexpected at)) is = none_of text _ (λ e. cc) is
-refuses_of text (Err (fault.NumberTooLarge at)) is = none_of text _ (λ e. cc) is
-refuses_of text (Err (fault.TooDeep at)) is = none_of text _ (λ e. cc) is
+refuses_of text (Err e) is = none_of text _ (λ e. cc) is
 
 -- a fault that reading answers is told of the first token that can't be taken
 pub told_of : (i : Input) (e : ExprFault) → read_from i ≡ Err e → IsToldFirst (occurrences_of i) max_levels i e
@@ -124,8 +119,8 @@ first_of text (Err e) is = first_fault text e is
 -- ---- what stands at the place
 
 placed_inner : (us : List Placed) (p : Placed) (ps : List Placed) → all_within (us ++ p ∷ ps) ≡ true → is_within p.token ≡ true
-placed_inner [] p ps h = (and_parts (is_within p.token) (all_within ps) h).0
-placed_inner (u ∷ us) p ps h = placed_inner us p ps ((and_parts (is_within u.token) (all_within (us ++ p ∷ ps)) h).1)
+placed_inner [] p ps h = grind arith
+placed_inner (u ∷ us) p ps h = let more = placed_inner us p ps in grind arith
 
 -- a token of the text stands at its offset
 token_at : {from : ℕ} {cs : List ℕ} {qs : List Placed} {end : ℕ} {rest : List ℕ} → AreTokens from cs qs end rest → (us : List Placed) (p : Placed) (ps : List Placed) → qs ≡ us ++ p ∷ ps → (there : AnyTokenAt from cs p.at) × (there.token ≡ p.token)
@@ -190,10 +185,7 @@ module _ (from : ℕ) (cs : List ℕ) (i : Input) (lexes : Lexes from cs i) wher
 -- of memory nothing is said
 pub unless_memory : (from : ℕ) (cs : List ℕ) (e : ExprFault) → (e ≢ fault.NoMemory → Says from cs e) → Says from cs e
 unless_memory from cs fault.NoMemory says = tt
-unless_memory from cs (fault.NoToken at) says = says (λ e. cc)
-unless_memory from cs (fault.Unexpected at) says = says (λ e. cc)
-unless_memory from cs (fault.NumberTooLarge at) says = says (λ e. cc)
-unless_memory from cs (fault.TooDeep at) says = says (λ e. cc)
+unless_memory from cs e says = says (λ e. cc)
 
 pub places_of : (text : List ℕ) (r : Result (Node × List Occ) ExprFault) → IsRead text r → IfErr r (IsAt text)
 places_of text (Ok x) is = tt

@@ -1,5 +1,5 @@
 -- An expression that is read up to a semicolon: what is read on the tokens in front of it, and what follows of the text.
-use Rattle.std.proofs.Common.{◌≡◌, ◌≢◌, ℕ, Bool, true, false, cond, List, [], ◌∷◌, ◌++◌, drop, Option, Some, None, Result, Ok, Err, IfOk, IfErr, chars, inl, inr, refl, ap, sym, ◌∙◌, subst}
+use Rattle.std.proofs.Common.{◌≡◌, ◌≢◌, ℕ, Bool, true, false, List, [], ◌∷◌, ◌++◌, drop, Option, Some, None, Result, Ok, Err, IfOk, IfErr, chars, inl, inr, refl, ap, sym, ◌∙◌, subst, arith}
 use Rattle.std.specs.Result.{IsErrAnd}
 use Rattle.ag_tokens.specs.declared.token.Punctuation.TheVariants as punctuation
 use Rattle.ag_tokens.specs.Ending.{Ending}
@@ -17,7 +17,7 @@ use Rattle.ag_expr.specs.language.Expression.{max_levels, Says}
 use Rattle.ag_expr.specs.language.Occurrences.{all_occurrences}
 use Rattle.ag_expr.specs.language.Places.{answer_of, read_from}
 use Rattle.ag_expr.specs.language.Reading.{ending_fault, expr_from, expr_of, refusal}
-use Rattle.ag_expr.specs.language.State.{IsReadEnded, Keeps, State, ended_by, everything, from_end, input, start, up_to}
+use Rattle.ag_expr.specs.language.State.{IsReadEnded, Keeps, State, everything, from_end, input, start, up_to}
 use Rattle.ag_expr.specs.language.Syntax.{IsExpr}
 use Rattle.ag_expr.specs.language.Until.{Ended, semicolon, first_semicolon, before_semicolon, behind_semicolon, from_semicolon, with_offset, or_fault, until_by, read_until_from, IsReadUntil, ReadsUntil, IsRefusedUntil, IsToldUntil, IsFirstUntil}
 use Rattle.ag_expr.proofs.language.Agree.{read_of}
@@ -31,58 +31,31 @@ use Rattle.ag_expr.proofs.language.Texts.{spells_of, spelled_back, told_of, stan
 abbrev is_semicolon : Token → Bool
 is_semicolon = is_sign (mark punctuation.Semicolon)
 
--- where there is one, the tokens are those before it, it, and others
-split_first : (qs : List Placed) (at : ℕ) → first_semicolon qs ≡ Some at → (ps : List Placed) × (qs ≡ before_semicolon qs ++ semicolon at ∷ ps) × (first_semicolon (before_semicolon qs) ≡ None)
+-- where there is one, the tokens are those before it, it, and those behind it
+pub split_first : (qs : List Placed) (at : ℕ) → first_semicolon qs ≡ Some at → (qs ≡ before_semicolon qs ++ semicolon at ∷ behind_semicolon qs) × (first_semicolon (before_semicolon qs) ≡ None)
 split_first [] at h = let bad : ⊥ = cc in absurd bad
-split_first (q ∷ qs) at h = go (is_semicolon q.token) refl h (split_first qs at)
-  where
-    go : (b : Bool) → is_semicolon q.token ≡ b → cond b (Some q.at) (first_semicolon qs) ≡ Some at
-        → (first_semicolon qs ≡ Some at → (ps : List Placed) × (qs ≡ before_semicolon qs ++ semicolon at ∷ ps) × (first_semicolon (before_semicolon qs) ≡ None))
-        → (ps : List Placed) × (q ∷ qs ≡ cond b [] (q ∷ before_semicolon qs) ++ semicolon at ∷ ps) × (first_semicolon (cond b [] (q ∷ before_semicolon qs)) ≡ None)
-    go true is h more =
-        let place : q.at ≡ at = cc in
-        let same = sign_is (mark punctuation.Semicolon) q.token is in
-        (qs, ap (λ (p : Placed). p ∷ qs) (ap (λ n. record { at = n; token = q.token }) place ∙ ap (λ t. record { at = at; token = t }) same), refl)
-    go false is h more = let found = more h in (found.0, ap (λ xs. q ∷ xs) found.1, rw is found.2)
+split_first (q ∷ qs) at h = let more = split_first qs at in let is = sign_is (mark punctuation.Semicolon) q.token in (grind (arith, is), grind arith)
 
 -- and what stands behind tokens without one
-found_first : (us : List Placed) (at : ℕ) (ps : List Placed) → first_semicolon us ≡ None → (first_semicolon (us ++ semicolon at ∷ ps) ≡ Some at) × (before_semicolon (us ++ semicolon at ∷ ps) ≡ us)
-found_first [] at ps none = (refl, refl)
-found_first (u ∷ us) at ps none = go (is_semicolon u.token) none (found_first us at ps)
-  where
-    go : (b : Bool) → cond b (Some u.at) (first_semicolon us) ≡ None → (first_semicolon us ≡ None → (first_semicolon (us ++ semicolon at ∷ ps) ≡ Some at) × (before_semicolon (us ++ semicolon at ∷ ps) ≡ us))
-        → (cond b (Some u.at) (first_semicolon (us ++ semicolon at ∷ ps)) ≡ Some at) × (cond b [] (u ∷ before_semicolon (us ++ semicolon at ∷ ps)) ≡ u ∷ us)
-    go true none more = let bad : ⊥ = cc in absurd bad
-    go false none more = let found = more none in (found.0, ap (λ xs. u ∷ xs) found.1)
+pub found_first : (us : List Placed) (at : ℕ) (ps : List Placed) → first_semicolon us ≡ None
+    → (first_semicolon (us ++ semicolon at ∷ ps) ≡ Some at) × (before_semicolon (us ++ semicolon at ∷ ps) ≡ us) × (behind_semicolon (us ++ semicolon at ∷ ps) ≡ ps)
+found_first [] at ps none = (refl, refl, refl)
+found_first (u ∷ us) at ps none = let more = found_first us at ps in (grind arith, grind arith, grind arith)
 
 -- where there is none all stand before it
 none_first : (qs : List Placed) → first_semicolon qs ≡ None → (before_semicolon qs ≡ qs) × (from_semicolon qs ≡ [])
 none_first [] h = (refl, refl)
-none_first (q ∷ qs) h = go (is_semicolon q.token) h (none_first qs)
-  where
-    go : (b : Bool) → cond b (Some q.at) (first_semicolon qs) ≡ None → (first_semicolon qs ≡ None → (before_semicolon qs ≡ qs) × (from_semicolon qs ≡ []))
-        → (cond b [] (q ∷ before_semicolon qs) ≡ q ∷ qs) × (cond b (q ∷ qs) (from_semicolon qs) ≡ [])
-    go true h more = let bad : ⊥ = cc in absurd bad
-    go false h more = let all = more h in (ap (λ ps. q ∷ ps) all.0, all.1)
+none_first (q ∷ qs) h = let more = none_first qs in (grind arith, grind arith)
 
 -- and where it stands some do
 never : (qs : List Placed) (at : ℕ) → first_semicolon qs ≡ Some at → from_semicolon qs ≡ [] → ⊥
 never [] at h none = cc
-never (q ∷ qs) at h none = go (is_semicolon q.token) h none (never qs at)
-  where
-    go : (b : Bool) → cond b (Some q.at) (first_semicolon qs) ≡ Some at → cond b (q ∷ qs) (from_semicolon qs) ≡ [] → (first_semicolon qs ≡ Some at → from_semicolon qs ≡ [] → ⊥) → ⊥
-    go true h none more = cc
-    go false h none more = more h none
+never (q ∷ qs) at h none = let more = never qs at in grind arith
 
 -- from it on it and those behind it stand
 from_first : (qs : List Placed) (p : Placed) (ps : List Placed) → from_semicolon qs ≡ p ∷ ps → (first_semicolon qs ≡ Some p.at) × (behind_semicolon qs ≡ ps)
 from_first [] p ps h = let bad : ⊥ = cc in absurd bad
-from_first (q ∷ qs) p ps h = go (is_semicolon q.token) h (from_first qs p ps)
-  where
-    go : (b : Bool) → cond b (q ∷ qs) (from_semicolon qs) ≡ p ∷ ps → (from_semicolon qs ≡ p ∷ ps → (first_semicolon qs ≡ Some p.at) × (behind_semicolon qs ≡ ps))
-        → (cond b (Some q.at) (first_semicolon qs) ≡ Some p.at) × (cond b qs (behind_semicolon qs) ≡ ps)
-    go true h more = let same : q ≡ p = cc in let rest : qs ≡ ps = cc in (ap (λ (x : Placed). Some x.at) same, rest)
-    go false h more = more h
+from_first (q ∷ qs) p ps h = let more = from_first qs p ps in (grind arith, grind arith)
 
 -- ---- reading on the tokens up to it
 
@@ -92,11 +65,7 @@ by_end (Some at) e r = with_offset at r
 by_end None e r = or_fault (ending_fault e) r
 
 until_is : (i : Input) → read_until_from i ≡ by_end (first_semicolon i.left) i.ending (read_from (up_to true i))
-until_is i = go (first_semicolon i.left) refl
-  where
-    go : (o : Option ℕ) → first_semicolon i.left ≡ o → until_by o i ≡ by_end o i.ending (read_from (record { left = before_semicolon i.left; ending = ended_by i.ending o }))
-    go (Some at) h = refl
-    go None h = ap (λ ps. or_fault (ending_fault i.ending) (read_from (record i { left = ps }))) (sym (none_first i.left h).0)
+until_is i = let none = none_first i.left in grind arith
 
 module _ (i : Input) where
   abbrev all : List Occ
@@ -109,11 +78,7 @@ module _ (i : Input) where
 
   pub refused_within : (f : ExprFault) → expr_from all max_levels (input (start true i)) ≡ Err f → read_until_from i ≡ Err f
   unfolding expr_of
-  refused_within f h = until_is i ∙ ap (by_end (first_semicolon i.left) i.ending) (whole (Err f) (rw h refl)) ∙ go (first_semicolon i.left)
-    where
-      go : (o : Option ℕ) → by_end o i.ending (Err f) ≡ Err f
-      go None = refl
-      go (Some at) = refl
+  refused_within f h = until_is i ∙ ap (by_end (first_semicolon i.left) i.ending) (whole (Err f) (rw h refl)) ∙ grind arith
 
   module _ (c : Input) (e : Node) (read : expr_from all max_levels (input (start true i)) ≡ Ok (e, up_to true c)) (same : from_end true c ≡ from_end true i) where
     rest : from_semicolon i.left ≡ from_semicolon c.left
@@ -123,16 +88,12 @@ module _ (i : Input) where
     ending_is = ap (λ (k : Input). k.ending) same
 
     pub ended : sees is_semicolon c ≡ true → (read_until_from i ≡ Ok ((e, all), place c)) × (next c ≡ record i { left = behind_semicolon i.left })
-    ended h = go c.left refl h
-      where
-        go : (ps : List Placed) → c.left ≡ ps → sees is_semicolon (record c { left = ps }) ≡ true → (read_until_from i ≡ Ok ((e, all), place (record c { left = ps }))) × (next (record c { left = ps }) ≡ record i { left = behind_semicolon i.left })
-        go [] here h = let bad : ⊥ = cc in absurd bad
-        go (p ∷ ps) here h =
-            let from : from_semicolon i.left ≡ p ∷ ps = rest ∙ ap from_semicolon here ∙ rw h refl in
-            let first = from_first i.left p ps from in
-            let ends : is_end (up_to true c).ending (up_to true c).left ≡ true = rw (here, h) refl in
-            let all_read = whole (Ok (e, up_to true c)) (read_of all max_levels (input (start true i)) (up_to true c) e read ends) in
-            (until_is i ∙ ap (by_end (first_semicolon i.left) i.ending) all_read ∙ ap (λ o. by_end o i.ending (Ok (e, all))) first.0, ap (λ d. record { left = ps; ending = d }) ending_is ∙ ap (λ qs. record i { left = qs }) (sym first.1))
+    ended h =
+        let from = from_first i.left in
+        let here = rest in
+        let same = ending_is in
+        let all_read = whole (Ok (e, up_to true c)) (read_of all max_levels (input (start true i)) (up_to true c) e read (grind arith)) in
+        (until_is i ∙ rw all_read (grind (arith, from)), grind (arith, from))
 
     refused_at : is_end (up_to true c).ending (up_to true c).left ≡ false → expr_of all max_levels (input (start true i)) ≡ Err (refusal (up_to true c))
     unfolding expr_of
@@ -141,30 +102,13 @@ module _ (i : Input) where
     pub refused_behind : sees is_semicolon c ≡ false → read_until_from i ≡ Err (refusal (up_to true c))
     refused_behind h = until_is i ∙ by (is_end (up_to true c).ending (up_to true c).left) refl
       where
-        -- at the end none is left, and none stands anywhere
-        at_end : is_end (up_to true c).ending (up_to true c).left ≡ true → c.left ≡ []
-        at_end ends = go c.left h ends
-          where
-            go : (ps : List Placed) → sees is_semicolon (record c { left = ps }) ≡ false → is_end (up_to true (record c { left = ps })).ending (up_to true (record c { left = ps })).left ≡ true → ps ≡ []
-            go [] h ends = refl
-            go (p ∷ ps) h ends = let other = no_end _ p (before_semicolon ps) (rw h at ends) in absurd other
-              where
-                no_end : (d : Ending) (q : Placed) (qs : List Placed) → is_end d (q ∷ qs) ≡ true → ⊥
-                no_end (ending.EndsAt at) q qs h = cc
-                no_end (ending.NoTokenAt at) q qs h = cc
-                no_end (ending.TooLargeAt at) q qs h = cc
-
-        ended_so : (o : Option ℕ) → first_semicolon i.left ≡ o → c.left ≡ [] → by_end o i.ending (Ok (e, all)) ≡ Err (refusal (up_to true c))
-        ended_so None none here = rw here (ap (λ (d : Ending). Err (ending_fault d)) (sym ending_is))
-        ended_so (Some at) first here = absurd (never i.left at first (rest ∙ ap from_semicolon here))
-
-        other : (o : Option ℕ) → by_end o i.ending (Err (refusal (up_to true c))) ≡ Err (refusal (up_to true c))
-        other None = refl
-        other (Some at) = refl
-
         by : (b : Bool) → is_end (up_to true c).ending (up_to true c).left ≡ b → by_end (first_semicolon i.left) i.ending (read_from (up_to true i)) ≡ Err (refusal (up_to true c))
-        by true ends = ap (by_end (first_semicolon i.left) i.ending) (whole (Ok (e, up_to true c)) (read_of all max_levels (input (start true i)) (up_to true c) e read ends)) ∙ ended_so (first_semicolon i.left) refl (at_end ends)
-        by false more = ap (by_end (first_semicolon i.left) i.ending) (whole (Err (refusal (up_to true c))) (refused_at more)) ∙ other (first_semicolon i.left)
+        by true ends =
+            let all_read = whole (Ok (e, up_to true c)) (read_of all max_levels (input (start true i)) (up_to true c) e read ends) in
+            let none : c.left ≡ [] = grind arith in
+            let no_first = never i.left in
+            rw all_read (let here = rest in let same = ending_is in grind (arith, no_first))
+        by false more = ap (by_end (first_semicolon i.left) i.ending) (whole (Err (refusal (up_to true c))) (refused_at more)) ∙ grind arith
 
 -- by where a reader stands that has read an expression
 module _ (i : Input) (s : State) (e : Node) (read : expr_from (all i) max_levels (input (start true i)) ≡ Ok (e, input s)) (kept : Keeps (start true i) s) where
@@ -182,11 +126,7 @@ module _ (i : Input) (s : State) (e : Node) (read : expr_from (all i) max_levels
   refused_of h = refused_behind i s.tokens e (read ∙ ap (λ j. Ok (e, j)) tokens_are) behind h ∙ ap (λ j. Err (refusal j)) (sym tokens_are)
 
   pub all_of : sees is_semicolon s.tokens ≡ true → s.listed ≡ all i
-  all_of h = sym (all_at_end s (ap (λ (j : Input). is_end j.ending j.left) tokens_are ∙ go s.tokens.left h)) ∙ kept.occurrences
-    where
-      go : (ps : List Placed) → sees is_semicolon (record s.tokens { left = ps }) ≡ true → is_end (up_to true (record s.tokens { left = ps })).ending (up_to true (record s.tokens { left = ps })).left ≡ true
-      go [] h = let bad : ⊥ = cc in absurd bad
-      go (p ∷ ps) h = rw h refl
+  all_of h = sym (all_at_end s (ap (λ (j : Input). is_end j.ending j.left) tokens_are ∙ grind arith)) ∙ kept.occurrences
 
 -- a fault that is answered
 pub refused : (i new : Input) (r : Result Ended ExprFault) (e : ExprFault) → IsErrAnd r (λ x. x ≡ e) → (e ≢ fault.NoMemory → read_until_from i ≡ Err e) → IsReadEnded i r new
@@ -197,14 +137,7 @@ refused i new (Err x) e is read = subst (λ y. y ≢ fault.NoMemory → read_unt
 
 module _ (i : Input) (f : ExprFault) where
   told_until : (o : Option ℕ) → until_by o i ≡ Err f → IsToldUntil o i f
-  told_until (Some at) is = go (read_from part) refl is
-    where
-      part : Input
-      part = record { left = before_semicolon i.left; ending = ending.EndsAt at }
-
-      go : (r : Result (Node × List Occ) ExprFault) → read_from part ≡ r → with_offset at r ≡ Err f → IsToldUntil (Some at) i f
-      go (Ok x) read is = let bad : ⊥ = cc in absurd bad
-      go (Err g) read is = let same : g ≡ f = cc in told_of part f (read ∙ ap Err same)
+  told_until (Some at) is = let told = told_of (record { left = before_semicolon i.left; ending = ending.EndsAt at }) f in told (grind arith)
   told_until None is = go (read_from i) refl is
     where
       go : (r : Result (Node × List Occ) ExprFault) → read_from i ≡ r → or_fault (ending_fault i.ending) r ≡ Err f → IsToldUntil None i f
@@ -217,8 +150,8 @@ module _ (i : Input) (f : ExprFault) where
   says_until : (from : ℕ) (cs : List ℕ) → Lexes from cs i → (o : Option ℕ) → first_semicolon i.left ≡ o → IsToldUntil o i f → Says from cs f
   says_until from cs lexes (Some at) h told =
       let cut = split_first i.left at h in
-      let stop = stands_at from cs i lexes (before_semicolon i.left) (semicolon at) cut.0 cut.1 in
-      told_before from cs i lexes (record { left = before_semicolon i.left; ending = ending.EndsAt at }) (semicolon at ∷ cut.0) cut.1 (inl stop.0) _ max_levels f told
+      let stop = stands_at from cs i lexes (before_semicolon i.left) (semicolon at) (behind_semicolon i.left) cut.0 in
+      told_before from cs i lexes (record { left = before_semicolon i.left; ending = ending.EndsAt at }) (semicolon at ∷ behind_semicolon i.left) cut.0 (inl stop.0) _ max_levels f told
   says_until from cs lexes None h (inl told) = told_at from cs i lexes _ max_levels f told
   says_until from cs lexes None h (inr u) = subst (Says from cs) (ap ending_fault u.ends ∙ sym u.says) (ends_at from cs i lexes)
 
@@ -234,31 +167,21 @@ module _ (text : List ℕ) (from : ℕ) (j : Input) (lexes : Lexes from (chars (
   is_read (Err e) new is k lexed memory = ap read_until_from (same_input from (chars (drop from text)) k j lexed lexes) ∙ is (λ q. memory (ap Err q))
 
   reads_by : (x : Ended) (o : Option ℕ) → first_semicolon j.left ≡ o → until_by o j ≡ Ok x → ReadsUntil text from x
-  reads_by x None none is = go (read_from j) is
-    where
-      go : (r : Result (Node × List Occ) ExprFault) → or_fault (ending_fault j.ending) r ≡ Ok x → ReadsUntil text from x
-      go (Ok y) is = let bad : ⊥ = cc in absurd bad
-      go (Err f) is = let bad : ⊥ = cc in absurd bad
-  reads_by x (Some at) h is = go (read_from part) refl is
-    where
-      part : Input
-      part = record { left = before_semicolon j.left; ending = ending.EndsAt at }
-
-      go : (r : Result (Node × List Occ) ExprFault) → read_from part ≡ r → with_offset at r ≡ Ok x → ReadsUntil text from x
-      go (Err f) read is = let bad : ⊥ = cc in absurd bad
-      go (Ok y) read is =
-          let same : ◌≡◌ {A = Ended} (y, at) x = cc in
-          let s = spells_of part y read in
-          let cut = split_first j.left at h in
-          subst (ReadsUntil text from) same (record {
-            placed = before_semicolon j.left;
-            rest = cut.0;
-            ending = j.ending;
-            lexes = subst (λ ps. Lexes from (chars (drop from text)) (record { left = ps; ending = j.ending })) cut.1 lexes;
-            first = cut.2;
-            listed = s.listed;
-            spells = subst (λ os. IsExpr os max_levels (tokens (before_semicolon j.left)) y.0) (sym s.listed) s.spells;
-          })
+  reads_by x None none is = let bad : ⊥ = grind arith in absurd bad
+  reads_by x (Some at) h is =
+      let part : Input = record { left = before_semicolon j.left; ending = ending.EndsAt at } in
+      let read : (read_from part ≡ Ok x.0) × (at ≡ x.1) = (grind arith, grind arith) in
+      let s = spells_of part x.0 read.0 in
+      let cut = split_first j.left x.1 (h ∙ ap Some read.1) in
+      record {
+        placed = before_semicolon j.left;
+        rest = behind_semicolon j.left;
+        ending = j.ending;
+        lexes = subst (λ ps. Lexes from (chars (drop from text)) (record { left = ps; ending = j.ending })) cut.0 lexes;
+        first = cut.1;
+        listed = s.listed;
+        spells = subst (λ os. IsExpr os max_levels (tokens (before_semicolon j.left)) x.0.0) (sym s.listed) s.spells;
+      }
 
   pub reads_until : (r : Result Ended ExprFault) → IsReadUntil text from r → IfOk r (ReadsUntil text from)
   reads_until (Ok x) is = reads_by x (first_semicolon j.left) refl (is j lexes (λ q. cc))

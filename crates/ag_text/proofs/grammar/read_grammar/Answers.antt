@@ -8,24 +8,16 @@ returns-in-Ok-clause-exact c =
     is_read c.args.text.now case.1 (omega (arith, c.if-text-gt-MOST_TEXT_BYTES.false)) _ (is_text _ _ case.0 _ c.read_characters.ensures)
 
 pub returns-in-Ok-clause-first : goal.returns-in-Ok-clause-first
-returns-in-Ok-clause-first c =
-    let case = c.in-Ok.ensures.cases in
-    first_of c.args.text.now case.1 (omega (arith, c.if-text-gt-MOST_TEXT_BYTES.false)) _ (is_text _ _ case.0 _ c.read_characters.ensures)
+returns-in-Ok-clause-first c = first_of _ _ (returns-in-Ok-clause-exact c)
 
 pub returns-in-Ok-clause-reads : goal.returns-in-Ok-clause-reads
-returns-in-Ok-clause-reads c =
-    let case = c.in-Ok.ensures.cases in
-    reads_of c.args.text.now case.1 (omega (arith, c.if-text-gt-MOST_TEXT_BYTES.false)) _ (is_text _ _ case.0 _ c.read_characters.ensures)
+returns-in-Ok-clause-reads c = reads_of _ _ (returns-in-Ok-clause-exact c)
 
 pub returns-in-Ok-clause-refuses : goal.returns-in-Ok-clause-refuses
-returns-in-Ok-clause-refuses c =
-    let case = c.in-Ok.ensures.cases in
-    refuses_of c.args.text.now case.1 (omega (arith, c.if-text-gt-MOST_TEXT_BYTES.false)) _ (is_text _ _ case.0 _ c.read_characters.ensures)
+returns-in-Ok-clause-refuses c = refuses_of _ _ (returns-in-Ok-clause-exact c)
+
+pub returns-in-Ok-clause-never : goal.returns-in-Ok-clause-never
+returns-in-Ok-clause-never c = never_of _ _ (returns-in-Ok-clause-exact c)
 
 pub returns-in-Err-clause-exact : goal.returns-in-Err-clause-exact
 returns-in-Err-clause-exact c = bad_utf8 c.args.text.now _ c.in-Err.ensures.cases.0 (c.valid_up_to.ensures ∙ c.in-Err.ensures.valid_len) (omega (arith, c.if-text-gt-MOST_TEXT_BYTES.false))
-
-pub returns-in-Ok-clause-never : goal.returns-in-Ok-clause-never
-returns-in-Ok-clause-never c =
-    let case = c.in-Ok.ensures.cases in
-    never_of c.args.text.now case.1 (omega (arith, c.if-text-gt-MOST_TEXT_BYTES.false)) _ (is_text _ _ case.0 _ c.read_characters.ensures)

@@ -2,7 +2,7 @@ use Rattle.std.proofs.Common.{false, length}
 use Rattle.ag_tokens.specs.declared.token.Punctuation.TheVariants as punctuation
 use Rattle.ag_text.specs.Reading.{is_other_than, items_from, one_from}
 use Rattle.ag_text.specs.Words.{item_in}
-use Rattle.ag_tokens.proofs.Turns.{Going}
+use Rattle.ag_expr.proofs.reading.Turns.{Going}
 use Rattle.ag_text.proofs.parser.items.Given as goal
 
 abbrev pub invariant-loop-alloc : goal.invariant-loop-alloc

@@ -1,6 +1,6 @@
 use Rattle.std.proofs.Common.{false, length}
 use Rattle.ag_text.specs.Reading.{is_any, production_from, productions_from}
-use Rattle.ag_tokens.proofs.Turns.{Going}
+use Rattle.ag_expr.proofs.reading.Turns.{Going}
 use Rattle.ag_text.proofs.parser.productions.Given as goal
 
 abbrev pub invariant-loop-alloc : goal.invariant-loop-alloc

@@ -1,7 +1,7 @@
 use Rattle.std.proofs.Common.{false, length, codes}
 use Rattle.ag_text.specs.Reading.{symbol_from, symbols_from}
 use Rattle.ag_text.specs.Words.{is_word}
-use Rattle.ag_tokens.proofs.Turns.{Going}
+use Rattle.ag_expr.proofs.reading.Turns.{Going}
 use Rattle.ag_text.proofs.parser.symbols.Given as goal
 
 abbrev pub invariant-loop-alloc : goal.invariant-loop-alloc

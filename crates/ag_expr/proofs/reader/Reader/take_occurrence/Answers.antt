@@ -1,12 +1,7 @@
 use Rattle.std.proofs.Common.{ap, ◌∙◌}
 use Rattle.ag_expr.specs.language.Occurrences.{listed_with}
-use Rattle.ag_expr.proofs.language.States.{taken_keeps, taken_number, taken_tokens}
+use Rattle.ag_expr.proofs.language.States.{taken_keeps, taken_tokens}
 use Rattle.ag_expr.proofs.reader.Reader.take_occurrence.Goals as goal
-
-pub returns-clause-number : goal.returns-clause-number
-returns-clause-number c =
-    let lists = c.in_ok-number.ensures.lists ∙ ap (λ n. listed_with c.self.inside.occurrences (record { place = c.args.place; attr = c.args.attr.now; at = n })) c.place-at.ensures in
-    rw (← c.self.view_is) (taken_number _ _ _ _ (rw (← c.self.view_is) at c.requires) lists _ c.in_ok-number.ensures.number)
 
 pub returns-clause-tokens : goal.returns-clause-tokens
 returns-clause-tokens c =

@@ -8,7 +8,7 @@ use Rattle.ag_tokens.specs.Parsing as parsing
 use Rattle.ag_tokens.specs.Parsing.{front, sees, place, sign_of, Outcome, Parser, and_then, pure, taken, one_from, choose, many_from, further_from}
 use Rattle.ag_tokens.specs.Words as words
 use Rattle.ag_tokens.specs.Words.{gives, one, Many, none, more, IsFew, further}
-use Rattle.ag_tokens.proofs.Exact.{Manner, before, before-append, first_is, opened, answered}
+use Rattle.ag_expr.proofs.reading.Exact.{Manner, before, before-append, first_is, opened, answered}
 
 abbrev pub first_of : List Placed → Option Placed
 first_of [] = None
@@ -54,23 +54,13 @@ same_first [] j k e = e
 same_first (u ∷ us) j k e = refl
 
 pub same_front : (test : Token → Bool) (ps qs : List Placed) → first_of ps ≡ first_of qs → first_is test ps ≡ first_is test qs
-same_front test [] [] e = refl
-same_front test [] (q ∷ qs) e = let bad : ⊥ = cc in absurd bad
-same_front test (p ∷ ps) [] e = let bad : ⊥ = cc in absurd bad
-same_front test (p ∷ ps) (q ∷ qs) e = let same : p ≡ q = cc in ap (λ (x : Placed). test x.token) same
+same_front test ps qs e = grind arith
 
 same_sign : {A : Type 0} (sign : ℕ → Token → Option A) (k i : Input) → first k ≡ first i → sign_of sign (place k) (front k) ≡ sign_of sign (place i) (front i)
-same_sign sign k i e = go k.left k.ending i.left i.ending e
-  where
-    go : (ps : List Placed) (d : Ending) (qs : List Placed) (e : Ending) → first_of ps ≡ first_of qs → sign_of sign (place (record { left = ps; ending = d })) (parsing.front_of ps) ≡ sign_of sign (place (record { left = qs; ending = e })) (parsing.front_of qs)
-    go [] d [] e h = refl
-    go [] d (q ∷ qs) e h = let bad : ⊥ = cc in absurd bad
-    go (p ∷ ps) d [] e h = let bad : ⊥ = cc in absurd bad
-    go (p ∷ ps) d (q ∷ qs) e h = let same : p ≡ q = cc in ap (λ (x : Placed). sign x.at x.token) same
+same_sign sign k i e = grind arith
 
 heads-append : {T : Type 0} (t : T) (us vs : List T) → Heads t us → Heads t (us ++ vs)
-heads-append t [] vs h = absurd h
-heads-append t (u ∷ us) vs h = h
+heads-append t us vs h = grind arith
 
 module _ {T Fault : Type 0} {m : Manner T Fault} where
   -- from a part to the whole, behind what was read before
@@ -171,7 +161,7 @@ module _ {T Fault : Type 0} {m : Manner T Fault} where
   ends_steady f x = then_steady x (λ a. pure_steady (f a))
 
   pub one_steady : {A : Type 0} (sign : ℕ → Token → Option A) (meaning : T → Option A) → ((p : Placed) → sign p.at p.token ≡ meaning (m.item p)) → (w : T) (v : A) → meaning w ≡ Some v → Steady m (one meaning) (one_from m.wrong sign) (one_from m.wrong sign)
-  one_steady {A} sign meaning agree w v means = record { at = λ i. record { ok = λ j a. found i.left i.ending j a; err = λ f told. refused i f (sign_of sign (place i) (front i)) refl }; word = (w ∷ [], v, (w, refl, means)) }
+  one_steady {A} sign meaning agree w v means = record { at = λ i. record { ok = λ j a. found i.left i.ending j a; err = λ f told. refused i f }; word = (w ∷ [], v, (w, refl, means)) }
     where
       read : Parser Fault A
       read = one_from m.wrong sign
@@ -179,16 +169,12 @@ module _ {T Fault : Type 0} {m : Manner T Fault} where
       found : (ps : List Placed) (e : Ending) (j : Input) (a : A) → read (record { left = ps; ending = e }) ≡ Ok (a, j)
           → (us : List Placed) × (record { left = ps; ending = e } ≡ before us j) × one meaning (map m.item us) a × ((k : Input) → first k ≡ first j → (read (before us k) ≡ Ok (a, k)) × (read (before us k) ≡ Ok (a, k)))
       found [] e j a h = let bad : ⊥ = cc in absurd bad
-      found (p ∷ ps) e j a h = go (sign p.at p.token) refl h
-        where
-          go : (o : Option A) → sign p.at p.token ≡ o → taken m.wrong o (record { left = p ∷ ps; ending = e }) ≡ Ok (a, j)
-              → (us : List Placed) × (record { left = p ∷ ps; ending = e } ≡ before us j) × one meaning (map m.item us) a × ((k : Input) → first k ≡ first j → (read (before us k) ≡ Ok (a, k)) × (read (before us k) ≡ Ok (a, k)))
-          go None q h = let bad : ⊥ = cc in absurd bad
-          go (Some b) q h = let same = answered {Fault = Fault} b a (record { left = ps; ending = e }) j h in let whole = q ∙ ap Some (sym same.0) in (p ∷ [], ap (before (p ∷ [])) same.1, (m.item p, refl, sym (agree p) ∙ whole), λ k e. (rw whole refl, rw whole refl))
+      found (p ∷ ps) e j a h = let is : sign p.at p.token ≡ Some a = grind arith in (p ∷ [], grind arith, (m.item p, refl, sym (agree p) ∙ is), λ k e. (rw is refl, rw is refl))
 
-      refused : (i : Input) (f : Fault) (o : Option A) → sign_of sign (place i) (front i) ≡ o → taken m.wrong o i ≡ Err f → Refused m (one meaning) read read i f
-      refused i f None q h = let same : f ≡ m.wrong i = cc in record { us = []; j = i; cut = refl; rest = w ∷ []; a = v; begins = (w, refl, means); how = inl (same, λ k e. rw (same_sign sign k i e ∙ q) refl) }
-      refused i f (Some a) q h = let bad : ⊥ = cc in absurd bad
+      refused : (i : Input) (f : Fault) → read i ≡ Err f → Refused m (one meaning) read read i f
+      refused i f h =
+          let same : (f ≡ m.wrong i) × (sign_of sign (place i) (front i) ≡ None) = (grind arith, grind arith) in
+          record { us = []; j = i; cut = refl; rest = w ∷ []; a = v; begins = (w, refl, means); how = inl (same.0, λ k e. rw (same_sign sign k i e ∙ same.1) refl) }
 
 -- ---- as often as there is a further one
 
@@ -196,8 +182,7 @@ abbrev pub Shortens : {Fault A : Type 0} → Parser Fault A → Type 0
 Shortens {Fault} {A} r = (i j : Input) (a : A) → r i ≡ Ok (a, j) → length j.left < length i.left
 
 nothing_left : (test : Token → Bool) (ps : List Placed) → length ps ≤ 0 → first_is test ps ≡ false
-nothing_left test [] h = refl
-nothing_left test (p ∷ ps) h = let bad : ⊥ = omega arith in absurd bad
+nothing_left test ps h = grind arith
 
 many_enough : {Fault A : Type 0} (begins : Token → Bool) (r : Parser Fault A) → Shortens r → (n m : ℕ) (found : List A) (i : Input) → length i.left ≤ n → length i.left ≤ m → many_from begins r n found i ≡ many_from begins r m found i
 unfolding many_from

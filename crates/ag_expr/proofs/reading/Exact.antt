@@ -1,5 +1,5 @@
 -- A parser that reads exactly a language, and what keeps this: one lemma for each way to put parsers together.
-use Rattle.std.proofs.Common.{◌≡◌, ℕ, zero, suc, ◌≤◌, ◌<◌, Bool, true, false, ◌||◌, if◌then◌else◌, List, [], ◌∷◌, ◌++◌, map, length, Option, Some, None, Ok, Err, ◌⊎◌, inl, inr, refl, ap, sym, ◌∙◌, subst, append_assoc, append-nil, arith, length-append}
+use Rattle.std.proofs.Common.{◌≡◌, ℕ, zero, suc, ◌≤◌, ◌<◌, Bool, true, false, ◌||◌, if◌then◌else◌, List, [], ◌∷◌, ◌++◌, map, length, Option, Some, Ok, Err, ◌⊎◌, inl, inr, refl, ap, sym, ◌∙◌, subst, append_assoc, append-nil, arith, length-append}
 use Rattle.std.proofs.lemmas.List.{map-append}
 use Rattle.ag_tokens.specs.Ending.{Ending}
 use Rattle.ag_tokens.specs.Placed.{Placed, Input}
@@ -42,61 +42,61 @@ nowhere t = false
 split : {T : Type 0} (item : Placed → T) (us : List Placed) (vs ws : List T) → map item us ≡ vs ++ ws → (xs : List Placed) × (ys : List Placed) × (us ≡ xs ++ ys) × (map item xs ≡ vs) × (map item ys ≡ ws)
 split item us [] ws e = ([], us, refl, refl, e)
 split item [] (v ∷ vs) ws e = let bad : ⊥ = cc in absurd bad
-split item (u ∷ us) (v ∷ vs) ws e =
-    let rest : map item us ≡ vs ++ ws = cc in
-    let cut = split item us vs ws rest in
-    let first : item u ≡ v = cc in
-    (u ∷ cut.0, cut.1, ap (λ ys. u ∷ ys) cut.2, ap (λ t. t ∷ map item cut.0) first ∙ ap (λ ts. v ∷ ts) cut.3, cut.4)
+split item (u ∷ us) (v ∷ vs) ws e = let cut = split item us vs ws (cc) in (u ∷ cut.0, cut.1, ap (λ ys. u ∷ ys) cut.2, cc, cut.4)
+
+-- a word of two parts over placed tokens, and a list of words with one in front
+module _ {T A : Type 0} (item : Placed → T) (us : List Placed) where
+  pub parts : {B : Type 0} (R : List T → A → Type 0) (S : A → List T → B → Type 0) (b : B) → words.◌>>=◌ R S (map item us) b → (xs : List Placed) × (ys : List Placed) × (a : A) × (us ≡ xs ++ ys) × R (map item xs) a × S a (map item ys) b
+  parts R S b (vs, ws, a, e, is, later) = let cut = split item us vs ws e in (cut.0, cut.1, a, cut.2, subst (λ ts. R ts a) (sym cut.3) is, subst (λ ts. S a ts b) (sym cut.4) later)
+
+  many_parts : {L : List T → A → Type 0} (x : A) (xs : List A) → Many L (map item us) (x ∷ xs) → (vs : List Placed) × (ws : List Placed) × (us ≡ vs ++ ws) × L (map item vs) x × Many L (map item ws) xs
+  many_parts {L} x xs are = let all = cut_off (map item us) are in let cut = split item us all.0 all.1 all.2 in (cut.0, cut.1, cut.2, subst (λ ts. L ts x) (sym cut.3) all.3, subst (λ ts. Many L ts xs) (sym cut.4) all.4)
+    where
+      cut_off : (ts : List T) → Many L ts (x ∷ xs) → (vs : List T) × (ws : List T) × (ts ≡ vs ++ ws) × L vs x × Many L ws xs
+      cut_off ts (more vs ws y ys is others) = (vs, ws, refl, is, others)
+
+  no_parts : {L : List T → A → Type 0} → Many L (map item us) [] → us ≡ []
+  no_parts {L} are = empty us (nothing (map item us) are)
+    where
+      nothing : (ts : List T) → Many L ts [] → ts ≡ []
+      nothing ts none = refl
+
+      empty : (us : List Placed) → map item us ≡ [] → us ≡ []
+      empty [] e = refl
+      empty (u ∷ us) e = let bad : ⊥ = cc in absurd bad
 
 pub before-append : (us vs : List Placed) (k : Input) → before (us ++ vs) k ≡ before us (before vs k)
 before-append us vs k = ap (λ ys. record k { left = ys }) (append_assoc us vs k.left)
 
 leads-append : (test : Token → Bool) (us vs : List Placed) → first_is test us ≡ true → first_is test (us ++ vs) ≡ true
-leads-append test [] vs h = let bad : ⊥ = cc in absurd bad
-leads-append test (u ∷ us) vs h = h
+leads-append test us vs h = grind arith
 
 pub anywhere : (ps : List Placed) → first_is nowhere ps ≡ false
-anywhere [] = refl
-anywhere (p ∷ ps) = refl
+anywhere ps = grind arith
 
 leading : (test : Token → Bool) (ps : List Placed) → first_is test ps ≡ true → 1 ≤ length ps
-leading test [] h = let bad : ⊥ = cc in absurd bad
-leading test (p ∷ ps) h = omega arith
+leading test ps h = grind arith
 
 -- tokens of one kind are none of the other
 abbrev pub Apart : (Token → Bool) → (Token → Bool) → Type 0
 Apart these those = (t : Token) → these t ≡ true → those t ≡ false
 
 apart_back : (these those : Token → Bool) → Apart these those → Apart those these
-apart_back these those apart t h = go (these t) refl
-  where
-    go : (b : Bool) → these t ≡ b → these t ≡ false
-    go false e = e
-    go true e = let no = apart t e in let bad : ⊥ = cc in absurd bad
+apart_back these those apart t h = let no = apart t in grind arith
 
 led : (these those : Token → Bool) → Apart these those → (ps : List Placed) → first_is these ps ≡ true → first_is those ps ≡ false
-led these those apart [] h = refl
-led these those apart (p ∷ ps) h = apart p.token h
+led these those apart ps h = grind (arith, apart)
 
 pub neither : (a b : Bool) → (a || b) ≡ false → (a ≡ false) × (b ≡ false)
-neither false b h = (refl, h)
-neither true b h = let bad : ⊥ = cc in absurd bad
+neither a b h = (grind arith, grind arith)
 
 -- where none of either kind comes first
 pub both_without : (these those : Token → Bool) (ps : List Placed) → first_is (λ t. these t || those t) ps ≡ false → (first_is these ps ≡ false) × (first_is those ps ≡ false)
-both_without these those [] h = (refl, refl)
-both_without these those (p ∷ ps) h = neither (these p.token) (those p.token) h
+both_without these those ps h = (grind arith, grind arith)
 
 -- where one of either comes first
 either : (these those : Token → Bool) (ps : List Placed) → first_is these ps ≡ true ⊎ first_is those ps ≡ true → first_is (λ t. these t || those t) ps ≡ true
-either these those [] (inl h) = h
-either these those [] (inr h) = h
-either these those (p ∷ ps) (inl h) = rw h refl
-either these those (p ∷ ps) (inr h) = rw h (other (these p.token))
-  where
-    other : (b : Bool) → (b || true) ≡ true
-    other true = refl
-    other false = refl
+either these those ps h = grind arith
 
 -- ---- parsers
 
@@ -134,12 +134,10 @@ module _ {T Fault : Type 0} {m : Manner T Fault} where
           (first.0 ++ second.0, first.1 ∙ ap (before first.0) second.1 ∙ sym (before-append first.0 second.0 j), (map m.item first.0, map m.item second.0, one.0.0, map-append m.item first.0 second.0, first.2, second.2))
 
       read : (us : List Placed) (j : Input) (b : B) → words.◌>>=◌ R S (map m.item us) b → first_is outer j.left ≡ false → parsing.◌>>=◌ r s (before us j) ≡ Ok (b, j)
-      read us j b (vs, ws, a, e, is, later) h =
-          let cut = split m.item us vs ws e in
-          let text : before us j ≡ before cut.0 (before cut.1 j) = ap (λ xs. before xs j) cut.2 ∙ before-append cut.0 cut.1 j in
-          let rest : S a (map m.item cut.1) b = subst (λ ts. S a ts b) (sym cut.4) later in
-          let one = x.complete cut.0 (before cut.1 j) a (subst (λ ts. R ts a) (sym cut.3) is) (behind a cut.1 j.left b rest h) in
-          ap (λ i. and_then (r i) s) text ∙ ap (λ o. and_then o s) one ∙ (y a).complete cut.1 j b rest h
+      read us j b is h =
+          let (vs, ws, a, cut, first, later) = parts m.item us R S b is in
+          let one = x.complete vs (before ws j) a first (behind a ws j.left b later h) in
+          rw (cut, append_assoc, one) ((y a).complete ws j b later h)
 
   -- one of two, by the first token
   pub or_exact : {A : Type 0} {test those stops : Token → Bool} {L M : List T → A → Type 0} {l n : Parser Fault A}
@@ -173,16 +171,12 @@ module _ {T Fault : Type 0} {m : Manner T Fault} where
     where
       found : (ps : List Placed) (e : Ending) (j : Input) (a : A) → one_from m.wrong sign (record { left = ps; ending = e }) ≡ Ok (a, j) → (us : List Placed) × (record { left = ps; ending = e } ≡ before us j) × one meaning (map m.item us) a
       found [] e j a h = let bad : ⊥ = cc in absurd bad
-      found (p ∷ ps) e j a h = go (sign p.at p.token) refl h
-        where
-          go : (o : Option A) → sign p.at p.token ≡ o → taken m.wrong o (record { left = p ∷ ps; ending = e }) ≡ Ok (a, j) → (us : List Placed) × (record { left = p ∷ ps; ending = e } ≡ before us j) × one meaning (map m.item us) a
-          go None q h = let bad : ⊥ = cc in absurd bad
-          go (Some b) q h = let same = answered {Fault = Fault} b a (record { left = ps; ending = e }) j h in (p ∷ [], ap (before (p ∷ [])) same.1, (m.item p, refl, sym (agree p) ∙ q ∙ ap Some (sym same.0)))
+      found (p ∷ ps) e j a h = let is : sign p.at p.token ≡ Some a = grind arith in (p ∷ [], grind arith, (m.item p, refl, sym (agree p) ∙ is))
 
       read : (us : List Placed) (j : Input) (a : A) → one meaning (map m.item us) a → first_is stops j.left ≡ false → one_from m.wrong sign (before us j) ≡ Ok (a, j)
       read [] j a (t, is, means) h = let bad : ⊥ = cc in absurd bad
-      read (u ∷ v ∷ us) j a (t, is, means) h = let bad : ⊥ = cc in absurd bad
       read (u ∷ []) j a (t, is, means) h = let same : m.item u ≡ t = cc in rw (agree u ∙ ap meaning same ∙ means) refl
+      read (u ∷ v ∷ us) j a (t, is, means) h = let bad : ⊥ = cc in absurd bad
 
   many_sound : {A : Type 0} (begins stops : Token → Bool) (L : List T → A → Type 0) (r : Parser Fault A) → Exact m stops L r → (n : ℕ) (found : List A) (i j : Input) (all : List A) → many_from begins r n found i ≡ Ok (all, j)
       → (us : List Placed) × (xs : List A) × (i ≡ before us j) × Many L (map m.item us) xs × (all ≡ found ++ xs) × (length xs ≤ n)
@@ -203,47 +197,37 @@ module _ {T Fault : Type 0} {m : Manner T Fault} where
           (first.0 ++ others.0, one.0.0 ∷ others.1, text, subst (λ ts. Many L ts (one.0.0 ∷ others.1)) (sym (map-append m.item first.0 others.0)) are, others.4 ∙ append_assoc found (one.0.0 ∷ []) others.1, long)
       go false ih e = let same = answered {Fault = Fault} found all i j e in ([], [], same.1, none, same.0 ∙ sym (append-nil found), omega arith)
 
-  many_first : {A : Type 0} (begins : Token → Bool) (L : List T → A → Type 0) → Starts m begins L → (us : List Placed) (ts : List T) (x : A) (xs : List A) → map m.item us ≡ ts → Many L ts (x ∷ xs) → first_is begins us ≡ true
-  many_first begins L starts us ts x xs e (more vs ws y ys is others) =
-      let cut = split m.item us vs ws e in
-      subst (λ qs. first_is begins qs ≡ true) (sym cut.2) (leads-append begins cut.0 cut.1 (starts.leads cut.0 y (subst (λ zs. L zs y) (sym cut.3) is)))
+  many_first : {A : Type 0} (begins : Token → Bool) (L : List T → A → Type 0) → Starts m begins L → (us : List Placed) (x : A) (xs : List A) → Many L (map m.item us) (x ∷ xs) → first_is begins us ≡ true
+  many_first begins L starts us x xs are = let (vs, ws, cut, is, others) = many_parts m.item us x xs are in rw cut (leads-append begins vs ws (starts.leads vs x is))
 
   pub many_leads : {A : Type 0} (begins stops : Token → Bool) (L : List T → A → Type 0) → Starts m begins L → Apart begins stops → (us : List Placed) (xs : List A) → Many L (map m.item us) xs → (rest : List Placed) → first_is stops rest ≡ false → first_is stops (us ++ rest) ≡ false
-  many_leads begins stops L starts apart [] xs are rest h = h
-  many_leads {A} begins stops L starts apart (u ∷ us) xs are rest h = go xs (m.item u ∷ map m.item us) refl are
-    where
-      go : (xs : List A) (ts : List T) → map m.item (u ∷ us) ≡ ts → Many L ts xs → first_is stops (u ∷ (us ++ rest)) ≡ false
-      go xs ts e none = let bad : ⊥ = cc in absurd bad
-      go xs ts e (more vs ws y ys is others) = apart u.token (many_first begins L starts (u ∷ us) ts y ys e (more vs ws y ys is others))
+  many_leads begins stops L starts apart us [] are rest h = rw (no_parts m.item us are) h
+  many_leads begins stops L starts apart us (x ∷ xs) are rest h = led begins stops apart (us ++ rest) (leads-append begins us rest (many_first begins L starts us x xs are))
 
-  many_short : {A : Type 0} (begins : Token → Bool) (L : List T → A → Type 0) → Starts m begins L → (us : List Placed) (ts : List T) (xs : List A) → map m.item us ≡ ts → Many L ts xs → length xs ≤ length us
-  many_short begins L starts us ts xs e none = omega arith
-  many_short begins L starts us ts xs e (more vs ws y ys is others) =
-      let cut = split m.item us vs ws e in
-      let rest = many_short begins L starts cut.1 ws ys cut.4 others in
-      let some = leading begins cut.0 (starts.leads cut.0 y (subst (λ zs. L zs y) (sym cut.3) is)) in
-      omega (arith, length-append cut.0 cut.1, ap length cut.2)
+  many_short : {A : Type 0} (begins : Token → Bool) (L : List T → A → Type 0) → Starts m begins L → (us : List Placed) (xs : List A) → Many L (map m.item us) xs → length xs ≤ length us
+  many_short begins L starts us [] are = omega arith
+  many_short begins L starts us (x ∷ xs) are =
+      let (vs, ws, cut, is, others) = many_parts m.item us x xs are in
+      let rest = many_short begins L starts ws xs others in
+      let some = leading begins vs (starts.leads vs x is) in
+      omega (arith, length-append vs ws, ap length cut)
 
   many_complete : {A : Type 0} (begins stops : Token → Bool) (L : List T → A → Type 0) (r : Parser Fault A) → Exact m stops L r → Starts m begins L → Apart begins stops
-      → (n : ℕ) (found : List A) (ts : List T) (xs : List A) → Many L ts xs → (us : List Placed) → map m.item us ≡ ts → (j : Input) → first_is stops j.left ≡ false → first_is begins j.left ≡ false → length xs ≤ n
+      → (n : ℕ) (found : List A) (us : List Placed) (xs : List A) → Many L (map m.item us) xs → (j : Input) → first_is stops j.left ≡ false → first_is begins j.left ≡ false → length xs ≤ n
       → many_from begins r n found (before us j) ≡ Ok (found ++ xs, j)
   unfolding many_from
-  many_complete begins stops L r x starts apart n found ts xs none [] e j h g le = stop n
+  many_complete begins stops L r x starts apart n found us [] are j h g le = rw (no_parts m.item us are, append-nil found) (stop n)
     where
-      stop : (n : ℕ) → many_from begins r n found j ≡ Ok (found ++ [], j)
-      stop zero = ap (λ ys. Ok (ys, j)) (sym (append-nil found))
-      stop (suc n) = rw g (ap (λ ys. Ok (ys, j)) (sym (append-nil found)))
-  many_complete begins stops L r x starts apart n found ts xs none (u ∷ us) e j h g le = let bad : ⊥ = cc in absurd bad
-  many_complete begins stops L r x starts apart zero found ts xs (more vs ws y ys is others) us e j h g le = let bad : ⊥ = omega arith in absurd bad
-  many_complete {A} begins stops L r x starts apart (suc n) found ts xs (more vs ws y ys is others) us e j h g le =
-      let cut = split m.item us vs ws e in
-      let text : before us j ≡ before cut.0 (before cut.1 j) = ap (λ zs. before zs j) cut.2 ∙ before-append cut.0 cut.1 j in
-      let yes : sees begins (before us j) ≡ true = leads-append begins us j.left (many_first begins L starts us ts y ys e (more vs ws y ys is others)) in
-      let stop = many_leads begins stops L starts apart cut.1 ys (subst (λ zs. Many L zs ys) (sym cut.4) others) j.left h in
-      let one = x.complete cut.0 (before cut.1 j) y (subst (λ zs. L zs y) (sym cut.3) is) stop in
-      let two = many_complete begins stops L r x starts apart n (found ++ y ∷ []) ws ys others cut.1 cut.4 j h g (omega arith) in
-      let f : A → Parser Fault (List A) = λ a. many_from begins r n (found ++ a ∷ []) in
-      rw yes (ap (λ i. and_then (r i) f) text ∙ ap (λ o. and_then o f) one ∙ two ∙ ap (λ zs. Ok (zs, j)) (append_assoc found (y ∷ []) ys))
+      stop : (n : ℕ) → many_from begins r n found j ≡ Ok (found, j)
+      stop zero = refl
+      stop (suc n) = rw g refl
+  many_complete begins stops L r x starts apart zero found us (y ∷ ys) are j h g le = let bad : ⊥ = omega arith in absurd bad
+  many_complete {A} begins stops L r x starts apart (suc n) found us (y ∷ ys) are j h g le =
+      let (vs, ws, cut, is, others) = many_parts m.item us y ys are in
+      let yes : sees begins (before us j) ≡ true = leads-append begins us j.left (many_first begins L starts us y ys are) in
+      let one = x.complete vs (before ws j) y is (many_leads begins stops L starts apart ws ys others j.left h) in
+      let two = many_complete begins stops L r x starts apart n (found ++ y ∷ []) ws ys others j h g (omega arith) in
+      rw yes (rw (cut, append_assoc, one) (two ∙ ap (λ zs. Ok (zs, j)) (append_assoc found (y ∷ []) ys)))
 
   -- further ones behind those that were found
   pub further_exact : {A : Type 0} (single : Bool) (found : List A) {begins stops : Token → Bool} {L : List T → A → Type 0} {r : Parser Fault A} → Exact m stops L r → Starts m begins L → Apart begins stops
@@ -255,12 +239,12 @@ module _ {T Fault : Type 0} {m : Manner T Fault} where
       read_as false i j all h = let f = many_sound begins stops L r x (length i.left) found i j all h in (f.0, f.2, (f.1, f.3, tt, f.4))
 
       turn : (n : ℕ) (us : List Placed) (j : Input) (xs : List A) → Many L (map m.item us) xs → length xs ≤ n → first_is (λ t. begins t || stops t) j.left ≡ false → many_from begins r n found (before us j) ≡ Ok (found ++ xs, j)
-      turn n us j xs are le h = let both = both_without begins stops j.left h in many_complete begins stops L r x starts apart n found (map m.item us) xs are us refl j both.1 both.0 le
+      turn n us j xs are le h = let both = both_without begins stops j.left h in many_complete begins stops L r x starts apart n found us xs are j both.1 both.0 le
 
       spelled_as : (single : Bool) (us : List Placed) (j : Input) (all : List A) → further single found L (map m.item us) all → first_is (λ t. begins t || stops t) j.left ≡ false → further_from single begins r found (before us j) ≡ Ok (all, j)
       spelled_as true us j all (xs, are, le, same) h = rw same (turn 1 us j xs are le h)
       spelled_as false us j all (xs, are, le, same) h =
-          let short = many_short begins L starts us (map m.item us) xs refl are in
+          let short = many_short begins L starts us xs are in
           rw same (turn (length (us ++ j.left)) us j xs are (omega (arith, length-append us j.left)) h)
 
   -- any number of them
@@ -272,10 +256,10 @@ module _ {T Fault : Type 0} {m : Manner T Fault} where
   -- what stands behind a part before them, with what goes on behind them
   pub further_then : {A B : Type 0} (single : Bool) (found : List A) (begins inner outer : Token → Bool) {those : Token → Bool} {L : List T → A → Type 0} {S : List A → List T → B → Type 0} → Starts m begins L → Apart begins inner
       → ((xs : List A) → Starts m those (S xs)) → Apart those inner → Before m outer inner (words.◌>>=◌ (further single found L) S)
-  further_then single found begins inner outer {those} {L} {S} starts apart behind away vs rest b (us, ws, all, e, (xs, are, le, is), later) h =
-      let cut = split m.item vs us ws e in
-      let next = led those inner away (cut.1 ++ rest) (leads-append those cut.1 rest ((behind all).leads cut.1 b (subst (λ ts. S all ts b) (sym cut.4) later))) in
-      rw (cut.2, append_assoc cut.0 cut.1 rest) (many_leads begins inner L starts apart cut.0 xs (subst (λ ts. Many L ts xs) (sym cut.3) are) (cut.1 ++ rest) next)
+  further_then {A} {B} single found begins inner outer {those} {L} {S} starts apart behind away vs rest b word h =
+      let (us, ws, all, cut, (xs, are, le, is), later) = parts m.item vs (further single found L) S b word in
+      let next = led those inner away (ws ++ rest) (leads-append those ws rest ((behind all).leads ws b later)) in
+      rw (cut, append_assoc us ws rest) (many_leads begins inner L starts apart us xs are (ws ++ rest) next)
 
   -- and with nothing behind them
   pub further_behind : {A B : Type 0} (single : Bool) (found : List A) (begins stops : Token → Bool) {L : List T → A → Type 0} (f : List A → B) → Starts m begins L → Apart begins stops → Before m (λ t. begins t || stops t) stops (words.◌>>=◌ (further single found L) (λ xs. gives (f xs)))
@@ -286,11 +270,7 @@ module _ {T Fault : Type 0} {m : Manner T Fault} where
   -- ---- first tokens
 
   pub then_starts : {A B : Type 0} {test : Token → Bool} {R : List T → A → Type 0} {S : A → List T → B → Type 0} → Starts m test R → Starts m test (words.◌>>=◌ R S)
-  then_starts {A} {B} {test} {R} {S} x = record {
-    leads = λ us b (vs, ws, a, e, is, later).
-        let cut = split m.item us vs ws e in
-        subst (λ qs. first_is test qs ≡ true) (sym cut.2) (leads-append test cut.0 cut.1 (x.leads cut.0 a (subst (λ ts. R ts a) (sym cut.3) is)));
-  }
+  then_starts {A} {B} {test} {R} {S} x = record { leads = λ us b word. let (vs, ws, a, cut, is, later) = parts m.item us R S b word in rw cut (leads-append test vs ws (x.leads vs a is)) }
 
   pub one_starts : {A : Type 0} {test : Token → Bool} (meaning : T → Option A) → ((p : Placed) (a : A) → meaning (m.item p) ≡ Some a → test p.token ≡ true) → Starts m test (one meaning)
   one_starts {A} {test} meaning h = record { leads = go }
