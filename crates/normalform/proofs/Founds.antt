@@ -1,15 +1,17 @@
 -- What the search for the first fault finds is the first.
-use Rattle.std.proofs.Common.{ℕ, ◌≡◌, ◌<◌, ◌++◌, length, Some, None, Option, Result, Ok, Err, IfOk, IfSome, All}
+use Rattle.std.proofs.Common.{ℕ, ◌≡◌, ◌<◌, ◌++◌, [], ◌∷◌, length, Some, None, Option, Result, Ok, Err, IfOk, IfSome, All}
 use Rattle.std.proofs.lemmas.List.{length-map}
+use Rattle.std.proofs.lemmas.List.Elements.{All-cons, All-nil}
 use Rattle.ag_grammar.specs.grammars.Accepted.{IsProductive, IsReached}
 use Rattle.ag_grammar.specs.declared.raw.RawGrammar.{RawGrammar}
 use Rattle.normalform.specs.declared.fault.NormalFault.TheVariants as fault
 use Rattle.normalform.specs.Faults.{first_wrong, unknown, doubled, start_places, naming_places, AreAll, in_productive, in_reached}
 use Rattle.normalform.specs.Found.{IsFoundAt}
 use Rattle.normalform.specs.Numbers.{symbol_of, numbered}
-use Rattle.normalform.specs.Clauses.{Follows}
-use Rattle.normalform.specs.Search.{IsClauseBelow, IsFirstLeft}
-use Rattle.normalform.proofs.Reduced.{symbols, clauses, edges, follows_productive, productive_follows, follows_reached, reached_follows, clauses_below, reaching_below, start_below}
+use Rattle.closure.specs.Clauses.{IsClauseBelow}
+use Rattle.closure.specs.Following.{Follows}
+use Rattle.normalform.specs.Lacking.{IsFirstLeft}
+use Rattle.normalform.proofs.Reduced.{symbols, clauses, edges, follows_productive, productive_follows, follows_reached, reached_follows, clauses_below, edges_below, start, start_below, FollowsStart}
 use Rattle.normalform.proofs.Right.{both_right}
 
 -- the parts of the places of names
@@ -22,12 +24,15 @@ pub bounded : (raw : RawGrammar) → first_wrong (naming_places raw) ≡ None �
 bounded raw h = clauses_below (symbols raw) raw.productions (naming_parts raw h).0
 
 pub edges_bounded : (raw : RawGrammar) → first_wrong (naming_places raw) ≡ None → All (IsClauseBelow (length (symbols raw))) (edges raw)
-edges_bounded raw h = reaching_below (length (symbols raw)) _ (clauses raw) (start_below (symbols raw) raw.start (naming_parts raw h).2) (bounded raw h)
+edges_bounded raw h = edges_below (length (symbols raw)) (clauses raw) (bounded raw h)
+
+pub start_bounded : (raw : RawGrammar) → first_wrong (naming_places raw) ≡ None → All (λ t. t < length (symbols raw)) (start raw ∷ [])
+start_bounded raw h = All-cons (λ t. t < length (symbols raw)) (start raw) [] (start_below (symbols raw) raw.start (naming_parts raw h).2) (All-nil (λ t. t < length (symbols raw)))
 
 count : (raw : RawGrammar) → length (symbols raw) ≡ length raw.symbols
 count raw = length-map raw.symbols symbol_of
 
-pub unproductive_found : (raw : RawGrammar) (n : ℕ) → first_wrong (naming_places raw) ≡ None → IsFirstLeft (clauses raw) (length (symbols raw)) n → IsFoundAt raw fault.Unproductive n
+pub unproductive_found : (raw : RawGrammar) (n : ℕ) → first_wrong (naming_places raw) ≡ None → IsFirstLeft (clauses raw) [] (length (symbols raw)) n → IsFoundAt raw fault.Unproductive n
 unproductive_found raw n none left = record {
   within = rw (← count raw) left.within;
   first = λ name at. in_productive none (record {
@@ -40,10 +45,10 @@ unproductive_found raw n none left = record {
   });
 }
 
-pub all_productive : (raw : RawGrammar) → ((t : ℕ) → t < length (symbols raw) → Follows (clauses raw) t) → AreAll (IsProductive (numbered raw)) raw
+pub all_productive : (raw : RawGrammar) → ((t : ℕ) → t < length (symbols raw) → Follows (clauses raw) [] t) → AreAll (IsProductive (numbered raw)) raw
 all_productive raw h s lt = follows_productive raw s (h s (rw (count raw) lt))
 
-pub unreached_found : (raw : RawGrammar) (n : ℕ) → first_wrong (naming_places raw) ≡ None → AreAll (IsProductive (numbered raw)) raw → IsFirstLeft (edges raw) (length (symbols raw)) n → IsFoundAt raw fault.Unreachable n
+pub unreached_found : (raw : RawGrammar) (n : ℕ) → first_wrong (naming_places raw) ≡ None → AreAll (IsProductive (numbered raw)) raw → IsFirstLeft (edges raw) (start raw ∷ []) (length (symbols raw)) n → IsFoundAt raw fault.Unreachable n
 unreached_found raw n none all left = record {
   within = rw (← count raw) left.within;
   first = λ name at. in_reached none all (record {
@@ -56,7 +61,7 @@ unreached_found raw n none all left = record {
   });
 }
 
-pub all_reached : (raw : RawGrammar) → ((t : ℕ) → t < length (symbols raw) → Follows (edges raw) t) → AreAll (IsReached (numbered raw)) raw
+pub all_reached : (raw : RawGrammar) → ((t : ℕ) → t < length (symbols raw) → FollowsStart raw t) → AreAll (IsReached (numbered raw)) raw
 all_reached raw h s lt = follows_reached raw s (h s (rw (count raw) lt))
 
 -- what holds of a number that is found, or where none is

@@ -4,7 +4,6 @@ pub mod First
 pub mod Founds
 pub mod KindAt
 pub mod Listed
-pub mod Marks
 pub mod Known
 pub mod Pairs
 pub mod Placing

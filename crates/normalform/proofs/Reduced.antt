@@ -1,10 +1,10 @@
 -- What follows from the clauses of a raw grammar is productive, and what follows from the edges is reached.
-use Rattle.std.proofs.Common.{Bool, true, false, cond, is_some, nat_lt, bytes_eq, Option, ℕ, zero, suc, ◌≡◌, ◌<◌, ◌⊎◌, inl, inr, List, [], ◌∷◌, ◌++◌, length, map, flat_map, All, Some, None, slice_get, refl, ap, sym, ◌∙◌, subst}
+use Rattle.std.proofs.Common.{arith, Bool, true, false, cond, is_some, nat_lt, bytes_eq, Option, ℕ, zero, suc, ◌≡◌, ◌<◌, ◌⊎◌, inl, inr, List, [], ◌∷◌, ◌++◌, length, map, flat_map, All, Some, None, slice_get, refl, ap, sym, ◌∙◌, subst}
 use Rattle.std.proofs.lemmas.Bool.{ltb-true, lt-ltb}
 use Rattle.std.proofs.lemmas.List.{length-map}
 use Rattle.std.proofs.lemmas.Option.{slice_get_within}
 use Rattle.std.specs.List.{list_any}
-use Rattle.std.proofs.lemmas.List.Elements.{All-append, All-nil, All-cons, All-head, All-tail}
+use Rattle.std.proofs.lemmas.List.Elements.{All-append, All-nil, All-cons, All-head, All-tail, All-contains, Contains-get_or}
 use Rattle.ag_grammar.specs.Lists.{Has}
 use Rattle.ag_grammar.specs.declared.grammar.Item.{Item}
 use Rattle.ag_grammar.specs.declared.grammar.Item.TheVariants as item
@@ -16,35 +16,24 @@ use Rattle.ag_grammar.specs.declared.raw.RawGrammar.{RawGrammar}
 use Rattle.ag_grammar.specs.declared.raw.RawItem.{RawItem}
 use Rattle.ag_grammar.specs.declared.raw.RawItem.TheVariants as raw_item
 use Rattle.ag_grammar.specs.declared.raw.RawProduction.{RawProduction}
-use Rattle.normalform.specs.declared.clause.Clause.{Clause}
-use Rattle.normalform.specs.Clauses.{Follows, FollowAll, by_clause, nothing, one_more, body_of, clause_of, clauses_of, edge, edges_of, reaching}
+use Rattle.closure.specs.declared.clause.Clause.{Clause}
+use Rattle.closure.specs.Clauses.{IsClauseBelow}
+use Rattle.closure.specs.Following.{Follows, seed}
+use Rattle.closure.proofs.Following.{follows_in, head_follows}
+use Rattle.normalform.specs.Clauses.{body_of, clause_of, clauses_of, edge, edges_of, reaching}
 use Rattle.normalform.specs.Numbers.{number_in, symbol_of, symbol_names, item_of, literals_of, placed, production_of, numbered}
 use Rattle.normalform.proofs.Texts.{found}
 use Rattle.ag_grammar.specs.declared.raw.Named.{Named}
 use Rattle.normalform.specs.declared.fault.NormalFault.TheVariants as fault
 use Rattle.normalform.specs.Faults.{first_wrong, name_place, item_places, rule_places, unknown_in, unknown, is_start, start_places}
-use Rattle.normalform.specs.Search.{IsClauseBelow}
 use Rattle.normalform.proofs.Right.{is_right, both_right, mapped_at, at_mapped, has_flat}
-
--- Induction: what is closed under clauses has all that follows from them.
-mutual
-  follows_in : (cs : List Clause) (P : ℕ → Type 0) → ((p : ℕ) (c : Clause) → slice_get cs p ≡ Some c → All P c.body → P c.head) → (s : ℕ) → Follows cs s → P s
-  follows_in cs P closed s (by_clause p c e l all) = subst P l (closed p c e (all_in cs P closed c.body all))
-
-  all_in : (cs : List Clause) (P : ℕ → Type 0) → ((p : ℕ) (c : Clause) → slice_get cs p ≡ Some c → All P c.body → P c.head) → (ns : List ℕ) → FollowAll cs ns → All P ns
-  all_in cs P closed [] nothing = All-nil P
-  all_in cs P closed (n ∷ ns) (one_more h k) = All-cons P n ns (follows_in cs P closed n h) (all_in cs P closed ns k)
-
-follow_all : (cs : List Clause) (ns : List ℕ) → All (Follows cs) ns → FollowAll cs ns
-follow_all cs [] all = nothing
-follow_all cs (n ∷ ns) all = one_more (All-head (Follows cs) n ns all) (follow_all cs ns (All-tail (Follows cs) n ns all))
 
 abbrev symbols_of : List Item → List ℕ
 symbols_of [] = []
 symbols_of (item.Symbol s ∷ xs) = s ∷ symbols_of xs
 symbols_of (item.Terminal a ∷ xs) = symbols_of xs
 
--- the same of productive symbols
+-- Induction: what is closed under the productions has all productive symbols.
 mutual
   productive_in : (g : Grammar) (P : ℕ → Type 0) → ((p : ℕ) (q : Production) → slice_get g.productions p ≡ Some q → All P (symbols_of q.items) → P q.left) → (s : ℕ) → IsProductive g s → P s
   productive_in g P closed s (by_production p q e l h) = subst P l (closed p q e (items_in g P closed q.items h))
@@ -80,8 +69,8 @@ items_productive raw lits (raw_item.Name name ∷ xs) all =
 items_productive raw lits (raw_item.Literal text ∷ xs) all = a_word (items_productive raw lits xs all)
 items_productive raw lits (raw_item.Class c ∷ xs) all = a_word (items_productive raw lits xs all)
 
-pub follows_productive : (raw : RawGrammar) (s : ℕ) → Follows (clauses raw) s → IsProductive (numbered raw) s
-follows_productive raw = follows_in (clauses raw) (IsProductive (numbered raw)) (λ p c e all.
+pub follows_productive : (raw : RawGrammar) (s : ℕ) → Follows (clauses raw) [] s → IsProductive (numbered raw) s
+follows_productive raw = follows_in (clauses raw) [] (IsProductive (numbered raw)) (λ t none. absurd (omega (arith, none.1))) (λ p c e all.
     let w = mapped_at (clause_of (symbols raw)) raw.productions p c e in
     by_production p (produces raw w.0) (at_mapped (produces raw) raw.productions p w.0 w.1) (ap (λ (d : Clause). d.head) w.2)
     (items_productive raw (literals_of raw.productions) w.0.items (rw (← w.2) at all)))
@@ -92,17 +81,21 @@ body_symbols ns lits (raw_item.Name name ∷ xs) = ap (λ zs. number_in ns name.
 body_symbols ns lits (raw_item.Literal text ∷ xs) = body_symbols ns lits xs
 body_symbols ns lits (raw_item.Class c ∷ xs) = body_symbols ns lits xs
 
-pub productive_follows : (raw : RawGrammar) (s : ℕ) → IsProductive (numbered raw) s → Follows (clauses raw) s
-productive_follows raw = productive_in (numbered raw) (Follows (clauses raw)) (λ p q e all.
+pub productive_follows : (raw : RawGrammar) (s : ℕ) → IsProductive (numbered raw) s → Follows (clauses raw) [] s
+productive_follows raw = productive_in (numbered raw) (Follows (clauses raw) []) (λ p q e all.
     let w = mapped_at (produces raw) raw.productions p q e in
-    let body : All (Follows (clauses raw)) (body_of (names raw) w.0.items) = rw (← w.2, body_symbols (names raw) (literals_of raw.productions) w.0.items) at all in
-    by_clause p (clause_of (symbols raw) w.0) (at_mapped (clause_of (symbols raw)) raw.productions p w.0 w.1) (ap (λ (r : Production). r.left) w.2) (follow_all (clauses raw) (body_of (names raw) w.0.items) body))
+    let body : All (Follows (clauses raw) []) (body_of (names raw) w.0.items) = rw (← w.2, body_symbols (names raw) (literals_of raw.productions) w.0.items) at all in
+    subst (Follows (clauses raw) []) (ap (λ (r : Production). r.left) w.2) (head_follows (clauses raw) [] p (clause_of (symbols raw) w.0) (at_mapped (clause_of (symbols raw)) raw.productions p w.0 w.1) body))
 
 abbrev pub start : RawGrammar → ℕ
 start raw = number_in (names raw) raw.start.name
 
 abbrev pub edges : RawGrammar → List Clause
-edges raw = reaching (start raw) (clauses raw)
+edges raw = reaching (clauses raw)
+
+-- what is reached from the start symbol
+abbrev pub FollowsStart : RawGrammar → ℕ → Type 0
+FollowsStart raw = Follows (edges raw) (start raw ∷ [])
 
 -- a symbol on a right side is in the body, and the other way round
 symbol_body : (ns lits : List (List ℕ)) (xs : List RawItem) (i s : ℕ) → slice_get (map (item_of ns lits) xs) i ≡ Some (item.Symbol s) → Has (body_of ns xs) s
@@ -121,15 +114,15 @@ body_symbol ns lits (raw_item.Name name ∷ xs) (suc i) s e = let w = body_symbo
 body_symbol ns lits (raw_item.Literal text ∷ xs) i s e = let w = body_symbol ns lits xs i s e in (suc w.0, w.1)
 body_symbol ns lits (raw_item.Class c ∷ xs) i s e = let w = body_symbol ns lits xs i s e in (suc w.0, w.1)
 
-pub reached_follows : (raw : RawGrammar) (s : ℕ) → IsReached (numbered raw) s → Follows (edges raw) s
-reached_follows raw = reached_in (numbered raw) (Follows (edges raw)) (by_clause zero (record { head = start raw; body = [] }) refl refl nothing) (λ p q s e left has.
+pub reached_follows : (raw : RawGrammar) (s : ℕ) → IsReached (numbered raw) s → FollowsStart raw s
+reached_follows raw = reached_in (numbered raw) (FollowsStart raw) (seed (Contains-get_or (start raw ∷ []) 0 0 (omega arith))) (λ p q s e left has.
     let w = mapped_at (produces raw) raw.productions p q e in
     let here = symbol_body (names raw) (literals_of raw.productions) w.0.items has.0 s (rw (← w.2) at has.1) in
     let c = clause_of (symbols raw) w.0 in
     let at_clause = at_mapped (clause_of (symbols raw)) raw.productions p w.0 w.1 in
     let there : Has (flat_map edges_of (clauses raw)) (edge c.head s) = has_flat edges_of (clauses raw) p c (edge c.head s) at_clause (here.0, at_mapped (edge c.head) c.body here.0 s here.1) in
     let same : q.left ≡ c.head = sym (ap (λ (r : Production). r.left) w.2) in
-    by_clause (suc there.0) (edge c.head s) there.1 refl (one_more (rw same at left) nothing))
+    head_follows (edges raw) (start raw ∷ []) there.0 (edge c.head s) there.1 (All-cons (FollowsStart raw) c.head [] (rw same at left) (All-nil (FollowsStart raw))))
 
 pub split_has : {X : Type 0} (xs ys : List X) (p : ℕ) (y : X) → slice_get (xs ++ ys) p ≡ Some y → Has xs y ⊎ Has ys y
 split_has [] ys p y e = inr (p, e)
@@ -148,11 +141,7 @@ flat_has f (x ∷ xs) p y e = elim (split_has (f x) (flat_map f xs) p y e) [
 ]
 
 edge_reached : (raw : RawGrammar) (p : ℕ) (c : Clause) → slice_get (edges raw) p ≡ Some c → All (IsReached (numbered raw)) c.body → IsReached (numbered raw) c.head
-edge_reached raw zero c e all = let same : start raw ≡ c.head = ap_head e in subst (IsReached (numbered raw)) same at_start
-  where
-    ap_head : {a : Clause} → Some a ≡ Some c → a.head ≡ c.head
-    ap_head {a} h = let k : a ≡ c = cc in ap (λ (d : Clause). d.head) k
-edge_reached raw (suc p) c e all =
+edge_reached raw p c e all =
     let w = flat_has edges_of (clauses raw) p c e in
     let v = mapped_at (clause_of (symbols raw)) raw.productions w.0 w.1 w.2 in
     let t = mapped_at (edge w.1.head) w.1.body w.3.0 c w.3.1 in
@@ -163,8 +152,8 @@ edge_reached raw (suc p) c e all =
     let there : IsReached (numbered raw) t.0 = within w.0 (produces raw v.0) (at_mapped (produces raw) raw.productions w.0 v.0 v.1) from has in
     subst (IsReached (numbered raw)) (ap (λ (d : Clause). d.head) t.2) there
 
-pub follows_reached : (raw : RawGrammar) (s : ℕ) → Follows (edges raw) s → IsReached (numbered raw) s
-follows_reached raw = follows_in (edges raw) (IsReached (numbered raw)) (edge_reached raw)
+pub follows_reached : (raw : RawGrammar) (s : ℕ) → FollowsStart raw s → IsReached (numbered raw) s
+follows_reached raw = follows_in (edges raw) (start raw ∷ []) (IsReached (numbered raw)) (λ t h. All-contains (IsReached (numbered raw)) (start raw ∷ []) t (All-cons (IsReached (numbered raw)) (start raw) [] at_start (All-nil (IsReached (numbered raw)))) h) (edge_reached raw)
 
 -- Where names are known the numbers are of symbols.
 pub known : (texts : List (List ℕ)) (text : List ℕ) → list_any (bytes_eq text) texts ≡ true → number_in texts text < length texts
@@ -208,14 +197,11 @@ edge_below n left lt [] all = All-nil (IsClauseBelow n)
 edge_below n left lt (t ∷ ts) all =
     All-cons (IsClauseBelow n) (edge left t) (map (edge left) ts) (record { head = All-head (λ u. u < n) t ts all; body = All-cons (λ u. u < n) left [] lt (All-nil (λ u. u < n)) }) (edge_below n left lt ts (All-tail (λ u. u < n) t ts all))
 
-edges_below : (n : ℕ) (cs : List Clause) → All (IsClauseBelow n) cs → All (IsClauseBelow n) (flat_map edges_of cs)
+pub edges_below : (n : ℕ) (cs : List Clause) → All (IsClauseBelow n) cs → All (IsClauseBelow n) (flat_map edges_of cs)
 edges_below n [] all = All-nil (IsClauseBelow n)
 edges_below n (c ∷ cs) all =
     let here = All-head (IsClauseBelow n) c cs all in
     All-append (IsClauseBelow n) (edges_of c) (flat_map edges_of cs) (edge_below n c.head here.head c.body here.body) (edges_below n cs (All-tail (IsClauseBelow n) c cs all))
-
-pub reaching_below : (n start : ℕ) (cs : List Clause) → start < n → All (IsClauseBelow n) cs → All (IsClauseBelow n) (reaching start cs)
-reaching_below n start cs lt all = All-cons (IsClauseBelow n) (record { head = start; body = [] }) (flat_map edges_of cs) (record { head = lt; body = All-nil (λ t. t < n) }) (edges_below n cs all)
 
 start_there : (ss : List Symbol) (n : ℕ) → is_start (slice_get ss n) ≡ true → n < length ss
 start_there ss n h = go (slice_get ss n) refl h

@@ -1,20 +1,11 @@
--- What follows from clauses (Dowling and Gallier 1984): a number follows where it is the head of a clause of whose body each
--- number does. Which symbols are productive, and which are reached, are found in this way.
-use Rattle.std.specs.Prelude.{ℕ, map, flat_map, ◌≡◌, List, [], ◌∷◌, Some, slice_get}
+-- By which clauses a symbol is productive, or reached, where others are.
+use Rattle.std.specs.Prelude.{ℕ, map, flat_map, List, [], ◌∷◌}
 use Rattle.ag_grammar.specs.declared.grammar.Symbol.{Symbol}
 use Rattle.ag_grammar.specs.declared.raw.RawItem.{RawItem}
 use Rattle.ag_grammar.specs.declared.raw.RawItem.TheVariants as raw_item
 use Rattle.ag_grammar.specs.declared.raw.RawProduction.{RawProduction}
 use Rattle.normalform.specs.Numbers.{number_in, symbol_names}
-use Rattle.normalform.specs.declared.clause.Clause.{Clause}
-
-mutual
-  pub data Follows (clauses : List Clause) : ℕ → Type 0 where
-    by_clause : (p : ℕ) (q : Clause) {s : ℕ} → slice_get clauses p ≡ Some q → q.head ≡ s → FollowAll clauses q.body → Follows clauses s
-
-  pub data FollowAll (clauses : List Clause) : List ℕ → Type 0 where
-    nothing : FollowAll clauses []
-    one_more : {s : ℕ} {xs : List ℕ} → Follows clauses s → FollowAll clauses xs → FollowAll clauses (s ∷ xs)
+use Rattle.closure.specs.declared.clause.Clause.{Clause}
 
 -- the symbols on a right side
 abbrev pub body_of : List (List ℕ) → List RawItem → List ℕ
@@ -37,6 +28,5 @@ edge left t = record { head = t; body = left ∷ [] }
 abbrev pub edges_of : Clause → List Clause
 edges_of q = map (edge q.head) q.body
 
--- and the start symbol is reached
-abbrev pub reaching : ℕ → List Clause → List Clause
-reaching start clauses = record { head = start; body = [] } ∷ flat_map edges_of clauses
+abbrev pub reaching : List Clause → List Clause
+reaching clauses = flat_map edges_of clauses

@@ -2,10 +2,10 @@ pub mod Clauses
 pub mod Examples
 pub mod Faults
 pub mod Found
+pub mod Lacking
 pub mod Laws
 pub mod Names
 pub mod Numbers
 pub mod Placed
 pub mod Printed
 pub mod Readable
-pub mod Search

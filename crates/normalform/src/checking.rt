@@ -12,17 +12,18 @@ ghost use Rattle.normalform.specs.Faults.{IsSmall, AreListedIn};
 ghost use Rattle.normalform.specs.Numbers.{symbol_of, symbol_names, number_in, production_of};
 ghost use Rattle.normalform.specs.Numbers.{numbered};
 
-use crate::clause::{Clause, clauses_of, reaching};
+use crate::clause::{clauses_of, reaching};
 use crate::declared::Declared;
 use crate::fault::NormalFault;
+use crate::lacking::first_left;
 use crate::limits::exceeded;
 use crate::moving::{move_symbols, name_at};
 use crate::naming::{doubled, unknown};
 use crate::numbering::{classes_of, literal_texts, names_of, productions_of, start_of};
 use crate::rules::{doubled_rules, missing, not_found, not_given};
-use crate::search::first_left;
 use ag_grammar::{Grammar, Named, Production, RawGrammar, RawProduction, RawSymbol};
 use ag_value::{Items, NoMemory, Text};
+use closure::Clause;
 use std::alloc::Global;
 
 /// What is wrong first: a fault, or a symbol by its number.
@@ -106,16 +107,16 @@ fn further_fault(
 fn unproductive(
     alloc: Global,
     raw: &RawGrammar,
-    clauses: &[Clause],
+    clauses: Vec<Clause>,
 ) -> Result<Option<usize>, NoMemory>
-    requires clauses { clauses.now
+    requires clauses { clauses.items
         ≡ spec.clauses_of (map symbol_of raw.now.symbols) raw.now.productions }
     requires names { first_wrong (naming_places raw.now) ≡ None }
     ensures found { IfOk result (λ o. IfSome o (λ n. IsFoundAt raw.now
         (λ name. NormalFault.Unproductive name) n)) }
     ensures none { IfOk result (λ o. o ≡ None → AreAll (IsProductive (numbered raw.now)) raw.now) }
 {
-    first_left(alloc, clauses, raw.symbols.as_slice().len())
+    first_left(alloc, clauses, raw.symbols.as_slice().len(), &[])
 }
 
 /// N5: the number of the first symbol that is not reached.
@@ -123,10 +124,10 @@ fn unreachable(
     alloc: Global,
     raw: &RawGrammar,
     start: usize,
-    clauses: &[Clause],
+    edges: Vec<Clause>,
 ) -> Result<Option<usize>, NoMemory>
-    requires clauses { clauses.now
-        ≡ spec.clauses_of (map symbol_of raw.now.symbols) raw.now.productions }
+    requires edges { edges.items ≡ spec.reaching
+        (spec.clauses_of (map symbol_of raw.now.symbols) raw.now.productions) }
     requires start { start
         ≡ number_in (symbol_names (map symbol_of raw.now.symbols)) raw.now.start.name }
     requires names { first_wrong (naming_places raw.now) ≡ None }
@@ -135,8 +136,7 @@ fn unreachable(
         (λ name. NormalFault.Unreachable name) n)) }
     ensures none { IfOk result (λ o. o ≡ None → AreAll (IsReached (numbered raw.now)) raw.now) }
 {
-    let edges = reaching(alloc, start, clauses)?;
-    first_left(alloc, edges.as_slice(), raw.symbols.as_slice().len())
+    first_left(alloc, edges, raw.symbols.as_slice().len(), &[start])
 }
 
 /// The first fault of the kinds from N4 on.
@@ -150,11 +150,12 @@ fn structure_fault(
     ensures { IfOk result (λ found. IsFound raw.now found) }
 {
     let clauses = clauses_of(alloc, declared, raw.productions.as_slice())?;
-    if let Some(number) = unproductive(alloc, raw, clauses.as_slice())? {
+    let edges = reaching(alloc, clauses.as_slice())?;
+    if let Some(number) = unproductive(alloc, raw, clauses)? {
         return Ok(Some(Found::Unproductive(number)));
     }
     let start = declared.number(raw.start.name.as_str());
-    if let Some(number) = unreachable(alloc, raw, start, clauses.as_slice())? {
+    if let Some(number) = unreachable(alloc, raw, start, edges)? {
         return Ok(Some(Found::Unreachable(number)));
     }
     if let Some(fault) = further_fault(alloc, raw, declared)? {

@@ -7,16 +7,8 @@ ghost use Rattle.normalform.specs.Numbers.{symbol_names};
 use crate::declared::Declared;
 use ag_grammar::{RawItem, RawProduction};
 use ag_value::{Items, NoMemory};
+use closure::Clause;
 use std::alloc::Global;
-
-/// A clause: the head follows where each number of the body does.
-#[derive(Debug, Drop)]
-pub struct Clause {
-    /// What follows.
-    pub head: usize,
-    /// From what it follows.
-    pub body: Items<usize>,
-}
 
 /// The symbols on a right side.
 fn body_of(
@@ -78,15 +70,11 @@ fn push_edges(alloc: Global, edges: &mut Vec<Clause>, clause: &Clause) -> Result
     Ok(())
 }
 
-/// The clauses of what is reached from a start: the start, and each number of a body from the head.
-pub fn reaching(alloc: Global, start: usize, clauses: &[Clause]) -> Result<Vec<Clause>, NoMemory>
-    ensures { IfOk result (λ edges. edges.items ≡ spec.reaching start clauses.now) }
+/// The clauses of what is reached: each number of a body from the head.
+pub fn reaching(alloc: Global, clauses: &[Clause]) -> Result<Vec<Clause>, NoMemory>
+    ensures { IfOk result (λ edges. edges.items ≡ spec.reaching clauses.now) }
 {
     let mut edges = Vec::new(alloc);
-    edges.push(Clause {
-        head: start,
-        body: Items::from_vec(Vec::new(alloc)),
-    })?;
     for clause in clauses {
         push_edges(alloc, &mut edges, clause)?;
     }

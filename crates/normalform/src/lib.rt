@@ -7,6 +7,7 @@ mod clause;
 mod declared;
 mod display;
 mod fault;
+mod lacking;
 pub mod laws;
 mod limits;
 mod moving;
@@ -16,7 +17,6 @@ mod numbering;
 mod placed;
 mod readable;
 mod rules;
-mod search;
 mod targets;
 
 pub use checking::check;

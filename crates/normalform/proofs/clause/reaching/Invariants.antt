@@ -4,4 +4,4 @@ use Rattle.normalform.specs.Clauses.{reaching, edges_of}
 use Rattle.normalform.proofs.clause.reaching.Given as goal
 
 abbrev pub invariant-loop-clause : goal.invariant-loop-clause
-invariant-loop-clause l = l.edges.items ++ flat_map edges_of (drop l.clause-index l.clauses) ≡ reaching l.start l.clauses
+invariant-loop-clause l = l.edges.items ++ flat_map edges_of (drop l.clause-index l.clauses) ≡ reaching l.clauses

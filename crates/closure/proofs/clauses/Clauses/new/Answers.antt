@@ -1,0 +1,15 @@
+-- The goals of `new` that are left.
+use Rattle.std.proofs.Common.{◌∙◌, ◌≡◌, length}
+use Rattle.std.proofs.lemmas.List.{length-map}
+use Rattle.closure.specs.Waiting.{rows}
+use Rattle.closure.proofs.clauses.Clauses.new.Goals as goal
+
+pub invariant_of-result : goal.invariant_of-result
+invariant_of-result c =
+    let count : length (rows c.in_ok-uses.uses.items) ≡ c.args.count = length-map c.in_ok-uses.uses.items _ ∙ c.in_ok-uses.ensures.len in record {
+      below = rw count c.requires;
+      noted = rw (← c.as_slice.ensures.value) c.in_ok-uses.ensures.noted;
+      fits = rw (← c.as_slice.ensures.value) c.in_ok-uses.ensures.fits;
+      facts_noted = rw (← c.as_slice-2.ensures.value) c.in_ok-facts.ensures.noted;
+      facts_fit = rw (← c.as_slice-2.ensures.value) c.in_ok-facts.ensures.fits;
+    }

@@ -1,0 +1,7 @@
+-- What the loop of `clauses_along` keeps.
+use Rattle.std.proofs.Common.{◌≡◌, map, take}
+use Rattle.closure.specs.Edges.{along}
+use Rattle.closure.proofs.edges.clauses_along.Given as goal
+
+abbrev pub invariant-loop-edge : goal.invariant-loop-edge
+invariant-loop-edge l = l.clauses.items ≡ map along (take l.edge-index l.edges)

@@ -1,0 +1,27 @@
+-- Which clauses wait for each number.
+use Rattle.std.specs.Prelude.{ℕ, map, ◌≡◌, ◌<◌, List, [], length, slice_index_or, All, Contains}
+use Rattle.std.specs.Global.{Vec}
+use Rattle.closure.specs.Clauses.{IsClauseBelow}
+use Rattle.closure.specs.declared.clause.Clause.{Clause}
+
+-- the lists of a table
+abbrev pub rows : {A : Type 0} → List (Vec A) → List (List A)
+rows table = map (λ v. v.items) table
+
+-- what a table has for a number
+abbrev pub row : List (List ℕ) → ℕ → List ℕ
+row table t = slice_index_or table t []
+
+-- A table goes on from another with a clause: what is in a row stays, and what is new there is the clause.
+pub record Notes (clause : ℕ) (old new : List (List ℕ)) : Type 0 where
+  pub same : length new ≡ length old
+  pub kept : (t p : ℕ) → Contains (row old t) p → Contains (row new t) p
+  pub fits : (n : ℕ) → clause < n → ((t : ℕ) → All (λ p. p < n) (row old t)) → (t : ℕ) → All (λ p. p < n) (row new t)
+
+-- Each number's row has the clauses in whose bodies the number stands, and a list those that have no body.
+pub record AreWaiting (clauses : List Clause) (uses : List (List ℕ)) (facts : List ℕ) : Type 0 where
+  pub below : All (IsClauseBelow (length uses)) clauses
+  pub noted : (p t : ℕ) (d : Clause) → p < length clauses → Contains (slice_index_or clauses p d).body t → Contains (row uses t) p
+  pub fits : (t : ℕ) → All (λ p. p < length clauses) (row uses t)
+  pub facts_noted : (p : ℕ) (d : Clause) → p < length clauses → (slice_index_or clauses p d).body ≡ [] → Contains facts p
+  pub facts_fit : All (λ p. p < length clauses) facts

@@ -1,0 +1,81 @@
+//! Clauses with what waits for each number, and what follows from them.
+ghost use Rattle.std.specs.Prelude.{◌≡◌, ◌<◌, length, All, IfOk};
+ghost use Rattle.closure.specs.Clauses.{IsClauseBelow};
+ghost use Rattle.closure.specs.Edges.{over, IsEdgeBelow};
+ghost use Rattle.closure.specs.Following.{AreClosure};
+
+use crate::clause::Clause;
+use crate::edges::{Edge, clauses_along};
+use crate::search::closure;
+use crate::waiting::{facts, uses};
+use ag_value::NoMemory;
+use std::alloc::Global;
+use std::marker::Model;
+
+/// Clauses over the numbers below a count. Contracts see the list of clauses and the count.
+#[derive(Drop)]
+pub struct Clauses {
+    clauses: Vec<Clause>,
+    uses: Vec<Vec<usize>>,
+    facts: Vec<usize>,
+}
+
+impl Model for Clauses {
+    ghost use Rattle.std.specs.Prelude.{length};
+    ghost use Rattle.closure.specs.Clauses.{Clauses as Plain};
+    ghost use Rattle.closure.specs.Waiting.{rows, AreWaiting};
+
+    ghost Value = { Plain };
+
+    ghost view = { λ c. record {
+      clauses = c.clauses.items;
+      count = length c.uses.items;
+    } };
+
+    ghost invariant = { λ c. AreWaiting c.clauses.items (rows c.uses.items) c.facts.items };
+}
+
+impl Clauses {
+    /// Clauses over the numbers below a count. Takes memory, and time linear in their lengths.
+    pub fn new(alloc: Global, clauses: Vec<Clause>, count: usize) -> Result<Clauses, NoMemory>
+        requires { All (IsClauseBelow count) clauses.items }
+        ensures { IfOk result (λ c. c ≡ record {
+          clauses = clauses.items;
+          count = count;
+        }) }
+    {
+        let uses = uses(alloc, clauses.as_slice(), count)?;
+        let facts = facts(alloc, clauses.as_slice())?;
+        Ok(Clauses {
+            clauses,
+            uses,
+            facts,
+        })
+    }
+
+    /// Edges between the numbers below a count, as clauses: what follows is what is reached. Takes
+    /// memory, and time linear in the number of edges and the count.
+    pub fn of_edges(alloc: Global, edges: &[Edge], count: usize) -> Result<Clauses, NoMemory>
+        requires { All (IsEdgeBelow count) edges.now }
+        ensures { IfOk result (λ c. c ≡ over edges.now count) }
+    {
+        let clauses = clauses_along(alloc, edges)?;
+        Clauses::new(alloc, clauses, count)
+    }
+
+    /// Marks of the numbers that follow from the clauses and seeds, and of no others. Takes memory,
+    /// and time linear in the lengths of the clauses and the seeds, and in the count.
+    pub fn closure(&self, alloc: Global, seeds: &[usize]) -> Result<Vec<bool>, NoMemory>
+        requires { All (λ t. t < self.now.count) seeds.now }
+        ensures len { IfOk result (λ marks. length marks.items ≡ self.now.count) }
+        ensures marks { IfOk result (λ marks. AreClosure self.now.clauses seeds.now marks.items) }
+    {
+        closure(
+            alloc,
+            self.clauses.as_slice(),
+            self.uses.as_slice(),
+            self.facts.as_slice(),
+            seeds,
+        )
+    }
+}

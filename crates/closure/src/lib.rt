@@ -1,0 +1,14 @@
+//! What follows from clauses: the least set of numbers that has some seeds, and with the body of a
+//! clause its head.
+#![tactic(auto)]
+
+mod clause;
+mod clauses;
+mod edges;
+pub mod samples;
+mod search;
+mod waiting;
+
+pub use clause::Clause;
+pub use clauses::Clauses;
+pub use edges::Edge;

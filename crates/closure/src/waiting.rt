@@ -1,0 +1,70 @@
+//! Which clauses wait for each number, and which wait for none.
+ghost use Rattle.std.specs.Prelude.{◌≡◌, ◌<◌, ℕ, [], length, All, Contains, IfOk, OnOk};
+ghost use Rattle.std.specs.Prelude.{slice_index_or};
+ghost use Rattle.closure.specs.Clauses.{IsClauseBelow};
+ghost use Rattle.closure.specs.Waiting.{row, rows, Notes};
+
+use crate::clause::Clause;
+use ag_value::NoMemory;
+use std::alloc::Global;
+
+/// Notes a clause at a number.
+fn note(uses: &mut Vec<Vec<usize>>, clause: usize, number: usize) -> Result<(), NoMemory>
+    requires { number < length uses.old.items }
+    ensures notes { OnOk result (Notes clause (rows uses.old.items) (rows uses.new.items)) }
+    ensures noted { OnOk result (Contains (row (rows uses.new.items) number) clause) }
+{
+    uses[number].push(clause)?;
+    Ok(())
+}
+
+/// Notes a clause at each number of its body.
+fn note_all(uses: &mut Vec<Vec<usize>>, clause: usize, body: &[usize]) -> Result<(), NoMemory>
+    requires { All (λ t. t < length uses.old.items) body.now }
+    ensures notes { OnOk result (Notes clause (rows uses.old.items) (rows uses.new.items)) }
+    ensures noted { OnOk result ((t : ℕ) → Contains body.now t → Contains (row (rows
+        uses.new.items) t) clause) }
+{
+    for number in body {
+        note(uses, clause, *number)?;
+    }
+    Ok(())
+}
+
+/// The clauses in whose body each number stands.
+pub(crate) fn uses(
+    alloc: Global,
+    clauses: &[Clause],
+    count: usize,
+) -> Result<Vec<Vec<usize>>, NoMemory>
+    requires { All (IsClauseBelow count) clauses.now }
+    ensures len { IfOk result (λ uses. length uses.items ≡ count) }
+    ensures noted { IfOk result (λ uses. (p t : ℕ) (d : Clause) → p < length clauses.now → Contains
+        (slice_index_or clauses.now p d).body t → Contains (row (rows uses.items) t) p) }
+    ensures fits { IfOk result (λ uses. (t : ℕ) → All (λ p. p < length clauses.now) (row (rows
+        uses.items) t)) }
+{
+    let mut uses = Vec::new(alloc);
+    for _ in 0..count {
+        uses.push(Vec::new(alloc))?;
+    }
+    for (at, clause) in clauses.iter().enumerate() {
+        note_all(&mut uses, at, clause.body.as_slice())?;
+    }
+    Ok(uses)
+}
+
+/// The clauses that have no body.
+pub(crate) fn facts(alloc: Global, clauses: &[Clause]) -> Result<Vec<usize>, NoMemory>
+    ensures noted { IfOk result (λ facts. (p : ℕ) (d : Clause) → p < length clauses.now →
+        (slice_index_or clauses.now p d).body ≡ [] → Contains facts.items p) }
+    ensures fits { IfOk result (λ facts. All (λ p. p < length clauses.now) facts.items) }
+{
+    let mut facts = Vec::new(alloc);
+    for (at, clause) in clauses.iter().enumerate() {
+        if clause.body.as_slice().is_empty() {
+            facts.push(at)?;
+        }
+    }
+    Ok(facts)
+}

@@ -1,6 +1,0 @@
--- The goals of `advance` that are left.
-use Rattle.normalform.proofs.Marks.{waits_at}
-use Rattle.normalform.proofs.search.Search.advance.Goals as goal
-
-pub returns-clause-stops : goal.returns-clause-stops
-returns-clause-stops c = λ d no. waits_at c.args.self.now.marks.items c.args.self.now.work.items c.args.self.now.clauses.now c.args.clause c.index-self-clause.result c.as_slice-body.result.now c.known_in_front-passed.result d c.requires.clause c.as_slice-body.ensures c.known_in_front-passed.ensures.within (rw (← c.as_slice.ensures.value) c.known_in_front-passed.ensures.stops) no

@@ -1,6 +1,0 @@
--- The goals of `mark` that are left.
-use Rattle.normalform.proofs.Marks.{marked_more}
-use Rattle.normalform.proofs.search.Search.mark.Goals as goal
-
-pub returns-in_ok-push-clause-search : goal.returns-in_ok-push-clause-search
-returns-in_ok-push-clause-search c = rw c.in_ok-push.ensures.items (marked_more _ _ _ _ _ c.requires.number c.requires.follows c.requires.search)
