@@ -1,5 +1,5 @@
 -- One operand more of a chain of values.
-use Rattle.std.proofs.Common.{ℕ, ◌≡◌, ◌+◌, ◌<◌, Bool, true, List, ◌∷◌, drop, get_or, length, map, ap, sym, ◌∙◌}
+use Rattle.std.proofs.Common.{ℕ, ◌≡◌, ◌+◌, ◌<◌, true, List, ◌∷◌, drop, get_or, length, map, ap, sym, ◌∙◌}
 use Rattle.std.proofs.lemmas.Bool.{and_parts}
 use Rattle.std.proofs.lemmas.List.{drop_more}
 use Rattle.ag_value.specs.declared.value.Value.{Value}

@@ -1,7 +1,7 @@
 pub mod Arguments
-pub mod Bindings
 pub mod Chained
 pub mod Decided
+pub mod Innermost
 pub mod Keys
 pub mod Putting
 pub mod Spelled

@@ -1,8 +1,5 @@
 -- What stands for the values of operands while an expression is evaluated. All of this is this project's.
-use Rattle.std.specs.Borrow.{Bor}
-use Rattle.std.specs.Prelude.{ℕ, ◌<◌, Bool, true, false, List, length, map, slice_get, Result, Ok, Err}
-use Rattle.ag_value.specs.declared.value.ErrorCode.{ErrorCode}
-use Rattle.ag_value.specs.declared.value.Value.TheVariants as value
+use Rattle.std.specs.Prelude.{ℕ, ◌<◌, Bool, true, false, List, length, map, slice_get}
 use Rattle.ag_value.specs.declared.value.Value.{Value}
 use Rattle.ag_eval.specs.declared.operand.Held.{Held}
 use Rattle.ag_eval.specs.declared.operand.Held.TheVariants as held
@@ -31,16 +28,6 @@ operand_value bound (operand.Bound k) = bound_value (slice_get bound k)
 abbrev pub IsIn : List Value → Operand → Type 0
 IsIn bound (operand.Held h) = Unit {0}
 IsIn bound (operand.Bound k) = k < length bound
-
--- what was found in a value: a part that is lent, or why there is none
-abbrev pub part_value : Result (Bor Value) ErrorCode → Value
-part_value (Ok part) = part.now
-part_value (Err code) = value.Fault code
-
--- as an operand that lends it
-abbrev pub found_part : Result (Bor Value) ErrorCode → Held
-found_part (Ok part) = held.Lent part.now
-found_part (Err code) = held.Owned (value.Fault code)
 
 -- in every item of a list the number of every occurrence is below n, and that of every bound name below how many are bound around it
 abbrev pub each_within : ℕ → ℕ → List Node → Bool

@@ -1,43 +1,42 @@
-//! What the operators and calls give for operands, lent where they can be.
+//! The table of the builtins: what each operator and call gives for operands, lent where they can be.
 
 ghost use Rattle.std.specs.Prelude.{◌≡◌, ◌≢◌, IfOk, IfSome, None};
 ghost use Rattle.ag_value.specs.Well.{IsWell};
 ghost use Rattle.ag_value.specs.declared.value.Value.TheVariants as value;
-ghost use Rattle.ag_eval.specs.declared.operand.Held.{Held};
-ghost use Rattle.ag_eval.specs.Operands.{IsIn, found_part, operand_value, part_value};
+ghost use Rattle.ag_eval.specs.declared.operand.Held.{Held as HeldValue};
+ghost use Rattle.ag_eval.specs.Operands.{IsIn, held_value, operand_value};
 ghost use Rattle.ag_grammar.specs.values.Arguments.{fault_of};
 ghost use Rattle.ag_grammar.specs.values.Calls.{called, called_with, put};
-ghost use Rattle.ag_grammar.specs.values.Lists.{appended, concatenated, nth_of};
+ghost use Rattle.ag_grammar.specs.values.Lists.{appended, concatenated};
 ghost use Rattle.ag_grammar.specs.values.Operators.{applied};
-ghost use Rattle.ag_grammar.specs.values.Tables.{got_from};
 
+use crate::bindings::Bindings;
 use crate::builtins::comparing::{equal, less, truth};
-use crate::builtins::faults::{fault_of, fault_of_one, fault_of_three, fault_of_two};
+use crate::builtins::faults::{fault_of, fault_of_three, fault_of_two};
 use crate::builtins::lists::{append, extend_list, length, nth};
 use crate::builtins::numbers::{decimal, difference, number, product, quotient, remainder, sum};
 use crate::builtins::tables;
 use crate::builtins::tables::{get, has, keys};
 use crate::builtins::texts::{extend_text, join};
 use crate::measured::Measured;
-use crate::operand::Operand;
-use crate::scope::Scope;
+use crate::operand::{Held, Operand};
 use ag_grammar::{BinaryCall, Operator, UnaryCall};
-use ag_value::{ErrorCode, NoMemory, Value, copy};
+use ag_value::{ErrorCode, NoMemory, Value};
 use std::alloc::Global;
 
 /// An operand that is a value of its own.
 fn made<'e>(value: Value) -> Operand<'e>
     requires { IsWell value }
-    ensures { result ≡ Operand.Held (Held.Owned value) }
+    ensures { result ≡ Operand.Held (HeldValue.Owned value) }
 {
     Operand::owned(Measured::new(value))
 }
 
 /// An operand that is an error.
 pub fn fault<'e>(code: ErrorCode) -> Operand<'e>
-    ensures { result ≡ Operand.Held (Held.Owned (value.Fault code)) }
+    ensures { result ≡ Operand.Held (HeldValue.Owned (value.Fault code)) }
 {
-    made(Value::Fault(code))
+    Operand::Held(Held::fault(code))
 }
 
 /// The value of an operator between two operands. Takes memory where `++` grows its left argument.
@@ -46,19 +45,19 @@ pub fn apply<'e>(
     operator: Operator,
     left: Operand<'e>,
     right: Operand<'e>,
-    scope: &Scope<'e>,
+    bindings: &Bindings<'e>,
 ) -> Result<Operand<'e>, NoMemory>
-    requires left { IsIn scope.now left }
-    requires right { IsIn scope.now right }
-    ensures value { IfOk result (λ o. operand_value scope.now o
-        ≡ applied operator (operand_value scope.now left.entry)
-        (operand_value scope.now right.entry)) }
-    ensures within { IfOk result (λ o. IsIn scope.now o) }
+    requires left { IsIn bindings.now left }
+    requires right { IsIn bindings.now right }
+    ensures value { IfOk result (λ o. operand_value bindings.now o
+        ≡ applied operator (operand_value bindings.now left.entry)
+        (operand_value bindings.now right.entry)) }
+    ensures within { IfOk result (λ o. IsIn bindings.now o) }
 {
     if operator == Operator::Join {
-        return concatenate(alloc, left, right, scope);
+        return concatenate(alloc, left, right, bindings);
     }
-    Ok(made(calculate(operator, left.get(&*scope), right.get(&*scope))))
+    Ok(made(calculate(operator, left.get(&*bindings), right.get(&*bindings))))
 }
 
 /// The value of an operator that makes a number, between two values.
@@ -114,20 +113,20 @@ fn concatenate<'e>(
     alloc: Global,
     left: Operand<'e>,
     right: Operand<'e>,
-    scope: &Scope<'e>,
+    bindings: &Bindings<'e>,
 ) -> Result<Operand<'e>, NoMemory>
-    requires left { IsIn scope.now left }
-    requires right { IsIn scope.now right }
-    ensures value { IfOk result (λ o. operand_value scope.now o
-        ≡ applied Operator.Join (operand_value scope.now left.entry)
-        (operand_value scope.now right.entry)) }
-    ensures within { IfOk result (λ o. IsIn scope.now o) }
+    requires left { IsIn bindings.now left }
+    requires right { IsIn bindings.now right }
+    ensures value { IfOk result (λ o. operand_value bindings.now o
+        ≡ applied Operator.Join (operand_value bindings.now left.entry)
+        (operand_value bindings.now right.entry)) }
+    ensures within { IfOk result (λ o. IsIn bindings.now o) }
 {
-    if let Some(code) = fault_of_two(left.get(&*scope), right.get(&*scope)) {
+    if let Some(code) = fault_of_two(left.get(&*bindings), right.get(&*bindings)) {
         return Ok(fault(code));
     }
-    let left = left.into_owned(alloc, &*scope)?;
-    Ok(Operand::owned(extended(alloc, left, right, scope)?))
+    let left = left.into_owned(alloc, &*bindings)?;
+    Ok(Operand::owned(extended(alloc, left, right, bindings)?))
 }
 
 /// A value that has grown by what is in an operand.
@@ -135,15 +134,15 @@ fn extended<'e>(
     alloc: Global,
     left: Measured,
     right: Operand<'e>,
-    scope: &Scope<'e>,
+    bindings: &Bindings<'e>,
 ) -> Result<Measured, NoMemory>
-    requires { IsIn scope.now right }
-    ensures { IfOk result (λ m. m ≡ concatenated left (operand_value scope.now right.entry)) }
+    requires { IsIn bindings.now right }
+    ensures { IfOk result (λ m. m ≡ concatenated left (operand_value bindings.now right.entry)) }
 {
-    if let Value::Text(more) = right.get(&*scope) {
+    if let Value::Text(more) = right.get(&*bindings) {
         return extend_text(alloc, left, more.as_str());
     }
-    extend_list(left, right.into_owned(alloc, &*scope)?)
+    extend_list(left, right.into_owned(alloc, &*bindings)?)
 }
 
 /// The value of a call of one operand. Takes memory for what is made.
@@ -151,16 +150,17 @@ pub fn call_unary<'e>(
     alloc: Global,
     call: UnaryCall,
     argument: Operand<'e>,
-    scope: &Scope<'e>,
+    bindings: &Bindings<'e>,
 ) -> Result<Operand<'e>, NoMemory>
-    requires { IsIn scope.now argument }
+    requires { IsIn bindings.now argument }
     ensures { IfOk result (λ o. o
-        ≡ Operand.Held (Held.Owned (called call (operand_value scope.now argument.entry)))) }
+        ≡ Operand.Held (HeldValue.Owned (called call (operand_value bindings.now argument.entry)))) }
 {
-    Ok(Operand::owned(made_of(alloc, call, argument.get(&*scope))?))
+    Ok(Operand::owned(made_of(alloc, call, argument.get(&*bindings))?))
 }
 
 /// What a call of one argument makes of its value.
+#[tactic(auto, unfolding(ag_grammar::specs::values::Arguments::leftmost))]
 fn made_of(alloc: Global, call: UnaryCall, argument: &Value) -> Result<Measured, NoMemory>
     requires { IsWell argument.now }
     ensures { IfOk result (λ m. m ≡ called call argument.now) }
@@ -168,7 +168,7 @@ fn made_of(alloc: Global, call: UnaryCall, argument: &Value) -> Result<Measured,
     if call == UnaryCall::IsError {
         return Ok(Measured::new(truth(fault_of(argument).is_some())));
     }
-    if let Some(code) = fault_of_one(argument) {
+    if let Some(code) = fault_of(argument) {
         return Ok(Measured::new(Value::Fault(code)));
     }
     let value = match call {
@@ -188,110 +188,67 @@ pub fn call_binary<'e>(
     call: BinaryCall,
     first: Operand<'e>,
     second: Operand<'e>,
-    scope: &Scope<'e>,
+    bindings: &Bindings<'e>,
 ) -> Result<Operand<'e>, NoMemory>
-    requires first { IsIn scope.now first }
-    requires second { IsIn scope.now second }
-    ensures value { IfOk result (λ o. operand_value scope.now o
-        ≡ called_with call (operand_value scope.now first.entry)
-        (operand_value scope.now second.entry)) }
-    ensures within { IfOk result (λ o. IsIn scope.now o) }
+    requires first { IsIn bindings.now first }
+    requires second { IsIn bindings.now second }
+    ensures value { IfOk result (λ o. operand_value bindings.now o
+        ≡ called_with call (operand_value bindings.now first.entry)
+        (operand_value bindings.now second.entry)) }
+    ensures within { IfOk result (λ o. IsIn bindings.now o) }
 {
     match call {
-        BinaryCall::Append => append_to(alloc, first, second, scope),
-        BinaryCall::OrElse => Ok(or_else(first, second, scope)),
-        _ => found_by(alloc, call, &first, second.get(&*scope), scope),
+        BinaryCall::Append => append_to(alloc, first, second, bindings),
+        BinaryCall::OrElse => Ok(or_else(first, second, bindings)),
+        _ => found_by(alloc, call, &first, second.get(&*bindings), bindings),
     }
 }
 
-/// The value of a call that keeps none of its operands.
+/// The value of a call that keeps none of its operands: a part of the first one is lent where that one
+/// is lent from outside, else it is copied.
 fn found_by<'e>(
     alloc: Global,
     call: BinaryCall,
     first: &Operand<'e>,
     second: &Value,
-    scope: &Scope<'e>,
+    bindings: &Bindings<'e>,
 ) -> Result<Operand<'e>, NoMemory>
     requires grows { call ≢ BinaryCall.Append }
     requires chooses { call ≢ BinaryCall.OrElse }
-    requires within { IsIn scope.now first.now }
-    ensures value { IfOk result (λ o. operand_value scope.now o
-        ≡ called_with call (operand_value scope.now first.now) second.now) }
-    ensures within { IfOk result (λ o. IsIn scope.now o) }
+    requires within { IsIn bindings.now first.now }
+    ensures value { IfOk result (λ o. operand_value bindings.now o
+        ≡ called_with call (operand_value bindings.now first.now) second.now) }
+    ensures within { IfOk result (λ o. IsIn bindings.now o) }
 {
+    if let Some(outside) = first.from_outside(&*bindings) {
+        return Ok(Operand::Held(found_in(alloc, call, outside, second)?));
+    }
+    let held = found_in(alloc, call, first.get(&*bindings), second)?;
+    Ok(Operand::owned(held.into_owned(alloc)?))
+}
+
+/// What such a call finds in the value of its first argument, lent, or makes of the two.
+fn found_in<'a>(
+    alloc: Global,
+    call: BinaryCall,
+    first: &'a Value,
+    second: &Value,
+) -> Result<Held<'a>, NoMemory>
+    requires grows { call ≢ BinaryCall.Append }
+    requires chooses { call ≢ BinaryCall.OrElse }
+    requires first { IsWell first.now }
+    ensures { IfOk result (λ h. held_value h ≡ called_with call first.now second.now) }
+{
+    if let Some(code) = fault_of_two(first, second) {
+        return Ok(Held::fault(code));
+    }
     match call {
-        BinaryCall::Nth => nth_of(alloc, first, second, scope),
-        BinaryCall::Join => join_by(alloc, first.get(&*scope), second),
-        BinaryCall::Get => get_from(alloc, first, second, scope),
-        BinaryCall::Has => Ok(had_by(first.get(&*scope), second)),
-        // these keep their operands
-        BinaryCall::Append | BinaryCall::OrElse => Ok(fault(ErrorCode::Kind)),
-    }
-}
-
-/// `nth(l, i)`: lent where the list is lent from outside, else a copy.
-fn nth_of<'e>(
-    alloc: Global,
-    list: &Operand<'e>,
-    place: &Value,
-    scope: &Scope<'e>,
-) -> Result<Operand<'e>, NoMemory>
-    requires { IsIn scope.now list.now }
-    ensures value { IfOk result (λ o. operand_value scope.now o
-        ≡ called_with BinaryCall.Nth (operand_value scope.now list.now) place.now) }
-    ensures within { IfOk result (λ o. IsIn scope.now o) }
-{
-    let whole = list.get(&*scope);
-    if let Some(code) = fault_of_two(whole, place) {
-        return Ok(fault(code));
-    }
-    match list.from_outside(&*scope) {
-        Some(lent) => Ok(lent_part(nth(lent, place))),
-        None => copied_part(alloc, nth(whole, place)),
-    }
-}
-
-/// `get(t, k)`: lent where the table is lent from outside, else a copy.
-fn get_from<'e>(
-    alloc: Global,
-    table: &Operand<'e>,
-    key: &Value,
-    scope: &Scope<'e>,
-) -> Result<Operand<'e>, NoMemory>
-    requires { IsIn scope.now table.now }
-    ensures value { IfOk result (λ o. operand_value scope.now o
-        ≡ called_with BinaryCall.Get (operand_value scope.now table.now) key.now) }
-    ensures within { IfOk result (λ o. IsIn scope.now o) }
-{
-    let whole = table.get(&*scope);
-    if let Some(code) = fault_of_two(whole, key) {
-        return Ok(fault(code));
-    }
-    match table.from_outside(&*scope) {
-        Some(lent) => Ok(lent_part(get(lent, key))),
-        None => copied_part(alloc, get(whole, key)),
-    }
-}
-
-/// A part of a value that is lent from outside: lent too.
-fn lent_part<'e>(found: Result<&'e Value, ErrorCode>) -> Operand<'e>
-    requires { IfOk found (λ v. IsWell v.now) }
-    ensures { result ≡ Operand.Held (found_part found.entry) }
-{
-    match found {
-        Ok(part) => Operand::lent(part),
-        Err(code) => fault(code),
-    }
-}
-
-/// A part of a value: a copy of it.
-fn copied_part<'e>(alloc: Global, found: Result<&Value, ErrorCode>) -> Result<Operand<'e>, NoMemory>
-    requires { IfOk found (λ v. IsWell v.now) }
-    ensures { IfOk result (λ o. o ≡ Operand.Held (Held.Owned (part_value found.entry))) }
-{
-    match found {
-        Ok(part) => Ok(made(copy(alloc, part)?)),
-        Err(code) => Ok(fault(code)),
+        BinaryCall::Nth => Ok(nth(first, second)),
+        BinaryCall::Join => Ok(Held::Owned(join(alloc, first, second)?)),
+        BinaryCall::Get => Ok(get(first, second)),
+        BinaryCall::Has => Ok(Held::Owned(Measured::new(has(first, second)))),
+        // these keep their arguments
+        BinaryCall::Append | BinaryCall::OrElse => Ok(Held::fault(ErrorCode::Kind)),
     }
 }
 
@@ -302,55 +259,33 @@ fn append_to<'e>(
     alloc: Global,
     list: Operand<'e>,
     item: Operand<'e>,
-    scope: &Scope<'e>,
+    bindings: &Bindings<'e>,
 ) -> Result<Operand<'e>, NoMemory>
-    requires list { IsIn scope.now list }
-    requires item { IsIn scope.now item }
-    ensures value { IfOk result (λ o. operand_value scope.now o
-        ≡ called_with BinaryCall.Append (operand_value scope.now list.entry)
-        (operand_value scope.now item.entry)) }
-    ensures within { IfOk result (λ o. IsIn scope.now o) }
+    requires list { IsIn bindings.now list }
+    requires item { IsIn bindings.now item }
+    ensures value { IfOk result (λ o. operand_value bindings.now o
+        ≡ called_with BinaryCall.Append (operand_value bindings.now list.entry)
+        (operand_value bindings.now item.entry)) }
+    ensures within { IfOk result (λ o. IsIn bindings.now o) }
 {
-    if let Some(code) = fault_of_two(list.get(&*scope), item.get(&*scope)) {
+    if let Some(code) = fault_of_two(list.get(&*bindings), item.get(&*bindings)) {
         return Ok(fault(code));
     }
-    let list = list.into_owned(alloc, &*scope)?;
-    let item = item.into_owned(alloc, &*scope)?;
+    let list = list.into_owned(alloc, &*bindings)?;
+    let item = item.into_owned(alloc, &*bindings)?;
     Ok(Operand::owned(append(list, item)?))
 }
 
-/// `join(l, s)`
-fn join_by<'e>(alloc: Global, list: &Value, separator: &Value) -> Result<Operand<'e>, NoMemory>
-    ensures { IfOk result (λ o. o
-        ≡ Operand.Held (Held.Owned (called_with BinaryCall.Join list.now separator.now))) }
-{
-    if let Some(code) = fault_of_two(list, separator) {
-        return Ok(fault(code));
-    }
-    Ok(Operand::owned(join(alloc, list, separator)?))
-}
-
-/// `has(t, k)`
-fn had_by<'e>(table: &Value, key: &Value) -> Operand<'e>
-    requires { IsWell table.now }
-    ensures { result ≡ Operand.Held (Held.Owned (called_with BinaryCall.Has table.now key.now)) }
-{
-    match fault_of_two(table, key) {
-        Some(code) => fault(code),
-        None => made(has(table, key)),
-    }
-}
-
 /// `orelse(v, w)`
-fn or_else<'e>(value: Operand<'e>, other: Operand<'e>, scope: &Scope<'e>) -> Operand<'e>
-    requires value { IsIn scope.now value }
-    requires other { IsIn scope.now other }
-    ensures value { operand_value scope.now result
-        ≡ called_with BinaryCall.OrElse (operand_value scope.now value.entry)
-        (operand_value scope.now other.entry) }
-    ensures within { IsIn scope.now result }
+fn or_else<'e>(value: Operand<'e>, other: Operand<'e>, bindings: &Bindings<'e>) -> Operand<'e>
+    requires value { IsIn bindings.now value }
+    requires other { IsIn bindings.now other }
+    ensures value { operand_value bindings.now result
+        ≡ called_with BinaryCall.OrElse (operand_value bindings.now value.entry)
+        (operand_value bindings.now other.entry) }
+    ensures within { IsIn bindings.now result }
 {
-    match fault_of(value.get(&*scope)) {
+    match fault_of(value.get(&*bindings)) {
         Some(_) => other,
         None => value,
     }
@@ -364,20 +299,20 @@ pub fn call_put<'e>(
     table: Operand<'e>,
     key: &Value,
     item: Operand<'e>,
-    scope: &Scope<'e>,
+    bindings: &Bindings<'e>,
 ) -> Result<Operand<'e>, NoMemory>
-    requires table { IsIn scope.now table }
+    requires table { IsIn bindings.now table }
     requires key { IsWell key.now }
-    requires item { IsIn scope.now item }
-    ensures value { IfOk result (λ o. operand_value scope.now o
-        ≡ put (operand_value scope.now table.entry) key.now
-        (operand_value scope.now item.entry)) }
-    ensures within { IfOk result (λ o. IsIn scope.now o) }
+    requires item { IsIn bindings.now item }
+    ensures value { IfOk result (λ o. operand_value bindings.now o
+        ≡ put (operand_value bindings.now table.entry) key.now
+        (operand_value bindings.now item.entry)) }
+    ensures within { IfOk result (λ o. IsIn bindings.now o) }
 {
-    if let Some(code) = fault_of_three(table.get(&*scope), key, item.get(&*scope)) {
+    if let Some(code) = fault_of_three(table.get(&*bindings), key, item.get(&*bindings)) {
         return Ok(fault(code));
     }
-    let table = table.into_owned(alloc, &*scope)?;
-    let item = item.into_owned(alloc, &*scope)?;
+    let table = table.into_owned(alloc, &*bindings)?;
+    let item = item.into_owned(alloc, &*bindings)?;
     Ok(Operand::owned(tables::put(alloc, table, key, item)?))
 }

@@ -5,7 +5,7 @@ ghost use Rattle.std.specs.Prelude.{◌≡◌, ◌<◌, ℕ};
 use ag_value::Value;
 
 /// The values of an expression's occurrences.
-pub trait Env {
+pub trait Environment {
     ghost use Rattle.ag_value.specs.declared.value.Value.{Value as AttributeValue};
 
     /// How many values are lent.

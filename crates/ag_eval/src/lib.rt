@@ -2,6 +2,8 @@
 //! within the limits of weight and depth.
 #![tactic(auto)]
 
+mod at_hand;
+mod bindings;
 mod builtins;
 mod calls;
 mod environment;
@@ -10,8 +12,7 @@ mod gathering;
 mod measured;
 mod meter;
 mod operand;
-mod scope;
 
-pub use environment::Env;
+pub use environment::Environment;
 pub use evaluation::eval;
 pub use meter::Meter;

@@ -6,9 +6,9 @@ ghost use Rattle.ag_value.specs.declared.value.Value.TheVariants as value;
 ghost use Rattle.ag_eval.specs.declared.operand.Held.{Held as HeldValue};
 ghost use Rattle.ag_eval.specs.Operands.{IsIn, held_value, is_lent, operand_value};
 
+use crate::bindings::Bindings;
 use crate::measured::Measured;
-use crate::scope::Scope;
-use ag_value::{NoMemory, Value, copy};
+use ag_value::{ErrorCode, NoMemory, Value, copy};
 use std::alloc::Global;
 use std::marker::Model;
 
@@ -59,6 +59,21 @@ pub enum Held<'e> {
 }
 
 impl<'e> Held<'e> {
+    /// An error.
+    pub fn fault(code: ErrorCode) -> Held<'e>
+        ensures { result ≡ Held.Owned (value.Fault code) }
+    {
+        Held::Owned(Measured::new(Value::Fault(code)))
+    }
+
+    /// A well value that is lent.
+    pub fn part(value: &'e Value) -> Held<'e>
+        requires { IsWell value.now }
+        ensures { result ≡ Held.Lent value.entry.now }
+    {
+        Held::Lent(Lent::new(value))
+    }
+
     /// Lends the value.
     pub fn get(&self) -> &Value
         ensures value { result.now ≡ held_value self.now }
@@ -130,50 +145,50 @@ impl<'e> Operand<'e> {
         requires { IsWell value.now }
         ensures { result ≡ Operand.Held (Held.Lent value.entry.now) }
     {
-        Operand::Held(Held::Lent(Lent::new(value)))
+        Operand::Held(Held::part(value))
     }
 
-    /// Lends the value, where `scope` has the values of the bindings.
-    pub fn get<'a>(&'a self, scope: &'a Scope<'e>) -> &'a Value
-        requires { IsIn scope.now self.now }
-        ensures value { result.now ≡ operand_value scope.now self.now }
+    /// Lends the value, where a bound one is among `bindings`.
+    pub fn get<'a>(&'a self, bindings: &'a Bindings<'e>) -> &'a Value
+        requires { IsIn bindings.now self.now }
+        ensures value { result.now ≡ operand_value bindings.now self.now }
         ensures well { IsWell result.now }
     {
         match self {
             Operand::Held(held) => held.get(),
-            Operand::Bound(k) => scope.get(*k).get(),
+            Operand::Bound(k) => bindings.get(*k).get(),
         }
     }
 
     /// The value where the environment or the expression lends it, for as long as they do.
-    pub fn from_outside(&self, scope: &Scope<'e>) -> Option<&'e Value>
-        requires { IsIn scope.now self.now }
+    pub fn from_outside(&self, bindings: &Bindings<'e>) -> Option<&'e Value>
+        requires { IsIn bindings.now self.now }
         ensures lends { (held : HeldValue) → self.now ≡ Operand.Held held → is_some result ≡ is_lent held }
-        ensures value { IfSome result (λ v. v.now ≡ operand_value scope.now self.now) }
+        ensures value { IfSome result (λ v. v.now ≡ operand_value bindings.now self.now) }
         ensures well { IfSome result (λ v. IsWell v.now) }
     {
         match self {
             Operand::Held(held) => held.lent(),
-            Operand::Bound(k) => scope.get(*k).lent(),
+            Operand::Bound(k) => bindings.get(*k).lent(),
         }
     }
 
     /// What a binding keeps of it: a copy where another binding owns it.
-    pub fn kept(self, alloc: Global, scope: &Scope<'e>) -> Result<Held<'e>, NoMemory>
-        requires { IsIn scope.now self }
-        ensures { IfOk result (λ h. held_value h ≡ operand_value scope.now self.entry) }
+    pub fn kept(self, alloc: Global, bindings: &Bindings<'e>) -> Result<Held<'e>, NoMemory>
+        requires { IsIn bindings.now self }
+        ensures { IfOk result (λ h. held_value h ≡ operand_value bindings.now self.entry) }
     {
         match self {
             Operand::Held(held) => Ok(held),
-            Operand::Bound(k) => scope.get(k).again(alloc),
+            Operand::Bound(k) => bindings.get(k).again(alloc),
         }
     }
 
     /// The value itself: a copy of it where it is lent or bound.
-    pub fn into_owned(self, alloc: Global, scope: &Scope<'e>) -> Result<Measured, NoMemory>
-        requires { IsIn scope.now self }
-        ensures { IfOk result (λ m. m ≡ operand_value scope.now self.entry) }
+    pub fn into_owned(self, alloc: Global, bindings: &Bindings<'e>) -> Result<Measured, NoMemory>
+        requires { IsIn bindings.now self }
+        ensures { IfOk result (λ m. m ≡ operand_value bindings.now self.entry) }
     {
-        self.kept(alloc, scope)?.into_owned(alloc)
+        self.kept(alloc, bindings)?.into_owned(alloc)
     }
 }

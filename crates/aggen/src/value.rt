@@ -11,7 +11,7 @@ ghost use Rattle.aggen.specs.Showing.{ShowsBeginning, WritesLine, first_place};
 
 use crate::fault::Fault;
 use crate::file::{line_of, read_file, write_file};
-use ag_eval::{Env, Meter, eval};
+use ag_eval::{Environment, Meter, eval};
 use ag_expr::{ExprFault, read_expr};
 use ag_grammar::{Expr, occurrences};
 use ag_value::Value;
@@ -122,7 +122,7 @@ struct Unasked {
     number: Value,
 }
 
-impl Env for Unasked {
+impl Environment for Unasked {
     ghost count = { λ _. 1 };
 
     ghost lent = { λ env _. env.number };

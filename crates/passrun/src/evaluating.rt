@@ -5,7 +5,7 @@ ghost use Rattle.std.specs.Prelude.{slice_index};
 ghost use Rattle.ag_grammar.specs.expressions.Evaluation.{value_of};
 ghost use Rattle.ag_value.specs.Well.{IsWell};
 
-use ag_eval::{Env, Meter, eval};
+use ag_eval::{Environment, Meter, eval};
 use ag_grammar::Expr;
 use ag_value::{NoMemory, Value};
 use std::alloc::Global;
@@ -18,7 +18,7 @@ struct Lender<'a> {
     spare: &'a Value,
 }
 
-impl<'a> Env for Lender<'a> {
+impl<'a> Environment for Lender<'a> {
     ghost use Rattle.std.specs.Prelude.{get_or, length, slice_index};
 
     ghost count = { λ l. length l.slots.now };

@@ -2,7 +2,7 @@
 
 use crate::words::{Mistake, first_word, halves, number, printed};
 use crate::written::Written;
-use ag_eval::{Env, Meter, eval};
+use ag_eval::{Environment, Meter, eval};
 use ag_expr::{expected_at, read_expr, read_until};
 use ag_grammar::{Expr, occurrences};
 use ag_value::{Value, is_well, show};
@@ -17,7 +17,7 @@ struct Same<'a> {
     value: &'a Value,
 }
 
-impl<'a> Env for Same<'a> {
+impl<'a> Environment for Same<'a> {
     ghost count = { λ _. 65536 };
 
     ghost lent = { λ same k. same.value.now };

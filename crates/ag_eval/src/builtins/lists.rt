@@ -1,7 +1,7 @@
 //! Operations on lists, and those that texts, lists and tables share.
 
 ghost use Rattle.std.specs.Prelude.{◌≡◌, ◌+◌, ◌++◌, ◌≤◌, ◌∷◌, [], max, option_copied, pos};
-ghost use Rattle.std.specs.Prelude.{false, IfOk, MatchResult, None};
+ghost use Rattle.std.specs.Prelude.{false, IfOk, None};
 ghost use Rattle.ag_value.specs.Measure.{depth_of, max_weight, weight_of};
 ghost use Rattle.ag_value.specs.Well.{IsWell};
 ghost use Rattle.ag_value.specs.declared.value.Value.TheVariants as value;
@@ -9,9 +9,11 @@ ghost use Rattle.ag_value.specs.declared.value.Value.{Value as AttributeValue};
 ghost use Rattle.ag_grammar.specs.values.Arguments.{fault_of};
 ghost use Rattle.ag_grammar.specs.values.Fitting.{fit};
 ghost use Rattle.ag_grammar.specs.values.Texts.{is_text};
+ghost use Rattle.ag_eval.specs.Operands.{held_value};
 ghost use Rattle.ag_grammar.specs.values.Lists.{appended, concatenated, item_at, length_of, nth_of};
 
 use crate::measured::Measured;
+use crate::operand::Held;
 use ag_value::{ErrorCode, Items, NoMemory, Value};
 
 /// `len(a)`
@@ -96,29 +98,27 @@ fn pushed(items: Items<Value>, item: Value, weight: u64, depth: u32) -> Result<M
     Ok(Measured::fit(Value::List(Items::from_vec(items)), weight, depth))
 }
 
-/// `nth(l, i)`: lends the item, or says why there is none.
-pub fn nth<'a>(list: &'a Value, place: &Value) -> Result<&'a Value, ErrorCode>
+/// `nth(l, i)`: the item, lent.
+pub fn nth<'a>(list: &'a Value, index: &Value) -> Held<'a>
     requires { IsWell list.now }
-    ensures value { MatchResult result (λ item. item.now ≡ nth_of list.now place.now)
-        (λ code. nth_of list.now place.now ≡ value.Fault code) }
-    ensures well { IfOk result (λ item. IsWell item.now) }
+    ensures { held_value result ≡ nth_of list.now index.now }
 {
-    match (list, place) {
-        (Value::List(items), Value::Num(place)) => {
-            match item_at(items.as_slice(), *place) {
-                Some(item) => Ok(item),
-                None => Err(ErrorCode::Index),
+    match (list, index) {
+        (Value::List(items), Value::Num(index)) => {
+            match item_at(items.as_slice(), *index) {
+                Some(item) => Held::part(item),
+                None => Held::fault(ErrorCode::Index),
             }
         }
-        _ => Err(ErrorCode::Kind),
+        _ => Held::fault(ErrorCode::Kind),
     }
 }
 
-fn item_at(items: &[Value], place: i64) -> Option<&Value>
-    ensures { option_copied result ≡ item_at items.now place }
+fn item_at(items: &[Value], index: i64) -> Option<&Value>
+    ensures { option_copied result ≡ item_at items.now index }
 {
-    if place < 0 {
+    if index < 0 {
         return None;
     }
-    items.get(place as usize)
+    items.get(index as usize)
 }

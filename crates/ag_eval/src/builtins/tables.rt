@@ -2,10 +2,11 @@
 
 ghost use Rattle.std.specs.Prelude.{◌≡◌, ◌<◌, ◌≤◌, ℕ, List, length, map, option_copied, insert};
 ghost use Rattle.std.specs.Prelude.{slice_get, slice_set, true, None, Some};
-ghost use Rattle.std.specs.Prelude.{IfOk, MatchResult};
+ghost use Rattle.std.specs.Prelude.{IfOk};
 ghost use Rattle.ag_value.specs.Measure.{depth_of, max_weight, weight_of};
 ghost use Rattle.ag_value.specs.Well.{IsWell, is_item, is_rising, key_of};
 ghost use Rattle.ag_value.specs.declared.value.Value.TheVariants as value;
+ghost use Rattle.ag_eval.specs.Operands.{held_value};
 ghost use Rattle.ag_grammar.specs.values.Arguments.{fault_of};
 ghost use Rattle.ag_grammar.specs.values.Fitting.{fit};
 ghost use Rattle.ag_grammar.specs.values.Tables.{IsPlace, got_from, had_by, has_key, keys_of};
@@ -13,14 +14,15 @@ ghost use Rattle.ag_grammar.specs.values.Tables.{pair_with, put_in, with_pair};
 
 use crate::builtins::comparing::truth;
 use crate::measured::Measured;
+use crate::operand::Held;
 use ag_value::{ErrorCode, Items, NoMemory, Text, Value};
 use std::alloc::Global;
 
-/// The place of a key among those of a table: how many come before it.
-fn place_of(pairs: &[(Text, Value)], key: &str) -> usize
+/// The index of a key among those of a table: how many come before it.
+fn index_of(pairs: &[(Text, Value)], key: &str) -> usize
     requires { is_rising (map key_of pairs.now) ≡ true }
     ensures within { result ≤ length pairs.now }
-    ensures place { IsPlace key.now pairs.now result }
+    ensures index { IsPlace key.now pairs.now result }
 {
     pairs.partition_point(|pair| pair.0.as_str() < key)
 }
@@ -30,28 +32,26 @@ fn pair_with<'a>(pairs: &'a [(Text, Value)], key: &str) -> Option<&'a (Text, Val
     requires { is_rising (map key_of pairs.now) ≡ true }
     ensures { option_copied result ≡ pair_with key.now pairs.now }
 {
-    let place = place_of(pairs, key);
-    match pairs.get(place) {
+    let index = index_of(pairs, key);
+    match pairs.get(index) {
         Some(pair) if pair.0.as_str() == key => Some(pair),
         _ => None,
     }
 }
 
-/// `get(t, k)`: lends the key's value, or says why there is none.
-pub fn get<'a>(table: &'a Value, key: &Value) -> Result<&'a Value, ErrorCode>
+/// `get(t, k)`: the key's value, lent.
+pub fn get<'a>(table: &'a Value, key: &Value) -> Held<'a>
     requires { IsWell table.now }
-    ensures value { MatchResult result (λ v. v.now ≡ got_from table.now key.now)
-        (λ code. got_from table.now key.now ≡ value.Fault code) }
-    ensures well { IfOk result (λ v. IsWell v.now) }
+    ensures { held_value result ≡ got_from table.now key.now }
 {
     match (table, key) {
         (Value::Table(pairs), Value::Text(key)) => {
             match pair_with(pairs.as_slice(), key.as_str()) {
-                Some(pair) => Ok(&pair.1),
-                None => Err(ErrorCode::Key),
+                Some(pair) => Held::part(&pair.1),
+                None => Held::fault(ErrorCode::Key),
             }
         }
-        _ => Err(ErrorCode::Kind),
+        _ => Held::fault(ErrorCode::Kind),
     }
 }
 
@@ -95,11 +95,11 @@ pub fn put(
     }
 }
 
-/// Whether the pair at a place has the key.
-fn has_at(pairs: &[(Text, Value)], place: usize, key: &str) -> bool
-    ensures { result ≡ has_key key.now (slice_get pairs.now place) }
+/// Whether the pair at an index has the key.
+fn has_at(pairs: &[(Text, Value)], index: usize, key: &str) -> bool
+    ensures { result ≡ has_key key.now (slice_get pairs.now index) }
 {
-    match pairs.get(place) {
+    match pairs.get(index) {
         Some(pair) => pair.0.as_str() == key,
         None => false,
     }
@@ -121,52 +121,52 @@ fn put_pair(
     requires sounded { depth ≡ depth_of (value.Table pairs) }
     ensures { IfOk result (λ m. m ≡ fit (value.Table (with_pair key.now item pairs))) }
 {
-    let place = place_of(pairs.as_slice(), key);
-    if has_at(pairs.as_slice(), place, key) {
-        return Ok(replaced(pairs, place, item.into_value()));
+    let index = index_of(pairs.as_slice(), key);
+    if has_at(pairs.as_slice(), index, key) {
+        return Ok(replaced(pairs, index, item.into_value()));
     }
     let weight = weight + 4 + key.len() as u64 + item.weight();
     let depth = depth.max(item.depth() + 1);
-    let pairs = inserted(alloc, pairs, place, key, item.into_value())?;
+    let pairs = inserted(alloc, pairs, index, key, item.into_value())?;
     Ok(Measured::fit(Value::Table(pairs), weight, depth))
 }
 
-/// A table with another value at a place, weighed anew.
-fn replaced(pairs: Items<(Text, Value)>, place: usize, item: Value) -> Measured
+/// A table with another value at an index, weighed anew.
+fn replaced(pairs: Items<(Text, Value)>, index: usize, item: Value) -> Measured
     requires table { IsWell (value.Table pairs) }
     requires item { is_item item ≡ true }
-    requires within { place < length pairs }
-    ensures { (key : List ℕ) → IsPlace key pairs place
-        → has_key key (slice_get pairs place) ≡ true
+    requires within { index < length pairs }
+    ensures { (key : List ℕ) → IsPlace key pairs index
+        → has_key key (slice_get pairs index) ≡ true
         → result ≡ fit (value.Table (with_pair key item pairs)) }
 {
     let mut pairs = pairs.into_vec();
-    set_value(&mut pairs, place, item);
+    set_value(&mut pairs, index, item);
     Measured::weighed(Value::Table(Items::from_vec(pairs)))
 }
 
-/// Gives the pair at a place another value.
-fn set_value(pairs: &mut Vec<(Text, Value)>, place: usize, item: Value)
-    requires { place < length pairs.old.items }
-    ensures { (p : _) → slice_get pairs.old.items place ≡ Some p
-        → pairs.new.items ≡ slice_set pairs.old.items place (p.0, item) }
+/// Gives the pair at an index another value.
+fn set_value(pairs: &mut Vec<(Text, Value)>, index: usize, item: Value)
+    requires { index < length pairs.old.items }
+    ensures { (p : _) → slice_get pairs.old.items index ≡ Some p
+        → pairs.new.items ≡ slice_set pairs.old.items index (p.0, item) }
 {
-    pairs[place].1 = item;
+    pairs[index].1 = item;
 }
 
-/// The pairs with one more at a place.
+/// The pairs with one more at an index.
 fn inserted(
     alloc: Global,
     pairs: Items<(Text, Value)>,
-    place: usize,
+    index: usize,
     key: &str,
     item: Value,
 ) -> Result<Items<(Text, Value)>, NoMemory>
-    requires { place ≤ length pairs }
-    ensures { IfOk result (λ grown. grown ≡ insert pairs place (key.now, item)) }
+    requires { index ≤ length pairs }
+    ensures { IfOk result (λ grown. grown ≡ insert pairs index (key.now, item)) }
 {
     let mut pairs = pairs.into_vec();
-    pairs.insert(place, (Text::from_str(alloc, key)?, item))?;
+    pairs.insert(index, (Text::from_str(alloc, key)?, item))?;
     Ok(Items::from_vec(pairs))
 }
 

@@ -10,16 +10,16 @@ use Rattle.ag_eval.proofs.Putting.{fits-inserted, inserts, item_with}
 use Rattle.ag_grammar.proofs.values.Tables.{rising_table}
 use Rattle.ag_eval.proofs.builtins.tables.put_pair.Goals as goal
 
-pub place_of-place-requires : goal.place_of-place-requires
-place_of-place-requires c = rw c.as_slice.ensures (rising_table _ c.args.pairs refl c.requires.table)
+pub index_of-index-requires : goal.index_of-index-requires
+index_of-index-requires c = rw c.as_slice.ensures (rising_table _ c.args.pairs refl c.requires.table)
 
 pub fit-requires : goal.fit-requires
 fit-requires c =
     let pairs = c.args.pairs in
     let key = c.args.key.now in
-    let i = c.place_of-place.result in
+    let i = c.index_of-index.result in
     let x : Value = c.args.item in
-    let place : IsPlace key pairs i = subst (λ ps. IsPlace key ps i) c.as_slice.ensures c.place_of-place.ensures.place in
+    let place : IsPlace key pairs i = subst (λ ps. IsPlace key ps i) c.as_slice.ensures c.index_of-index.ensures.index in
     let none : has_key key (slice_get pairs i) ≡ false = ap (λ ps. has_key key (slice_get ps i)) (sym c.as_slice-2.ensures) ∙ sym c.has_at.ensures ∙ c.if-has_at.false in
     let well : IsWell x = subst IsWell c.into_value-2.ensures.value c.into_value-2.ensures.well in
     let grown : c.in_ok-pairs.pairs ≡ insert pairs i (key, x) = c.in_ok-pairs.ensures ∙ ap (λ v. insert pairs i (key, v)) c.into_value-2.ensures.value in

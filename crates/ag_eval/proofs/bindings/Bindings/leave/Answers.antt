@@ -2,8 +2,8 @@ use Rattle.std.proofs.Common.{◌≡◌, ◌≢◌, ◌<◌, ◌++◌, ◌∷◌
 use Rattle.std.specs.Option.{option_to_list}
 use Rattle.ag_grammar.specs.expressions.Evaluation.{bound_value}
 use Rattle.ag_eval.specs.Operands.{IsIn, held_value, operand_value}
-use Rattle.ag_eval.proofs.Bindings.{seen_stays}
-use Rattle.ag_eval.proofs.scope.Scope.leave.Goals as goal
+use Rattle.ag_eval.proofs.Innermost.{seen_stays}
+use Rattle.ag_eval.proofs.bindings.Bindings.leave.Goals as goal
 
 pub returns-clause-value : goal.returns-clause-value
 returns-clause-value c =

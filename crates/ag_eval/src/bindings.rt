@@ -10,11 +10,11 @@ use std::marker::Model;
 
 /// The values of the bindings around a part of an expression, the outermost first.
 #[derive(Debug, Drop)]
-pub struct Scope<'e> {
+pub struct Bindings<'e> {
     held: Vec<Held<'e>>,
 }
 
-impl<'e> Model for Scope<'e> {
+impl<'e> Model for Bindings<'e> {
     ghost use Rattle.std.specs.Prelude.{List, map};
     ghost use Rattle.std.specs.Coded.{codes};
     ghost use Rattle.ag_value.specs.declared.value.Value.{Value as AttributeValue};
@@ -28,12 +28,12 @@ impl<'e> Model for Scope<'e> {
     ghost view = { λ s. map held_value s.held.items };
 }
 
-impl<'e> Scope<'e> {
+impl<'e> Bindings<'e> {
     /// No binding. Takes no memory.
-    pub fn new(alloc: Global) -> Scope<'e>
+    pub fn new(alloc: Global) -> Bindings<'e>
         ensures { result ≡ [] }
     {
-        Scope {
+        Bindings {
             held: Vec::new(alloc),
         }
     }

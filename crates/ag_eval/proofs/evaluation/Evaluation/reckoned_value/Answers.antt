@@ -1,16 +1,16 @@
-use Rattle.std.proofs.Common.{◌≡◌, ◌∙◌, List, ℕ, [], ap, map, subst, sym}
+use Rattle.std.proofs.Common.{◌≡◌, ◌∙◌, List, [], ap, map, subst, sym}
 use Rattle.std.specs.Option.{IfSome}
 use Rattle.ag_value.specs.declared.value.Value.{Value}
 use Rattle.ag_grammar.specs.declared.node.Node.{Node}
 use Rattle.ag_grammar.specs.declared.node.Operator.{Operator}
 use Rattle.ag_grammar.specs.expressions.Evaluation.{Meaning, chain_value, value_in}
 use Rattle.ag_grammar.proofs.expressions.Trees.{chain_is}
-use Rattle.ag_eval.proofs.evaluation.reckoned_value.Goals as goal
+use Rattle.ag_eval.proofs.evaluation.Evaluation.reckoned_value.Goals as goal
 
 pub returns-clause-value : goal.returns-clause-value
 returns-clause-value g c =
-    let env = g.V.Env.lent c.args.env.now in
-    let s = c.args.scope.now in
+    let env = g.V.Environment.lent c.args.self.now.env.now in
+    let s = c.args.bindings.now in
     let f : Operator × Node → Operator × Meaning = λ p. (p.0, value_in p.1) in
     let is = ap (λ (os : List (Operator × Node)). chain_value env s (value_in c.get.result.now env s) (map f os)) c.as_slice.ensures
     ∙ ap (λ (n : Node). chain_value env s (value_in n env s) (map f c.in-Chain.others)) c.get.ensures

@@ -1,0 +1,24 @@
+use Rattle.std.proofs.Common.{◌≡◌, ◌++◌, length, drop, map, true}
+use Rattle.ag_value.specs.declared.value.Value.TheVariants as value
+use Rattle.ag_grammar.specs.expressions.Evaluation.{chain_value, item_values, value_in}
+use Rattle.ag_eval.specs.Operands.{IsIn, each_within, operand_value}
+use Rattle.ag_grammar.specs.expressions.Trees.{all_below}
+use Rattle.ag_grammar.specs.values.Arguments.{fault_or, leftmost}
+use Rattle.ag_grammar.specs.values.Fitting.{fit}
+use Rattle.ag_grammar.specs.values.Lists.{listed}
+use Rattle.ag_eval.proofs.evaluation.Evaluation.+evaluating.Given as goal
+
+abbrev pub invariant-chain_of-loop-other : goal.invariant-chain_of-loop-other
+invariant-chain_of-loop-other g l = record {
+  same : chain_value (g.V.Environment.lent l.self.env.now) l.bindings (operand_value l.bindings l.value) (map (λ p. (p.0, value_in p.1)) (drop l.other-index l.others)) ≡ chain_value (g.V.Environment.lent l.self.env.now) l.fn.bindings (operand_value l.fn.bindings l.fn.so_far) (map (λ p. (p.0, value_in p.1)) l.others);
+  within : IsIn l.bindings l.value;
+  below : all_below (length l.self.expr.now.1) (length l.bindings) (drop l.other-index l.others) ≡ true;
+  stays : l.bindings ≡ l.fn.bindings;
+}
+
+abbrev pub invariant-list_of-loop-item : goal.invariant-list_of-loop-item
+invariant-list_of-loop-item g l = record {
+  same : fault_or (leftmost (item_values (g.V.Environment.lent l.self.env.now) l.bindings (map value_in (drop l.item-index l.items)))) (fit (value.List (l.list ++ item_values (g.V.Environment.lent l.self.env.now) l.bindings (map value_in (drop l.item-index l.items))))) ≡ listed (item_values (g.V.Environment.lent l.self.env.now) l.fn.bindings (map value_in l.items));
+  below : each_within (length l.self.expr.now.1) (length l.bindings) (drop l.item-index l.items) ≡ true;
+  stays : l.bindings ≡ l.fn.bindings;
+}

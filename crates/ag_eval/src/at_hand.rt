@@ -1,0 +1,179 @@
+//! Values that are at hand before an operand is made of them: of literals, occurrences and bound
+//! names, and the numbers that chains of these give.
+
+ghost use Rattle.std.specs.Prelude.{◌≡◌, length, map, true, IfOk, IfSome, MatchOption, []};
+ghost use Rattle.ag_value.specs.Well.{IsWell, is_item};
+ghost use Rattle.ag_value.specs.declared.value.Value.TheVariants as value;
+ghost use Rattle.ag_grammar.specs.expressions.Evaluation.{chain_value, value_in, value_of};
+ghost use Rattle.ag_grammar.specs.expressions.Trees.{all_below, is_within};
+ghost use Rattle.ag_grammar.specs.values.Fitting.{fit};
+ghost use Rattle.ag_grammar.specs.values.Operators.{applied};
+ghost use Rattle.ag_eval.specs.Operands.{IsIn, held_value, operand_value};
+
+use crate::bindings::Bindings;
+use crate::calls::reckoned;
+use crate::environment::Environment;
+use crate::evaluation::Evaluation;
+use crate::measured::Measured;
+use crate::operand::{Held, Operand};
+use ag_grammar::{Literal, Node, Operator};
+use ag_value::{ErrorCode, MAX_DEPTH, MAX_WEIGHT, NoMemory, Value, copy, depth, weight};
+use std::alloc::Global;
+
+impl<'e, V: Environment> Evaluation<'e, V> {
+    /// The number that an operator gives for the value so far and the operand behind it, where it
+    /// gives one and the operand is at hand: no operand is made of that one.
+    #[inline(always)]
+    pub fn number_behind(
+        &self,
+        so_far: &Operand<'e>,
+        other: &(Operator, Node),
+        bindings: &Bindings<'e>,
+    ) -> Option<Operand<'e>>
+        requires first { IsIn bindings.now so_far.now }
+        requires below { is_within (length self.now.expr.now.1) other.now.1 (length bindings.now) ≡ true }
+        ensures value { IfSome result (λ o. operand_value bindings.now o
+            ≡ applied other.now.0 (operand_value bindings.now so_far.now)
+            (value_in other.now.1 (V.lent self.now.env.now) bindings.now)) }
+        ensures within { IfSome result (λ o. IsIn bindings.now o) }
+    {
+        let right = self.at_hand(&other.1, bindings)?;
+        let number = reckoned(other.0, so_far.get(bindings), right)?;
+        Some(Operand::owned(Measured::new(number)))
+    }
+
+    /// The value of a chain of numbers that are at hand, where each step gives a number: no operand
+    /// is made of any.
+    #[inline(always)]
+    fn chained_number<'a>(
+        &'a self,
+        first: &'a Node,
+        others: &'a [(Operator, Node)],
+        bindings: &'a Bindings<'_>,
+    ) -> Option<Value>
+        requires first { is_within (length self.now.expr.now.1) first.now (length bindings.now) ≡ true }
+        requires below { all_below (length self.now.expr.now.1) (length bindings.now) others.now ≡ true }
+        ensures value { IfSome result (λ v. v
+            ≡ chain_value (V.lent self.now.env.now) bindings.now
+            (value_in first.now (V.lent self.now.env.now) bindings.now)
+            (map (λ p. (p.0, value_in p.1)) others.now)) }
+        ensures well { IfSome result (λ v. IsWell v) }
+    {
+        let Value::Num(number) = self.at_hand(first, bindings)? else {
+            return None;
+        };
+        let mut so_far = Value::Num(*number);
+        for other in others {
+            let right = self.at_hand(&other.1, bindings)?;
+            let next = reckoned(other.0, &so_far, right)?;
+            so_far = replaced(so_far, next);
+        }
+        Some(so_far)
+    }
+
+    /// The value of an operand that is a literal, an occurrence or a bound name: lent as it is.
+    #[inline(always)]
+    fn at_hand<'a>(&'a self, node: &'a Node, bindings: &'a Bindings<'_>) -> Option<&'a Value>
+        requires below { is_within (length self.now.expr.now.1) node.now (length bindings.now) ≡ true }
+        ensures value { IfSome result (λ v. v.now
+            ≡ value_in node.now (V.lent self.now.env.now) bindings.now) }
+        ensures well { IfSome result (λ v. IsWell v.now) }
+    {
+        match node {
+            Node::Literal(literal) => within_limits(literal.value()),
+            Node::Occurrence(k) => Some(self.occurrence(*k)),
+            Node::Bound(k) => Some(bindings.get(*k).get()),
+            _ => None,
+        }
+    }
+
+    /// The value of an expression that is an occurrence, or a literal within the limits, lent.
+    #[inline(always)]
+    pub fn lent_value(&self) -> Option<&'e Value>
+        ensures value { IfSome result (λ v. v.now
+            ≡ value_of self.now.expr.now.0 (V.lent self.now.env.now)) }
+        ensures well { IfSome result (λ v. IsWell v.now) }
+    {
+        match self.tree() {
+            Node::Literal(literal) => literal_value(literal).lent(),
+            Node::Occurrence(k) => Some(self.occurrence(*k)),
+            _ => None,
+        }
+    }
+
+    /// The value of an expression that is a chain of numbers at hand.
+    #[inline(always)]
+    pub fn reckoned_value(&self, bindings: &Bindings<'_>) -> Option<Value>
+        requires none { bindings.now ≡ [] }
+        ensures value { IfSome result (λ v. v
+            ≡ value_of self.now.expr.now.0 (V.lent self.now.env.now)) }
+        ensures well { IfSome result (λ v. IsWell v) }
+    {
+        let Node::Chain(first, others) = self.tree() else {
+            return None;
+        };
+        self.chained_number(first.get(), others.as_slice(), bindings)
+    }
+}
+
+/// Another value in the place of one.
+#[inline(always)]
+fn replaced(_old: Value, next: Value) -> Value
+    ensures { result ≡ next }
+{
+    next
+}
+
+/// A value that is within the limits.
+#[inline(always)]
+fn within_limits(item: &Value) -> Option<&Value>
+    requires { is_item item.now ≡ true }
+    ensures { IfSome result (λ v. (v.now ≡ fit item.now) × IsWell v.now) }
+{
+    match excess(item) {
+        None => Some(item),
+        Some(_) => None,
+    }
+}
+
+/// The value of a literal, lent where it is within the limits.
+pub fn literal_value<'e>(literal: &'e Literal) -> Held<'e>
+    ensures { held_value result ≡ fit literal.now }
+{
+    match excess(literal.value()) {
+        None => Held::part(literal.value()),
+        Some(code) => Held::fault(code),
+    }
+}
+
+/// The error that stands for a value beyond the limits, if it is.
+#[inline(always)]
+fn excess(item: &Value) -> Option<ErrorCode>
+    requires { is_item item.now ≡ true }
+    ensures { MatchOption result (IsWell item.now × (fit item.now ≡ item.now))
+        (λ code. fit item.now ≡ value.Fault code) }
+{
+    if let Value::Num(_) = item {
+        return None;
+    }
+    if depth(item) > MAX_DEPTH {
+        return Some(ErrorCode::Deep);
+    }
+    if weight(item) > MAX_WEIGHT {
+        return Some(ErrorCode::Big);
+    }
+    None
+}
+
+/// A copy of a value: of a number at once.
+#[inline(always)]
+pub fn copied(alloc: Global, value: &Value) -> Result<Value, NoMemory>
+    requires { IsWell value.now }
+    ensures value { IfOk result (λ copied. copied ≡ value.now) }
+    ensures well { IfOk result (λ copied. IsWell copied) }
+{
+    match value {
+        Value::Num(number) => Ok(Value::Num(*number)),
+        _ => copy(alloc, value),
+    }
+}
