@@ -1,5 +1,6 @@
 pub mod Following
 pub mod Marks
 pub mod Noted
+pub mod Places
 pub mod Reached
 pub mod Sample

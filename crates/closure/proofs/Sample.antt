@@ -1,9 +1,13 @@
--- The example of clauses.
-use Rattle.std.proofs.Common.{ℕ, zero, suc, ◌≡◌, ◌<◌, List, [], ◌∷◌, All, Some, slice_get, refl, arith}
-use Rattle.std.proofs.lemmas.List.Elements.{All-head, All-tail, Contains-get_or}
+-- The examples of clauses and edges.
+use Rattle.std.proofs.Common.{Contains, map, ℕ, zero, suc, ◌≡◌, ◌<◌, List, [], ◌∷◌, All, Some, slice_get, refl, arith}
+use Rattle.std.proofs.lemmas.List.Elements.{All-cons, All-contains, All-head, All-nil, All-tail, Contains-get_or}
 use Rattle.closure.specs.declared.clause.Clause.{Clause}
 use Rattle.closure.specs.Following.{Follows, seed, by_clause, nothing, one_more}
-use Rattle.closure.specs.Samples.{sample}
+use Rattle.closure.specs.Edges.{along}
+use Rattle.closure.specs.Samples.{sample, two_edges}
+use Rattle.closure.specs.declared.edges.Edge.{Edge}
+use Rattle.closure.proofs.Places.{element_at}
+use Rattle.closure.proofs.Reached.{reached_in, step}
 use Rattle.closure.proofs.Following.{follows_in}
 
 zero_follows : (seeds : List ℕ) → Follows sample seeds 0
@@ -29,3 +33,17 @@ without_seeds = (one_follows [], λ h. let low = follows_in sample [] (λ t. t <
 
 pub with_seed : Follows sample (3 ∷ []) 2
 with_seed = by_clause 2 (record { head = 2; body = 1 ∷ 3 ∷ [] }) refl refl (one_more (one_follows (3 ∷ [])) (one_more (seed (Contains-get_or (3 ∷ []) 0 0 (omega arith))) nothing))
+
+-- the ends of both edges are below 3
+ends : (e : Edge) → Contains two_edges e → e.to < 3
+ends e h = All-contains (λ (d : Edge). d.to < 3) two_edges e (All-cons (λ (d : Edge). d.to < 3) (record { from = 0; to = 1 }) (record { from = 1; to = 2 } ∷ []) (omega arith) (All-cons (λ (d : Edge). d.to < 3) (record { from = 1; to = 2 }) [] (omega arith) (All-nil (λ (d : Edge). d.to < 3)))) h
+
+pub two_is_reached : Follows (map along two_edges) (0 ∷ []) 2
+two_is_reached =
+    let one = step two_edges (0 ∷ []) (record { from = 0; to = 1 }) (element_at two_edges 0 _ refl) (seed (element_at (0 ∷ []) 0 0 refl)) in
+    step two_edges (0 ∷ []) (record { from = 1; to = 2 }) (element_at two_edges 1 _ refl) one
+
+pub three_is_not : Follows (map along two_edges) (0 ∷ []) 3 → ⊥
+three_is_not h =
+    let low = reached_in two_edges (0 ∷ []) (λ t. t < 3) (λ t k. All-contains (λ u. u < 3) (0 ∷ []) t (All-cons (λ u. u < 3) 0 [] (omega arith) (All-nil (λ u. u < 3))) k) (λ e k before. ends e k) 3 h in
+    absurd (omega arith)

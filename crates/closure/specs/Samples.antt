@@ -1,6 +1,7 @@
--- An example of clauses.
+-- Examples of clauses and edges.
 use Rattle.std.specs.Prelude.{List, [], ◌∷◌}
 use Rattle.closure.specs.declared.clause.Clause.{Clause}
+use Rattle.closure.specs.declared.edges.Edge.{Edge}
 
 -- 0 follows, 1 from 0 twice, 2 from 1 and 3, and 3 from 2
 abbrev pub sample : List Clause
@@ -10,3 +11,7 @@ sample =
     ∷ record { head = 2; body = 1 ∷ 3 ∷ [] }
     ∷ record { head = 3; body = 2 ∷ [] }
     ∷ []
+
+-- an edge from 0 to 1 and one from 1 to 2
+abbrev pub two_edges : List Edge
+two_edges = record { from = 0; to = 1 } ∷ record { from = 1; to = 2 } ∷ []

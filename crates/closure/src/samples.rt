@@ -1,8 +1,9 @@
-//! An example of the definitions, each line a law.
+//! Examples of the definitions, each a law.
 
+ghost use Rattle.closure.specs.Edges.{along};
 ghost use Rattle.closure.specs.Following.{Follows};
-ghost use Rattle.closure.specs.Samples.{sample};
-ghost use Rattle.std.specs.Prelude.{[], ◌∷◌};
+ghost use Rattle.closure.specs.Samples.{sample, two_edges};
+ghost use Rattle.std.specs.Prelude.{[], ◌∷◌, map};
 
 /// Without seeds 1 follows from 0, and 2 and 3 do not, of which each waits for the other.
 #[tactic(auto, using(crate::proofs::Sample::without_seeds))]
@@ -15,4 +16,11 @@ pub fn without_seeds()
 #[tactic(auto, using(crate::proofs::Sample::with_seed))]
 pub fn with_seed()
     ensures { Follows sample (3 ∷ []) 2 }
+{}
+
+/// Two edges lead from 0 to 2, and none to 3.
+#[tactic(auto, using(crate::proofs::Sample::two_is_reached, crate::proofs::Sample::three_is_not))]
+pub fn edges_lead_on()
+    ensures reached { Follows (map along two_edges) (0 ∷ []) 2 }
+    ensures unreached { Follows (map along two_edges) (0 ∷ []) 3 → ⊥ }
 {}

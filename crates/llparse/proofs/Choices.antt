@@ -5,7 +5,7 @@ use Rattle.std.proofs.lemmas.List.{get_or-set_other, get_or-set_same}
 use Rattle.std.proofs.lemmas.Option.{same_Some, slice_get_within}
 use Rattle.ag_grammar.specs.declared.grammar.Production.{Production}
 use Rattle.llparse.specs.Predicted.{choice_at, AreFirstFrom, IsClash, IsLeastFrom, IsMarkedOf}
-use Rattle.llparse.specs.Reach.{is_marked}
+use Rattle.closure.specs.Following.{is_marked}
 use Rattle.llparse.specs.declared.choosing.Pair.{Pair}
 
 module _ (qs : List Production) (marks : List Bool) where

@@ -16,13 +16,14 @@ use Rattle.llparse.specs.Columns.{AreColumns, IsColumn, IsLeastAt, IsLeastBelow,
 use Rattle.llparse.specs.Edges.{IsKnownAhead}
 use Rattle.llparse.specs.Nodes.{place_of}
 use Rattle.llparse.specs.Predicted.{choice_at, AreFirstFrom, ArePredicted, IsClash, IsLeastFrom, IsMarkedOf}
-use Rattle.llparse.specs.Reach.{rows}
+use Rattle.closure.specs.Waiting.{rows}
 use Rattle.llparse.specs.Tables.{choice_of, is_known, Choices, FitsGrammar, IsChoice, IsLeastConflict}
 use Rattle.llparse.specs.declared.ahead.Ahead.{Ahead}
 use Rattle.llparse.specs.declared.ahead.Ahead.TheVariants as ahead
 use Rattle.llparse.specs.declared.choosing.Pair.{Pair}
 use Rattle.llparse.specs.declared.filling.Conflict.{Conflict}
-use Rattle.llparse.proofs.Edges.{contains_here, contains_there, element_at}
+use Rattle.closure.proofs.Places.{element_at}
+use Rattle.llparse.proofs.Edges.{contains_here, contains_there}
 use Rattle.llparse.proofs.Firsts.{known_terminal, named_in, place_below, same_ahead}
 use Rattle.llparse.proofs.Follows.{rest_named}
 

@@ -1,12 +1,11 @@
--- What is noted in tables of edges.
-use Rattle.std.proofs.Common.{ℕ, zero, suc, Contains, ◌+◌, ◌≡◌, ◌<◌, ◌≤◌, ◌⊎◌, ◌↔◌, Bool, true, false, List, [], ◌∷◌, ◌++◌, length, get_or, take, drop, Some, slice_get, refl, ap, sym, ◌∙◌, inl, inr, set, arith, drop-cons, append_assoc, take_all, add-one}
-use Rattle.std.proofs.lemmas.Bool.{cases_eq}
-use Rattle.std.proofs.lemmas.List.{get_or-set_other, get_or-set_same, take_more, drop_all, append-nil}
+-- What is noted in lists of edges.
+use Rattle.std.proofs.Common.{ℕ, Contains, ◌+◌, ◌≡◌, ◌<◌, ◌≤◌, ◌⊎◌, ◌↔◌, Bool, true, false, List, [], ◌∷◌, ◌++◌, length, get_or, take, drop, refl, ap, sym, subst, ◌∙◌, inl, inr, arith, drop-cons, append_assoc, take_all, add-one}
+use Rattle.std.proofs.lemmas.List.{take_more, drop_all, append-nil}
 use Rattle.std.proofs.lemmas.List.Elements.{Contains-push_cases, Contains-append_cases, Contains-append_left, Contains-append_right, Contains-push}
 use Rattle.ag_grammar.specs.declared.grammar.Item.{Item}
-use Rattle.llparse.specs.Edges.{front, Adds, HasEdge, IsEdge, OfSome}
+use Rattle.llparse.specs.Edges.{front, Adds, IsEdge, OfSome}
+use Rattle.closure.specs.declared.edges.Edge.{Edge}
 use Rattle.llparse.specs.Nullable.{is_empty}
-use Rattle.llparse.specs.Reach.{row}
 
 pub contains_none : {X : Type 0} (x : X) → Contains [] x → ⊥
 contains_none x h = omega (arith, h.1)
@@ -25,19 +24,6 @@ cons_cases y xs x h = elim (Contains-append_cases (y ∷ []) xs x h) [
   ]
   | inr more ↦ inr more
 ]
-
--- an element of a list has a place in it, and what has a place is an element
-pub place_of_element : {X : Type 0} (xs : List X) (x : X) → Contains xs x → (p : ℕ) × (slice_get xs p ≡ Some x)
-place_of_element [] x h = absurd (contains_none x h)
-place_of_element (y ∷ xs) x h = elim (cons_cases y xs x h) [
-  | inl e ↦ (0, ap Some e)
-  | inr more ↦ let r = place_of_element xs x more in (suc r.0, r.1)
-]
-
-pub element_at : {X : Type 0} (xs : List X) (p : ℕ) (x : X) → slice_get xs p ≡ Some x → Contains xs x
-element_at [] p x h = absurd (cc)
-element_at (y ∷ xs) zero x h = let same : y ≡ x = cc in rw same (contains_here x xs)
-element_at (y ∷ xs) (suc p) x h = contains_there y xs x (element_at xs p x h)
 
 drop_more : (items : List Item) (at : ℕ) (d : Item) → at < length items → drop at items ≡ get_or items at d ∷ drop (at + 1) items
 drop_more items at d lt = rw add-one (drop-cons items at d lt)
@@ -93,21 +79,18 @@ noted_iff R xs i A B most none adds y = (
   λ k. adds.all y (k.0, rw (take_all i xs most) k.1, k.2),
 )
 
-pub adds_edge : (edges : List (List ℕ)) (from to : ℕ) → from < length edges → Adds (IsEdge from to) (HasEdge edges) (HasEdge (set edges from (row edges from ++ to ∷ [])))
-adds_edge edges from to lt = record {
-  kept = λ e h. elim (cases_eq e.0 from) [
-    | inl same ↦ rw (same, get_or-set_same edges from (row edges from ++ to ∷ []) [] lt) (Contains-append_left (row edges from) (to ∷ []) e.1 (rw (← same) h))
-    | inr other ↦ rw (get_or-set_other edges from e.0 (row edges from ++ to ∷ []) [] other) h
-  ];
-  all = λ e h. rw (h.tail, h.head, get_or-set_same edges from (row edges from ++ to ∷ []) [] lt) (Contains-push (row edges from) to);
-  only = λ e h. elim (cases_eq e.0 from) [
-    | inl same ↦ elim (Contains-push_cases (row edges from) to e.1 (rw (same, get_or-set_same edges from (row edges from ++ to ∷ []) [] lt) at h)) [
-      | inl old ↦ inl (rw same old)
-      | inr head ↦ inr (record { tail = same; head = sym head })
-    ]
-    | inr other ↦ inl (rw (get_or-set_other edges from e.0 (row edges from ++ to ∷ []) [] other) at h)
+pub adds_edge : (edges : List Edge) (from to : ℕ) → Adds (IsEdge from to) (Contains edges) (Contains (edges ++ record { from = from; to = to } ∷ []))
+adds_edge edges from to = record {
+  kept = λ e h. Contains-append_left edges (record { from = from; to = to } ∷ []) e h;
+  all = λ e h. subst (Contains (edges ++ record { from = from; to = to } ∷ [])) (same e h) (Contains-push edges (record { from = from; to = to }));
+  only = λ e h. elim (Contains-push_cases edges (record { from = from; to = to }) e h) [
+    | inl old ↦ inl old
+    | inr new ↦ inr (record { tail = sym (ap (λ (d : Edge). d.from) new); head = sym (ap (λ (d : Edge). d.to) new) })
   ];
 }
+  where
+    same : (e : Edge) → IsEdge from to e → record { from = from; to = to } ≡ e
+    same e h = rw (← h.tail, ← h.head) refl
 
 pub iff_on : {A B C : Type 0} → (A ↔ B) → (B ↔ C) → A ↔ C
 iff_on f g = (λ a. g.0 (f.0 a), λ c. f.1 (g.1 c))

@@ -1,5 +1,5 @@
 -- The examples of conflicts.
-use Rattle.std.proofs.Common.{◌≡◌, ℕ, zero, suc, inl, inr, refl, arith, sym, ◌∙◌, Contains, [], ◌∷◌}
+use Rattle.std.proofs.Common.{◌≡◌, ℕ, zero, suc, inl, inr, refl, arith, sym, ◌∙◌}
 use Rattle.std.proofs.lemmas.Bool.{cases_eq}
 use Rattle.ag_grammar.specs.declared.grammar.Production.{Production}
 use Rattle.ag_grammar.specs.declared.grammar.Terminal.TheVariants.{Literal}
@@ -7,10 +7,8 @@ use Rattle.ag_grammar.specs.grammars.AttributeGrammar.{IsProduction}
 use Rattle.ag_grammar.specs.grammars.Sample.{sample}
 use Rattle.llparse.specs.declared.ahead.Ahead.TheVariants as ahead
 use Rattle.llparse.specs.Ahead.{of_production, here, inside, HasNoConflict, IsConflict}
-use Rattle.llparse.specs.Reach.{InReach, seed, edge, row}
 use Rattle.llparse.specs.Tables.{IsChoice, IsLeastConflict}
-use Rattle.llparse.specs.Worked.{left_recursive, production_more, production_one, two_edges}
-use Rattle.llparse.proofs.Edges.{cons_cases, contains_here, contains_none}
+use Rattle.llparse.specs.Worked.{left_recursive, production_more, production_one}
 
 pub left_recursion : IsConflict left_recursive 0 1 (ahead.Terminal (Literal 0))
 left_recursion = record {
@@ -55,24 +53,3 @@ left_recursion_least = record {
 pub first_choice : IsChoice left_recursive 0 (ahead.Terminal (Literal 0)) 0
 unfolding left_recursion
 first_choice = (production_more, refl, refl, left_recursion.one_predicts)
-
--- node 2 is reached from node 0, and nothing leads to node 3
-pub two_is_reached : InReach two_edges (0 ∷ []) 2
-two_is_reached = edge 1 (edge 0 (seed (contains_here 0 [])) (contains_here 1 [])) (contains_here 2 [])
-
-not_three : (t : ℕ) → InReach two_edges (0 ∷ []) t → t ≡ 3 → ⊥
-not_three t (seed h) e = elim (cons_cases 0 [] t h) [
-  | inl zero_is ↦ omega arith
-  | inr none ↦ contains_none t none
-]
-not_three t (edge s k h) e = none_leads s t h e
-  where
-    none_leads : (s t : ℕ) → Contains (row two_edges s) t → t ≡ 3 → ⊥
-    none_leads zero t h e = elim (cons_cases 1 [] t h) [ inl one_is ↦ omega arith | inr none ↦ contains_none t none ]
-    none_leads (suc zero) t h e = elim (cons_cases 2 [] t h) [ inl two_is ↦ omega arith | inr none ↦ contains_none t none ]
-    none_leads (suc (suc zero)) t h e = contains_none t h
-    none_leads (suc (suc (suc zero))) t h e = contains_none t h
-    none_leads (suc (suc (suc (suc s)))) t h e = contains_none t h
-
-pub three_is_not : InReach two_edges (0 ∷ []) 3 → ⊥
-three_is_not h = not_three 3 h refl

@@ -1,5 +1,5 @@
 -- What may come first is what is reached.
-use Rattle.std.proofs.Common.{ℕ, Contains, take, ◌+◌, ◌≡◌, ◌<◌, ◌⊎◌, ◌↔◌, Bool, true, false, List, [], ◌∷◌, length, get_or, All, refl, ap, sym, ◌∙◌, subst, inl, inr, arith}
+use Rattle.std.proofs.Common.{ℕ, Contains, take, ◌+◌, ◌≡◌, ◌<◌, ◌⊎◌, ◌↔◌, Bool, true, false, List, [], ◌∷◌, length, map, get_or, All, refl, ap, sym, ◌∙◌, subst, inl, inr, arith}
 use Rattle.std.specs.Prelude.{if◌then◌else◌}
 use Rattle.std.proofs.lemmas.List.Elements.{Contains-get_or}
 use Rattle.ag_grammar.specs.declared.grammar.Item.TheVariants as item
@@ -9,14 +9,18 @@ use Rattle.ag_grammar.specs.declared.grammar.Terminal.{Terminal}
 use Rattle.ag_grammar.specs.declared.grammar.Terminal.TheVariants.{Literal, Class}
 use Rattle.ag_grammar.specs.grammars.AttributeGrammar.{Grammar}
 use Rattle.ag_grammar.specs.grammars.Accepted.{IsAccepted, IsNamedItem}
+use Rattle.closure.specs.Edges.{along, IsEdgeBelow}
+use Rattle.closure.specs.Following.{Follows, seed}
+use Rattle.closure.specs.declared.edges.Edge.{Edge}
+use Rattle.closure.proofs.Places.{element_at, place_of_element}
+use Rattle.closure.proofs.Reached.{reached_in, step}
 use Rattle.llparse.specs.Ahead.{IsNullable, InFirst, of_production, InFirstOf, here, inside, later}
-use Rattle.llparse.specs.Edges.{Adds, front, node_in, Begins, HasEdge, IsEdge, IsFirstEdge, IsKnownAhead, OfSome}
+use Rattle.llparse.specs.Edges.{Adds, front, node_in, Begins, IsEdge, IsFirstEdge, IsKnownAhead, OfSome}
 use Rattle.llparse.specs.Nodes.{node_of, place_of}
 use Rattle.llparse.specs.Nullable.{is_empty}
-use Rattle.llparse.specs.Reach.{InReach, seed, edge, row, AreEdgesBelow}
 use Rattle.llparse.specs.declared.ahead.Ahead.{Ahead}
 use Rattle.llparse.specs.declared.ahead.Ahead.TheVariants as ahead
-use Rattle.llparse.proofs.Edges.{adds_more, contains_none, contains_here, contains_there, cons_cases, place_of_element, element_at}
+use Rattle.llparse.proofs.Edges.{adds_more, contains_none, contains_here, contains_there, cons_cases}
 
 module _ (g : Grammar) (ok : IsAccepted g) where
   -- what stands in a production is named
@@ -88,15 +92,8 @@ module _ (g : Grammar) (ok : IsAccepted g) where
       | inr more ↦ later_in sound xs y a x (λ k. front_first sound xs y a k begins) more
     ]
 
-    pub front_below : (q : Production) → Contains g.productions q → (items : List Item) (k : ℕ) → items ≡ q.items → take k items ≡ front n items → All (λ x. node_in g x < length g.symbols + (length g.literals + 4)) (take k items)
-    front_below q hq items k same fits = λ i d lt.
-        let y = get_or (take k items) i d in
-        let inner : Contains (front n items) y = subst (λ zs. Contains zs y) fits (Contains-get_or (take k items) i d lt) in
-        let among : Contains q.items y = subst (λ zs. Contains zs y) same (front_within items y inner) in
-        node_below y (named_in q y hq among)
-
     -- one more production is noted
-    pub edges_more : (at : ℕ) (q : Production) (symbols literals left : ℕ) (items : List Item) (k : ℕ) (A B C : ℕ × ℕ → Type 0) → at < length g.productions → symbols ≡ length g.symbols → literals ≡ length g.literals → left ≡ (get_or g.productions at q).left
+    pub edges_more : (at : ℕ) (q : Production) (symbols literals left : ℕ) (items : List Item) (k : ℕ) (A B C : Edge → Type 0) → at < length g.productions → symbols ≡ length g.symbols → literals ≡ length g.literals → left ≡ (get_or g.productions at q).left
         → items ≡ (get_or g.productions at q).items → take k items ≡ front n items → Adds (OfSome (IsFirstEdge g n) (take at g.productions)) A B → Adds (OfSome (λ x e. IsEdge (node_of symbols literals x) left e) (take k items)) B C
         → Adds (OfSome (IsFirstEdge g n) (take (at + 1) g.productions)) A C
     edges_more at q symbols literals left items k A B C lt ss ll to same fits old new =
@@ -107,20 +104,21 @@ module _ (g : Grammar) (ok : IsAccepted g) where
         let d = subst (λ zs. Adds (OfSome (λ x e. IsEdge (node_in g x) q'.left e) zs) B C) (fits ∙ ap (front n) same) c in
         adds_more (IsFirstEdge g n) g.productions at q A B C lt old d
 
-    -- the edges of a table go to symbols
-    pub edges_below : (edges : List (List ℕ)) → ((e : ℕ × ℕ) → HasEdge edges e → OfSome (IsFirstEdge g n) g.productions e) → AreEdgesBelow (length g.symbols + (length g.literals + 4)) edges
-    edges_below edges some_edge s k d lt =
-        let r = some_edge (s, get_or (row edges s) k d) (Contains-get_or (row edges s) k d lt) in
+    -- the edges are between nodes
+    pub edges_below : (edges : List Edge) → ((e : Edge) → Contains edges e → OfSome (IsFirstEdge g n) g.productions e) → All (IsEdgeBelow (length g.symbols + (length g.literals + 4))) edges
+    edges_below edges some_edge k d lt =
+        let r = some_edge (get_or edges k d) (Contains-get_or edges k d lt) in
         let below = left_in r.0 r.1 in
-        let to = r.2.2.head in
-        omega arith
+        let from = node_below r.2.0 (named_in r.0 r.2.0 r.1 (front_within r.0.items r.2.0 r.2.1)) in
+        let is = r.2.2 in
+        record { from = rw is.tail from; to = omega (arith, is.head) }
 
-    module _ (edges : List (List ℕ)) (x : Ahead) (known : IsKnownAhead g x) where
+    module _ (edges : List Edge) (x : Ahead) (known : IsKnownAhead g x) where
       abbrev root : ℕ
       root = length g.symbols + place_of (length g.literals) x
 
       abbrev Reached : ℕ → Type 0
-      Reached t = InReach edges (root ∷ []) t
+      Reached t = Follows (map along edges) (root ∷ []) t
 
       abbrev May : ℕ → Type 0
       May t = (a : Terminal) × (x ≡ ahead.Terminal a) × InFirst g t a
@@ -136,44 +134,43 @@ module _ (g : Grammar) (ok : IsAccepted g) where
       symbol_item (item.Terminal a) u lt e = absurd (omega arith)
 
       -- what is reached is the look-ahead, or begins with it
-      reached_may : ((s : ℕ) → n s ≡ true → IsNullable g s) → ((e : ℕ × ℕ) → HasEdge edges e → OfSome (IsFirstEdge g n) g.productions e) → (t : ℕ) → Reached t → (t ≡ root) ⊎ May t
-      reached_may sound some_edge t (seed h) = elim (cons_cases root [] t h) [
+      reached_may : ((s : ℕ) → n s ≡ true → IsNullable g s) → ((e : Edge) → Contains edges e → OfSome (IsFirstEdge g n) g.productions e) → (t : ℕ) → Reached t → (t ≡ root) ⊎ May t
+      reached_may sound some_edge = reached_in edges (root ∷ []) (λ t. (t ≡ root) ⊎ May t) (λ t h. elim (cons_cases root [] t h) [
         | inl e ↦ inl (sym e)
         | inr none ↦ absurd (contains_none t none)
-      ]
-      reached_may sound some_edge t (edge u k h) =
-          let r = some_edge (u, t) h in
+      ]) (λ e h before.
+          let r = some_edge e h in
           let q = r.0 in
           let p = place_of_element g.productions q r.1 in
           let y = r.2.0 in
-          elim (reached_may sound some_edge u k) [
+          elim before [
             | inl at_root ↦
                 let f = root_item y (named_in q y r.1 (front_within q.items y r.2.1)) (sym r.2.2.tail ∙ at_root) in
                 inr (f.0, f.2, of_production p.0 q p.1 (sym r.2.2.head) (front_first sound q.items y f.0 r.2.1 (λ zs. subst (λ z. InFirstOf g (z ∷ zs) f.0) (sym f.1) here)))
             | inr may ↦
-                let same = symbol_item y u (first_below u may.0 may.2) r.2.2.tail in
+                let same = symbol_item y e.from (first_below e.from may.0 may.2) r.2.2.tail in
                 inr (may.0, may.1, of_production p.0 q p.1 (sym r.2.2.head) (front_first sound q.items y may.0 r.2.1 (λ zs. subst (λ z. InFirstOf g (z ∷ zs) may.0) (sym same) (inside may.2))))
-          ]
+          ])
 
     -- what begins with a terminal is reached
-    module _ (edges : List (List ℕ)) (a : Terminal) where
+    module _ (edges : List Edge) (a : Terminal) where
       abbrev FromTerminal : ℕ → Type 0
-      FromTerminal t = InReach edges ((length g.symbols + place_of (length g.literals) (ahead.Terminal a)) ∷ []) t
+      FromTerminal t = Follows (map along edges) ((length g.symbols + place_of (length g.literals) (ahead.Terminal a)) ∷ []) t
 
       mutual
-        first_reached : ((s : ℕ) → IsNullable g s → n s ≡ true) → ((e : ℕ × ℕ) → OfSome (IsFirstEdge g n) g.productions e → HasEdge edges e) → (s : ℕ) (b : Terminal) → b ≡ a → InFirst g s b → FromTerminal s
+        first_reached : ((s : ℕ) → IsNullable g s → n s ≡ true) → ((e : Edge) → OfSome (IsFirstEdge g n) g.productions e → Contains edges e) → (s : ℕ) (b : Terminal) → b ≡ a → InFirst g s b → FromTerminal s
         first_reached whole all_edges s b is (of_production p q e l h) =
             let r = front_reached whole all_edges q.items b is h in
-            edge (node_in g r.0) r.2 (all_edges (node_in g r.0, s) (q, element_at g.productions p q e, (r.0, r.1, record { tail = refl; head = sym l })))
+            step edges _ (record { from = node_in g r.0; to = s }) (all_edges (record { from = node_in g r.0; to = s }) (q, element_at g.productions p q e, (r.0, r.1, record { tail = refl; head = sym l }))) r.2
 
-        front_reached : ((s : ℕ) → IsNullable g s → n s ≡ true) → ((e : ℕ × ℕ) → OfSome (IsFirstEdge g n) g.productions e → HasEdge edges e) → (xs : List Item) (b : Terminal) → b ≡ a → InFirstOf g xs b → (y : Item) × Contains (front n xs) y × FromTerminal (node_in g y)
+        front_reached : ((s : ℕ) → IsNullable g s → n s ≡ true) → ((e : Edge) → OfSome (IsFirstEdge g n) g.productions e → Contains edges e) → (xs : List Item) (b : Terminal) → b ≡ a → InFirstOf g xs b → (y : Item) × Contains (front n xs) y × FromTerminal (node_in g y)
         front_reached whole all_edges (item.Terminal c ∷ xs) b is here = (item.Terminal a, subst (λ z. Contains (item.Terminal c ∷ []) (item.Terminal z)) is (contains_here (item.Terminal c) []), seed (contains_here (node_in g (item.Terminal a)) []))
         front_reached whole all_edges (item.Symbol s ∷ xs) b is (inside h) = (item.Symbol s, contains_here (item.Symbol s) (if n s then front n xs else []), first_reached whole all_edges s b is h)
         front_reached whole all_edges (item.Symbol s ∷ xs) b is (later k h) =
             let r = front_reached whole all_edges xs b is h in
             (r.0, contains_there (item.Symbol s) (if n s then front n xs else []) r.0 (rw (whole s k) r.1), r.2)
 
-    module _ (edges : List (List ℕ)) (known_empty : (s : ℕ) → n s ≡ true ↔ IsNullable g s) (exact : (e : ℕ × ℕ) → HasEdge edges e ↔ OfSome (IsFirstEdge g n) g.productions e) where
+    module _ (edges : List Edge) (known_empty : (s : ℕ) → n s ≡ true ↔ IsNullable g s) (exact : (e : Edge) → Contains edges e ↔ OfSome (IsFirstEdge g n) g.productions e) where
       begins_of : (x : Ahead) (known : IsKnownAhead g x) (y : Item) → IsNamedItem g y → (node_in g y ≡ root edges x known) ⊎ May edges x known (node_in g y) → Begins g y x
       begins_of x known (item.Symbol s) h (inl e) = absurd (omega arith)
       begins_of x known (item.Symbol s) h (inr may) = rw may.1 may.2

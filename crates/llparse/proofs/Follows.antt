@@ -1,5 +1,5 @@
 -- What may follow is what is reached.
-use Rattle.std.proofs.Common.{ℕ, Contains, take, ◌+◌, ◌≡◌, ◌<◌, ◌⊎◌, ◌↔◌, Bool, true, false, List, ◌∷◌, ◌++◌, length, get_or, All, refl, ap, sym, ◌∙◌, subst, inl, inr, arith}
+use Rattle.std.proofs.Common.{ℕ, Contains, take, ◌+◌, ◌≡◌, ◌<◌, ◌⊎◌, ◌↔◌, Bool, true, false, List, ◌∷◌, ◌++◌, length, map, get_or, All, refl, ap, sym, ◌∙◌, subst, inl, inr, arith}
 use Rattle.std.proofs.lemmas.List.Elements.{Contains-get_or, Contains-append_right}
 use Rattle.std.proofs.lemmas.Option.{slice_get_within}
 use Rattle.ag_grammar.specs.declared.grammar.Item.TheVariants as item
@@ -7,16 +7,20 @@ use Rattle.ag_grammar.specs.declared.grammar.Item.{Item}
 use Rattle.ag_grammar.specs.declared.grammar.Production.{Production}
 use Rattle.ag_grammar.specs.grammars.AttributeGrammar.{Grammar, IsProduction}
 use Rattle.ag_grammar.specs.grammars.Accepted.{IsAccepted, IsNamedItem}
+use Rattle.closure.specs.Edges.{along, IsEdgeBelow}
+use Rattle.closure.specs.Following.{Follows, seed}
+use Rattle.closure.specs.declared.edges.Edge.{Edge}
+use Rattle.closure.proofs.Places.{element_at, place_of_element}
+use Rattle.closure.proofs.Reached.{reached_in, step}
 use Rattle.llparse.specs.Ahead.{IsNullable, ComesFirst, InFollow, at_end, next, last}
 use Rattle.llparse.specs.Comes.{next_in, all_empty, IsFollowEdge, IsFollowed, OfRest}
-use Rattle.llparse.specs.Edges.{node_in, Adds, Begins, HasEdge, IsEdge, OfSome}
+use Rattle.llparse.specs.Edges.{node_in, Adds, Begins, IsEdge, OfSome}
 use Rattle.llparse.specs.Nodes.{node_of}
 use Rattle.llparse.specs.Nullable.{is_empty}
-use Rattle.llparse.specs.Reach.{InReach, seed, edge, row, AreEdgesBelow}
 use Rattle.llparse.specs.declared.ahead.Ahead.{Ahead}
 use Rattle.llparse.specs.declared.ahead.Ahead.TheVariants as ahead
 use Rattle.llparse.proofs.Comes.{comes_iff, nullable_iff, rest_of_split, rest_split}
-use Rattle.llparse.proofs.Edges.{adds_more, contains_here, contains_there, element_at, place_of_element}
+use Rattle.llparse.proofs.Edges.{adds_more, contains_here, contains_there}
 use Rattle.llparse.proofs.Firsts.{left_in, named_in, node_below}
 
 module _ (g : Grammar) (ok : IsAccepted g) (n : ℕ → Bool) where
@@ -30,13 +34,15 @@ module _ (g : Grammar) (ok : IsAccepted g) (n : ℕ → Bool) where
   pub rest_named : (q : Production) (xs ys : List Item) (z : Item) → Contains g.productions q → q.items ≡ xs ++ z ∷ ys → (y : Item) → Contains ys y → IsNamedItem g y
   rest_named q xs ys z hq e y h = named_in g ok q y hq (subst (λ zs. Contains zs y) (sym e) (Contains-append_right xs (z ∷ ys) y (contains_there z ys y h)))
 
-  pub follow_edges_below : (edges : List (List ℕ)) → ((e : ℕ × ℕ) → HasEdge edges e → OfSome (IsFollowEdge g n) g.productions e) → AreEdgesBelow (length g.symbols + (length g.literals + 4)) edges
-  follow_edges_below edges some_edge s k d lt =
-      let r = some_edge (s, get_or (row edges s) k d) (Contains-get_or (row edges s) k d lt) in
-      let w = rest_split (all_empty (is_empty n)) (λ x e. IsEdge r.0.left (node_in g x) e) r.0.items (s, get_or (row edges s) k d) r.2 in
-      let below = node_below g ok w.1 (split_named r.0 w.0 w.2 w.1 r.1 w.3) in
-      let to = w.5.head in
-      omega arith
+  pub follow_edges_below : (edges : List Edge) → ((e : Edge) → Contains edges e → OfSome (IsFollowEdge g n) g.productions e) → All (IsEdgeBelow (length g.symbols + (length g.literals + 4))) edges
+  follow_edges_below edges some_edge k d lt =
+      let e = get_or edges k d in
+      let r = some_edge e (Contains-get_or edges k d lt) in
+      let w = rest_split (all_empty (is_empty n)) (λ x e. IsEdge r.0.left (node_in g x) e) r.0.items e r.2 in
+      let from = left_in g ok r.0 r.1 in
+      let to = node_below g ok w.1 (split_named r.0 w.0 w.2 w.1 r.1 w.3) in
+      let is = w.5 in
+      record { from = omega (arith, is.tail); to = rw is.head to }
 
   pub seeds_below : (b : ℕ → Bool) (x : Ahead) (seeds : List ℕ) → ((t : ℕ) → Contains seeds t → ((t ≡ g.start) × (x ≡ ahead.End)) ⊎ OfSome (IsFollowed g n b) g.productions t) → All (λ t. t < length g.symbols + (length g.literals + 4)) seeds
   seeds_below b x seeds some_seed k d lt = elim (some_seed (get_or seeds k d) (Contains-get_or seeds k d lt)) [
@@ -80,35 +86,35 @@ module _ (g : Grammar) (ok : IsAccepted g) (n : ℕ → Bool) where
         let split = subst (λ z. r.0.items ≡ w.0 ++ z ∷ w.2) same w.3 in
         followed p.0 r.0 w.0 w.2 t x p.1 split ((comes_iff g n known x (λ y. b (node_in g y)) begins w.2 (rest_named r.0 w.0 w.2 w.1 r.1 w.3)).0 w.4)
 
-    module _ (edges : List (List ℕ)) (seeds : List ℕ) (exact : (e : ℕ × ℕ) → HasEdge edges e ↔ OfSome (IsFollowEdge g n) g.productions e) (seeds_are : (t : ℕ) → Contains seeds t ↔ ((t ≡ g.start) × (x ≡ ahead.End)) ⊎ OfSome (IsFollowed g n b) g.productions t) where
-      reached_follow : (t : ℕ) → t < length g.symbols → InReach edges seeds t → InFollow g t x
-      reached_follow t lt (seed h) = seeded t lt ((seeds_are t).0 h)
-      reached_follow t lt (edge u k h) =
-          let r = (exact (u, t)).0 h in
+    module _ (edges : List Edge) (seeds : List ℕ) (exact : (e : Edge) → Contains edges e ↔ OfSome (IsFollowEdge g n) g.productions e) (seeds_are : (t : ℕ) → Contains seeds t ↔ ((t ≡ g.start) × (x ≡ ahead.End)) ⊎ OfSome (IsFollowed g n b) g.productions t) where
+      reached_follow : (t : ℕ) → Follows (map along edges) seeds t → t < length g.symbols → InFollow g t x
+      reached_follow = reached_in edges seeds (λ t. t < length g.symbols → InFollow g t x) (λ t h lt. seeded t lt ((seeds_are t).0 h)) (λ e h before lt.
+          let r = (exact e).0 h in
           let q = r.0 in
-          let w = rest_split (all_empty (is_empty n)) (λ x e. IsEdge q.left (node_in g x) e) q.items (u, t) r.2 in
+          let w = rest_split (all_empty (is_empty n)) (λ x e. IsEdge q.left (node_in g x) e) q.items e r.2 in
           let p = place_of_element g.productions q r.1 in
-          let same = symbol_item w.1 t lt w.5.head in
+          let same = symbol_item w.1 e.to lt w.5.head in
           let split = subst (λ z. q.items ≡ w.0 ++ z ∷ w.2) same w.3 in
-          let from : u ≡ q.left = w.5.tail in
-          let inner : u < length g.symbols = rw from (left_in g ok q r.1) in
-          last p.0 q w.0 w.2 p.1 split ((nullable_iff g n known w.2).0 w.4) (subst (λ z. InFollow g z x) from (reached_follow u inner k))
+          let from : e.from ≡ q.left = w.5.tail in
+          let inner : e.from < length g.symbols = rw from (left_in g ok q r.1) in
+          last p.0 q w.0 w.2 p.1 split ((nullable_iff g n known w.2).0 w.4) (subst (λ z. InFollow g z x) from (before inner)))
 
-      follow_reached : (s : ℕ) (x' : Ahead) → x ≡ x' → InFollow g s x' → InReach edges seeds s
+      follow_reached : (s : ℕ) (x' : Ahead) → x ≡ x' → InFollow g s x' → Follows (map along edges) seeds s
       follow_reached s x' is at_end = seed ((seeds_are g.start).1 (inl (refl, is)))
       follow_reached s x' is (next p q {a = a} xs ys e f h) =
           let hq = element_at g.productions p q e in
           let comes = (comes_iff g n known x (λ y. b (node_in g y)) begins ys (rest_named q xs ys (item.Symbol s) hq f)).1 (subst (ComesFirst g ys) (sym is) h) in
           seed ((seeds_are s).1 (inr (q, hq, rest_of_split (next_in (λ x. b (node_in g x)) (is_empty n) false) (λ x t. t ≡ node_in g x) q.items xs (item.Symbol s) ys s f comes refl)))
-      follow_reached s x' is (last p q xs ys e f k h) =
-          let hq = element_at g.productions p q e in
-          edge q.left (follow_reached q.left x' is h) ((exact (q.left, s)).1 (q, hq, rest_of_split (all_empty (is_empty n)) (λ x e. IsEdge q.left (node_in g x) e) q.items xs (item.Symbol s) ys (q.left, s) f ((nullable_iff g n known ys).1 k) (record { tail = refl; head = refl })))
+      follow_reached s x' is (last p q xs ys at f k h) =
+          let hq = element_at g.productions p q at in
+          let e : Edge = record { from = q.left; to = s } in
+          step edges seeds e ((exact e).1 (q, hq, rest_of_split (all_empty (is_empty n)) (λ x e. IsEdge q.left (node_in g x) e) q.items xs (item.Symbol s) ys e f ((nullable_iff g n known ys).1 k) (record { tail = refl; head = refl }))) (follow_reached q.left x' is h)
 
-      pub follow_iff : (s : ℕ) → s < length g.symbols → InReach edges seeds s ↔ InFollow g s x
-      follow_iff s lt = (reached_follow s lt, follow_reached s x refl)
+      pub follow_iff : (s : ℕ) → s < length g.symbols → Follows (map along edges) seeds s ↔ InFollow g s x
+      follow_iff s lt = (λ h. reached_follow s h lt, follow_reached s x refl)
 
   -- one more production is noted
-  pub last_more : (at : ℕ) (q : Production) (symbols literals left : ℕ) (items : List Item) (A B C : ℕ × ℕ → Type 0) → at < length g.productions → symbols ≡ length g.symbols → literals ≡ length g.literals → left ≡ (get_or g.productions at q).left
+  pub last_more : (at : ℕ) (q : Production) (symbols literals left : ℕ) (items : List Item) (A B C : Edge → Type 0) → at < length g.productions → symbols ≡ length g.symbols → literals ≡ length g.literals → left ≡ (get_or g.productions at q).left
       → items ≡ (get_or g.productions at q).items → Adds (OfSome (IsFollowEdge g n) (take at g.productions)) A B → Adds (OfRest (all_empty (is_empty n)) (λ x e. IsEdge left (node_of symbols literals x) e) items) B C
       → Adds (OfSome (IsFollowEdge g n) (take (at + 1) g.productions)) A C
   last_more at q symbols literals left items A B C lt ss ll to same old new =

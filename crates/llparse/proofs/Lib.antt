@@ -17,7 +17,6 @@ pub mod Nexts
 pub mod Nullables
 pub mod Predictions
 pub mod Putting
-pub mod Reaching
 pub mod Refused
 pub mod Shown
 pub mod Sizes

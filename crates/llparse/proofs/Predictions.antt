@@ -11,10 +11,10 @@ use Rattle.llparse.specs.Comes.{next_in, AreFollow}
 use Rattle.llparse.specs.Edges.{node_in, AreFirst}
 use Rattle.llparse.specs.Nodes.{node_of}
 use Rattle.llparse.specs.Nullable.{is_empty}
-use Rattle.llparse.specs.Reach.{is_marked}
+use Rattle.closure.specs.Following.{is_marked}
 use Rattle.llparse.specs.declared.ahead.Ahead.{Ahead}
 use Rattle.llparse.proofs.Comes.{comes_iff, next_behind, next_cases, next_first, nullable_iff}
-use Rattle.llparse.proofs.Edges.{element_at}
+use Rattle.closure.proofs.Places.{element_at}
 use Rattle.llparse.proofs.Firsts.{left_in, named_in}
 
 -- a production is predicted where its items come next, or what follows it

@@ -1,14 +1,15 @@
 -- What comes next along items, and what follows them.
 use Rattle.std.specs.Prelude.{ℕ, ◌≡◌, ◌<◌, ◌⊎◌, ◌↔◌, Bool, true, false, ◌&&◌, ◌||◌, List, [], ◌∷◌, length, Contains}
-use Rattle.std.specs.Global.{Vec}
 use Rattle.ag_grammar.specs.declared.grammar.Item.{Item}
 use Rattle.ag_grammar.specs.declared.grammar.Production.{Production}
 use Rattle.ag_grammar.specs.grammars.AttributeGrammar.{Grammar}
 use Rattle.llparse.specs.Ahead.{InFollow}
-use Rattle.llparse.specs.Edges.{node_in, HasEdge, IsEdge, OfSome}
+use Rattle.llparse.specs.Edges.{node_in, AreEdges, IsEdge, OfSome}
 use Rattle.llparse.specs.Nodes.{node_by}
 use Rattle.llparse.specs.Nullable.{is_empty}
-use Rattle.llparse.specs.Reach.{is_marked, rows}
+use Rattle.closure.specs.Following.{is_marked}
+use Rattle.closure.specs.Clauses.{Clauses}
+use Rattle.closure.specs.declared.edges.Edge.{Edge}
 use Rattle.llparse.specs.declared.ahead.Ahead.{Ahead}
 use Rattle.llparse.specs.declared.nodes.Sizes.{Sizes}
 
@@ -28,7 +29,7 @@ OfRest c R [] y = ⊥
 OfRest c R (x ∷ xs) y = ((c xs ≡ true) × R x y) ⊎ OfRest c R xs y
 
 -- an edge goes from a left side to an item of the right side behind which all items are of the set
-abbrev pub IsFollowEdge : Grammar → (ℕ → Bool) → Production → ℕ × ℕ → Type 0
+abbrev pub IsFollowEdge : Grammar → (ℕ → Bool) → Production → Edge → Type 0
 IsFollowEdge g n q e = OfRest (all_empty (is_empty n)) (λ x e. IsEdge q.left (node_in g x) e) q.items e
 
 -- an item of a right side behind which the look-ahead comes next
@@ -39,9 +40,9 @@ IsFollowed g n b q t = OfRest (next_in (λ x. b (node_in g x)) (is_empty n) fals
 abbrev pub AreFollow : Grammar → Ahead → List Bool → Type 0
 AreFollow g x marks = (s : ℕ) → s < length g.symbols → is_marked marks s ≡ true ↔ InFollow g s x
 
--- a table has exactly the edges by which FOLLOW is reached
-abbrev pub AreFollowEdges : Grammar → List Bool → List (Vec ℕ) → Type 0
-AreFollowEdges g nullable edges = (e : ℕ × ℕ) → HasEdge (rows edges) e ↔ OfSome (IsFollowEdge g (is_marked nullable)) g.productions e
+-- clauses are those of exactly the edges by which FOLLOW is reached
+abbrev pub AreFollowEdges : Grammar → List Bool → Clauses → Type 0
+AreFollowEdges g nullable clauses = AreEdges g (OfSome (IsFollowEdge g (is_marked nullable)) g.productions) clauses
 
 -- a number is an item's behind which the look-ahead comes next, in some production
 abbrev pub AreFollowed : Grammar → List Bool → List Bool → List ℕ → Type 0
@@ -52,7 +53,7 @@ abbrev pub next_by : Sizes → List Bool → List Bool → Bool → List Item �
 next_by sizes begins nullable behind xs = next_in (λ x. is_marked begins (node_by sizes x)) (is_empty (is_marked nullable)) behind xs
 
 -- an edge goes from a left side to an item behind which all are marked
-abbrev pub IsLastEdge : Sizes → List Bool → ℕ → List Item → ℕ × ℕ → Type 0
+abbrev pub IsLastEdge : Sizes → List Bool → ℕ → List Item → Edge → Type 0
 IsLastEdge sizes nullable left items e = OfRest (all_empty (is_empty (is_marked nullable))) (λ x e. IsEdge left (node_by sizes x) e) items e
 
 -- a number is the node of an item behind which the look-ahead comes next

@@ -9,8 +9,10 @@ use Rattle.ag_grammar.specs.grammars.Accepted.{IsNamedItem, class_count}
 use Rattle.llparse.specs.Ahead.{InFirst}
 use Rattle.llparse.specs.Nodes.{node_of}
 use Rattle.llparse.specs.Nullable.{is_empty}
-use Rattle.llparse.specs.Reach.{is_marked, row, rows}
-use Rattle.std.specs.Global.{Vec}
+use Rattle.closure.specs.Clauses.{Clauses}
+use Rattle.closure.specs.Edges.{over}
+use Rattle.closure.specs.Following.{is_marked}
+use Rattle.closure.specs.declared.edges.Edge.{Edge}
 use Rattle.llparse.specs.declared.ahead.Ahead.{Ahead}
 use Rattle.llparse.specs.declared.ahead.Ahead.TheVariants as ahead
 
@@ -24,14 +26,10 @@ pub record Adds {X : Type 0} (P A B : X → Type 0) : Type 0 where
 abbrev pub OfSome : {X Y : Type 0} → (X → Y → Type 0) → List X → Y → Type 0
 OfSome {X} R xs y = (x : X) × Contains xs x × R x y
 
--- an edge of a table, from the first number to the second
-abbrev pub HasEdge : List (List ℕ) → ℕ × ℕ → Type 0
-HasEdge edges e = Contains (row edges e.0) e.1
-
 -- an edge goes from here to there
-pub record IsEdge (from to : ℕ) (e : ℕ × ℕ) : Type 0 where
-  pub tail : e.0 ≡ from
-  pub head : e.1 ≡ to
+pub record IsEdge (from to : ℕ) (e : Edge) : Type 0 where
+  pub tail : e.from ≡ from
+  pub head : e.to ≡ to
 
 -- an item's node among those of a grammar
 abbrev pub node_in : Grammar → Item → ℕ
@@ -43,20 +41,24 @@ front n [] = []
 front n (x ∷ xs) = x ∷ (if is_empty n x then front n xs else [])
 
 -- an edge goes from an item in front of a right side to the left side
-abbrev pub IsFirstEdge : Grammar → (ℕ → Bool) → Production → ℕ × ℕ → Type 0
+abbrev pub IsFirstEdge : Grammar → (ℕ → Bool) → Production → Edge → Type 0
 IsFirstEdge g n q e = OfSome (λ x e. IsEdge (node_in g x) q.left e) (front n q.items) e
 
 -- how many nodes a grammar has: its symbols, its literals, the classes and the end
 abbrev pub node_count : Grammar → ℕ
 node_count g = length g.symbols + (length g.literals + 4)
 
--- what is noted in a table of edges
-abbrev pub AddsEdges : (ℕ × ℕ → Type 0) → List (Vec ℕ) → List (Vec ℕ) → Type 0
-AddsEdges P before after = Adds P (HasEdge (rows before)) (HasEdge (rows after))
+-- what is noted in a list of edges
+abbrev pub AddsEdges : (Edge → Type 0) → List Edge → List Edge → Type 0
+AddsEdges P before after = Adds P (Contains before) (Contains after)
 
--- a table has exactly the edges by which FIRST is reached
-abbrev pub AreFirstEdges : Grammar → List Bool → List (Vec ℕ) → Type 0
-AreFirstEdges g nullable edges = (e : ℕ × ℕ) → HasEdge (rows edges) e ↔ OfSome (IsFirstEdge g (is_marked nullable)) g.productions e
+-- clauses are those of exactly such edges, over the nodes of a grammar
+abbrev pub AreEdges : Grammar → (Edge → Type 0) → Clauses → Type 0
+AreEdges g P clauses = (edges : List Edge) × (clauses ≡ over edges (node_count g)) × ((e : Edge) → Contains edges e ↔ P e)
+
+-- they are those of the edges by which FIRST is reached
+abbrev pub AreFirstEdges : Grammar → List Bool → Clauses → Type 0
+AreFirstEdges g nullable clauses = AreEdges g (OfSome (IsFirstEdge g (is_marked nullable)) g.productions) clauses
 
 -- a look-ahead is one of a grammar's
 abbrev pub IsKnownAhead : Grammar → Ahead → Type 0

@@ -9,7 +9,6 @@ pub mod Opened
 pub mod Parsing
 pub mod Predicted
 pub mod Printed
-pub mod Reach
 pub mod Refusals
 pub mod Sentences
 pub mod Tables

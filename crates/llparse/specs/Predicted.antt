@@ -1,23 +1,21 @@
 -- What the sets of a grammar are, and which productions one look-ahead chooses.
-use Rattle.std.specs.Prelude.{ℕ, ◌≡◌, ◌+◌, ◌<◌, ◌≤◌, ◌⊎◌, ◌↔◌, Bool, true, List, Option, Some, None, length, slice_get, slice_index_or}
+use Rattle.std.specs.Prelude.{ℕ, ◌≡◌, ◌+◌, ◌<◌, ◌≤◌, ◌⊎◌, ◌↔◌, Bool, true, List, Option, Some, None, slice_get, slice_index_or}
 use Rattle.ag_grammar.specs.declared.grammar.Production.{Production}
 use Rattle.ag_grammar.specs.grammars.AttributeGrammar.{Grammar, IsProduction}
 use Rattle.llparse.specs.Ahead.{Predicts}
 use Rattle.llparse.specs.Comes.{AreFollowEdges}
-use Rattle.llparse.specs.Edges.{node_count, AreFirstEdges}
+use Rattle.llparse.specs.Edges.{AreFirstEdges}
 use Rattle.llparse.specs.Nullable.{AreNullableMarks}
-use Rattle.llparse.specs.Reach.{is_marked}
+use Rattle.closure.specs.Following.{is_marked}
 use Rattle.llparse.specs.declared.ahead.Ahead.{Ahead}
 use Rattle.llparse.specs.declared.choosing.Pair.{Pair}
 use Rattle.llparse.specs.declared.predict.Sets.{Sets}
 
--- the marks are those of the nullable symbols, and the tables have the edges by which FIRST and FOLLOW are reached
+-- the marks are those of the nullable symbols, and the clauses are of the edges by which FIRST and FOLLOW are reached
 pub record AreSets (g : Grammar) (sets : Sets) : Type 0 where
   pub nullable_exact : AreNullableMarks g sets.nullable.items
-  pub first_len : length sets.first.items ≡ node_count g
-  pub first_exact : AreFirstEdges g sets.nullable.items sets.first.items
-  pub follow_len : length sets.follow.items ≡ node_count g
-  pub follow_exact : AreFollowEdges g sets.nullable.items sets.follow.items
+  pub first_exact : AreFirstEdges g sets.nullable.items sets.first
+  pub follow_exact : AreFollowEdges g sets.nullable.items sets.follow
 
 -- the marks are those of the productions that predict a look-ahead
 abbrev pub ArePredicted : Grammar → Ahead → List Bool → Type 0

@@ -1,6 +1,6 @@
--- Examples: a grammar with a conflict, start L; symbol L syn out; L = L "x" .. L = "x" .. (its rules don't matter here), tables,
--- and edges.
-use Rattle.std.specs.Prelude.{ℕ, List, [], ◌∷◌, Some, None}
+-- Examples: a grammar with a conflict, start L; symbol L syn out; L = L "x" .. L = "x" .. (its rules don't matter here), and
+-- tables.
+use Rattle.std.specs.Prelude.{List, [], ◌∷◌, Some, None}
 use Rattle.ag_grammar.specs.declared.grammar.Item.TheVariants as item
 use Rattle.ag_grammar.specs.declared.grammar.Item.{Item}
 use Rattle.ag_grammar.specs.declared.grammar.Production.{Production}
@@ -27,7 +27,3 @@ left_recursive = record { symbols = []; productions = production_more ∷ produc
 -- tables of a grammar with one literal and one symbol: production 0 at the literal, production 1 at the end
 abbrev pub small_tables : Choices
 small_tables = record { literals = 1; columns = (Some 0 ∷ []) ∷ (None ∷ []) ∷ (None ∷ []) ∷ (None ∷ []) ∷ (Some 1 ∷ []) ∷ [] }
-
--- an edge from 0 to 1 and one from 1 to 2
-abbrev pub two_edges : List (List ℕ)
-two_edges = (1 ∷ []) ∷ (2 ∷ []) ∷ [] ∷ [] ∷ []

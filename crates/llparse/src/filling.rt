@@ -3,7 +3,7 @@ ghost use Rattle.std.specs.Prelude.{◌+◌, ◌<◌, length, IfOk};
 ghost use Rattle.llparse.specs.Columns.{AreColumns, IsColumn, IsLeastAt, IsLeastBelow, IsSooner};
 ghost use Rattle.llparse.specs.Edges.{IsKnownAhead};
 ghost use Rattle.llparse.specs.Predicted.{AreSets};
-ghost use Rattle.llparse.specs.Reach.{rows};
+ghost use Rattle.closure.specs.Waiting.{rows};
 
 use crate::ahead::Ahead;
 use crate::choosing::{Column, Pair, choose};

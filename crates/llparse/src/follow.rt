@@ -4,18 +4,18 @@ ghost use Rattle.std.specs.Prelude.{◌≡◌, ◌<◌, ◌↔◌, ◌&&◌, ◌
 ghost use Rattle.std.specs.Prelude.{Contains, IfOk, OnOk};
 ghost use Rattle.llparse.specs.Comes.{AreFollow, AreFollowed, AreFollowEdges, IsLastEdge};
 ghost use Rattle.llparse.specs.Comes.{IsNextNode};
-ghost use Rattle.llparse.specs.Edges.{node_count, Adds, AddsEdges, AreFirst, IsEdge};
+ghost use Rattle.llparse.specs.Edges.{Adds, AddsEdges, AreFirst, IsEdge};
 ghost use Rattle.llparse.specs.Nullable.{is_empty, AreNullableMarks};
-ghost use Rattle.llparse.specs.Reach.{is_marked};
+ghost use Rattle.closure.specs.Following.{is_marked};
 ghost use Rattle.llparse.specs.declared.ahead.Ahead.TheVariants as look;
 
 use crate::ahead::Ahead;
-use crate::first::{no_edges, note};
+use crate::first::note;
 use crate::nodes::Sizes;
 use crate::nullable::is_empty;
-use crate::reach::reachable;
 use ag_grammar::{Grammar, Item};
 use ag_value::NoMemory;
+use closure::{Clauses, Edge};
 use std::alloc::Global;
 
 /// A number is marked.
@@ -33,15 +33,8 @@ pub(crate) fn comes(begins: bool, empty: bool, behind: bool) -> bool
 }
 
 /// Notes an edge, where that is wanted.
-fn note_if(
-    edges: &mut Vec<Vec<usize>>,
-    from: usize,
-    to: usize,
-    wanted: bool,
-) -> Result<(), NoMemory>
-    requires { from < length edges.old.items }
-    ensures len { OnOk result (length edges.new.items ≡ length edges.old.items) }
-    ensures edges { OnOk result (AddsEdges (λ e. (wanted
+fn note_if(edges: &mut Vec<Edge>, from: usize, to: usize, wanted: bool) -> Result<(), NoMemory>
+    ensures { OnOk result (AddsEdges (λ e. (wanted
         ≡ true) × IsEdge from to e) edges.old.items edges.new.items) }
 {
     if wanted {
@@ -52,15 +45,13 @@ fn note_if(
 
 /// Notes an edge from a left side to each item behind which all are nullable.
 fn note_last(
-    edges: &mut Vec<Vec<usize>>,
+    edges: &mut Vec<Edge>,
     sizes: Sizes,
     nullable: &[bool],
     left: usize,
     items: &[Item],
 ) -> Result<(), NoMemory>
-    requires { left < length edges.old.items }
-    ensures len { OnOk result (length edges.new.items ≡ length edges.old.items) }
-    ensures edges { OnOk result (AddsEdges (IsLastEdge sizes nullable.now left items.now)
+    ensures { OnOk result (AddsEdges (IsLastEdge sizes nullable.now left items.now)
         edges.old.items edges.new.items) }
 {
     let mut empty = true;
@@ -76,19 +67,19 @@ pub(crate) fn follow_edges(
     alloc: Global,
     grammar: &Grammar,
     nullable: &[bool],
-) -> Result<Vec<Vec<usize>>, NoMemory>
-    ensures len { IfOk result (λ edges. length edges.items ≡ node_count grammar.now) }
-    ensures edges { IfOk result (λ edges. AreFollowEdges grammar.now nullable.now edges.items) }
+) -> Result<Clauses, NoMemory>
+    ensures { IfOk result (λ edges. AreFollowEdges grammar.now nullable.now edges) }
 {
     let sizes = Sizes::of(grammar);
-    let mut edges = no_edges(alloc, sizes.nodes())?;
+    let mut edges = Vec::new(alloc);
     let productions = grammar.productions();
     for at in 0..productions.len() {
         let production = &productions[at];
         let items = production.items.as_slice();
         note_last(&mut edges, sizes, nullable, production.left as usize, items)?;
     }
-    Ok(edges)
+    let clauses = Clauses::of_edges(alloc, edges.as_slice(), sizes.nodes())?;
+    Ok(clauses)
 }
 
 /// Notes a seed, where that is wanted.
@@ -163,17 +154,16 @@ pub(crate) fn follow(
     grammar: &Grammar,
     nullable: &[bool],
     begins: &[bool],
-    edges: &[Vec<usize>],
+    edges: &Clauses,
     ahead: Ahead,
 ) -> Result<Vec<bool>, NoMemory>
     requires nullable { AreNullableMarks grammar.now nullable.now }
     requires first { AreFirst grammar.now ahead begins.now }
-    requires len { length edges.now ≡ node_count grammar.now }
     requires edges { AreFollowEdges grammar.now nullable.now edges.now }
     ensures { IfOk result (λ marks. AreFollow grammar.now ahead marks.items) }
 {
     let mut seeds = followed(alloc, grammar, nullable, begins)?;
     note_seed(&mut seeds, grammar.start() as usize, is_end(ahead))?;
-    let marks = reachable(alloc, edges, seeds.as_slice())?;
+    let marks = edges.closure(alloc, seeds.as_slice())?;
     Ok(marks)
 }

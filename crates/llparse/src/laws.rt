@@ -7,9 +7,8 @@ ghost use Rattle.ag_grammar.specs.grammars.Sample.{sample};
 ghost use Rattle.llparse.specs.Ahead.{HasNoConflict, IsConflict};
 ghost use Rattle.llparse.specs.Laws.{OneTree, TextsAreGiven, WhatIsLeftIsSo};
 ghost use Rattle.llparse.specs.Nodes.{place_of};
-ghost use Rattle.llparse.specs.Reach.{InReach};
 ghost use Rattle.llparse.specs.Tables.{choice_of, IsChoice, IsLeastConflict};
-ghost use Rattle.llparse.specs.Worked.{left_recursive, small_tables, two_edges};
+ghost use Rattle.llparse.specs.Worked.{left_recursive, small_tables};
 ghost use Rattle.llparse.specs.declared.ahead.Ahead.TheVariants as ahead;
 
 /// A grammar without a conflict has at most one tree of a yield.
@@ -65,11 +64,4 @@ pub fn places_are_in_order()
     ensures literals { place_of 2 (ahead.Terminal (Literal 1)) ≡ 1 }
     ensures classes { place_of 2 (ahead.Terminal (Class 0)) ≡ 2 }
     ensures end { place_of 2 ahead.End ≡ 5 }
-{}
-
-/// Two edges lead from node 0 to node 2, and none to node 3.
-#[tactic(auto, using(crate::proofs::Examples::two_is_reached, crate::proofs::Examples::three_is_not))]
-pub fn edges_lead_on()
-    ensures reached { InReach two_edges (0 ∷ []) 2 }
-    ensures unreached { InReach two_edges (0 ∷ []) 3 → ⊥ }
 {}

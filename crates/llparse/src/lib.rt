@@ -20,7 +20,6 @@ mod parse_fault;
 mod parser;
 mod parsing;
 mod predict;
-mod reach;
 mod tokens;
 
 pub use ahead::Ahead;
@@ -28,8 +27,8 @@ pub use building::tables;
 pub use expected::{Stuck, expected_at};
 pub use fault::TableFault;
 pub use laws::{
-    edges_lead_on, left_recursion_conflicts, left_recursion_is_a_choice, left_recursion_is_least,
-    one_tree, places_are_in_order, sample_is_free, small_tables_are_read, texts_are_given,
+    left_recursion_conflicts, left_recursion_is_a_choice, left_recursion_is_least, one_tree,
+    places_are_in_order, sample_is_free, small_tables_are_read, texts_are_given,
 };
 pub use lookup::Tables;
 pub use parse_fault::ParseFault;

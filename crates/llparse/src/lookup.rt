@@ -18,7 +18,7 @@ pub struct Tables {
 
 impl Model for Tables {
     ghost use Rattle.std.specs.Coded.{codes};
-    ghost use Rattle.llparse.specs.Reach.{rows};
+    ghost use Rattle.closure.specs.Waiting.{rows};
     ghost use Rattle.llparse.specs.Tables.{Choices};
 
     ghost Value = { Choices };

@@ -11,6 +11,7 @@ use crate::nodes::Sizes;
 use crate::nullable::{is_empty, nullable};
 use ag_grammar::{Grammar, Item};
 use ag_value::NoMemory;
+use closure::Clauses;
 use std::alloc::Global;
 
 /// A look-ahead comes next along items, or behind them where all are nullable.
@@ -33,8 +34,8 @@ fn is_next(sizes: Sizes, nullable: &[bool], begins: &[bool], items: &[Item], beh
 #[derive(Drop)]
 pub(crate) struct Sets {
     nullable: Vec<bool>,
-    first: Vec<Vec<usize>>,
-    follow: Vec<Vec<usize>>,
+    first: Clauses,
+    follow: Clauses,
 }
 
 impl Sets {
@@ -66,16 +67,9 @@ impl Sets {
     {
         let sizes = Sizes::of(grammar);
         let nullable = self.nullable.as_slice();
-        let begins = first(alloc, grammar, nullable, self.first.as_slice(), ahead)?;
+        let begins = first(alloc, grammar, nullable, &self.first, ahead)?;
         let begins = begins.as_slice();
-        let follows = follow(
-            alloc,
-            grammar,
-            nullable,
-            begins,
-            self.follow.as_slice(),
-            ahead,
-        )?;
+        let follows = follow(alloc, grammar, nullable, begins, &self.follow, ahead)?;
         let follows = follows.as_slice();
         let productions = grammar.productions();
         let mut marks = Vec::new(alloc);

@@ -1,6 +1,6 @@
 use Rattle.std.proofs.Common.{◌≡◌, length}
 use Rattle.llparse.specs.Columns.{AreColumns, IsLeastBelow}
-use Rattle.llparse.specs.Reach.{rows}
+use Rattle.closure.specs.Waiting.{rows}
 use Rattle.llparse.proofs.filling.fill.Given as goal
 
 abbrev pub invariant-loop-place : goal.invariant-loop-place

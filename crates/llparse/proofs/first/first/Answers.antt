@@ -1,10 +1,12 @@
-use Rattle.llparse.specs.Reach.{is_marked, rows}
+-- The goals of `first` that are left.
+use Rattle.std.proofs.Common.{ap}
+use Rattle.closure.specs.Clauses.{Clauses}
+use Rattle.closure.specs.Following.{is_marked}
 use Rattle.llparse.proofs.Edges.{iff_on}
-use Rattle.llparse.proofs.Firsts.{edges_below, first_iff}
+use Rattle.llparse.proofs.Firsts.{first_iff}
 use Rattle.llparse.proofs.first.first.Goals as goal
 
-pub reachable-requires-clause-edges : goal.reachable-requires-clause-edges
-reachable-requires-clause-edges c = rw c.requires.len (edges_below c.args.grammar.now c.of-sizes.ensures.accepted (is_marked c.args.nullable.now) (rows c.args.edges.now) (λ e. (c.requires.edges e).0))
-
-pub returns-clause-first : goal.returns-clause-first
-returns-clause-first c = λ y named. iff_on (rw (c.of-sizes.ensures.symbols, c.place.ensures, c.of-sizes.ensures.literals) at c.in_ok-marks.ensures.marks _) (first_iff c.args.grammar.now c.of-sizes.ensures.accepted (is_marked c.args.nullable.now) (rows c.args.edges.now) c.requires.nullable c.requires.edges c.args.ahead c.requires.known y named)
+pub returns : goal.returns
+returns c = λ y named.
+    let w = c.requires.edges in
+    iff_on (rw (ap (λ (k : Clauses). k.clauses) w.1, c.of-sizes.ensures.symbols, c.place.ensures, c.of-sizes.ensures.literals) at c.in_ok-marks.ensures.marks _) (first_iff c.args.grammar.now c.of-sizes.ensures.accepted (is_marked c.args.nullable.now) w.0 c.requires.nullable w.2 c.args.ahead c.requires.known y named)

@@ -1,10 +1,8 @@
-use Rattle.std.proofs.Common.{◌≡◌, ◌+◌, take, length}
-use Rattle.llparse.specs.Edges.{Adds, HasEdge, IsFirstEdge, OfSome}
-use Rattle.llparse.specs.Reach.{is_marked, rows}
+-- What the loop of `first_edges` keeps.
+use Rattle.std.proofs.Common.{take, Contains}
+use Rattle.closure.specs.Following.{is_marked}
+use Rattle.llparse.specs.Edges.{Adds, IsFirstEdge, OfSome}
 use Rattle.llparse.proofs.first.first_edges.Given as goal
 
 abbrev pub invariant-loop-at : goal.invariant-loop-at
-invariant-loop-at l = record {
-  len : length l.edges.items ≡ length l.grammar.symbols + (length l.grammar.literals + 4);
-  edges : Adds (OfSome (IsFirstEdge l.grammar (is_marked l.nullable)) (take l.at l.grammar.productions)) (HasEdge (rows l.initial.edges.items)) (HasEdge (rows l.edges.items));
-}
+invariant-loop-at l = Adds (OfSome (IsFirstEdge l.grammar (is_marked l.nullable)) (take l.at l.grammar.productions)) (Contains l.initial.edges.items) (Contains l.edges.items)

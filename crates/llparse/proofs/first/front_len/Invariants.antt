@@ -1,5 +1,5 @@
 use Rattle.std.proofs.Common.{◌≡◌, ◌++◌, take, drop}
-use Rattle.llparse.specs.Reach.{is_marked}
+use Rattle.closure.specs.Following.{is_marked}
 use Rattle.llparse.specs.Edges.{front}
 use Rattle.llparse.proofs.first.front_len.Given as goal
 

@@ -1,7 +1,7 @@
 use Rattle.std.proofs.Common.{◌≡◌, ◌<◌, ◌≤◌, length, arith, ap, ◌∙◌, get_or, List, Contains}
 use Rattle.ag_grammar.specs.declared.grammar.Production.{Production}
 use Rattle.llparse.specs.Comes.{IsFollowed}
-use Rattle.llparse.specs.Reach.{is_marked}
+use Rattle.closure.specs.Following.{is_marked}
 use Rattle.llparse.proofs.Edges.{contains_none, noted_iff}
 use Rattle.llparse.proofs.Follows.{next_noted}
 use Rattle.llparse.proofs.follow.followed.Goals as goal

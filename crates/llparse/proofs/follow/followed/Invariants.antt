@@ -1,7 +1,7 @@
 use Rattle.std.proofs.Common.{take, Contains}
 use Rattle.llparse.specs.Comes.{IsFollowed}
 use Rattle.llparse.specs.Edges.{Adds, OfSome}
-use Rattle.llparse.specs.Reach.{is_marked}
+use Rattle.closure.specs.Following.{is_marked}
 use Rattle.llparse.proofs.follow.followed.Given as goal
 
 abbrev pub invariant-loop-at : goal.invariant-loop-at

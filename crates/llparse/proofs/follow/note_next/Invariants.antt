@@ -4,7 +4,7 @@ use Rattle.llparse.specs.Comes.{next_in, OfRest}
 use Rattle.llparse.specs.Edges.{Adds}
 use Rattle.llparse.specs.Nodes.{node_of}
 use Rattle.llparse.specs.Nullable.{is_empty}
-use Rattle.llparse.specs.Reach.{is_marked}
+use Rattle.closure.specs.Following.{is_marked}
 use Rattle.llparse.proofs.follow.note_next.Given as goal
 
 abbrev pub invariant-loop-at : goal.invariant-loop-at

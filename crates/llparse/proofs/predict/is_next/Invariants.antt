@@ -3,7 +3,7 @@ use Rattle.ag_grammar.specs.declared.grammar.Item.{Item}
 use Rattle.llparse.specs.Comes.{next_in}
 use Rattle.llparse.specs.Nodes.{node_of}
 use Rattle.llparse.specs.Nullable.{is_empty}
-use Rattle.llparse.specs.Reach.{is_marked}
+use Rattle.closure.specs.Following.{is_marked}
 use Rattle.llparse.proofs.predict.is_next.Given as goal
 
 abbrev pub invariant-loop-item : goal.invariant-loop-item
