@@ -14,7 +14,7 @@ ghost use Rattle.ag_tokens.specs.Token as token;
 use crate::fault::ExprFault;
 use crate::names::{Call, call_of, is_reserved};
 use crate::reader::Reader;
-use ag_grammar::{BinaryCall, Literal, Node, Operator, UnaryCall};
+use ag_grammar::{Literal, Node, Operator};
 use ag_tokens::{Punctuation, Token, unescaped};
 use ag_value::{Boxed, Items, NoMemory};
 use std::alloc::Global;
@@ -312,7 +312,7 @@ impl<'t> Reader<'t> {
 
     /// Passes the operands behind the first, each with its operator, and answers their trees.
     #[cycle(parsing)]
-    #[tactic(auto, using(crate::proofs::language::Parts::goes_on, crate::proofs::language::Parts::stopped, crate::proofs::language::Parts::failed, crate::proofs::language::Parts::ends, crate::proofs::language::Parts::shorter, crate::proofs::language::Agree::other_shortens))]
+    #[tactic(auto, using(crate::proofs::language::Parts::looped, crate::proofs::language::Agree::other_shortens))]
     fn others(
         &mut self,
         levels: usize,
@@ -457,7 +457,7 @@ impl<'t> Reader<'t> {
 
     /// Passes the items behind the first, and answers all.
     #[cycle(parsing)]
-    #[tactic(auto, using(crate::proofs::language::Parts::goes_on, crate::proofs::language::Parts::stopped, crate::proofs::language::Parts::failed, crate::proofs::language::Parts::ends, crate::proofs::language::Parts::shorter, crate::proofs::language::Agree::next_shortens), unfolding(crate::specs::language::Reading::items_from))]
+    #[tactic(auto, using(crate::proofs::language::Parts::looped, crate::proofs::language::Agree::next_shortens), unfolding(crate::specs::language::Reading::items_from))]
     fn items(&mut self, levels: usize, first: Node) -> Result<Vec<Node>, ExprFault>
         ensures { ReadsAs (λ items. items.items)
             (λ all names. reading.items_from (expr_in all levels) names first)
@@ -491,56 +491,31 @@ impl<'t> Reader<'t> {
         Ok(Boxed::new(self.alloc(), tree)?)
     }
 
-    /// Passes a call.
+    /// Passes a call: its name, its arguments, as many as it takes, and the closing parenthesis.
     #[cycle(parsing)]
-    #[tactic(auto, unfolding(crate::specs::language::Reading::call_from))]
+    #[tactic(auto, unfolding(crate::specs::language::Reading::call_from, crate::specs::language::Reading::unary_from, crate::specs::language::Reading::binary_from, crate::specs::language::Reading::put_from))]
     fn call(&mut self, levels: usize) -> Result<Node, ExprFault>
         ensures { Reads (λ all. reading.call_from (expr_in all levels)) self.old result self.new }
     {
         let call = self.called()?;
         self.expect(Punctuation::Open)?;
-        match call {
-            Call::Unary(call) => self.unary(levels, call),
-            Call::Binary(call) => self.binary(levels, call),
-            Call::Put => self.put(levels),
-        }
-    }
-
-    /// Passes the argument of a call of one, and the closing parenthesis.
-    #[cycle(parsing)]
-    #[tactic(auto, unfolding(crate::specs::language::Reading::unary_from))]
-    fn unary(&mut self, levels: usize, call: UnaryCall) -> Result<Node, ExprFault>
-        ensures { Reads (λ all names. reading.unary_from (expr_in all levels) names call)
-            self.old result self.new }
-    {
-        let only = self.boxed(levels)?;
-        self.expect(Punctuation::Close)?;
-        Ok(Node::Unary(call, only))
-    }
-
-    /// Passes the arguments of a call of two, and the closing parenthesis.
-    #[cycle(parsing)]
-    #[tactic(auto, unfolding(crate::specs::language::Reading::binary_from))]
-    fn binary(&mut self, levels: usize, call: BinaryCall) -> Result<Node, ExprFault>
-        ensures { Reads (λ all names. reading.binary_from (expr_in all levels) names call)
-            self.old result self.new }
-    {
         let first = self.boxed(levels)?;
-        let second = self.argument(levels)?;
-        self.expect(Punctuation::Close)?;
-        Ok(Node::Binary(call, first, second))
-    }
-
-    /// Passes the arguments of `put`, and the closing parenthesis.
-    #[cycle(parsing)]
-    #[tactic(auto, unfolding(crate::specs::language::Reading::put_from))]
-    fn put(&mut self, levels: usize) -> Result<Node, ExprFault>
-        ensures { Reads (λ all. reading.put_from (expr_in all levels)) self.old result self.new }
-    {
-        let table = self.boxed(levels)?;
-        let key = self.argument(levels)?;
-        let value = self.argument(levels)?;
-        self.expect(Punctuation::Close)?;
-        Ok(Node::Put(table, key, value))
+        match call {
+            Call::Unary(call) => {
+                self.expect(Punctuation::Close)?;
+                Ok(Node::Unary(call, first))
+            }
+            Call::Binary(call) => {
+                let second = self.argument(levels)?;
+                self.expect(Punctuation::Close)?;
+                Ok(Node::Binary(call, first, second))
+            }
+            Call::Put => {
+                let key = self.argument(levels)?;
+                let value = self.argument(levels)?;
+                self.expect(Punctuation::Close)?;
+                Ok(Node::Put(first, key, value))
+            }
+        }
     }
 }

@@ -68,7 +68,7 @@ module _ (us : List Placed) where
   settled e rest raw is = read_whole e (us ++ rest) raw is
 
   none_goes_on : (e : Ending) (ps : List Placed) → ((k : Input) → first k ≡ first (record { left = ps; ending = e }) → (raw : RawGrammar) → grammar_from (before us k) ≡ Ok (raw, record { left = []; ending = k.ending }) → ⊥) → NoneGoesOn us e ps
-  none_goes_on e [] refutes = λ at ends raw is. refutes (record { left = []; ending = e }) refl raw (settled e [] raw (subst (λ qs. IsGrammar qs raw) (sym (append-nil us)) is))
+  none_goes_on e [] refutes = λ at ends raw is. refutes (record { left = []; ending = e }) refl raw (settled e [] raw (rw append-nil is))
   none_goes_on e (p ∷ ps) refutes = λ (more, raw, is). refutes (record { left = p ∷ more; ending = e }) refl raw (settled e (p ∷ more) raw (subst (λ qs. IsGrammar qs raw) (append_assoc us (p ∷ []) more) is))
 
 nothing : (qs : List Placed) (p : Placed) (ps : List Placed) → first_of qs ≡ first_of (p ∷ ps) → qs ≡ [] → ⊥

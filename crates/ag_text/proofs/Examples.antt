@@ -1,5 +1,5 @@
 -- Examples worked out by hand.
-use Rattle.std.proofs.Common.{◌≡◌, ℕ, List, [], ◌∷◌, ◌++◌, Some, Ok, Err, codes, IsUtf8, lit<, refl, ap, sym, ◌∙◌, subst, arith}
+use Rattle.std.proofs.Common.{◌≡◌, List, [], ◌∷◌, Ok, Err, codes, IsUtf8, lit<, refl, ap, sym, ◌∙◌, subst, arith}
 use Rattle.std.proofs.lemmas.Str.{encode_ascii}
 use Rattle.std.specs.Str.{chars}
 use Rattle.unicode_ident.proofs.IdentLemmas.{is_xid_start-ascii, is_xid_continue-ascii}
@@ -9,11 +9,9 @@ use Rattle.ag_tokens.specs.Lexing.{token_from}
 use Rattle.ag_tokens.specs.Placed.{Placed, Input}
 use Rattle.ag_expr.specs.language.Reading.{expr_of, expr_in, whole_from, ranked_from, chain_from, atom_from}
 use Rattle.ag_tokens.specs.Parsing.{many_from}
-use Rattle.ag_tokens.specs.Token as token
-use Rattle.ag_tokens.specs.Tokens.{AreTokens, ended, separator, Lexes}
-use Rattle.ag_tokens.proofs.Lexed.{one_more}
-use Rattle.ag_tokens.proofs.Lexes.{one_input}
-use Rattle.ag_tokens.proofs.TokenLaws.{mark_is}
+use Rattle.ag_tokens.specs.Tokens.{Lexes}
+use Rattle.ag_tokens.specs.Left.{cut}
+use Rattle.ag_tokens.proofs.Lexes.{cut_at, lexed, one_input}
 use Rattle.ag_text.specs.Grammar.{ReadsAsGrammar, ReadsAsNone}
 use Rattle.ag_text.specs.Reading.{next_name_from, names_from, section_from, attributes_from, symbol_from, ended_expr_from, rule_from, production_from, grammar_from, grammar_of}
 use Rattle.ag_text.specs.declared.stop.Stop.TheVariants.{WrongAt}
@@ -32,26 +30,13 @@ start_is_read : grammar_of (record { left = start_tokens; ending = ending.EndsAt
 unfolding grammar_of grammar_from many_from
 start_is_read = refl
 
-cut_start : (rest : List ℕ) → token_from (codes "start" ++ 32 ∷ rest) ≡ Some (token.Name (codes "start"), 32 ∷ rest)
-unfolding token_from
-cut_start rest = rw (is_xid_start-ascii 115 (lit< tt), is_xid_continue-ascii 115 (lit< tt), is_xid_continue-ascii 116 (lit< tt), is_xid_continue-ascii 97 (lit< tt), is_xid_continue-ascii 114 (lit< tt), is_xid_continue-ascii 32 (lit< tt), encode_ascii 115 (lit< tt), encode_ascii 116 (lit< tt), encode_ascii 97 (lit< tt), encode_ascii 114 (lit< tt)) refl
-
-cut_name : token_from (codes "S;") ≡ Some (token.Name (codes "S"), codes ";")
-unfolding token_from
-cut_name = rw (is_xid_start-ascii 83 (lit< tt), is_xid_continue-ascii 83 (lit< tt), is_xid_continue-ascii 59 (lit< tt), encode_ascii 83 (lit< tt)) refl
-
-cut_semicolon : token_from (codes ";") ≡ Some (token.Punctuation punctuation.Semicolon, [])
-cut_semicolon = mark_is punctuation.Semicolon []
+start_is_cut : cut_at 8 (codes "start S;") ≡ record { left = start_tokens; ending = ending.EndsAt 8 }
+unfolding cut_at cut token_from
+start_is_cut = rw (is_xid_start-ascii 115 (lit< tt), is_xid_continue-ascii 115 (lit< tt), is_xid_continue-ascii 116 (lit< tt), is_xid_continue-ascii 97 (lit< tt), is_xid_continue-ascii 114 (lit< tt), is_xid_continue-ascii 32 (lit< tt), encode_ascii 115 (lit< tt), encode_ascii 116 (lit< tt), encode_ascii 97 (lit< tt), encode_ascii 114 (lit< tt), is_xid_start-ascii 83 (lit< tt), is_xid_continue-ascii 83 (lit< tt), is_xid_continue-ascii 59 (lit< tt), encode_ascii 83 (lit< tt), is_xid_start-ascii 59 (lit< tt)) refl
 
 start_characters : (chars (codes "start S;") ≡ codes "start S;") × (chars (codes "start ;") ≡ codes "start ;")
 unfolding chars
 start_characters = (refl, refl)
-
-are_start_tokens : AreTokens 0 (codes "start S;") start_tokens 8 []
-are_start_tokens =
-    let three = one_more 7 (codes ";") (token.Punctuation punctuation.Semicolon) [] [] 8 [] cut_semicolon (ended 8 []) in
-    let two = one_more 6 (codes "S;") (token.Name (codes "S")) (codes ";") _ 8 [] cut_name three in
-    one_more 0 (codes "start S;") (token.Name (codes "start")) (codes " S;") _ 8 [] (cut_start (codes "S;")) (separator 5 32 (codes "S;") _ 8 [] refl two)
 
 start_utf8 : IsUtf8 (codes "start S;")
 start_utf8 = (codes "start S;", (refl, rw (encode_ascii 115 (lit< tt), encode_ascii 116 (lit< tt), encode_ascii 97 (lit< tt), encode_ascii 114 (lit< tt), encode_ascii 32 (lit< tt), encode_ascii 83 (lit< tt), encode_ascii 59 (lit< tt)) refl))
@@ -61,7 +46,7 @@ start_alone_is_read = record {
   short = omega arith;
   utf8 = start_utf8;
   placed = start_tokens;
-  lexes = record { rest = []; before = subst (λ cs. AreTokens 0 cs start_tokens 8 []) (sym start_characters.0) are_start_tokens; within = refl; stops = refl };
+  lexes = rw start_characters.0 (lexed (codes "start S;") _ 8 refl start_is_cut);
   spells = (reading_agrees 8 start_tokens start_alone).0 start_is_read;
 }
 
@@ -69,10 +54,9 @@ start_alone_is_read = record {
 abbrev bare_tokens : List Placed
 bare_tokens = name_at 0 (codes "start") ∷ mark_at 6 punctuation.Semicolon ∷ []
 
-are_bare_tokens : AreTokens 0 (codes "start ;") bare_tokens 7 []
-are_bare_tokens =
-    let two = one_more 6 (codes ";") (token.Punctuation punctuation.Semicolon) [] [] 7 [] cut_semicolon (ended 7 []) in
-    one_more 0 (codes "start ;") (token.Name (codes "start")) (codes " ;") _ 7 [] (cut_start (codes ";")) (separator 5 32 (codes ";") _ 7 [] refl two)
+bare_is_cut : cut_at 7 (codes "start ;") ≡ record { left = bare_tokens; ending = ending.EndsAt 7 }
+unfolding cut_at cut token_from
+bare_is_cut = rw (is_xid_start-ascii 115 (lit< tt), is_xid_continue-ascii 115 (lit< tt), is_xid_continue-ascii 116 (lit< tt), is_xid_continue-ascii 97 (lit< tt), is_xid_continue-ascii 114 (lit< tt), is_xid_continue-ascii 32 (lit< tt), encode_ascii 115 (lit< tt), encode_ascii 116 (lit< tt), encode_ascii 97 (lit< tt), encode_ascii 114 (lit< tt), is_xid_start-ascii 59 (lit< tt)) refl
 
 bare_is_refused : grammar_of (record { left = bare_tokens; ending = ending.EndsAt 7 }) ≡ Err (WrongAt 6)
 unfolding grammar_of grammar_from
@@ -80,7 +64,7 @@ bare_is_refused = refl
 
 pub no_start_is_none : ReadsAsNone (codes "start ;")
 no_start_is_none raw is =
-    let bare : Lexes 0 (chars (codes "start ;")) (record { left = bare_tokens; ending = ending.EndsAt 7 }) = record { rest = []; before = subst (λ cs. AreTokens 0 cs bare_tokens 7 []) (sym start_characters.1) are_bare_tokens; within = refl; stops = refl } in
+    let bare : Lexes 0 (chars (codes "start ;")) (record { left = bare_tokens; ending = ending.EndsAt 7 }) = rw start_characters.1 (lexed (codes "start ;") _ 7 refl bare_is_cut) in
     let input = one_input (chars (codes "start ;")) in
     let same : is.placed ≡ bare_tokens = ap (λ (i : Input). i.left) (input.2 _ is.lexes ∙ sym (input.2 _ bare)) in
     let read = (reading_agrees 7 bare_tokens raw).1 (subst (λ ps. IsGrammar ps raw) same is.spells) in

@@ -11,7 +11,7 @@ use Rattle.ag_tokens.specs.Placed.{Placed, Input}
 use Rattle.ag_tokens.specs.Parsing.{is_end}
 use Rattle.ag_tokens.specs.Tokens.{Lexes, width}
 use Rattle.ag_tokens.proofs.Lexed.{width-chars}
-use Rattle.ag_tokens.proofs.Lexes.{ends_wide, one_input}
+use Rattle.ag_tokens.proofs.Lexes.{ends_wide, one_input, same_input}
 use Rattle.ag_text.specs.Answers.{fault_of, answer_of, read_text, line_of, IsRead, IsReadText, IsFirstOf, IsRefused}
 use Rattle.ag_grammar.specs.grammars.Accepted.{most_text_bytes}
 use Rattle.ag_text.specs.Grammar.{ReadsAsGrammar, ReadsAsNone}
@@ -25,17 +25,13 @@ use Rattle.ag_text.specs.declared.stop.Stop.TheVariants as stop
 use Rattle.ag_text.proofs.Agree.{whole_of, sound, complete, refuses_at_the_first}
 use Rattle.ag_text.proofs.Grammars.{grammar_exact}
 
--- a text has one list of tokens
-alike : (text : List ℕ) (i j : Input) → Lexes 0 (chars text) i → Lexes 0 (chars text) j → i ≡ j
-alike text i j one other = let input = one_input (chars text) in input.2 i one ∙ sym (input.2 j other)
-
 pub read_ok : (text : List ℕ) (j k : Input) (raw : RawGrammar) → Lexes 0 (chars text) j → grammar_of j ≡ Ok (raw, k) → IsReadText text (Ok raw)
-read_ok text j k raw lexes read i one memory = ap (λ l. answer_of text (grammar_of l)) (alike text i j one lexes) ∙ ap (answer_of text) read
+read_ok text j k raw lexes read i one memory = ap (λ l. answer_of text (grammar_of l)) (same_input 0 (chars text) i j one lexes) ∙ ap (answer_of text) read
 
 pub read_err : (text : List ℕ) (j : Input) (s : Stop) (f : TextFault) → f ≡ fault_of text s → Lexes 0 (chars text) j → (s ≢ stop.NoMemory → grammar_of j ≡ Err s) → IsReadText text (Err f)
 read_err text j s f is lexes read i one memory =
     let other : s ≢ stop.NoMemory = λ e. memory (ap Err (is ∙ ap (fault_of text) e)) in
-    ap (λ l. answer_of text (grammar_of l)) (alike text i j one lexes) ∙ ap (answer_of text) (read other) ∙ ap Err (sym is)
+    ap (λ l. answer_of text (grammar_of l)) (same_input 0 (chars text) i j one lexes) ∙ ap (answer_of text) (read other) ∙ ap Err (sym is)
 
 -- what does not end is not read to the end
 no_end : (e : Ending) (ps : List Placed) (raw : RawGrammar) (j : Input) → ((qs : List Placed) → is_end e qs ≡ false) → grammar_of (record { left = ps; ending = e }) ≡ Ok (raw, j) → ⊥

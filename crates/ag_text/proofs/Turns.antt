@@ -4,7 +4,7 @@ use Rattle.ag_tokens.specs.Placed.{Input}
 use Rattle.ag_tokens.specs.Parsing.{sees}
 use Rattle.ag_tokens.specs.Token.{Token}
 use Rattle.ag_expr.proofs.reading.Turns as turns
-use Rattle.ag_expr.proofs.reading.Turns.{Going}
+use Rattle.ag_expr.proofs.reading.Turns.{Going, shorter}
 use Rattle.ag_text.specs.Reading.{Outcome, Parser}
 use Rattle.ag_text.specs.declared.stop.Stop.{Stop}
 
@@ -17,3 +17,6 @@ module _ {A : Type 0} (begins : Token → Bool) (item : Parser A) (found : List 
 
   pub failed : (e : Stop) → Going false begins item found i whole → sees begins i ≡ true → item i ≡ Err e → whole ≡ Err e
   failed e so_far leads is = turns.failed false begins item found i whole e so_far leads is
+
+-- what a loop over them goes by
+pub ruleset looped = (goes_on, stopped, failed, shorter)

@@ -23,7 +23,7 @@ fn further(alloc: Global, cursor: &mut Cursor<'_>) -> Result<Named, Stop>
 }
 
 /// Passes names with commas between them.
-#[tactic(auto, using(crate::proofs::Turns::goes_on, crate::proofs::Turns::stopped, crate::proofs::Turns::failed, ag_expr::proofs::reading::Turns::shorter, crate::proofs::Grammars::next_name_shortens), unfolding(crate::specs::Reading::names_from))]
+#[tactic(auto, using(crate::proofs::Turns::looped, crate::proofs::Grammars::next_name_shortens), unfolding(crate::specs::Reading::names_from))]
 fn names(alloc: Global, cursor: &mut Cursor<'_>) -> Result<Items<Named>, Stop>
     ensures { Reads reading.names_from cursor.old result cursor.new }
 {
@@ -63,7 +63,7 @@ fn symbol(alloc: Global, cursor: &mut Cursor<'_>) -> Result<RawSymbol, Stop>
 }
 
 /// Passes the declarations of symbols, as many as stand there.
-#[tactic(auto, using(crate::proofs::Turns::goes_on, crate::proofs::Turns::stopped, crate::proofs::Turns::failed, ag_expr::proofs::reading::Turns::shorter, crate::proofs::Grammars::symbol_shortens))]
+#[tactic(auto, using(crate::proofs::Turns::looped, crate::proofs::Grammars::symbol_shortens))]
 fn symbols(alloc: Global, cursor: &mut Cursor<'_>) -> Result<Items<RawSymbol>, Stop>
     ensures { Reads reading.symbols_from cursor.old result cursor.new }
 {
@@ -76,7 +76,7 @@ fn symbols(alloc: Global, cursor: &mut Cursor<'_>) -> Result<Items<RawSymbol>, S
 }
 
 /// Passes what stands on the right side of a production, up to a `{`.
-#[tactic(auto, using(crate::proofs::Turns::goes_on, crate::proofs::Turns::stopped, crate::proofs::Turns::failed, ag_expr::proofs::reading::Turns::shorter, crate::proofs::Grammars::item_shortens))]
+#[tactic(auto, using(crate::proofs::Turns::looped, crate::proofs::Grammars::item_shortens))]
 fn items(alloc: Global, cursor: &mut Cursor<'_>) -> Result<Items<RawItem>, Stop>
     ensures { Reads reading.items_from cursor.old result cursor.new }
 {
@@ -100,7 +100,7 @@ fn rule(alloc: Global, cursor: &mut Cursor<'_>) -> Result<RawRule, Stop>
 }
 
 /// Passes the rules of a production, up to a `}`.
-#[tactic(auto, using(crate::proofs::Turns::goes_on, crate::proofs::Turns::stopped, crate::proofs::Turns::failed, ag_expr::proofs::reading::Turns::shorter, crate::proofs::Grammars::rule_shortens))]
+#[tactic(auto, using(crate::proofs::Turns::looped, crate::proofs::Grammars::rule_shortens))]
 fn rules(alloc: Global, cursor: &mut Cursor<'_>) -> Result<Items<RawRule>, Stop>
     ensures { Reads reading.rules_from cursor.old result cursor.new }
 {
@@ -127,7 +127,7 @@ fn production(alloc: Global, cursor: &mut Cursor<'_>) -> Result<RawProduction, S
 }
 
 /// Passes productions, as long as tokens are left.
-#[tactic(auto, using(crate::proofs::Turns::goes_on, crate::proofs::Turns::stopped, crate::proofs::Turns::failed, ag_expr::proofs::reading::Turns::shorter, crate::proofs::Grammars::production_shortens))]
+#[tactic(auto, using(crate::proofs::Turns::looped, crate::proofs::Grammars::production_shortens))]
 fn productions(alloc: Global, cursor: &mut Cursor<'_>) -> Result<Items<RawProduction>, Stop>
     ensures { Reads reading.productions_from cursor.old result cursor.new }
 {

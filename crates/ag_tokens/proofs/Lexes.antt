@@ -74,9 +74,6 @@ cut_lexes (suc n) len cs h wide plain = go (token_from cs) refl (cut_lexes n len
 
 -- ---- a text has no others
 
-cons_head : (c d : ℕ) (cs ds : List ℕ) → c ∷ cs ≡ d ∷ ds → c ≡ d
-cons_head c d cs ds e = cc
-
 -- where a word of a token stands no separator does
 plain_word : (cs w rest : List ℕ) (t : Token) → cs ≡ w ++ rest → IsToken w t → (unspaced cs ≡ cs) × (0 < length w)
 plain_word cs w rest t split is = let plain = begins_plain w t is in (grind arith, word_some w t is)
@@ -84,9 +81,8 @@ plain_word cs w rest t split is = let plain = begins_plain w t is in (grind arit
 -- two fronts of one length are one
 same_fronts : (xs ys us vs : List ℕ) → xs ++ us ≡ ys ++ vs → length xs ≡ length ys → (xs ≡ ys) × (us ≡ vs)
 same_fronts [] [] us vs e n = (refl, e)
-same_fronts [] (y ∷ ys) us vs e n = let bad : ⊥ = omega arith in absurd bad
-same_fronts (x ∷ xs) [] us vs e n = let bad : ⊥ = omega arith in absurd bad
-same_fronts (x ∷ xs) (y ∷ ys) us vs e n = let tails : xs ++ us ≡ ys ++ vs = cc in let more = same_fronts xs ys us vs tails (omega arith) in (cc, more.1)
+same_fronts (x ∷ xs) (y ∷ ys) us vs e n = let more = same_fronts xs ys us vs (cc) (omega arith) in (cc, more.1)
+same_fronts xs ys us vs e n = let bad : ⊥ = omega arith in absurd bad
 
 -- the longest token is cut
 cut_there : (cs w rest : List ℕ) (t : Token) → cs ≡ w ++ rest → IsToken w t → IsLongest w rest → token_from cs ≡ Some (t, rest)
@@ -164,6 +160,10 @@ cut_only from len cs fits i is = sym (cut_is is.before i.ending refl is.stops is
 
 pub one_input : OneInput
 one_input cs = (cut_at (width cs) cs, cut_first 0 (width cs) cs (omega arith), cut_only 0 (width cs) cs (omega arith))
+
+-- the tokens of characters that are worked out
+pub lexed : (cs : List ℕ) (i : Input) (len : ℕ) → width cs ≡ len → cut_at len cs ≡ i → Lexes 0 cs i
+lexed cs i len wide worked = subst (Lexes 0 cs) worked (cut_first 0 len cs (omega (arith, wide)))
 
 -- from an offset on characters have one list of tokens too
 pub same_input : (from : ℕ) (cs : List ℕ) (i j : Input) → Lexes from cs i → Lexes from cs j → i ≡ j

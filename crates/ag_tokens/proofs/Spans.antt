@@ -1,6 +1,6 @@
 -- The longest front of a text whose characters pass, beside a loop over its characters.
 use Rattle.ag_tokens.proofs.Fronts.{front_is}
-use Rattle.std.proofs.Common.{◌≡◌, ℕ, ◌-◌, ◌<◌, ◌≤◌, Bool, true, List, [], ◌∷◌, ◌++◌, length, take, drop, Bor, Some, chars, IsUtf8, encode_utf8, encode_utf8_all, refl, ap, sym, ◌∙◌, subst, arith, append_assoc, append-nil, length-append}
+use Rattle.std.proofs.Common.{◌≡◌, ℕ, ◌-◌, ◌<◌, ◌≤◌, Bool, true, List, [], ◌∷◌, ◌++◌, length, take, drop, Bor, Some, chars, IsUtf8, encode_utf8, encode_utf8_all, refl, ap, sym, ◌∙◌, arith, append_assoc, append-nil, length-append}
 use Rattle.std.specs.List.{prefix_len, list_all}
 use Rattle.std.specs.Str.{IsCharBoundary}
 use Rattle.std.proofs.Math.Seq.{take-append_seam, drop-append_seam}
@@ -31,29 +31,33 @@ goes_on class text rest after (c, passes, characters, split) so_far = record {
 pub nearer : (class : Class) (rest : List ℕ) (after : Bor (List ℕ)) → PassesOne class rest (Some after) → length after.now < length rest
 nearer class rest after (c, passes, characters, split) = let some = (len_utf8_bounds c).0 in omega (arith, ap length split, length-append (encode_utf8 c) after.now, length-encode c)
 
+-- a text is cut behind characters in front
+module _ (text rest front : List ℕ) (split : text ≡ encode_utf8_all front ++ rest) where
+  cut_at : length text - length rest ≡ length (encode_utf8_all front)
+  cut_at = omega (arith, ap length split, length-append (encode_utf8_all front) rest)
+
+  pub seam : IsUtf8 rest → IsCharBoundary text (length text - length rest)
+  seam utf8 = rw cut_at (IsCharBoundary-at_seam text (encode_utf8_all front) rest split utf8)
+
+  pub front_bytes : take (length text - length rest) text ≡ encode_utf8_all front
+  front_bytes = rw cut_at (ap (take (length (encode_utf8_all front))) split ∙ take-append_seam (encode_utf8_all front) rest)
+
+  back_bytes : drop (length text - length rest) text ≡ rest
+  back_bytes = rw cut_at (ap (drop (length (encode_utf8_all front))) split ∙ drop-append_seam (encode_utf8_all front) rest)
+
 module _ (class : Class) (text rest : List ℕ) (so_far : Passed (is_in class) text rest) where
   pub boundary : IsUtf8 rest → IsCharBoundary text (length text - length rest)
-  boundary utf8 =
-      let n : length (encode_utf8_all so_far.front) ≡ length text - length rest = omega (arith, ap length so_far.split, length-append (encode_utf8_all so_far.front) rest) in
-      subst (IsCharBoundary text) n (IsCharBoundary-at_seam text (encode_utf8_all so_far.front) rest so_far.split utf8)
+  boundary = seam text rest so_far.front so_far.split
 
   module _ (none : prefix_len (is_in class) (chars rest) ≡ 0) where
     length_is : prefix_len (is_in class) (chars text) ≡ length so_far.front
     length_is = ap (prefix_len (is_in class)) so_far.characters ∙ front_is (is_in class) so_far.front (chars rest) so_far.all none
 
     pub front_cut : take (length text - length rest) text ≡ encode_utf8_all (front_in class (chars text))
-    front_cut =
-        let n : length text - length rest ≡ length (encode_utf8_all so_far.front) = omega (arith, ap length so_far.split, length-append (encode_utf8_all so_far.front) rest) in
-        let bytes : take (length text - length rest) text ≡ encode_utf8_all so_far.front = rw n (ap (take (length (encode_utf8_all so_far.front))) so_far.split ∙ take-append_seam (encode_utf8_all so_far.front) rest) in
-        let characters : front_in class (chars text) ≡ so_far.front = rw length_is (ap (take (length so_far.front)) so_far.characters ∙ take-append_seam so_far.front (chars rest)) in
-        bytes ∙ sym (ap encode_utf8_all characters)
+    front_cut = front_bytes text rest so_far.front so_far.split ∙ ap encode_utf8_all (sym (rw length_is (ap (take (length so_far.front)) so_far.characters ∙ take-append_seam so_far.front (chars rest))))
 
     pub back_cut : chars (drop (length text - length rest) text) ≡ back_of class (chars text)
-    back_cut =
-        let n : length text - length rest ≡ length (encode_utf8_all so_far.front) = omega (arith, ap length so_far.split, length-append (encode_utf8_all so_far.front) rest) in
-        let bytes : drop (length text - length rest) text ≡ rest = rw n (ap (drop (length (encode_utf8_all so_far.front))) so_far.split ∙ drop-append_seam (encode_utf8_all so_far.front) rest) in
-        let characters : back_of class (chars text) ≡ chars rest = rw length_is (ap (drop (length so_far.front)) so_far.characters ∙ drop-append_seam so_far.front (chars rest)) in
-        ap chars bytes ∙ sym characters
+    back_cut = ap chars (back_bytes text rest so_far.front so_far.split) ∙ sym (rw length_is (ap (drop (length so_far.front)) so_far.characters ∙ drop-append_seam so_far.front (chars rest)))
 
 pub empty_text : (text : List ℕ) → length text ≡ 0 → chars text ≡ []
 empty_text [] e = chars-nil

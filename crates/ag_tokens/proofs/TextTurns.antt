@@ -1,11 +1,11 @@
 -- A text literal read character by character, beside a loop.
 use Rattle.std.specs.Option.{option_and_then}
-use Rattle.std.proofs.Common.{◌≡◌, ℕ, zero, suc, ◌≤◌, ◌<◌, ◌≢◌, true, List, [], ◌∷◌, ◌++◌, length, Option, Some, None, chars, encode_utf8, encode_utf8_all, ◌∙◌, refl, sym, ap, subst, arith, append_assoc, append-nil, length-append, take, ◌-◌, IsUtf8, is_some, Bor, MatchOption, lit<}
+use Rattle.std.proofs.Common.{◌≡◌, ℕ, zero, suc, ◌≤◌, ◌<◌, ◌≢◌, true, List, [], ◌∷◌, ◌++◌, length, Option, Some, None, chars, encode_utf8, encode_utf8_all, ◌∙◌, refl, sym, ap, subst, arith, append_assoc, append-nil, take, ◌-◌, IsUtf8, is_some, Bor, MatchOption, lit<}
 use Rattle.std.specs.Str.{IsCharBoundary}
-use Rattle.std.proofs.Math.Seq.{take-append_seam}
-use Rattle.std.proofs.lemmas.Str.{encode_ascii, encodes-append, chars_from_encodes, IsUtf8-take, IsCharBoundary-at_seam}
+use Rattle.std.proofs.lemmas.Str.{encode_ascii, encodes-append, chars_from_encodes, IsUtf8-take}
 use Rattle.std.proofs.lemmas.Bool.{ne_eqb}
 use Rattle.std.proofs.lemmas.Bool.Decides.{nat_tests}
+use Rattle.ag_tokens.proofs.Spans.{seam, front_bytes}
 use Rattle.ag_tokens.specs.Token.{Token}
 use Rattle.ag_tokens.specs.Token as token
 use Rattle.ag_tokens.specs.Tokens.{IsBody, empty, plain, escape, escaped}
@@ -66,7 +66,7 @@ none_unquoted cs h = grind arith
 pub stopped : (text rest : List ℕ) (total : Option (Token × List ℕ)) → character_from (chars rest) ≡ None → (so_far : Within text rest total)
     → total ≡ option_and_then (λ behind. Some (token.Text so_far.front, behind)) (unquoted (chars rest))
 unfolding text_from
-stopped text rest total is so_far = let none = none_unquoted (chars rest) in let same = so_far.same in let enough = so_far.enough in go so_far.turns enough same
+stopped text rest total is so_far = go so_far.turns so_far.enough so_far.same
   where
     go : (n : ℕ) → length (chars rest) ≤ n → text_from n so_far.front (chars rest) ≡ total → total ≡ option_and_then (λ behind. Some (token.Text so_far.front, behind)) (unquoted (chars rest))
     go zero enough same = rw (none_unquoted (chars rest) enough) (sym same)
@@ -79,15 +79,12 @@ unescapes (escape c d body bytes same is) = rw same (ap (λ x. encode_utf8 d ++ 
 
 -- the body that was read is what stands before the rest
 module _ (text rest : List ℕ) (total : Option (Token × List ℕ)) (so_far : Within text rest total) where
-  before : length text - length rest ≡ length (encode_utf8_all so_far.taken)
-  before = omega (arith, ap length so_far.split, length-append (encode_utf8_all so_far.taken) rest)
-
   pub boundary : IsUtf8 rest → IsCharBoundary text (length text - length rest)
-  boundary utf8 = subst (IsCharBoundary text) (sym before) (IsCharBoundary-at_seam text (encode_utf8_all so_far.taken) rest so_far.split utf8)
+  boundary = seam text rest so_far.taken so_far.split
 
   pub body_is : IsUtf8 text → IsUtf8 rest → unescaped (chars (take (length text - length rest) text)) ≡ so_far.front
   body_is utf8 utf8' =
-      let bytes : take (length text - length rest) text ≡ encode_utf8_all so_far.taken = rw before (ap (take (length (encode_utf8_all so_far.taken))) so_far.split ∙ take-append_seam (encode_utf8_all so_far.taken) rest) in
+      let bytes = front_bytes text rest so_far.taken so_far.split in
       let characters : chars (encode_utf8_all so_far.taken) ≡ so_far.taken = sym (chars_from_encodes so_far.taken (encode_utf8_all so_far.taken) (subst IsUtf8 bytes (IsUtf8-take text (length text - length rest) utf8 (boundary utf8'))) refl) in
       ap (λ x. unescaped (chars x)) bytes ∙ ap unescaped characters ∙ unescapes so_far.is
 

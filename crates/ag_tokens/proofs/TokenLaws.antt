@@ -18,6 +18,7 @@ use Rattle.ag_tokens.specs.declared.token.Punctuation.{Punctuation}
 use Rattle.ag_tokens.specs.declared.token.Punctuation.TheVariants as punctuation
 use Rattle.ag_tokens.specs.Token.{Token}
 use Rattle.ag_tokens.specs.Token as token
+use Rattle.ag_tokens.specs.Laws.{LongestIsCut, NothingIsCut}
 use Rattle.ag_tokens.specs.Lexing.{where_some}
 use Rattle.ag_tokens.specs.Tokens.{starts_name, is_separator, escaped, IsDigits, IsName, IsBody, empty, plain, escape, punctuation_text, IsToken, IsLongest, BeginsNoToken}
 use Rattle.ag_tokens.specs.Lexing.{digits_from, name_from, single_punctuation, doubled, punctuation_from, escape_from, character_from, unquoted, undotted, text_from, occurrence_from, plain_from, token_from}
@@ -279,6 +280,12 @@ cut_none cs e word more t split is =
     let found = token_reached word more t is in
     let both : None ≡ Some found.cut = sym e ∙ ap token_from split ∙ found.is in
     absurd (none-some _ both)
+
+pub longest_is_cut : LongestIsCut
+longest_is_cut cs rest t e = let cut = token_sound cs t rest e in (cut.word, cut.split, cut.token, cut_longest cs t rest cut.word e cut.split)
+
+pub nothing_is_cut : NothingIsCut
+nothing_is_cut = cut_none
 
 -- ---- a word is one token at most, and no token begins with a separator
 

@@ -10,6 +10,7 @@ pub fn a_text_has_one_list_of_tokens()
 
 /// What is cut from the front of characters is their longest token, and where nothing is cut no
 /// token begins.
+#[tactic(auto, using(crate::proofs::TokenLaws::longest_is_cut, crate::proofs::TokenLaws::nothing_is_cut))]
 pub fn cutting_agrees_with_tokens()
     ensures cut { LongestIsCut }
     ensures none { NothingIsCut }

@@ -65,15 +65,6 @@ decreases-next l = 40 * l.levels + 1
 abbrev pub decreases-call : goal.decreases-call
 decreases-call l = 40 * l.levels + 4
 
-abbrev pub decreases-unary : goal.decreases-unary
-decreases-unary l = 40 * l.levels + 3
-
-abbrev pub decreases-binary : goal.decreases-binary
-decreases-binary l = 40 * l.levels + 3
-
-abbrev pub decreases-put : goal.decreases-put
-decreases-put l = 40 * l.levels + 3
-
 abbrev pub invariant-others-loop-precedence : goal.invariant-others-loop-precedence
 invariant-others-loop-precedence l = record {
   so_far : Looping (takes_one l.fn.precedence) (is_operator_of l.fn.precedence) (λ all names. other_from l.fn.precedence (ranked_from (atom_from (expr_in all l.fn.levels) names all) (closer l.fn.precedence)))
