@@ -1,96 +1,188 @@
--- Each sentence has an answer.
-use Rattle.std.proofs.Common.{◌≡◌, ℕ, zero, suc, ◌+◌, ◌<◌, ◌≤◌, Bool, true, false, nat_lt, List, [], ◌∷◌, ◌++◌, length, Option, Some, None, Result, Ok, Err, chars, refl, ap, sym, ◌∙◌, subst, arith}
+-- The one answer that each sentence has, by a plain function.
+use Rattle.std.proofs.Common.{◌≡◌, ℕ, zero, suc, ◌+◌, ◌-◌, ◌<◌, ◌≤◌, Bool, true, false, cond, nat_lt, List, [], ◌∷◌, ◌++◌, length, drop, Option, Some, None, Result, Ok, Err, chars, refl, ap, subst, ◌∙◌, arith}
 use Rattle.std.proofs.lemmas.Bool.Decides.{nat_tests}
 use Rattle.std.proofs.lemmas.List.{length-append, length-drop}
 use Rattle.std.proofs.lemmas.Str.{is_utf8-from_IsUtf8, IsUtf8-from_is_utf8}
 use Rattle.std.specs.List.{prefix_len}
 use Rattle.std.specs.Str.{is_utf8}
 use Rattle.std.specs.Str.Lossy.{utf8_valid_len}
+use Rattle.ag_grammar.specs.grammars.Accepted.{IsAccepted}
+use Rattle.ag_grammar.specs.grammars.AttributeGrammar.{Grammar}
 use Rattle.ag_grammar.specs.grammars.Tree.{most_token_bytes}
+use Rattle.ag_grammar.proofs.grammars.Members.{each_none, each_more}
 use Rattle.ag_tokens.specs.Left.{StartsPlain, unspaced}
 use Rattle.ag_tokens.specs.Tokens.{is_separator, width}
-use Rattle.ag_tokens.proofs.Lexed.{width-chars, plain_behind}
+use Rattle.ag_tokens.proofs.Lexed.{width-append, width-chars, plain_behind}
 use Rattle.ag_scan.specs.Cutting.{word_from, Front, CutsToken}
 use Rattle.ag_scan.specs.Laws.{IsAnswer, AnAnswer}
-use Rattle.ag_scan.specs.Tokens.{Token, most_sentence_bytes, AreTokens, word, Reaches, IsReadable, NoTokenAt, LongTokenAt}
-use Rattle.ag_scan.specs.Words.{Vocabulary, over, vocabulary_of, HasNoEmpty}
+use Rattle.ag_scan.specs.Tokens.{Token, most_sentence_bytes, AreTokens, ended, separator, word, AreShort, Reaches, IsReadable}
+use Rattle.ag_scan.specs.Words.{Vocabulary, vocabulary_of, IsClean}
 use Rattle.ag_scan.specs.declared.fault.ScanFault.{ScanFault}
 use Rattle.ag_scan.specs.declared.fault.ScanFault.TheVariants as fault
-use Rattle.ag_scan.proofs.Cut.{IsWordIn, word_is, as_wide}
-use Rattle.ag_scan.proofs.Listing.{word_some, joined, only_spaces, each_pushed}
+use Rattle.ag_scan.proofs.Cut.{word_is, one_more, as_wide, fewer}
+use Rattle.ag_scan.proofs.Listing.{word_some, spaced}
+use Rattle.ag_scan.proofs.OneToken.{IsWordIn, one_word, token_plain, no_spaces}
 
--- ---- from the left
+-- ---- how far the tokens of a text reach
 
--- what the tokens of a sentence come to
-data Outcome (v : Vocabulary) (cs : List ℕ) : Type 0 where
-  all : (ts : List Token) (at : ℕ) → Reaches v cs ts at [] → Outcome v cs
-  none : (at : ℕ) → NoTokenAt v cs at → Outcome v cs
-  long : (at : ℕ) → LongTokenAt v cs at → Outcome v cs
+-- the word in front, where its text is no longer than a token's
+abbrev short_of : Option Front → Option Front
+short_of None = None
+short_of (Some f) = cond (nat_lt most_token_bytes (length f.lex)) None (Some f)
 
-module _ (literals : List (List ℕ)) (classes : List ℕ) (some : HasNoEmpty literals) (whole : List ℕ) where
-  v : Vocabulary
-  v = over literals classes
+-- The tokens that are taken from an offset on, the offset where they end, and what stands there.
+record Taken : Type 0 where
+  pub tokens : List Token
+  pub end : ℕ
+  pub rest : List ℕ
 
-  one_further : (at : ℕ) (cs : List ℕ) (ts : List Token) (f : Front) → Reaches (over literals classes) whole ts at cs → (cut : CutsToken (over literals classes) cs f) → length f.lex ≤ most_token_bytes
-      → Reaches (over literals classes) whole (ts ++ record { kind = f.kind; lex = f.lex; at = at } ∷ []) (at + width cut.word + prefix_len is_separator f.rest) (unspaced f.rest)
-  one_further at cs ts f reaches cut short =
-      let token : Token = record { kind = f.kind; lex = f.lex; at = at } in
-      let end = at + width cut.word + prefix_len is_separator f.rest in
-      let spaces = only_spaces (over literals classes) (at + width cut.word) f.rest end refl in
-      let one = word at cs cut.word f.rest f.lex f.kind [] end (unspaced f.rest) cut.split cut.token spaces in
-      record { are = joined (over literals classes) (token ∷ []) end (unspaced f.rest) reaches.are one; short = each_pushed (λ t. length t.lex ≤ most_token_bytes) ts token reaches.short short }
+abbrev behind_one : Token → Taken → Taken
+behind_one t taken = record { tokens = t ∷ taken.tokens; end = taken.end; rest = taken.rest }
 
-  goes_to : (n at : ℕ) (cs : List ℕ) (ts : List Token) → length cs < n → Reaches (over literals classes) whole ts at cs → StartsPlain cs → Outcome (over literals classes) whole
-  goes_to zero at cs ts less reaches plain = let bad : ⊥ = omega arith in absurd bad
-  goes_to (suc n) at [] ts less reaches plain = all ts at reaches
-  goes_to (suc n) at (c ∷ cs) ts less reaches plain = by (word_from (over literals classes) (c ∷ cs)) (word_is (over literals classes) (c ∷ cs)) (goes_to n)
-    where
-      by : (o : Option Front) → IsWordIn (over literals classes) (c ∷ cs) o
-          → ((at : ℕ) (ds : List ℕ) (ts : List Token) → length ds < n → Reaches (over literals classes) whole ts at ds → StartsPlain ds → Outcome (over literals classes) whole) → Outcome (over literals classes) whole
-      by None nothing more = none at (record { before = ts; first = c; rest = cs; reaches = reaches; no_separator = plain; no_word = nothing })
-      by (Some f) cut more = go (nat_lt most_token_bytes (length f.lex)) refl
-        where
-          go : (b : Bool) → nat_lt most_token_bytes (length f.lex) ≡ b → Outcome (over literals classes) whole
-          go true h =
-              let far : most_token_bytes < length f.lex = grind (arith, nat_tests) in
-              long at (record {
-                before = ts;
-                kind = f.kind;
-                lex = f.lex;
-                word = cut.word;
-                rest = f.rest;
-                reaches = record { are = subst (λ ds. AreTokens (over literals classes) 0 whole ts at ds) cut.split reaches.are; short = reaches.short };
-                token = cut.token;
-                long = far;
-              })
-          go false h =
-              let short : length f.lex ≤ most_token_bytes = grind (arith, nat_tests) in
-              let word_long = word_some (over literals classes) f.kind cut.word f.lex some cut.token.is in
-              let fewer : length (unspaced f.rest) < n = omega (arith, ap length cut.split, length-append cut.word f.rest, length-drop (prefix_len is_separator f.rest) f.rest) in
-              more (at + width cut.word + prefix_len is_separator f.rest) (unspaced f.rest) (ts ++ record { kind = f.kind; lex = f.lex; at = at } ∷ []) fewer (one_further at (c ∷ cs) ts f reaches cut short) (plain_behind f.rest)
+-- the token in front of characters, at an offset, and those that are taken behind it
+abbrev taken_at : (ℕ → List ℕ → Taken) → Vocabulary → ℕ → List ℕ → Taken
+taken_at more v at cs = elim (short_of (word_from v cs)) [
+  None ↦ record { tokens = []; end = at; rest = cs }
+  | Some f ↦ behind_one (record { kind = f.kind; lex = f.lex; at = at }) (more (at + (width cs - width f.rest)) f.rest)
+]
 
-  outcome : Outcome (over literals classes) whole
-  outcome =
-      let begins : Reaches (over literals classes) whole [] (0 + prefix_len is_separator whole) (unspaced whole) = record { are = only_spaces (over literals classes) 0 whole (0 + prefix_len is_separator whole) refl; short = λ i t e. let bad : ⊥ = cc in absurd bad } in
-      goes_to (suc (length (unspaced whole))) (0 + prefix_len is_separator whole) (unspaced whole) [] (omega arith) begins (plain_behind whole)
+-- the first n tokens from an offset on, or fewer where no more are taken
+abbrev taken_from : Vocabulary → ℕ → ℕ → List ℕ → Taken
+taken_from v zero at cs = record { tokens = []; end = at; rest = cs }
+taken_from v (suc n) at cs = taken_at (taken_from v n) v (at + prefix_len is_separator cs) (unspaced cs)
+
+-- Such tokens end where no more is taken.
+record IsEnd (v : Vocabulary) (cs : List ℕ) : Type 0 where
+  pub plain : StartsPlain cs
+  pub none : short_of (word_from v cs) ≡ None
+
+-- The tokens that are taken from an offset on stand there up to their end.
+record AreTaken (v : Vocabulary) (at : ℕ) (cs : List ℕ) (t : Taken) : Type 0 where
+  pub are : AreTokens v at cs t.tokens t.end t.rest
+  pub short : AreShort t.tokens
+  pub ends : IsEnd v t.rest
+
+short_told : (o : Option Front) (f : Front) → short_of o ≡ Some f → (o ≡ Some f) × (length f.lex ≤ most_token_bytes)
+short_told o f e = (grind (arith, nat_tests), grind (arith, nat_tests))
+
+are_taken : (v : Vocabulary) → IsClean v → (n at : ℕ) (cs : List ℕ) → length cs < n → AreTaken v at cs (taken_from v n at cs)
+are_taken v clean zero at cs less = absurd (omega arith)
+are_taken v clean (suc n) at cs less = go (short_of (word_from v (unspaced cs))) refl (are_taken v clean n)
+  where
+    go : (o : Option Front) → short_of (word_from v (unspaced cs)) ≡ o → ((at : ℕ) (cs : List ℕ) → length cs < n → AreTaken v at cs (taken_from v n at cs)) → AreTaken v at cs (taken_from v (suc n) at cs)
+    go None e more = rw (taken_at, e) (record { are = spaced v at cs _ _ _ (ended _ _); short = each_none _; ends = record { plain = plain_behind cs; none = e } })
+    go (Some f) e more =
+        let (first, short) = short_told (word_from v (unspaced cs)) f e in
+        let cut : CutsToken v (unspaced cs) f = subst (IsWordIn v (unspaced cs)) first (word_is v (unspaced cs)) in
+        let some = word_some v f.kind cut.word f.lex clean.some cut.token.is in
+        let here = at + prefix_len is_separator cs in
+        let next = more (here + (width (unspaced cs) - width f.rest)) f.rest (omega (arith, ap length cut.split, length-append cut.word f.rest, length-drop (prefix_len is_separator cs) cs)) in
+        rw (taken_at, e) (record { are = spaced v at cs _ _ _ (one_more v here (unspaced cs) f _ _ _ first next.are); short = each_more _ _ _ short next.short; ends = next.ends })
+
+cut_is : (v : Vocabulary) → IsClean v → (cs : List ℕ) (o : Option Front) → IsWordIn v cs o → word_from v cs ≡ o
+cut_is v clean cs o is = one_word v clean cs (word_from v cs) o (word_is v cs) is
+
+-- where no separator stands in front, a token is taken at once
+at_once : (v : Vocabulary) (n at : ℕ) (cs : List ℕ) → StartsPlain cs → taken_from v (suc n) at cs ≡ taken_at (taken_from v n) v at cs
+at_once v n at cs plain =
+    let none = no_spaces cs plain in
+    let place : at + prefix_len is_separator cs ≡ at = omega (arith, none) in
+    λ i. taken_at (taken_from v n) v (place i) (drop (none i) cs)
+
+taken_is : (v : Vocabulary) → IsClean v → (n : ℕ) {at : ℕ} {cs : List ℕ} {ts : List Token} {end : ℕ} {rest : List ℕ} → AreTokens v at cs ts end rest → AreShort ts → IsEnd v rest → length ts < n
+    → taken_from v n at cs ≡ record { tokens = ts; end = end; rest = rest }
+taken_is v clean zero are short ends less = absurd (omega arith)
+taken_is v clean (suc n) (ended at cs) short ends less = at_once v n at cs ends.plain ∙ rw (taken_at, ends.none) refl
+taken_is v clean (suc n) (separator at c cs ts end rest h are) short ends less =
+    let more : prefix_len is_separator (c ∷ cs) ≡ suc (prefix_len is_separator cs) = rw h (omega arith) in
+    let place : at + prefix_len is_separator (c ∷ cs) ≡ (at + 1) + prefix_len is_separator cs = omega (arith, more) in
+    (λ i. taken_at (taken_from v n) v (place i) (drop (more i) (c ∷ cs))) ∙ taken_is v clean (suc n) are short ends less
+taken_is v clean (suc n) (word at cs w behind lex t ts end rest split is are) short ends less =
+    let first : word_from v cs ≡ Some (record { kind = t; lex = lex; rest = behind }) = cut_is v clean cs (Some _) (record { word = w; split = split; token = is }) in
+    let brief : length lex ≤ most_token_bytes = short 0 _ refl in
+    let not_long : nat_lt most_token_bytes (length lex) ≡ false = grind (arith, nat_tests) in
+    let place : at + (width cs - width behind) ≡ at + width w = omega (arith, ap width split, width-append w behind) in
+    let more = taken_is v clean n are (λ i u e. short (suc i) u e) ends (omega arith) in
+    at_once v n at cs (token_plain v clean cs t lex w behind split is) ∙ rw (taken_at, first, not_long, place) (ap (behind_one (record { kind = t; lex = lex; at = at })) more)
+
+-- ---- the answer
+
+-- the answer where the tokens end before these characters, in front of which this word stands
+abbrev ended_by : List ℕ → Option Front → List Token → ℕ → Result (List Token) ScanFault
+ended_by [] o ts at = Ok ts
+ended_by (c ∷ cs) None ts at = Err (fault.NoToken at)
+ended_by (c ∷ cs) (Some f) ts at = Err (fault.LongToken at)
+
+abbrev answer_by : Vocabulary → Taken → Result (List Token) ScanFault
+answer_by v t = ended_by t.rest (word_from v t.rest) t.tokens t.end
+
+abbrev pub answer_to : Vocabulary → List ℕ → Result (List Token) ScanFault
+answer_to v s =
+    cond (nat_lt most_sentence_bytes (length s)) (Err fault.TooLong) (cond (is_utf8 s) (answer_by v (taken_from v (suc (length (chars s))) 0 (chars s))) (Err (fault.BadUtf8 (utf8_valid_len s))))
+
+answers : (v : Vocabulary) (s : List ℕ) → IsReadable s → (t : Taken) → AreTaken v 0 (chars s) t → IsAnswer v s (answer_by v t)
+answers v s readable t taken = go t.rest taken.are taken.ends (word_from v t.rest) (word_is v t.rest) refl
+  where
+    go : (cs : List ℕ) → AreTokens v 0 (chars s) t.tokens t.end cs → IsEnd v cs → (o : Option Front) → IsWordIn v cs o → word_from v cs ≡ o → IsAnswer v s (ended_by cs o t.tokens t.end)
+    go [] are ends o is e =
+        let end : t.end ≡ length s = omega (arith, as_wide are, width-chars s readable.utf8) in
+        record { readable = readable; tokens = record { are = rw end at are; short = taken.short } }
+    go (c ∷ cs) are ends None none e =
+        (readable, record { before = t.tokens; first = c; rest = cs; reaches = record { are = are; short = taken.short }; no_separator = ends.plain; no_word = none })
+    go (c ∷ cs) are ends (Some f) cut e =
+        let none = ends.none in
+        let long : most_token_bytes < length f.lex = grind (arith, nat_tests) in
+        (readable, record { before = t.tokens; kind = f.kind; lex = f.lex; word = cut.word; rest = f.rest; reaches = record { are = rw cut.split at are; short = taken.short }; token = cut.token; long = long })
+
+pub accepted_clean : (g : Grammar) → IsAccepted g → IsClean (vocabulary_of g)
+accepted_clean g is = record { some = λ i x e. (is.limits.literal_bytes i x e).0; plain = is.named.without_separators; differ = is.named.literals_differ }
 
 pub an_answer : AnAnswer
-an_answer g accepted s = go (nat_lt most_sentence_bytes (length s)) refl
+an_answer g accepted s = (answer_to (vocabulary_of g) s, go (nat_lt most_sentence_bytes (length s)) (is_utf8 s) refl refl)
   where
-    some : HasNoEmpty g.literals
-    some i x e = (accepted.limits.literal_bytes i x e).0
+    v : Vocabulary
+    v = vocabulary_of g
 
-    at_outcome : IsReadable s → Outcome (vocabulary_of g) (chars s) → (q : Result (List Token) ScanFault) × IsAnswer (vocabulary_of g) s q
-    at_outcome readable (all ts at reaches) =
-        let end : at ≡ length s = omega (arith, as_wide reaches.are, width-chars s readable.utf8) in
-        (Ok ts, record { readable = readable; tokens = subst (λ n. Reaches (vocabulary_of g) (chars s) ts n []) end reaches })
-    at_outcome readable (none at h) = (Err (fault.NoToken at), (readable, h))
-    at_outcome readable (long at h) = (Err (fault.LongToken at), (readable, h))
+    go : (long utf8 : Bool) → nat_lt most_sentence_bytes (length s) ≡ long → is_utf8 s ≡ utf8 → IsAnswer (vocabulary_of g) s (answer_to (vocabulary_of g) s)
+    go true utf8 e f = rw e (grind (arith, nat_tests))
+    go false false e f = let short : length s ≤ most_sentence_bytes = grind (arith, nat_tests) in rw (e, f) (short, λ is. (let utf8 = is_utf8-from_IsUtf8 s is in cc), refl)
+    go false true e f =
+        let short : length s ≤ most_sentence_bytes = grind (arith, nat_tests) in
+        rw (e, f) (answers (vocabulary_of g) s (record { short = short; utf8 = IsUtf8-from_is_utf8 s f }) _ (are_taken (vocabulary_of g) (accepted_clean g accepted) (suc (length (chars s))) 0 (chars s) (omega arith)))
 
-    at_text : length s ≤ most_sentence_bytes → (t : Bool) → is_utf8 s ≡ t → (q : Result (List Token) ScanFault) × IsAnswer (vocabulary_of g) s q
-    at_text short true e = at_outcome (record { short = short; utf8 = IsUtf8-from_is_utf8 s e }) (outcome g.literals g.classes some (chars s))
-    at_text short false e = (Err (fault.BadUtf8 (utf8_valid_len s)), (short, λ utf8. (let bad : true ≡ false = sym (is_utf8-from_IsUtf8 s utf8) ∙ e in cc), refl))
+-- ---- there is no other
 
-    go : (t : Bool) → nat_lt most_sentence_bytes (length s) ≡ t → (q : Result (List Token) ScanFault) × IsAnswer (vocabulary_of g) s q
-    go true e = (Err fault.TooLong, grind (arith, nat_tests))
-    go false e = let short : length s ≤ most_sentence_bytes = grind (arith, nat_tests) in at_text short (is_utf8 s) refl
+module _ (v : Vocabulary) (clean : IsClean v) (s : List ℕ) where
+  reached : {ts : List Token} {end : ℕ} {rest : List ℕ} → IsReadable s → Reaches v (chars s) ts end rest → IsEnd v rest → answer_to v s ≡ ended_by rest (word_from v rest) ts end
+  reached readable reaches ends =
+      let short = readable.short in
+      let not_far : nat_lt most_sentence_bytes (length s) ≡ false = grind (arith, nat_tests) in
+      let few = fewer clean.some reaches.are in
+      rw (not_far, is_utf8-from_IsUtf8 s readable.utf8) (ap (answer_by v) (taken_is v clean (suc (length (chars s))) reaches.are reaches.short ends (omega arith)))
+
+  no_word_left : word_from v [] ≡ None
+  no_word_left = cut_is v clean [] None (λ w more split is. (let some = word_some v is.0 w is.1 clean.some is.2 in omega (arith, ap length split, length-append w more)))
+
+  long_left : (cs : List ℕ) (f : Front) (ts : List Token) (at : ℕ) → CutsToken v cs f → ended_by cs (Some f) ts at ≡ Err (fault.LongToken at)
+  long_left [] f ts at cut = let some = word_some v f.kind cut.word f.lex clean.some cut.token.is in absurd (omega (arith, ap length cut.split, length-append cut.word f.rest))
+  long_left (c ∷ cs) f ts at cut = refl
+
+  pub is_answer : (q : Result (List Token) ScanFault) → IsAnswer v s q → answer_to v s ≡ q
+  is_answer (Ok ts) is = reached is.readable is.tokens (record { plain = tt; none = rw no_word_left refl })
+  is_answer (Err fault.NoMemory) is = absurd is
+  is_answer (Err fault.TooLong) is = let far : nat_lt most_sentence_bytes (length s) ≡ true = grind (arith, nat_tests) in rw far refl
+  is_answer (Err (fault.BadUtf8 at)) (short, refused, place) =
+      let not_far : nat_lt most_sentence_bytes (length s) ≡ false = grind (arith, nat_tests) in
+      let no_text : is_utf8 s ≡ false = let is = IsUtf8-from_is_utf8 s in grind (arith, refused, is) in
+      rw (not_far, no_text, place) refl
+  is_answer (Err (fault.NoToken at)) (readable, none) =
+      let no_word : word_from v (none.first ∷ none.rest) ≡ None = cut_is v clean (none.first ∷ none.rest) None none.no_word in
+      reached readable none.reaches (record { plain = none.no_separator; none = rw no_word refl }) ∙ rw no_word refl
+  is_answer (Err (fault.LongToken at)) (readable, long) =
+      let f : Front = record { kind = long.kind; lex = long.lex; rest = long.rest } in
+      let cut : CutsToken v (long.word ++ long.rest) f = record { word = long.word; split = refl; token = long.token } in
+      let first = cut_is v clean (long.word ++ long.rest) (Some f) cut in
+      let far = long.long in
+      let is_long : nat_lt most_token_bytes (length long.lex) ≡ true = grind (arith, nat_tests) in
+      let plain = token_plain v clean _ long.kind long.lex long.word long.rest refl long.token in
+      reached readable long.reaches (record { plain = plain; none = rw (first, is_long) refl }) ∙ rw first (long_left (long.word ++ long.rest) f long.before at cut)

@@ -3,25 +3,22 @@ use Rattle.std.proofs.Common.{◌≡◌, ℕ, ◌+◌, ◌<◌, ◌≤◌, List,
 use Rattle.std.proofs.Math.ListN.{set, replicate}
 use Rattle.std.proofs.lemmas.List.{length-set, length-replicate, get_or-set_other}
 use Rattle.std.proofs.lemmas.Grind.{get_or-set_at}
+use Rattle.std.proofs.lemmas.Option.{slice_get_within}
 use Rattle.ag_scan.specs.declared.literals.Word.{Word}
 use Rattle.ag_scan.specs.declared.starts.Start.{Start}
-use Rattle.ag_scan.specs.declared.starts.Start.TheVariants.{Nothing, Sole, Several}
+use Rattle.ag_scan.specs.declared.starts.Start.TheVariants.{Nothing, Sole}
 use Rattle.ag_scan.specs.Table.{IsFront, IsTable, IsLongestFront, HasNoFront, AreTold, Tells, with_one}
-use Rattle.ag_scan.proofs.Tables.{compared, same_there, there_within}
+use Rattle.ag_scan.proofs.Tables.{compared, same_there}
 
 pub none_told : (words : List Word) (starts : List Start) → starts ≡ replicate 256 Nothing → AreTold words starts 0
 none_told words starts e = record { whole = ap length e ∙ length-replicate 256 Nothing; each = λ k w below there. let bad : ⊥ = omega arith in absurd bad }
 
 -- what is told of a word stays so when a word more begins with its byte
 still_told : (k : ℕ) (s : Start) (index : ℕ) → Tells k s → Tells k (with_one s index)
-still_told k Nothing index h = absurd h
-still_told k (Sole other) index h = tt
-still_told k Several index h = tt
+still_told k s index h = grind arith
 
 newly_told : (s : Start) (index : ℕ) → Tells index (with_one s index)
-newly_told Nothing index = refl
-newly_told (Sole other) index = tt
-newly_told Several index = tt
+newly_told s index = grind arith
 
 -- one word more is told of
 module _ (words : List Word) (starts : List Start) (index b : ℕ) (rest : List ℕ) (w : Word) (s : Start) (told : AreTold words starts index) (there : slice_get words index ≡ Some w) (text : w.text.now ≡ b ∷ rest) (byte : b < 256) (is : get_or starts b s ≡ s) where
@@ -59,7 +56,7 @@ module _ (literals : List (List ℕ)) (words : List Word) (shorter : List (Optio
   told_front : (b : ℕ) (rest x : List ℕ) (n : ℕ) → text ≡ b ∷ rest → slice_get literals n ≡ Some x → IsFront x text → (k : ℕ) × (w : Word) × (slice_get words k ≡ Some w) × (w.text.now ≡ x) × ((d : Start) → Tells k (get_or starts b d))
   told_front b rest x n e at front =
       let found = table.literals_all.whole n x at in
-      let of = told.each found.0 found.1 (there_within words found.0 found.1 found.2) found.2 in
+      let of = told.each found.0 found.1 (slice_get_within words found.0 found.1 found.2) found.2 in
       let same : of.0 ∷ (of.1 ++ front.0) ≡ b ∷ rest = ap (λ y. y ++ front.0) (sym of.2 ∙ found.3) ∙ sym front.1 ∙ e in
       let first : of.0 ≡ b = cc in
       (found.0, found.1, found.2, found.3, λ d. subst (λ c. Tells found.0 (get_or starts c d)) first (of.3 d))

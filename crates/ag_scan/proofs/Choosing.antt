@@ -1,104 +1,85 @@
 -- Which word in front is the token.
-use Rattle.std.proofs.Common.{◌≡◌, ℕ, ◌+◌, ◌<◌, ◌≤◌, true, false, nat_lt, List, [], ◌∷◌, ◌++◌, length, Option, Some, None, refl, ap, sym, ◌∙◌, subst, arith, option_map, MatchOption}
+use Rattle.std.proofs.Common.{◌≡◌, ℕ, ◌+◌, ◌<◌, ◌≤◌, Bool, true, false, cond, nat_lt, List, [], ◌∷◌, ◌++◌, length, Option, Some, None, refl, ap, sym, ◌∙◌, arith, option_map, MatchOption}
 use Rattle.std.proofs.lemmas.Str.{len_utf8_bounds}
 use Rattle.ag_grammar.specs.declared.grammar.Terminal.TheVariants.{Literal, Class}
 use Rattle.ag_tokens.specs.Tokens.{width}
 use Rattle.ag_tokens.proofs.Lexed.{width-append}
-use Rattle.ag_scan.specs.Words.{Vocabulary, over, IsLiteral, IsClassed, IsAnyWord, IsLongest, BeginsNone, IsToken}
+use Rattle.ag_scan.specs.Words.{Vocabulary, IsLiteral, IsClassed, IsAnyWord, IsLongest, BeginsNone}
 use Rattle.ag_scan.specs.declared.front.Front as lent
-use Rattle.ag_scan.specs.Cutting.{Front, CutsLiteral, CutsToken, front_of, class_from}
+use Rattle.ag_scan.specs.Cutting.{Front, CutsLiteral, CutsToken, front_of, class_from, longer_of}
 use Rattle.ag_scan.proofs.ClassWords.{CutsClass, class_cut, class_none}
+use Rattle.ag_scan.proofs.OneToken.{IsWordIn}
 use Rattle.std.proofs.lemmas.Bool.Decides.{nat_tests}
 
 -- of two fronts of one text the shorter is no wider
 pub no_wider : (xs ys us vs : List ℕ) → xs ++ us ≡ ys ++ vs → length xs ≤ length ys → width xs ≤ width ys
 no_wider [] ys us vs e h = omega arith
-no_wider (x ∷ xs) [] us vs e h = let bad : ⊥ = omega arith in absurd bad
-no_wider (x ∷ xs) (y ∷ ys) us vs e h =
-    let tails : xs ++ us ≡ ys ++ vs = cc in
-    let heads : x ≡ y = cc in
-    let more = no_wider xs ys us vs tails (omega arith) in
-    subst (λ z. width (x ∷ xs) ≤ width (z ∷ ys)) heads (omega arith)
+no_wider (x ∷ xs) [] us vs e h = absurd (omega arith)
+no_wider (x ∷ xs) (y ∷ ys) us vs e h = let more = no_wider xs ys us vs in grind arith
 
 -- and the narrower is no longer
 pub no_longer : (xs ys us vs : List ℕ) → xs ++ us ≡ ys ++ vs → width xs ≤ width ys → length xs ≤ length ys
 no_longer [] ys us vs e h = omega arith
-no_longer (x ∷ xs) [] us vs e h = let some = (len_utf8_bounds x).0 in let bad : ⊥ = omega arith in absurd bad
-no_longer (x ∷ xs) (y ∷ ys) us vs e h =
-    let tails : xs ++ us ≡ ys ++ vs = cc in
-    let heads : x ≡ y = cc in
-    let same : width (x ∷ xs) ≤ width (x ∷ ys) = subst (λ z. width (x ∷ xs) ≤ width (z ∷ ys)) (sym heads) h in
-    let more = no_longer xs ys us vs tails (omega arith) in
-    omega arith
+no_longer (x ∷ xs) [] us vs e h = let some = (len_utf8_bounds x).0 in absurd (omega arith)
+no_longer (x ∷ xs) (y ∷ ys) us vs e h = let more = no_longer xs ys us vs in grind arith
 
-module _ (literals : List (List ℕ)) (classes cs : List ℕ) where
-  v : Vocabulary
-  v = over literals classes
+-- what is looked for: the longest literal in front, or that there is none
+abbrev pub IsLiteralIn : List (List ℕ) → List ℕ → Option Front → Type 0
+IsLiteralIn literals cs o = MatchOption o (BeginsNone (IsLiteral literals) cs) (λ f. CutsLiteral literals cs f)
 
-  pub no_word : BeginsNone (IsLiteral literals) cs → BeginsNone (IsClassed classes) cs → BeginsNone (IsAnyWord (over literals classes)) cs
+module _ (v : Vocabulary) (cs : List ℕ) where
+  no_word : BeginsNone (IsLiteral v.literals) cs → BeginsNone (IsClassed v.classes) cs → BeginsNone (IsAnyWord v) cs
   no_word none no_class word more split (Literal l, lex, is) = none word more split (l, is.0)
   no_word none no_class word more split (Class c, lex, is) = no_class word more split (c, lex, is.0, is.1)
 
-  pub class_alone : (f : Front) → BeginsNone (IsLiteral literals) cs → CutsClass classes cs f → CutsToken (over literals classes) cs f
-  class_alone f none cut = record { word = cut.word; split = cut.split; token = subst (λ k. IsToken (over literals classes) k f.lex cut.word f.rest) (sym cut.kind) (record { is = (cut.used, cut.is); longest = longest; tie = λ is. none cut.word f.rest cut.split is }) }
+  -- a word of a class is the token where each literal in front is shorter,
+  class_token : (f : Front) → (cut : CutsClass v.classes cs f) → ((word more : List ℕ) → cs ≡ word ++ more → IsLiteral v.literals word → length word < length cut.word) → CutsToken v cs f
+  class_token f cut less = record { word = cut.word; split = cut.split; token = rw cut.kind (record { is = (cut.used, cut.is); longest = longest; tie = tie }) }
     where
-      longest : IsLongest (IsAnyWord (over literals classes)) cut.word f.rest
-      longest longer more same (Literal l, lex, is) = absurd (none longer more (cut.split ∙ same) (l, is.0))
+      longest : IsLongest (IsAnyWord v) cut.word f.rest
+      longest longer more same (Literal l, lex, is) = let k = less longer more (cut.split ∙ same) (l, is.0) in omega arith
       longest longer more same (Class c, lex, is) = cut.longest longer more same (c, lex, is.0, is.1)
 
-  pub literal_alone : (f : Front) → CutsLiteral literals cs f → BeginsNone (IsClassed classes) cs → CutsToken (over literals classes) cs f
-  literal_alone f cut none = record { word = cut.word; split = cut.split; token = subst (λ k. IsToken (over literals classes) k f.lex cut.word f.rest) (sym cut.kind) (record { is = (cut.there, cut.text); longest = longest; tie = tt }) }
+      tie : IsLiteral v.literals cut.word → ⊥
+      tie is = let k = less cut.word f.rest cut.split is in omega arith
+
+  -- and a literal where no word of a class is longer
+  literal_token : (f : Front) → (cut : CutsLiteral v.literals cs f) → ((word more : List ℕ) → cs ≡ word ++ more → IsClassed v.classes word → length word ≤ length cut.word) → CutsToken v cs f
+  literal_token f cut fit = record { word = cut.word; split = cut.split; token = rw cut.kind (record { is = (cut.there, cut.text); longest = longest; tie = tt }) }
     where
-      longest : IsLongest (IsAnyWord (over literals classes)) cut.word f.rest
+      longest : IsLongest (IsAnyWord v) cut.word f.rest
       longest longer more same (Literal l, lex, is) = cut.longest longer more same (l, is.0)
-      longest longer more same (Class c, lex, is) = absurd (none longer more (cut.split ∙ same) (c, lex, is.0, is.1))
+      longest longer more same (Class c, lex, is) = fit longer more (cut.split ∙ same) (c, lex, is.0, is.1)
 
-  module _ (f g : Front) (literal : CutsLiteral literals cs f) (class : CutsClass classes cs g) where
-    both : literal.word ++ f.rest ≡ class.word ++ g.rest
-    both = sym literal.split ∙ class.split
+  longer : (f g : Front) → CutsLiteral v.literals cs f → CutsClass v.classes cs g → (b : Bool) → nat_lt (width g.rest) (width f.rest) ≡ b → IsWordIn v cs (cond b (Some g) (Some f))
+  longer f g literal class b h = go b h
+    where
+      both : literal.word ++ f.rest ≡ class.word ++ g.rest
+      both = sym literal.split ∙ class.split
 
-    wide : width literal.word + width f.rest ≡ width class.word + width g.rest
-    wide = sym (width-append literal.word f.rest) ∙ ap width both ∙ width-append class.word g.rest
+      wide : width literal.word + width f.rest ≡ width class.word + width g.rest
+      wide = sym (width-append literal.word f.rest) ∙ ap width both ∙ width-append class.word g.rest
 
-    pub class_wins : width g.rest < width f.rest → CutsToken (over literals classes) cs g
-    class_wins less = record { word = class.word; split = class.split; token = subst (λ k. IsToken (over literals classes) k g.lex class.word g.rest) (sym class.kind) (record { is = (class.used, class.is); longest = longest; tie = tie }) }
-      where
-        literals_fit : (word more : List ℕ) → class.word ++ g.rest ≡ word ++ more → IsLiteral literals word → length word < length class.word
-        literals_fit word more same is =
-            let here = literal.longest word more (both ∙ same) is in
-            let w = wide in
-            go (no_wider class.word literal.word g.rest f.rest (sym both))
-          where
-            go : (length class.word ≤ length literal.word → width class.word ≤ width literal.word) → length word < length class.word
-            go wider = let here = literal.longest word more (both ∙ same) is in let w = wide in let bad : length class.word ≤ length literal.word → ⊥ = λ le. (let k = wider le in omega arith) in omega arith
+      go : (b : Bool) → nat_lt (width g.rest) (width f.rest) ≡ b → IsWordIn v cs (cond b (Some g) (Some f))
+      go true h = class_token g class (λ word more split is.
+          (let fits = literal.longest word more (sym literal.split ∙ split) is in
+          let wider = no_wider class.word literal.word g.rest f.rest (sym both) in
+          let w = wide in
+          grind (arith, nat_tests)))
+      go false h = literal_token f literal (λ word more split is.
+          (let fits = class.longest word more (sym class.split ∙ split) is in
+          let k = no_longer class.word literal.word g.rest f.rest (sym both) in
+          let w = wide in
+          grind (arith, nat_tests)))
 
-        longest : IsLongest (IsAnyWord (over literals classes)) class.word g.rest
-        longest longer more same (Literal l, lex, is) = let k = literals_fit longer more same (l, is.0) in omega arith
-        longest longer more same (Class c, lex, is) = class.longest longer more same (c, lex, is.0, is.1)
+  -- which of the words in front the token is
+  pub chosen : (a b : Option Front) → IsLiteralIn v.literals cs a → class_from v.classes cs ≡ b → IsWordIn v cs (longer_of a b)
+  chosen None None none e = no_word none (class_none v.classes cs e)
+  chosen None (Some g) none e = class_token g (class_cut v.classes cs g e) (λ word more split is. absurd (none word more split is))
+  chosen (Some f) None literal e = literal_token f literal (λ word more split is. absurd (class_none v.classes cs e word more split is))
+  chosen (Some f) (Some g) literal e = longer f g literal (class_cut v.classes cs g e) (nat_lt (width g.rest) (width f.rest)) refl
 
-        tie : IsLiteral literals class.word → ⊥
-        tie is = let k = literals_fit class.word g.rest refl is in omega arith
-
-    pub literal_wins : width f.rest ≤ width g.rest → CutsToken (over literals classes) cs f
-    literal_wins less = record { word = literal.word; split = literal.split; token = subst (λ k. IsToken (over literals classes) k f.lex literal.word f.rest) (sym literal.kind) (record { is = (literal.there, literal.text); longest = longest; tie = tt }) }
-      where
-        longest : IsLongest (IsAnyWord (over literals classes)) literal.word f.rest
-        longest longer more same (Literal l, lex, is) = literal.longest longer more same (l, is.0)
-        longest longer more same (Class c, lex, is) =
-            let here = class.longest longer more (sym both ∙ same) (c, lex, is.0, is.1) in
-            let w = wide in
-            let k = no_longer class.word literal.word g.rest f.rest (sym both) (omega arith) in
-            omega arith
-
--- what stands in front, where no literal does
-pub alone : (literals : List (List ℕ)) (classes cs : List ℕ) (o : Option lent.Front) → BeginsNone (IsLiteral literals) cs → option_map (λ f. front_of f) o ≡ class_from classes cs
-    → MatchOption o (BeginsNone (IsAnyWord (over literals classes)) cs) (λ f. CutsToken (over literals classes) cs (front_of f))
-alone literals classes cs None none e = no_word literals classes cs none (class_none classes cs (sym e))
-alone literals classes cs (Some f) none e = class_alone literals classes cs (front_of f) none (class_cut classes cs (front_of f) (sym e))
-
--- what the test of the rests tells
-pub told_shorter : (m n : ℕ) → true ≡ nat_lt m n → m < n
-told_shorter m n e = grind (arith, nat_tests)
-
-pub told_not : (m n : ℕ) → false ≡ nat_lt m n → n ≤ m
-told_not m n e = grind (arith, nat_tests)
+-- the same of a front that is lent
+pub lent_word : (v : Vocabulary) (cs : List ℕ) (o : Option lent.Front) → IsWordIn v cs (option_map (λ f. front_of f) o) → MatchOption o (BeginsNone (IsAnyWord v) cs) (λ f. CutsToken v cs (front_of f))
+lent_word v cs None none = none
+lent_word v cs (Some f) cut = cut

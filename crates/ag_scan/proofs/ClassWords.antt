@@ -1,13 +1,13 @@
 -- Cutting the word of a class and the definition of words agree.
-use Rattle.std.proofs.Common.{◌≡◌, ℕ, zero, suc, ◌<◌, ◌≤◌, Bool, true, false, cond, ◌||◌, ◌==◌, List, [], ◌∷◌, ◌++◌, length, Option, Some, None, slice_get, encode_utf8_all, refl, ap, sym, ◌∙◌, subst, lit<, arith, append_assoc}
-use Rattle.std.proofs.lemmas.Bool.{eqb-true, and_parts}
+use Rattle.std.proofs.Common.{◌≡◌, ℕ, zero, suc, ◌<◌, ◌≤◌, Bool, true, false, cond, ◌==◌, List, [], ◌∷◌, ◌++◌, length, Option, Some, None, slice_get, encode_utf8_all, refl, ap, sym, ◌∙◌, subst, lit<, arith, append_assoc}
 use Rattle.std.proofs.lemmas.Bool.Decides.{nat_tests}
 use Rattle.std.proofs.lemmas.List.{length-append, length-drop, take-append-drop}
+use Rattle.std.proofs.lemmas.List.Sums.{prefix_len-le-length}
 use Rattle.std.proofs.lemmas.Option.{none-some, same_Some}
 use Rattle.std.proofs.Math.Seq.{drop-append_seam, take-append_seam}
-use Rattle.std.specs.Char.{is_ascii_digit, is_ascii_alphabetic}
+use Rattle.std.specs.Char.{is_ascii_digit}
 use Rattle.std.specs.List.{prefix_len, list_all}
-use Rattle.unicode_ident.specs.Ident.{is_xid_start, is_xid_continue}
+use Rattle.unicode_ident.specs.Ident.{is_xid_continue}
 use Rattle.unicode_ident.proofs.IdentLemmas.{is_xid_continue-ascii, is_xid_start-is_xid_continue}
 use Rattle.ag_grammar.specs.Lists.{Has}
 use Rattle.ag_grammar.specs.declared.grammar.Terminal.TheVariants.{Class}
@@ -29,86 +29,84 @@ pub record CutsClass (classes cs : List ℕ) (f : Front) : Type 0 where
 
 -- ---- which characters begin which words
 
-same_number : (a b : ℕ) → (a == b) ≡ true → a ≡ b
-same_number a b e = eqb-true a b e
-
 pub digit_no_name : (c : ℕ) → is_ascii_digit c ≡ true → starts_name c ≡ false
-digit_no_name c digit =
-    let small : c < 128 = grind (arith, nat_tests) in
-    let letter : is_ascii_alphabetic c ≡ false = grind (arith, nat_tests) in
-    let line : (c == 95) ≡ false = grind (arith, nat_tests) in
-    no_start c small letter line
+digit_no_name c digit = grind (arith, nat_tests, no_start)
 
 name_goes_on : (c : ℕ) → starts_name c ≡ true → is_xid_continue c ≡ true
-name_goes_on c starts = go (is_xid_start c) (c == 95) refl refl starts
-  where
-    go : (a b : Bool) → is_xid_start c ≡ a → (c == 95) ≡ b → (a || b) ≡ true → is_xid_continue c ≡ true
-    go true b p q h = is_xid_start-is_xid_continue c p
-    go false true p q h = let same = same_number c 95 q in ap is_xid_continue same ∙ is_xid_continue-ascii 95 (lit< tt) ∙ refl
-    go false false p q h = let bad : ⊥ = cc in absurd bad
+name_goes_on c starts = let line : is_xid_continue 95 ≡ true = is_xid_continue-ascii 95 (lit< tt) in grind (arith, nat_tests, is_xid_start-is_xid_continue, line)
 
 -- ---- which classes are in use
 
 pub used_has : (classes : List ℕ) (k : ℕ) → uses classes k ≡ true → Has classes k
-used_has [] k h = let bad : ⊥ = cc in absurd bad
-used_has (c ∷ classes) k h = go (c == k) refl h (used_has classes k)
+used_has [] k h = absurd (cc)
+used_has (c ∷ classes) k h = go (c == k) refl (used_has classes k)
   where
-    go : (b : Bool) → (c == k) ≡ b → (b || uses classes k) ≡ true → (uses classes k ≡ true → Has classes k) → Has (c ∷ classes) k
-    go true e h more = (0, ap Some (same_number c k e))
-    go false e h more = let found = more h in (suc found.0, found.1)
+    go : (b : Bool) → (c == k) ≡ b → (uses classes k ≡ true → Has classes k) → Has (c ∷ classes) k
+    go true e more = (0, grind (arith, nat_tests))
+    go false e more = let found = more (grind arith) in (suc found.0, found.1)
 
 pub has_used : (classes : List ℕ) (k i : ℕ) → slice_get classes i ≡ Some k → uses classes k ≡ true
-has_used [] k i e = let bad : ⊥ = cc in absurd bad
-has_used (c ∷ classes) k zero e = let same : c ≡ k = cc in let test : (c == k) ≡ true = grind (arith, nat_tests) in rw test refl
-has_used (c ∷ classes) k (suc i) e = go (c == k) (has_used classes k i e)
-  where
-    go : (b : Bool) → uses classes k ≡ true → (b || uses classes k) ≡ true
-    go true h = refl
-    go false h = h
+has_used [] k i e = absurd (cc)
+has_used (c ∷ classes) k zero e = grind (arith, nat_tests)
+has_used (c ∷ classes) k (suc i) e = let more = has_used classes k i e in grind arith
 
 -- ---- where a word of a class stands, one is cut that reaches as far
 
--- what is cut leaves no more behind it
-abbrev Reaches : List ℕ → List ℕ → List ℕ → Type 0
-Reaches classes cs more = (f : Front) × (class_from classes cs ≡ Some f) × (length f.rest ≤ length more)
+-- where a word stands in front of `more`, the word that is cut reaches as far, and is that word where it reaches no further
+record Reached (classes : List ℕ) (class : ℕ) (lex cs more : List ℕ) : Type 0 where
+  pub cut : Front
+  pub is : class_from classes cs ≡ Some cut
+  pub far : length cut.rest ≤ length more
+  pub same : length cut.rest ≡ length more → (cut.kind ≡ Class class) × (cut.lex ≡ lex)
 
-back_reaches : (p : ℕ → Bool) (word more : List ℕ) → list_all p word ≡ true → length (back_of p (word ++ more)) ≤ length more
-back_reaches p word more all =
-    let far = front_reaches p word more all in
-    omega (arith, length-drop (prefix_len p (word ++ more)) (word ++ more), length-append word more)
+span_reached : (p : ℕ → Bool) (classes : List ℕ) (class : ℕ) (word more : List ℕ) → list_all p word ≡ true → class_from classes (word ++ more) ≡ Some (span_from p class (word ++ more))
+    → Reached classes class (encode_utf8_all word) (word ++ more) more
+span_reached p classes class word more all is =
+    let behind = front_reaches p word more all in
+    let within = prefix_len-le-length p (word ++ more) in
+    record {
+      cut = span_from p class (word ++ more);
+      is = is;
+      far = omega (arith, length-drop {A = ℕ}, length-append word more);
+      same = λ ends. (refl, let k : prefix_len p (word ++ more) ≡ length word = omega (arith, length-drop {A = ℕ}, length-append word more) in rw (k, take-append_seam word more) refl);
+    }
 
-name_reaches : (classes word more : List ℕ) → Has classes 0 → IsName word → Reaches classes (word ++ more) more
+name_reached : (classes word more : List ℕ) → Has classes 0 → IsName word → Reached classes 0 (encode_utf8_all word) (word ++ more) more
 unfolding class_from
-name_reaches classes [] more used is = absurd is
-name_reaches classes (c ∷ word) more used (starts, all) =
-    let here : list_all is_xid_continue (c ∷ word) ≡ true = rw (name_goes_on c starts) all in
-    (span_from is_xid_continue 0 (c ∷ (word ++ more)), rw (starts, has_used classes 0 used.0 used.1) refl, back_reaches is_xid_continue (c ∷ word) more here)
+name_reached classes [] more used is = absurd is
+name_reached classes (c ∷ word) more used (starts, all) = span_reached is_xid_continue classes 0 (c ∷ word) more (rw (name_goes_on c starts) all) (rw (starts, has_used classes 0 used.0 used.1) refl)
 
-number_reaches : (classes word more : List ℕ) → Has classes 1 → IsDigits word → Reaches classes (word ++ more) more
+number_reached : (classes word more : List ℕ) → Has classes 1 → IsDigits word → Reached classes 1 (encode_utf8_all word) (word ++ more) more
 unfolding class_from
-number_reaches classes [] more used is = let bad : ⊥ = omega (arith, is.0) in absurd bad
-number_reaches classes (c ∷ word) more used (some, all) =
-    let digit : is_ascii_digit c ≡ true = (and_parts (is_ascii_digit c) (list_all is_ascii_digit word) all).0 in
-    (span_from is_ascii_digit 1 (c ∷ (word ++ more)), rw (digit_no_name c digit, digit, has_used classes 1 used.0 used.1) refl, back_reaches is_ascii_digit (c ∷ word) more all)
+number_reached classes [] more used is = absurd (omega (arith, is.0))
+number_reached classes (c ∷ word) more used (some, all) =
+    let digit : is_ascii_digit c ≡ true = grind arith in
+    span_reached is_ascii_digit classes 1 (c ∷ word) more all (rw (digit_no_name c digit, digit, has_used classes 1 used.0 used.1) refl)
 
-text_there : (body more : List ℕ) → list_all is_quotable body ≡ true → text_from (body ++ 34 ∷ more) ≡ Some (record { kind = Class 2; lex = encode_utf8_all body; rest = more })
-text_there body more all =
-    let n : prefix_len is_quotable (body ++ 34 ∷ more) ≡ length body = front_ends is_quotable body more 34 all refl in
-    rw n (rw (take-append_seam body (34 ∷ more), drop-append_seam body (34 ∷ more)) refl)
-
-text_reaches : (classes body more : List ℕ) → Has classes 2 → list_all is_quotable body ≡ true → Reaches classes (34 ∷ (body ++ 34 ∷ more)) more
+text_reached : (classes body more : List ℕ) → Has classes 2 → list_all is_quotable body ≡ true → Reached classes 2 (encode_utf8_all body) ((34 ∷ (body ++ 34 ∷ [])) ++ more) more
 unfolding class_from
-text_reaches classes body more used all =
-    let no_name : starts_name 34 ≡ false = no_start 34 (lit< tt) refl refl in
-    (record { kind = Class 2; lex = encode_utf8_all body; rest = more }, rw (no_name, has_used classes 2 used.0 used.1, text_there body more all) refl, omega arith)
+text_reached classes body more used all = record {
+  cut = record { kind = Class 2; lex = encode_utf8_all body; rest = more };
+  is = rw (append_assoc body (34 ∷ []) more, no_start 34 (lit< tt) refl refl, has_used classes 2 used.0 used.1, front_ends is_quotable body more 34 all refl, take-append_seam body (34 ∷ more), drop-append_seam body (34 ∷ more)) refl;
+  far = omega arith;
+  same = λ ends. (refl, refl);
+}
 
-word_reaches : (classes word more lex : List ℕ) (class : ℕ) → Has classes class → IsWordOfClass class word lex → Reaches classes (word ++ more) more
-word_reaches classes word more lex zero used is = name_reaches classes word more used is.0
-word_reaches classes word more lex (suc zero) used is = number_reaches classes word more used is.0
-word_reaches classes word more lex (suc (suc zero)) used (body, split, all, text) =
-    let same : word ++ more ≡ 34 ∷ (body ++ 34 ∷ more) = ap (λ x. x ++ more) split ∙ ap (λ x. 34 ∷ x) (append_assoc body (34 ∷ []) more) in
-    subst (λ cs. Reaches classes cs more) (sym same) (text_reaches classes body more used all)
-word_reaches classes word more lex (suc (suc (suc class))) used is = absurd is
+word_reached : (classes word more lex : List ℕ) (class : ℕ) → Has classes class → IsWordOfClass class word lex → Reached classes class lex (word ++ more) more
+word_reached classes word more lex zero used is = rw is.1 (name_reached classes word more used is.0)
+word_reached classes word more lex (suc zero) used is = rw is.1 (number_reached classes word more used is.0)
+word_reached classes word more lex (suc (suc zero)) used (body, split, all, text) = rw (split, text) (text_reached classes body more used all)
+word_reached classes word more lex (suc (suc (suc class))) used is = absurd is
+
+-- characters are a word of one class, with one text
+pub one_class : (classes word lex lex' : List ℕ) (c d : ℕ) → Has classes c → Has classes d → IsWordOfClass c word lex → IsWordOfClass d word lex' → (Class c ≡ Class d) × (lex ≡ lex')
+one_class classes word lex lex' c d used used' is is' =
+    let a = word_reached classes word [] lex c used is in
+    let b = word_reached classes word [] lex' d used' is' in
+    let both : a.cut ≡ b.cut = same_Some _ _ (sym a.is ∙ b.is) in
+    let one = a.same (omega (arith, a.far)) in
+    let other = b.same (omega (arith, b.far)) in
+    (sym one.0 ∙ ap (λ (f : Front). f.kind) both ∙ other.0, sym one.1 ∙ ap (λ (f : Front). f.lex) both ∙ other.1)
 
 -- ---- what is cut is a word
 
@@ -117,11 +115,7 @@ abbrev IsThere : List ℕ → List ℕ → Front → Type 0
 IsThere classes cs f = (class : ℕ) × (word : List ℕ) × (f.kind ≡ Class class) × (cs ≡ word ++ f.rest) × Has classes class × IsWordOfClass class word f.lex
 
 where_used : (classes : List ℕ) (k : ℕ) (o : Option Front) (f : Front) → cond (uses classes k) o None ≡ Some f → Has classes k × (o ≡ Some f)
-where_used classes k o f e = go (uses classes k) refl e
-  where
-    go : (b : Bool) → uses classes k ≡ b → cond b o None ≡ Some f → Has classes k × (o ≡ Some f)
-    go true h e = (used_has classes k h, e)
-    go false h e = absurd (none-some _ e)
+where_used classes k o f e = (used_has classes k (grind arith), grind arith)
 
 name_there : (classes : List ℕ) (c : ℕ) (cs : List ℕ) (f : Front) → starts_name c ≡ true → Has classes 0 → Some (span_from is_xid_continue 0 (c ∷ cs)) ≡ Some f → IsThere classes (c ∷ cs) f
 name_there classes c cs f starts used e = subst (IsThere classes (c ∷ cs)) (same_Some _ _ e) (
@@ -145,13 +139,9 @@ number_there classes c cs f digit used e = subst (IsThere classes (c ∷ cs)) (s
 
 closed_there : (classes front back : List ℕ) (f : Front) → Has classes 2 → list_all is_quotable front ≡ true → closed (encode_utf8_all front) back ≡ Some f → IsThere classes (34 ∷ (front ++ back)) f
 closed_there classes front [] f used all e = absurd (none-some _ e)
-closed_there classes front (c ∷ back) f used all e = go (c == 34) refl e
-  where
-    go : (b : Bool) → (c == 34) ≡ b → cond b (Some (record { kind = Class 2; lex = encode_utf8_all front; rest = back })) None ≡ Some f → IsThere classes (34 ∷ (front ++ c ∷ back)) f
-    go false h e = absurd (none-some _ e)
-    go true h e =
-        let same : 34 ∷ (front ++ c ∷ back) ≡ (34 ∷ (front ++ 34 ∷ [])) ++ back = ap (λ x. 34 ∷ (front ++ x ∷ back)) (same_number c 34 h) ∙ ap (λ x. 34 ∷ x) (sym (append_assoc front (34 ∷ []) back)) in
-        subst (IsThere classes (34 ∷ (front ++ c ∷ back))) (same_Some _ _ e) (2, 34 ∷ (front ++ 34 ∷ []), refl, same, used, (front, refl, all, refl))
+closed_there classes front (c ∷ back) f used all e =
+    let same : (c ≡ 34) × (record { kind = Class 2; lex = encode_utf8_all front; rest = back } ≡ f) = grind (arith, nat_tests) in
+    rw (same.0, ← same.1) (2, 34 ∷ (front ++ 34 ∷ []), refl, ap (λ x. 34 ∷ x) (sym (append_assoc front (34 ∷ []) back)), used, (front, refl, all, refl))
 
 text_is_there : (classes cs : List ℕ) (f : Front) → Has classes 2 → text_from cs ≡ Some f → IsThere classes (34 ∷ cs) f
 text_is_there classes cs f used e =
@@ -162,17 +152,11 @@ unfolding class_from
 cut_is_there classes [] f e = absurd (none-some _ e)
 cut_is_there classes (c ∷ cs) f e = go (starts_name c) (is_ascii_digit c) (c == 34) refl refl refl e
   where
-    name : Option Front
-    name = cond (uses classes 0) (Some (span_from is_xid_continue 0 (c ∷ cs))) None
-
-    number : Option Front
-    number = cond (uses classes 1) (Some (span_from is_ascii_digit 1 (c ∷ cs))) None
-
-    go : (a b d : Bool) → starts_name c ≡ a → is_ascii_digit c ≡ b → (c == 34) ≡ d → cond a name (cond b number (cond d (cond (uses classes 2) (text_from cs) None) None)) ≡ Some f → IsThere classes (c ∷ cs) f
-    go true b d p q r e = let used = where_used classes 0 _ f e in name_there classes c cs f p used.0 used.1
-    go false true d p q r e = let used = where_used classes 1 _ f e in number_there classes c cs f q used.0 used.1
-    go false false true p q r e = let used = where_used classes 2 _ f e in subst (λ k. IsThere classes (k ∷ cs) f) (sym (same_number c 34 r)) (text_is_there classes cs f used.0 used.1)
-    go false false false p q r e = absurd (none-some _ e)
+    go : (a b d : Bool) → starts_name c ≡ a → is_ascii_digit c ≡ b → (c == 34) ≡ d → class_from classes (c ∷ cs) ≡ Some f → IsThere classes (c ∷ cs) f
+    go true b d p q r e = let used = where_used classes 0 _ f (grind arith) in name_there classes c cs f p used.0 used.1
+    go false true d p q r e = let used = where_used classes 1 _ f (grind arith) in number_there classes c cs f q used.0 used.1
+    go false false true p q r e = let used = where_used classes 2 _ f (grind arith) in let same : c ≡ 34 = grind (arith, nat_tests) in rw same (text_is_there classes cs f used.0 used.1)
+    go false false false p q r e = let none : ⊥ = grind arith in absurd none
 
 -- ---- both together
 
@@ -184,12 +168,12 @@ class_cut classes cs f e = record { class = there.0; word = there.1; kind = ther
 
     longest : IsLongest (IsClassed classes) there.1 f.rest
     longest longer more same (c, lex, used, is) =
-        let far = word_reaches classes longer more lex c used is in
-        let one : Some far.0 ≡ Some f = sym far.1 ∙ ap (class_from classes) (sym same ∙ sym there.3) ∙ e in
-        let rest : length f.rest ≤ length more = subst (λ (x : Front). length x.rest ≤ length more) (same_Some _ _ one) far.2 in
-        omega (arith, ap length same, length-append there.1 f.rest, length-append longer more)
+        let far = word_reached classes longer more lex c used is in
+        let one : Some far.cut ≡ Some f = sym far.is ∙ ap (class_from classes) (sym same ∙ sym there.3) ∙ e in
+        let rest : length far.cut.rest ≡ length f.rest = ap (λ (x : Front). length x.rest) (same_Some _ _ one) in
+        omega (arith, far.far, ap length same, length-append there.1 f.rest, length-append longer more)
 
 pub class_none : (classes cs : List ℕ) → class_from classes cs ≡ None → BeginsNone (IsClassed classes) cs
 class_none classes cs e word more split (c, lex, used, is) =
-    let far = word_reaches classes word more lex c used is in
-    none-some _ (sym e ∙ ap (class_from classes) split ∙ far.1)
+    let far = word_reached classes word more lex c used is in
+    none-some _ (sym e ∙ ap (class_from classes) split ∙ far.is)

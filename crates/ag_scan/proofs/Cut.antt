@@ -1,24 +1,22 @@
 -- The plain functions cut the words and the tokens that the definitions say.
-use Rattle.std.proofs.Common.{◌≡◌, ℕ, zero, suc, ◌+◌, ◌-◌, ◌<◌, ◌≤◌, Bool, true, false, cond, nat_eq, nat_lt, List, [], ◌∷◌, ◌++◌, length, take, drop, Option, Some, None, MatchOption, slice_get, chars, encode_utf8_all, refl, ap, sym, ◌∙◌, subst, arith}
+use Rattle.std.proofs.Common.{◌≡◌, ℕ, zero, suc, ◌+◌, ◌-◌, ◌<◌, ◌≤◌, Bool, true, false, cond, nat_eq, List, [], ◌∷◌, ◌++◌, length, take, drop, Option, Some, None, MatchOption, slice_get, chars, encode_utf8_all, refl, ap, sym, ◌∙◌, subst, arith}
 use Rattle.std.proofs.lemmas.List.{length-append, length-take-le, take-append-drop}
 use Rattle.std.proofs.Math.Seq.{take-append_seam}
 use Rattle.std.specs.Bool.{MatchBool}
 use Rattle.std.specs.Cmp.Lexicographic.{pointwise, told_text}
 use Rattle.std.specs.List.{prefix_len}
 use Rattle.ag_grammar.specs.Lists.{Has}
-use Rattle.ag_grammar.specs.declared.grammar.Terminal.{Terminal}
 use Rattle.ag_grammar.specs.declared.grammar.Terminal.TheVariants.{Literal}
 use Rattle.ag_tokens.specs.Left.{unspaced}
 use Rattle.ag_tokens.specs.Tokens.{is_separator, width}
 use Rattle.ag_tokens.proofs.Lexed.{width-append, width-chars, separator_width}
-use Rattle.ag_scan.specs.Cutting.{Front, CutsLiteral, CutsToken, class_from, number_from, literal_or, literal_within, longer_of, word_from, tokens_from, tokens_in}
+use Rattle.ag_scan.specs.Cutting.{Front, CutsLiteral, CutsToken, number_from, literal_or, literal_within, word_from, tokens_from, tokens_in}
 use Rattle.ag_scan.specs.Handed.{HasTokens}
-use Rattle.ag_scan.specs.Tokens.{Token, AreTokens, ended, separator, word, AreTokensOf}
-use Rattle.ag_scan.specs.Words.{Vocabulary, HasNoEmpty, IsClean, IsLiteral, IsAnyWord, BeginsNone, IsLongest, IsToken}
-use Rattle.ag_scan.proofs.Choosing.{no_word, class_alone, literal_alone, class_wins, literal_wins, told_shorter, told_not}
-use Rattle.ag_scan.proofs.ClassWords.{class_cut, class_none}
+use Rattle.ag_scan.specs.Tokens.{Token, AreTokens, ended, separator, word, AreTokensOf, FitAll}
+use Rattle.ag_scan.specs.Words.{Vocabulary, HasNoEmpty, IsClean, IsLiteral, IsLongest}
+use Rattle.ag_scan.proofs.Choosing.{IsLiteralIn, chosen}
 use Rattle.ag_scan.proofs.Listing.{word_some, length_width}
-use Rattle.ag_scan.proofs.OneAnswer.{one_token, no_word_there}
+use Rattle.ag_scan.proofs.OneToken.{IsWordIn, one_word, token_plain, no_spaces}
 use Rattle.ag_scan.proofs.Tables.{compared}
 
 -- ---- the word in front
@@ -44,10 +42,6 @@ NoneLonger literals cs n = (w more : List ℕ) → cs ≡ w ++ more → n < leng
 
 front_of_length : (cs w more : List ℕ) → cs ≡ w ++ more → take (length w) cs ≡ w
 front_of_length cs w more split = ap (take (length w)) split ∙ take-append_seam w more
-
--- what is looked for: the longest literal in front, or that there is none
-abbrev IsLiteralIn : List (List ℕ) → List ℕ → Option Front → Type 0
-IsLiteralIn literals cs o = MatchOption o (BeginsNone (IsLiteral literals) cs) (λ f. CutsLiteral literals cs f)
 
 module _ (literals : List (List ℕ)) (cs : List ℕ) where
   found : (n l : ℕ) → n ≤ length cs → NoneLonger literals cs n → slice_get literals l ≡ Some (encode_utf8_all (take n cs)) → CutsLiteral literals cs (record { kind = Literal l; lex = encode_utf8_all (take n cs); rest = drop n cs })
@@ -77,30 +71,21 @@ module _ (literals : List (List ℕ)) (cs : List ℕ) where
   literal_is zero within none = or_else zero within none None (λ not w more split is. none_from zero not none w more split (omega arith) is)
   literal_is (suc n) within none = or_else (suc n) within none (literal_within literals cs n) (λ not. literal_is n (omega arith) (λ w more split far is. none_from (suc n) not none w more split (omega arith) is))
 
--- what is cut is the token in front, and nothing where no word is
-abbrev pub IsWordIn : Vocabulary → List ℕ → Option Front → Type 0
-IsWordIn v cs o = MatchOption o (BeginsNone (IsAnyWord v) cs) (λ f. CutsToken v cs f)
-
 pub word_is : (v : Vocabulary) (cs : List ℕ) → IsWordIn v cs (word_from v cs)
-word_is v cs = go (literal_within v.literals cs (length cs)) (literal_is v.literals cs (length cs) (omega arith) too_long) (class_from v.classes cs) refl
-  where
-    too_long : NoneLonger v.literals cs (length cs)
-    too_long w more split far is = let bad : ⊥ = omega (arith, ap length split, length-append w more) in bad
-
-    both : (f g : Front) → CutsLiteral v.literals cs f → class_from v.classes cs ≡ Some g → (b : Bool) → nat_lt (width g.rest) (width f.rest) ≡ b → IsWordIn v cs (cond b (Some g) (Some f))
-    both f g literal e true h = class_wins v.literals v.classes cs f g literal (class_cut v.classes cs g e) (told_shorter (width g.rest) (width f.rest) (sym h))
-    both f g literal e false h = literal_wins v.literals v.classes cs f g literal (class_cut v.classes cs g e) (told_not (width g.rest) (width f.rest) (sym h))
-
-    go : (a : Option Front) → IsLiteralIn v.literals cs a → (b : Option Front) → class_from v.classes cs ≡ b → IsWordIn v cs (longer_of a b)
-    go None none None e = no_word v.literals v.classes cs none (class_none v.classes cs e)
-    go None none (Some g) e = class_alone v.literals v.classes cs g none (class_cut v.classes cs g e)
-    go (Some f) literal None e = literal_alone v.literals v.classes cs f literal (class_none v.classes cs e)
-    go (Some f) literal (Some g) e = both f g literal e (nat_lt (width g.rest) (width f.rest)) refl
+word_is v cs = chosen v cs _ _ (literal_is v.literals cs (length cs) (omega arith) (λ w more split far is. (let bad : ⊥ = omega (arith, ap length split, length-append w more) in bad))) refl
 
 -- ---- the tokens of a text
 
+-- the token that is cut in front, and those behind it
+pub one_more : (v : Vocabulary) (at : ℕ) (cs : List ℕ) (f : Front) (ts : List Token) (end : ℕ) (rest : List ℕ) → word_from v cs ≡ Some f → AreTokens v (at + (width cs - width f.rest)) f.rest ts end rest
+    → AreTokens v at cs (record { kind = f.kind; lex = f.lex; at = at } ∷ ts) end rest
+one_more v at cs f ts end rest e are =
+    let cut : CutsToken v cs f = subst (IsWordIn v cs) e (word_is v cs) in
+    let place : at + (width cs - width f.rest) ≡ at + width cut.word = omega (arith, ap width cut.split, width-append cut.word f.rest) in
+    word at cs cut.word f.rest f.lex f.kind ts end rest cut.split cut.token (rw place at are)
+
 -- each token has a character
-fewer : {v : Vocabulary} {at : ℕ} {cs : List ℕ} {ts : List Token} {end : ℕ} {rest : List ℕ} → HasNoEmpty v.literals → AreTokens v at cs ts end rest → length ts ≤ length cs
+pub fewer : {v : Vocabulary} {at : ℕ} {cs : List ℕ} {ts : List Token} {end : ℕ} {rest : List ℕ} → HasNoEmpty v.literals → AreTokens v at cs ts end rest → length ts ≤ length cs
 fewer some (ended at cs) = omega arith
 fewer some (separator at c cs ts end rest h are) = let n = fewer some are in omega arith
 fewer some (word at whole w cs lex t ts end rest split is are) =
@@ -124,14 +109,6 @@ module _ (v : Vocabulary) (clean : IsClean v) where
   separators : (c : ℕ) (cs : List ℕ) → is_separator c ≡ true → prefix_len is_separator (c ∷ cs) ≡ suc (prefix_len is_separator cs)
   separators c cs h = rw h (omega arith)
 
-  no_separators : (cs : List ℕ) (t : Terminal) (lex w rest : List ℕ) → cs ≡ w ++ rest → IsToken v t lex w rest → prefix_len is_separator cs ≡ 0
-  no_separators [] t lex w rest split is = refl
-  no_separators (c ∷ cs) t lex w rest split is = go (is_separator c) refl
-    where
-      go : (b : Bool) → is_separator c ≡ b → prefix_len is_separator (c ∷ cs) ≡ 0
-      go true h = absurd (no_word_there v clean c cs h t lex w rest split is)
-      go false h = rw h refl
-
   pub begin_with : {at : ℕ} {cs : List ℕ} {ts : List Token} {end : ℕ} {rest : List ℕ} → AreTokens v at cs ts end rest → rest ≡ [] → (o : Option Front) → IsWordIn v (unspaced cs) o → BeginWith v at cs ts end o
   begin_with (ended at cs) e None is = refl
   begin_with (ended at cs) e (Some f) is =
@@ -151,21 +128,12 @@ module _ (v : Vocabulary) (clean : IsClean v) where
           let n : (at + 1) + prefix_len is_separator cs ≡ at + prefix_len is_separator (c ∷ cs) = omega (arith, separators c cs h) in
           let m : (at + 1) + (width cs - width f.rest) ≡ at + (width (c ∷ cs) - width f.rest) = omega arith in
           (more, first ∙ ap (λ k. record { kind = f.kind; lex = f.lex; at = k } ∷ more) n, omega arith, subst (λ k. AreTokens v k f.rest more end []) m behind)
-  begin_with (word at cs w behind lex t ts end rest split token are) e o is = go o (subst (λ n. IsWordIn v (drop n cs) o) none is)
-    where
-      none : prefix_len is_separator cs ≡ 0
-      none = no_separators cs t lex w behind split token
-
-      go : (o : Option Front) → IsWordIn v cs o → BeginWith v at cs (record { kind = t; lex = lex; at = at } ∷ ts) end o
-      go None no_word = absurd (no_word w behind split (t, lex, token.is))
-      go (Some f) cut =
-          let same = one_token v clean t f.kind lex f.lex w cut.word behind f.rest token cut.token (sym split ∙ cut.split) in
-          let wide : width cs ≡ width w + width behind = ap width split ∙ width-append w behind in
-          let rests = ap width same.rests in
-          let n : at ≡ at + prefix_len is_separator cs = omega (arith, none) in
-          let m : at + width w ≡ at + (width cs - width f.rest) = omega arith in
-          (ts, (λ i. record { kind = same.kinds i; lex = same.texts i; at = n i } ∷ ts), omega arith,
-          subst (λ xs. AreTokens v (at + (width cs - width f.rest)) xs ts end []) same.rests (subst (λ xs. AreTokens v (at + (width cs - width f.rest)) behind ts end xs) e (subst (λ k. AreTokens v k behind ts end rest) m are)))
+  begin_with (word at cs w behind lex t ts end rest split token are) e o is =
+      let none = no_spaces cs (token_plain v clean cs t lex w behind split token) in
+      let first : o ≡ Some (record { kind = t; lex = lex; rest = behind }) = one_word v clean cs _ _ (rw none at is) (record { word = w; split = split; token = token }) in
+      let wide : width cs ≡ width w + width behind = ap width split ∙ width-append w behind in
+      let place : at + (width cs - width behind) ≡ at + width w = omega arith in
+      rw (first, none, place, ← e) (ts, ap (λ n. record { kind = t; lex = lex; at = n } ∷ ts) (omega arith), omega arith, are)
 
   agrees : (n at : ℕ) (cs : List ℕ) (ts : List Token) (end : ℕ) → AreTokens v at cs ts end [] → length ts ≤ n → tokens_from v n at cs ≡ ts
   agrees zero at cs [] end are few = refl
@@ -189,6 +157,10 @@ module _ (v : Vocabulary) (clean : IsClean v) where
   -- the tokens of a text are those that are cut
   pub are_cut : (text : List ℕ) (ts : List Token) → AreTokensOf v text ts → tokens_in v text ≡ ts
   are_cut text ts is = agrees (length text) 0 (chars text) ts (length text) is.tokens.are (few text ts is)
+
+-- tokens that there are, are those that are cut
+pub are_all : (v : Vocabulary) → IsClean v → (text : List ℕ) → (ts : List Token) × AreTokensOf v text ts × FitAll v ts → AreTokensOf v text (tokens_in v text) × FitAll v (tokens_in v text)
+are_all v clean text (ts, are, fit) = let same = are_cut v clean text ts are in (subst (AreTokensOf v text) (sym same) are, subst (FitAll v) (sym same) fit)
 
 pub few_tokens : (v : Vocabulary) (text : List ℕ) → HasTokens v text → length (tokens_in v text) ≤ length text
 few_tokens v text has = few v has.clean text (tokens_in v text) has.tokens

@@ -3,22 +3,20 @@ use Rattle.std.proofs.Common.{◌≡◌, ℕ, zero, suc, ◌+◌, ◌-◌, ◌�
 use Rattle.std.specs.List.{prefix_len}
 use Rattle.ag_tokens.specs.Left.{unspaced}
 use Rattle.ag_tokens.specs.Tokens.{is_separator, width}
-use Rattle.ag_tokens.proofs.Lexed.{width-chars, spaces}
+use Rattle.ag_tokens.proofs.Lexed.{width-chars}
 use Rattle.ag_scan.specs.Cutting.{Front, front_of, tokens_in}
 use Rattle.ag_scan.specs.declared.front.Front as lent
 use Rattle.ag_scan.specs.Handed.{HasTokens, IsFrontOf, IsLookedAt, IsAt, last_offset, offset_at}
 use Rattle.ag_scan.specs.Tokens.{Token, AreTokens}
 use Rattle.ag_scan.specs.Words.{Vocabulary}
-use Rattle.ag_scan.proofs.Cut.{IsWordIn, BeginWith, begin_with, few_tokens}
+use Rattle.ag_scan.proofs.Cut.{BeginWith, begin_with, few_tokens}
+use Rattle.ag_scan.proofs.OneToken.{IsWordIn}
+use Rattle.ag_scan.proofs.Listing.{left_width}
 use Rattle.ag_scan.proofs.Lefts.{behind, there, ended}
 
 -- what stands behind separators is no longer
 pub no_longer : (behind left : List ℕ) → IsUtf8 behind → IsUtf8 left → chars left ≡ unspaced (chars behind) → length left ≤ length behind
-no_longer behind left utf8 utf8' is =
-    let w = width-chars behind utf8 in
-    let w' : width (unspaced (chars behind)) ≡ length left = ap width (sym is) ∙ width-chars left utf8' in
-    let s = spaces (chars behind) in
-    omega arith
+no_longer behind left utf8 utf8' is = omega (arith, left_width (chars behind) left utf8' is, width-chars behind utf8)
 
 -- the word that is cut behind separators is in front of the tokens that stand there
 pub front_told : (v : Vocabulary) (text behind left : List ℕ) → HasTokens v text → length behind ≤ length text → IsUtf8 behind → IsUtf8 left → chars left ≡ unspaced (chars behind) → (o : Option Front) → IsWordIn v (chars left) o
@@ -29,8 +27,7 @@ front_told v text behind left has within utf8 utf8' is o cut ts are = go o (begi
     go None none = none
     go (Some f) (more, first, narrow, after) =
         let w = width-chars behind utf8 in
-        let w' : width (unspaced (chars behind)) ≡ length left = ap width (sym is) ∙ width-chars left utf8' in
-        let s = spaces (chars behind) in
+        let s = left_width (chars behind) left utf8' is in
         let at : (length text - length behind) + prefix_len is_separator (chars behind) ≡ length text - length left = omega arith in
         let end : (length text - length behind) + (width (chars behind) - width f.rest) ≡ length text - width f.rest = omega arith in
         (more, first ∙ ap (λ n. record { kind = f.kind; lex = f.lex; at = n } ∷ more) at, omega arith, subst (λ n. AreTokens v n f.rest more (length text) []) end after)

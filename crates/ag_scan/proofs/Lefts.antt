@@ -1,5 +1,6 @@
 -- What is left of a list behind so many.
 use Rattle.std.proofs.Common.{◌≡◌, ℕ, zero, suc, ◌+◌, ◌≤◌, List, [], ◌∷◌, length, drop, slice_get, Some, None, refl, ap, sym, ◌∙◌, add-one, arith}
+use Rattle.std.proofs.Math.Seq.{drop-nil}
 
 -- the element at a place is the first of those left
 pub rest_at : {A : Type 0} (xs : List A) (i : ℕ) (x : A) → slice_get xs i ≡ Some x → drop i xs ≡ x ∷ drop (i + 1) xs
@@ -8,15 +9,13 @@ rest_at (y ∷ ys) zero x e = let same : y ≡ x = cc in ap (λ z. z ∷ ys) sam
 rest_at {A} (y ∷ ys) (suc i) x e = rest_at ys i x e ∙ ap (λ j. x ∷ drop j ys) (add-one i) ∙ ap (λ j. x ∷ drop j (y ∷ ys)) (sym (add-one (suc i)))
 
 pub rest_none : {A : Type 0} (xs : List A) (i : ℕ) → slice_get xs i ≡ None → drop i xs ≡ []
-rest_none [] zero e = refl
-rest_none [] (suc i) e = refl
+rest_none [] i e = drop-nil i
 rest_none (y ∷ ys) zero e = absurd (cc)
 rest_none (y ∷ ys) (suc i) e = rest_none ys i e
 
 -- what is behind the next one, which is within
 pub behind : {A : Type 0} (xs : List A) (i : ℕ) (x : A) (rest : List A) → drop i xs ≡ x ∷ rest → (drop (i + 1) xs ≡ rest) × (i + 1 ≤ length xs)
-behind [] zero x rest e = absurd (cc)
-behind [] (suc i) x rest e = absurd (cc)
+behind {A} [] i x rest e = let none = drop-nil {A = A} i in absurd (cc)
 behind (y ∷ ys) zero x rest e = (cc, omega arith)
 behind {A} (y ∷ ys) (suc i) x rest e =
     let h = behind ys i x rest e in
@@ -25,13 +24,11 @@ behind {A} (y ∷ ys) (suc i) x rest e =
 
 -- the first of those left is the element at the place
 pub there : {A : Type 0} (xs : List A) (i : ℕ) (x : A) (rest : List A) → drop i xs ≡ x ∷ rest → slice_get xs i ≡ Some x
-there [] zero x rest e = absurd (cc)
-there [] (suc i) x rest e = absurd (cc)
+there {A} [] i x rest e = let none = drop-nil {A = A} i in absurd (cc)
 there (y ∷ ys) zero x rest e = cc
 there (y ∷ ys) (suc i) x rest e = there ys i x rest e
 
 pub ended : {A : Type 0} (xs : List A) (i : ℕ) → drop i xs ≡ [] → (slice_get xs i ≡ None) × (length xs ≤ i)
-ended [] zero e = (refl, omega arith)
-ended [] (suc i) e = (refl, omega arith)
+ended [] i e = (refl, omega arith)
 ended (y ∷ ys) zero e = absurd (cc)
 ended (y ∷ ys) (suc i) e = let h = ended ys i e in (h.0, omega (arith, h.1))

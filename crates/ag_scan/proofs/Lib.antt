@@ -9,5 +9,6 @@ pub mod Handing
 pub mod Lefts
 pub mod LiteralWords
 pub mod OneAnswer
+pub mod OneToken
 pub mod Orders
 pub mod Tables

@@ -1,11 +1,10 @@
 -- The longest literal in front of a text, in bytes and in characters.
-use Rattle.std.proofs.Common.{◌≡◌, ℕ, List, [], ◌∷◌, ◌++◌, length, take, drop, Some, IsUtf8, chars, encode_utf8, encode_utf8_all, refl, ap, sym, ◌∙◌, subst, arith}
-use Rattle.std.proofs.lemmas.List.{length-append}
-use Rattle.std.proofs.lemmas.Str.{chars-append, encodes-chars, encodes-append, length-encode, IsCharBoundary-from_take}
+use Rattle.std.proofs.Common.{◌≡◌, ℕ, List, ◌++◌, length, take, drop, Some, IsUtf8, chars, encode_utf8_all, refl, ap, sym, ◌∙◌, subst, arith}
+use Rattle.std.proofs.lemmas.Str.{chars-append, encodes-chars, encodes-append, IsCharBoundary-from_take}
 use Rattle.std.proofs.Math.Seq.{drop-append_seam, take-append_seam}
 use Rattle.std.specs.Str.{IsCharBoundary}
 use Rattle.ag_grammar.specs.declared.grammar.Terminal.TheVariants.{Literal}
-use Rattle.ag_tokens.specs.Tokens.{width}
+use Rattle.ag_tokens.proofs.Lexed.{width-encoded}
 use Rattle.ag_scan.specs.declared.literals.Word.{Word}
 use Rattle.ag_scan.specs.Cutting.{CutsLiteral}
 use Rattle.ag_scan.specs.Table.{IsFront, IsLongestFront, HasNoFront}
@@ -28,10 +27,6 @@ split_characters text word rest utf8 front e =
 bytes_front : (text word more : List ℕ) → IsUtf8 text → chars text ≡ word ++ more → IsFront (encode_utf8_all word) text
 bytes_front text word more utf8 split = (encode_utf8_all more, sym (encodes-chars text utf8) ∙ ap encode_utf8_all split ∙ encodes-append word more)
 
-pub encoded_width : (cs : List ℕ) → length (encode_utf8_all cs) ≡ width cs
-encoded_width [] = refl
-encoded_width (c ∷ cs) = let more = encoded_width cs in omega (arith, length-append (encode_utf8 c) (encode_utf8_all cs), length-encode c)
-
 pub literal_none : (literals : List (List ℕ)) (text : List ℕ) → IsUtf8 text → HasNoFront literals text → BeginsNone (IsLiteral literals) (chars text)
 literal_none literals text utf8 none word more split (l, e) = none l (encode_utf8_all word) e (bytes_front text word more utf8 split)
 
@@ -50,6 +45,4 @@ literal_cut literals text lex rest w utf8 is same split encoded = record {
     longest : IsLongest (IsLiteral literals) (chars w.text.now) (chars rest)
     longest longer more e (l, there) =
         let less = is.longest l (encode_utf8_all longer) there (bytes_front text longer more utf8 (split ∙ e)) in
-        let wide : width (chars w.text.now) ≡ length w.text.now = sym (encoded_width (chars w.text.now)) ∙ ap length encoded in
-        let wide' : width longer ≡ length (encode_utf8_all longer) = sym (encoded_width longer) in
-        no_longer longer (chars w.text.now) more (chars rest) (sym e) (omega arith)
+        no_longer longer (chars w.text.now) more (chars rest) (sym e) (omega (arith, width-encoded (chars w.text.now), ap length encoded, width-encoded longer))

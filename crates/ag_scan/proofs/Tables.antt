@@ -1,31 +1,26 @@
 -- Looking up the longest literal in front of a text in a table of literals.
-use Rattle.std.proofs.Common.{Bor, Bool, true, false, get_or, ◌≡◌, ℕ, zero, suc, ◌+◌, ◌<◌, ◌≤◌, ◌⊎◌, inl, inr, List, [], ◌∷◌, ◌++◌, length, Option, Some, None, slice_get, refl, ap, sym, ◌∙◌, subst, arith}
+use Rattle.std.proofs.Common.{Bor, Bool, true, false, get_or, ◌≡◌, ℕ, zero, suc, ◌+◌, ◌<◌, ◌≤◌, ◌⊎◌, inl, inr, List, [], ◌∷◌, ◌++◌, length, Option, Some, slice_get, refl, ap, sym, ◌∙◌, subst, arith}
 use Rattle.std.proofs.lemmas.List.{length-append}
 use Rattle.std.specs.Cmp.{ranks}
 use Rattle.std.specs.Cmp.Lexicographic.{slice_cmp, on_texts}
 use Rattle.std.specs.List.Sorted.{IsPermutation, IsSortedByKey, IsPartitionedBy, IsPartitionPoint}
 use Rattle.std.proofs.lemmas.List.Sorted.{All-permutation, Contains-permutation, sorted_far, ranks_by}
-use Rattle.std.proofs.lemmas.Option.{get_or_from_slice_get, slice_get-get_or}
-use Rattle.std.specs.Ordering.{nat_cmp, is_gt, is_lt, is_le, MatchOrdering}
+use Rattle.std.proofs.lemmas.Option.{get_or_from_slice_get, slice_get-get_or, slice_get_within}
+use Rattle.std.specs.Ordering.{nat_cmp, is_lt, is_le, MatchOrdering}
 use Rattle.std.specs.declared.cmp.Ordering.{Ordering}
 use Rattle.std.specs.declared.cmp.Ordering.TheVariants.{Less, Equal, Greater}
 use Rattle.ag_scan.specs.declared.literals.Word.{Word}
 use Rattle.ag_scan.specs.Table.{IsFront, IsUpTo, AreUpTo, NoFront, IsLastFront, GivesLast, behind_last, AreLinked, AreOrdered, AreLiterals, IsTable, IsLongestFront, HasNoFront}
 use Rattle.ag_scan.proofs.Orders.{front_between, front_is_up, up_up, not_less}
 
-pub there_within : {A : Type 0} (xs : List A) (i : ℕ) (x : A) → slice_get xs i ≡ Some x → i < length xs
-there_within [] i x e = let bad : ⊥ = cc in absurd bad
-there_within (y ∷ xs) zero x e = omega arith
-there_within (y ∷ xs) (suc i) x e = let more = there_within xs i x e in omega arith
-
 -- an element stands at each index of a list
 pub some_there : {A : Type 0} (xs : List A) (i : ℕ) → i < length xs → (x : A) × (slice_get xs i ≡ Some x)
-some_there [] i h = let bad : ⊥ = omega arith in absurd bad
+some_there [] i h = absurd (omega arith)
 some_there (x ∷ xs) zero h = (x, refl)
 some_there (x ∷ xs) (suc i) h = some_there xs i (omega arith)
 
 pub same_there : {A : Type 0} (xs : List A) (i j : ℕ) (x y : A) → slice_get xs i ≡ Some x → slice_get xs j ≡ Some y → i ≡ j → x ≡ y
-same_there xs i j x y ex ey e = let same : Some x ≡ Some y = sym ex ∙ ap (slice_get xs) e ∙ ey in cc
+same_there xs i j x y ex ey e = grind arith
 
 -- a front is no longer than what it is in front of
 pub front_fits : (p text : List ℕ) → IsFront p text → length p ≤ length text
@@ -33,12 +28,10 @@ front_fits p text (rest, e) = omega (arith, ap length e, length-append p rest)
 
 -- behind the last word before a word that is in front of its text, none is
 pub last_behind : (words : List Word) (bound : ℕ) (text : List ℕ) (o : Option ℕ) → GivesLast words bound text o → NoFront words (behind_last o) bound text
-last_behind words bound text None h = h
-last_behind words bound text (Some k) h = h.last
+last_behind words bound text o h = grind arith
 
 pub last_below : (words : List Word) (bound : ℕ) (text : List ℕ) (o : Option ℕ) → GivesLast words bound text o → behind_last o ≤ bound
-last_below words bound text None h = omega arith
-last_below words bound text (Some k) h = let below = h.below in omega arith
+last_below words bound text o h = grind arith
 
 -- where a number stands beside another
 pub compared : {A : Type 0} (i k : ℕ) → (i < k → A) → (i ≡ k → A) → (k < i → A) → A
@@ -80,8 +73,8 @@ module _ (literals : List (List ℕ)) (words : List Word) (shorter : List (Optio
       later j u at is more =
           compared j bound
           (λ less. last.last.none j u (omega arith) less at is)
-          (λ same. others.none j u (omega arith) (there_within words j u at) at is)
-          (λ far. others.none j u (omega arith) (there_within words j u at) at is)
+          (λ same. others.none j u (omega arith) (slice_get_within words j u at) at is)
+          (λ far. others.none j u (omega arith) (slice_get_within words j u at) at is)
 
       longest : (n : ℕ) (x : List ℕ) → slice_get literals n ≡ Some x → IsFront x text → length x ≤ length w.text.now
       longest n x at is =
@@ -94,7 +87,7 @@ module _ (literals : List (List ℕ)) (words : List Word) (shorter : List (Optio
   none_is_none none n x at is =
       let found = table.literals_all.whole n x at in
       let here : IsFront found.1.text.now text = subst (λ y. IsFront y text) (sym found.3) is in
-      let within = there_within words found.0 found.1 found.2 in
+      let within = slice_get_within words found.0 found.1 found.2 in
       compared found.0 bound
       (λ less. none.none found.0 found.1 (omega arith) less found.2 here)
       (λ same. others.none found.0 found.1 (omega arith) within found.2 here)
@@ -104,14 +97,9 @@ module _ (literals : List (List ℕ)) (words : List Word) (shorter : List (Optio
 
 -- an element of a list with one more at its end
 pub pushed : {A : Type 0} (xs : List A) (x : A) (i : ℕ) (y : A) → slice_get (xs ++ x ∷ []) i ≡ Some y → (slice_get xs i ≡ Some y) ⊎ ((i ≡ length xs) × (x ≡ y))
-pushed [] x zero y e = let same : x ≡ y = cc in inr (refl, same)
-pushed [] x (suc i) y e = let bad : ⊥ = cc in absurd bad
+pushed [] x i y e = inr (grind arith, grind arith)
 pushed (z ∷ xs) x zero y e = inl e
-pushed (z ∷ xs) x (suc i) y e = go (pushed xs x i y e)
-  where
-    go : (slice_get xs i ≡ Some y) ⊎ ((i ≡ length xs) × (x ≡ y)) → (slice_get xs i ≡ Some y) ⊎ ((suc i ≡ length (z ∷ xs)) × (x ≡ y))
-    go (inl h) = inl h
-    go (inr h) = inr (let n : i ≡ length xs = h.0 in omega arith, h.1)
+pushed (z ∷ xs) x (suc i) y e = let more = pushed xs x i y e in grind arith
 
 -- the words so far are the first literals, each with its number
 pub record AreFirst (literals : List (List ℕ)) (words : List Word) (count : ℕ) : Type 0 where
@@ -135,7 +123,7 @@ all_first literals words first = record { numbered = λ k w e. ap (slice_get lit
   where
     whole : (n : ℕ) (x : List ℕ) → slice_get literals n ≡ Some x → (k : ℕ) × (w : Word) × (slice_get words k ≡ Some w) × (w.text.now ≡ x)
     whole n x e =
-        let within : n < length literals = there_within literals n x e in
+        let within : n < length literals = slice_get_within literals n x e in
         let there = some_there words n (omega (arith, first.many)) in
         let same : Some there.0.text.now ≡ Some x = sym (first.each n there.0 there.1).1 ∙ e in
         let text : there.0.text.now ≡ x = cc in
@@ -145,14 +133,14 @@ all_first literals words first = record { numbered = λ k w e. ap (slice_get lit
 pub moved : (literals : List (List ℕ)) (xs ys : List Word) → IsPermutation xs ys → AreLiterals literals xs → AreLiterals literals ys
 moved literals xs ys perm are = record {
   numbered = λ k w e. subst (λ (w : Word). slice_get literals w.number ≡ Some w.text.now) (get_or_from_slice_get ys k w w e)
-      (All-permutation (λ w. slice_get literals w.number ≡ Some w.text.now) xs ys perm (λ i d lt. are.numbered i (get_or xs i d) (slice_get-get_or xs i d lt)) k w (there_within ys k w e));
+      (All-permutation (λ w. slice_get literals w.number ≡ Some w.text.now) xs ys perm (λ i d lt. are.numbered i (get_or xs i d) (slice_get-get_or xs i d lt)) k w (slice_get_within ys k w e));
   whole = whole;
 }
   where
     whole : (n : ℕ) (x : List ℕ) → slice_get literals n ≡ Some x → (k : ℕ) × (w : Word) × (slice_get ys k ≡ Some w) × (w.text.now ≡ x)
     whole n x e =
         let old = are.whole n x e in
-        let new = Contains-permutation xs ys old.1 perm (old.0, there_within xs old.0 old.1 old.2, get_or_from_slice_get xs old.0 old.1 old.1 old.2) in
+        let new = Contains-permutation xs ys old.1 perm (old.0, slice_get_within xs old.0 old.1 old.2, get_or_from_slice_get xs old.0 old.1 old.1 old.2) in
         (new.0, old.1, slice_get-get_or ys new.0 old.1 new.1 ∙ ap Some new.2, old.3)
 
 pub sorted_is_ordered : (words : List Word) → IsSortedByKey (λ (w : Word). w.text) (λ x y. slice_cmp nat_cmp x.now y.now) words → AreOrdered words
@@ -160,7 +148,7 @@ sorted_is_ordered words up = record { each = λ i j a b le at there. by i j a b 
   where
     by : (i j : ℕ) (a b : Word) → i ≤ j → slice_get words i ≡ Some a → slice_get words j ≡ Some b → IsUpTo a.text.now b.text.now
     by i j a b le at there =
-        let far = sorted_far _ (ranks_by (on_texts (λ (x : Bor (List ℕ)). x.now)) (λ (w : Word). w.text)) words up i j a le (there_within words j b there) in
+        let far = sorted_far _ (ranks_by (on_texts (λ (x : Bor (List ℕ)). x.now)) (λ (w : Word). w.text)) words up i j a le (slice_get_within words j b there) in
         not_less a.text.now b.text.now (subst (λ (u : Word). is_lt (slice_cmp nat_cmp u.text.now a.text.now) ≡ false) (get_or_from_slice_get words j b a there)
         (subst (λ (u : Word). is_lt (slice_cmp nat_cmp (get_or words j a).text.now u.text.now) ≡ false) (get_or_from_slice_get words i a a at) far))
 
@@ -187,20 +175,10 @@ abbrev pub stands_up : List ℕ → Word → Bool
 stands_up text w = is_le (slice_cmp nat_cmp w.text.now text)
 
 up_of_test : (a b : List ℕ) → is_le (slice_cmp nat_cmp a b) ≡ true → IsUpTo a b
-up_of_test a b h = record { up = go (slice_cmp nat_cmp a b) h }
-  where
-    go : (o : Ordering) → is_le o ≡ true → is_gt o ≡ false
-    go Less h = refl
-    go Equal h = refl
-    go Greater h = let bad : ⊥ = cc in absurd bad
+up_of_test a b h = record { up = grind arith }
 
 test_of_up : (a b : List ℕ) → IsUpTo a b → is_le (slice_cmp nat_cmp a b) ≡ true
-test_of_up a b h = go (slice_cmp nat_cmp a b) h.up
-  where
-    go : (o : Ordering) → is_gt o ≡ false → is_le o ≡ true
-    go Less h = refl
-    go Equal h = refl
-    go Greater h = let bad : ⊥ = cc in absurd bad
+test_of_up a b h = let up = h.up in grind arith
 
 pub parted : (words : List Word) (text : List ℕ) → AreOrdered words → IsPartitionedBy (stands_up text) words
 parted words text ordered i j d le within passes =

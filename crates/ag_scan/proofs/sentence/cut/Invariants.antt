@@ -1,13 +1,12 @@
-use Rattle.std.proofs.Common.{List, length}
+use Rattle.std.proofs.Common.{length}
 use denote.Text.{Utf8}
 use denote.Shadow.{shadow}
-use Rattle.ag_scan.specs.Tokens.{Token}
 use Rattle.ag_scan.specs.Words.{over}
 use Rattle.ag_scan.proofs.Listing.{Scanned}
 use Rattle.ag_scan.proofs.sentence.cut.Given as goal
 
 abbrev pub invariant-loop-rest : goal.invariant-loop-rest
-invariant-loop-rest l = shadow (Utf8 l.rest) × ((ts : List Token) × Scanned (over l.literals l.classes) l.text l.rest ts)
+invariant-loop-rest l = shadow (Utf8 l.rest) × Scanned (over l.literals l.classes) l.text l.rest
 
 abbrev pub decreases-loop-rest : goal.decreases-loop-rest
 decreases-loop-rest l = length l.rest
