@@ -4,11 +4,10 @@ use Rattle.ag_grammar.specs.declared.grammar.Item.{Item}
 use Rattle.ag_grammar.specs.declared.grammar.Production.{Production}
 use Rattle.ag_grammar.specs.grammars.AttributeGrammar.{Grammar}
 use Rattle.llparse.specs.Ahead.{InFollow}
-use Rattle.llparse.specs.Edges.{node_in, AreEdges, IsEdge, OfSome}
+use Rattle.llparse.specs.Edges.{node_in, IsEdge, OfSome}
 use Rattle.llparse.specs.Nodes.{node_by}
 use Rattle.llparse.specs.Nullable.{is_empty}
 use Rattle.closure.specs.Following.{is_marked}
-use Rattle.closure.specs.Clauses.{Clauses}
 use Rattle.closure.specs.declared.edges.Edge.{Edge}
 use Rattle.llparse.specs.declared.ahead.Ahead.{Ahead}
 use Rattle.llparse.specs.declared.nodes.Sizes.{Sizes}
@@ -40,9 +39,9 @@ IsFollowed g n b q t = OfRest (next_in (λ x. b (node_in g x)) (is_empty n) fals
 abbrev pub AreFollow : Grammar → Ahead → List Bool → Type 0
 AreFollow g x marks = (s : ℕ) → s < length g.symbols → is_marked marks s ≡ true ↔ InFollow g s x
 
--- clauses are those of exactly the edges by which FOLLOW is reached
-abbrev pub AreFollowEdges : Grammar → List Bool → Clauses → Type 0
-AreFollowEdges g nullable clauses = AreEdges g (OfSome (IsFollowEdge g (is_marked nullable)) g.productions) clauses
+-- a list has exactly the edges by which FOLLOW is reached
+abbrev pub AreFollowEdges : Grammar → List Bool → List Edge → Type 0
+AreFollowEdges g nullable edges = (e : Edge) → Contains edges e ↔ OfSome (IsFollowEdge g (is_marked nullable)) g.productions e
 
 -- a number is an item's behind which the look-ahead comes next, in some production
 abbrev pub AreFollowed : Grammar → List Bool → List Bool → List ℕ → Type 0

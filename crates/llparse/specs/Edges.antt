@@ -52,13 +52,13 @@ node_count g = length g.symbols + (length g.literals + 4)
 abbrev pub AddsEdges : (Edge → Type 0) → List Edge → List Edge → Type 0
 AddsEdges P before after = Adds P (Contains before) (Contains after)
 
--- clauses are those of exactly such edges, over the nodes of a grammar
-abbrev pub AreEdges : Grammar → (Edge → Type 0) → Clauses → Type 0
-AreEdges g P clauses = (edges : List Edge) × (clauses ≡ over edges (node_count g)) × ((e : Edge) → Contains edges e ↔ P e)
+-- clauses are those of such edges, over the nodes of a grammar
+abbrev pub IsOver : Grammar → (List Edge → Type 0) → Clauses → Type 0
+IsOver g P clauses = (edges : List Edge) × (clauses ≡ over edges (node_count g)) × P edges
 
--- they are those of the edges by which FIRST is reached
-abbrev pub AreFirstEdges : Grammar → List Bool → Clauses → Type 0
-AreFirstEdges g nullable clauses = AreEdges g (OfSome (IsFirstEdge g (is_marked nullable)) g.productions) clauses
+-- a list has exactly the edges by which FIRST is reached
+abbrev pub AreFirstEdges : Grammar → List Bool → List Edge → Type 0
+AreFirstEdges g nullable edges = (e : Edge) → Contains edges e ↔ OfSome (IsFirstEdge g (is_marked nullable)) g.productions e
 
 -- a look-ahead is one of a grammar's
 abbrev pub IsKnownAhead : Grammar → Ahead → Type 0

@@ -4,7 +4,7 @@ use Rattle.ag_grammar.specs.declared.grammar.Production.{Production}
 use Rattle.ag_grammar.specs.grammars.AttributeGrammar.{Grammar, IsProduction}
 use Rattle.llparse.specs.Ahead.{Predicts}
 use Rattle.llparse.specs.Comes.{AreFollowEdges}
-use Rattle.llparse.specs.Edges.{AreFirstEdges}
+use Rattle.llparse.specs.Edges.{AreFirstEdges, IsOver}
 use Rattle.llparse.specs.Nullable.{AreNullableMarks}
 use Rattle.closure.specs.Following.{is_marked}
 use Rattle.llparse.specs.declared.ahead.Ahead.{Ahead}
@@ -14,8 +14,8 @@ use Rattle.llparse.specs.declared.predict.Sets.{Sets}
 -- the marks are those of the nullable symbols, and the clauses are of the edges by which FIRST and FOLLOW are reached
 pub record AreSets (g : Grammar) (sets : Sets) : Type 0 where
   pub nullable_exact : AreNullableMarks g sets.nullable.items
-  pub first_exact : AreFirstEdges g sets.nullable.items sets.first
-  pub follow_exact : AreFollowEdges g sets.nullable.items sets.follow
+  pub first_exact : IsOver g (AreFirstEdges g sets.nullable.items) sets.first
+  pub follow_exact : IsOver g (AreFollowEdges g sets.nullable.items) sets.follow
 
 -- the marks are those of the productions that predict a look-ahead
 abbrev pub ArePredicted : Grammar → Ahead → List Bool → Type 0

@@ -4,7 +4,7 @@ ghost use Rattle.std.specs.Prelude.{◌≡◌, ◌≤◌, length, take, IfOk, On
 ghost use Rattle.closure.specs.Following.{is_marked};
 ghost use Rattle.ag_grammar.specs.declared.grammar.Item.{Item as AnItem};
 ghost use Rattle.llparse.specs.Edges.{front, AddsEdges, AreFirst, AreFirstEdges};
-ghost use Rattle.llparse.specs.Edges.{IsEdge, IsKnownAhead, OfSome};
+ghost use Rattle.llparse.specs.Edges.{IsEdge, IsKnownAhead, IsOver, OfSome};
 ghost use Rattle.llparse.specs.Nullable.{AreNullableMarks};
 ghost use Rattle.llparse.specs.Nodes.{node_by};
 
@@ -58,8 +58,8 @@ pub(crate) fn first_edges(
     alloc: Global,
     grammar: &Grammar,
     nullable: &[bool],
-) -> Result<Clauses, NoMemory>
-    ensures { IfOk result (λ edges. AreFirstEdges grammar.now nullable.now edges) }
+) -> Result<Vec<Edge>, NoMemory>
+    ensures { IfOk result (λ edges. AreFirstEdges grammar.now nullable.now edges.items) }
 {
     let sizes = Sizes::of(grammar);
     let mut edges = Vec::new(alloc);
@@ -70,8 +70,7 @@ pub(crate) fn first_edges(
         let front = front_len(nullable, items);
         note_front(&mut edges, sizes, production.left as usize, &items[..front])?;
     }
-    let clauses = Clauses::of_edges(alloc, edges.as_slice(), sizes.nodes())?;
-    Ok(clauses)
+    Ok(edges)
 }
 
 /// Which items may begin with a look-ahead.
@@ -83,7 +82,7 @@ pub(crate) fn first(
     ahead: Ahead,
 ) -> Result<Vec<bool>, NoMemory>
     requires nullable { AreNullableMarks grammar.now nullable.now }
-    requires edges { AreFirstEdges grammar.now nullable.now edges.now }
+    requires edges { IsOver grammar.now (AreFirstEdges grammar.now nullable.now) edges.now }
     requires known { IsKnownAhead grammar.now ahead }
     ensures { IfOk result (λ marks. AreFirst grammar.now ahead marks.items) }
 {

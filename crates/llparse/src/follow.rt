@@ -4,7 +4,7 @@ ghost use Rattle.std.specs.Prelude.{◌≡◌, ◌<◌, ◌↔◌, ◌&&◌, ◌
 ghost use Rattle.std.specs.Prelude.{Contains, IfOk, OnOk};
 ghost use Rattle.llparse.specs.Comes.{AreFollow, AreFollowed, AreFollowEdges, IsLastEdge};
 ghost use Rattle.llparse.specs.Comes.{IsNextNode};
-ghost use Rattle.llparse.specs.Edges.{Adds, AddsEdges, AreFirst, IsEdge};
+ghost use Rattle.llparse.specs.Edges.{Adds, AddsEdges, AreFirst, IsEdge, IsOver};
 ghost use Rattle.llparse.specs.Nullable.{is_empty, AreNullableMarks};
 ghost use Rattle.closure.specs.Following.{is_marked};
 ghost use Rattle.llparse.specs.declared.ahead.Ahead.TheVariants as look;
@@ -67,8 +67,8 @@ pub(crate) fn follow_edges(
     alloc: Global,
     grammar: &Grammar,
     nullable: &[bool],
-) -> Result<Clauses, NoMemory>
-    ensures { IfOk result (λ edges. AreFollowEdges grammar.now nullable.now edges) }
+) -> Result<Vec<Edge>, NoMemory>
+    ensures { IfOk result (λ edges. AreFollowEdges grammar.now nullable.now edges.items) }
 {
     let sizes = Sizes::of(grammar);
     let mut edges = Vec::new(alloc);
@@ -78,8 +78,7 @@ pub(crate) fn follow_edges(
         let items = production.items.as_slice();
         note_last(&mut edges, sizes, nullable, production.left as usize, items)?;
     }
-    let clauses = Clauses::of_edges(alloc, edges.as_slice(), sizes.nodes())?;
-    Ok(clauses)
+    Ok(edges)
 }
 
 /// Notes a seed, where that is wanted.
@@ -159,7 +158,7 @@ pub(crate) fn follow(
 ) -> Result<Vec<bool>, NoMemory>
     requires nullable { AreNullableMarks grammar.now nullable.now }
     requires first { AreFirst grammar.now ahead begins.now }
-    requires edges { AreFollowEdges grammar.now nullable.now edges.now }
+    requires edges { IsOver grammar.now (AreFollowEdges grammar.now nullable.now) edges.now }
     ensures { IfOk result (λ marks. AreFollow grammar.now ahead marks.items) }
 {
     let mut seeds = followed(alloc, grammar, nullable, begins)?;

@@ -44,8 +44,11 @@ impl Sets {
         ensures { IfOk result (λ sets. AreSets grammar.now sets) }
     {
         let nullable = nullable(alloc, grammar)?;
-        let first = first_edges(alloc, grammar, nullable.as_slice())?;
-        let follow = follow_edges(alloc, grammar, nullable.as_slice())?;
+        let nodes = Sizes::of(grammar).nodes();
+        let edges = first_edges(alloc, grammar, nullable.as_slice())?;
+        let first = Clauses::of_edges(alloc, edges.as_slice(), nodes)?;
+        let edges = follow_edges(alloc, grammar, nullable.as_slice())?;
+        let follow = Clauses::of_edges(alloc, edges.as_slice(), nodes)?;
         Ok(Sets {
             nullable,
             first,

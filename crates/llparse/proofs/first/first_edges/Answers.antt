@@ -4,7 +4,7 @@ use Rattle.ag_grammar.specs.declared.grammar.Production.{Production}
 use Rattle.closure.specs.Following.{is_marked}
 use Rattle.llparse.specs.Edges.{IsFirstEdge}
 use Rattle.llparse.proofs.Edges.{contains_none, noted_iff}
-use Rattle.llparse.proofs.Firsts.{edges_more, edges_below}
+use Rattle.llparse.proofs.Firsts.{edges_more}
 use Rattle.llparse.proofs.first.first_edges.Goals as goal
 
 pub loop-at-preserved : goal.loop-at-preserved
@@ -15,18 +15,7 @@ loop-at-preserved c =
     edges_more c.args.grammar.now c.productions-productions.ensures.accepted (is_marked c.args.nullable.now) c.loop-at.at r _ _ _ c.as_slice-items.result.now c.front_len-front.result _ _ _ inside c.of-sizes.ensures.symbols c.of-sizes.ensures.literals
     (ap (λ (q : Production). q.left) is) (c.as_slice-items.ensures ∙ ap (λ (q : Production). q.items) is) c.front_len-front.ensures.front c.loop-at.invariant c.in_ok-note_front.ensures
 
-pub of_edges-requires : goal.of_edges-requires
-of_edges-requires c =
-    let g = c.args.grammar.now in
-    let most : length g.productions ≤ c.loop-at.at = omega (arith, ap length c.productions-productions.ensures.lent, c.loop-at-test.false) in
-    let exact = noted_iff (IsFirstEdge g (is_marked c.args.nullable.now)) g.productions c.loop-at.at (Contains c.new-edges.result.items) _ most (λ e h. contains_none e (rw c.new-edges.ensures.items at h)) c.loop-at.invariant in
-    rw (c.as_slice.ensures.value, c.nodes.ensures, c.of-sizes.ensures.symbols, c.of-sizes.ensures.literals) (edges_below g c.of-sizes.ensures.accepted (is_marked c.args.nullable.now) c.loop-at.edges.items (λ e. (exact e).0))
-
 pub returns : goal.returns
 returns c =
-    let g = c.args.grammar.now in
-    let most : length g.productions ≤ c.loop-at.at = omega (arith, ap length c.productions-productions.ensures.lent, c.loop-at-test.false) in (
-      c.loop-at.edges.items,
-      rw (← c.as_slice.ensures.value, ← c.of-sizes.ensures.symbols, ← c.of-sizes.ensures.literals, ← c.nodes.ensures) c.in_ok-clauses.ensures,
-      noted_iff (IsFirstEdge g (is_marked c.args.nullable.now)) g.productions c.loop-at.at (Contains c.new-edges.result.items) _ most (λ e h. contains_none e (rw c.new-edges.ensures.items at h)) c.loop-at.invariant,
-    )
+    let most : length c.args.grammar.now.productions ≤ c.loop-at.at = omega (arith, ap length c.productions-productions.ensures.lent, c.loop-at-test.false) in
+    noted_iff (IsFirstEdge c.args.grammar.now (is_marked c.args.nullable.now)) c.args.grammar.now.productions c.loop-at.at (Contains c.new-edges.result.items) _ most (λ e h. contains_none e (rw c.new-edges.ensures.items at h)) c.loop-at.invariant
