@@ -1,6 +1,6 @@
 -- What it means to check a grammar's text: the grammar that it is, its first fault, and the line that is written. All of
 -- this is this project's.
-use Rattle.std.specs.Prelude.{◌≡◌, ◌≢◌, ◌++◌, ℕ, List, length, Option, Err, codes, decimal}
+use Rattle.std.specs.Prelude.{◌≡◌, ◌≢◌, ℕ, List, Option, Err}
 use Rattle.std.specs.Io.KnownBytes.{Appends}
 use Rattle.ag_expr.specs.declared.fault.ExprFault.TheVariants as expr
 use Rattle.ag_grammar.specs.grammars.Accepted.{IsAccepted}
@@ -13,6 +13,7 @@ use Rattle.ag_grammar.specs.declared.raw.RawGrammar.{RawGrammar}
 use Rattle.normalform.specs.Faults.{IsFirstFault, IsReadable}
 use Rattle.normalform.specs.Numbers.{numbered}
 use Rattle.normalform.specs.declared.fault.NormalFault.{NormalFault}
+use Rattle.agoutput.specs.Lines.{counts_line}
 use Rattle.agoutput.specs.Writing.{AppendsBeginning}
 use Rattle.aggen.specs.declared.fault.Fault.{Fault}
 use Rattle.aggen.specs.declared.fault.Fault.TheVariants as fault
@@ -50,18 +51,14 @@ IsCheckFault text (fault.Normal f) = IsNormalFaultOf text f
 IsCheckFault text fault.NoMemory = Unit {0}
 IsCheckFault text _ = ⊥
 
--- the line that tells how many symbols and productions a grammar has
-abbrev pub counts_of : Grammar → List ℕ
-counts_of g = decimal (length g.symbols) ++ codes " symbols, " ++ decimal (length g.productions) ++ codes " productions\n"
-
 -- the line of the text's grammar was written
 pub record TellsCounts (text : List ℕ) (old new : Option (List ℕ)) : Type 0 where
   pub grammar : Grammar
   pub is : IsGrammarOf text grammar
-  pub line : Appends old new (counts_of grammar)
+  pub line : Appends old new (counts_line grammar)
 
 -- a beginning of the line of the text's grammar was written
 pub record BeginsCounts (text : List ℕ) (old new : Option (List ℕ)) : Type 0 where
   pub grammar : Grammar
   pub is : IsGrammarOf text grammar
-  pub beginning : AppendsBeginning old new (counts_of grammar)
+  pub beginning : AppendsBeginning old new (counts_line grammar)

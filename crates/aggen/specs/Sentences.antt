@@ -1,5 +1,5 @@
 -- What it means to parse a sentence: the tree that it has, and what a refusal tells of it. All of this is this project's.
-use Rattle.std.specs.Prelude.{◌≢◌, ◌++◌, ℕ, List, codes, decimal}
+use Rattle.std.specs.Prelude.{◌≢◌, ℕ, List}
 use Rattle.ag_grammar.specs.grammars.AttributeGrammar.{Grammar}
 use Rattle.ag_grammar.specs.grammars.Tree.{Tree, most_depth, most_nodes}
 use Rattle.ag_grammar.specs.grammars.Yield.{Lexeme}
@@ -61,7 +61,3 @@ IsSentenceFault g sentence _ = ⊥
 abbrev pub IsScanFault : Fault → Type 0
 IsScanFault (fault.Scan f) = Unit {0}
 IsScanFault _ = ⊥
-
--- the line that tells how many nodes a tree has
-abbrev pub nodes_line : ℕ → List ℕ
-nodes_line count = decimal count ++ codes " nodes\n"

@@ -1,6 +1,6 @@
 -- What it means to show a value: the expression of a text, the file that its value goes through, and the line that is
 -- written. All of this is this project's.
-use Rattle.std.specs.Prelude.{◌≡◌, ◌⊎◌, ℕ, pos, List, [], ◌∷◌, ◌++◌, codes, Option, None, Some}
+use Rattle.std.specs.Prelude.{◌≡◌, ◌⊎◌, ℕ, pos, List, [], ◌∷◌, Option, None, Some}
 use Rattle.std.specs.Io.KnownBytes.{Appends}
 use Rattle.ag_grammar.specs.expressions.Evaluation.{value_of}
 use Rattle.ag_expr.specs.language.Expression.{IsAt, ReadsAsExpr, ReadsAsNone}
@@ -8,7 +8,6 @@ use Rattle.ag_expr.specs.declared.fault.ExprFault.{ExprFault}
 use Rattle.ag_expr.specs.declared.fault.ExprFault.TheVariants as expr
 use Rattle.ag_grammar.specs.declared.node.Node.{Node}
 use Rattle.ag_grammar.specs.declared.occurrence.Occ.{Occ}
-use Rattle.ag_value.specs.Shown.{shown_of}
 use Rattle.ag_value.specs.Well.{IsWell}
 use Rattle.ag_value.specs.declared.value.Value.{Value}
 use Rattle.ag_value.specs.declared.value.Value.TheVariants as value
@@ -16,6 +15,7 @@ use Rattle.treefile.specs.TreeFile.{body_of, file, version_two}
 use Rattle.treefile.specs.declared.body.Kind.TheVariants.{Token}
 use Rattle.aggen.specs.declared.fault.Fault.{Fault}
 use Rattle.aggen.specs.declared.fault.Fault.TheVariants as fault
+use Rattle.agoutput.specs.Lines.{value_line}
 use Rattle.agoutput.specs.Writing.{AppendsBeginning}
 
 -- the environment of an expression without occurrences: nothing is asked of it
@@ -54,34 +54,30 @@ IsReason text e = ReadsAsNone text × IsAt text e
 abbrev pub file_of : Value → List ℕ
 file_of is = file version_two 0 (body_of Token 0 (is ∷ []) ∷ [])
 
--- the line that tells a value
-abbrev pub line_of : Value → List ℕ
-line_of is = shown_of is ++ codes "\n"
-
 -- the value of the text went through a file, and its line was written
 pub record Shows (text : List ℕ) (old new : Option (List ℕ)) (content : List ℕ) : Type 0 where
   pub shown : Value
   pub has : HasValue text shown
   pub file : content ≡ file_of shown
-  pub line : Appends old new (line_of shown)
+  pub line : Appends old new (value_line shown)
 
 -- a beginning of the line was written
 pub record ShowsBeginning (text : List ℕ) (old new : Option (List ℕ)) : Type 0 where
   pub shown : Value
   pub has : HasValue text shown
-  pub beginning : AppendsBeginning old new (line_of shown)
+  pub beginning : AppendsBeginning old new (value_line shown)
 
 -- the line of some well value was written
 pub record WritesLine (old new : Option (List ℕ)) : Type 0 where
   pub shown : Value
   pub well : IsWell shown
-  pub line : Appends old new (line_of shown)
+  pub line : Appends old new (value_line shown)
 
 -- a beginning of the line of some well value was written
 pub record BeginsLine (old new : Option (List ℕ)) : Type 0 where
   pub shown : Value
   pub well : IsWell shown
-  pub beginning : AppendsBeginning old new (line_of shown)
+  pub beginning : AppendsBeginning old new (value_line shown)
 
 -- where the fault is one of X1 to X4, what it tells of the text is true
 abbrev pub IsExplained : List ℕ → Fault → Type 0

@@ -1,17 +1,16 @@
-//! Reading and checking a grammar's text, and the line that tells what was read.
+//! Reading and checking a grammar's text, and printing what was read.
 
-ghost use Rattle.std.specs.Prelude.{◌≡◌, ◌≢◌, IfErr, IfOk, IsErrOf, OnOk, string_bytes};
+ghost use Rattle.std.specs.Prelude.{◌≡◌, ◌≢◌, IfErr, IfOk, IsErrOf, OnOk};
 ghost use Rattle.aggen.specs.Building.{IsGrammarFault};
 ghost use Rattle.aggen.specs.Checking.{BeginsCounts, IsCheckFault, IsGrammarOf, TellsCounts};
-ghost use Rattle.aggen.specs.Checking.{counts_of as line_of};
 
 use crate::build_fault::BuildFault;
 use crate::fault::Fault;
 use ag_grammar::Grammar;
 use ag_text::read_grammar;
-use agoutput::write_text;
+use agoutput::{counts_line, write_text};
 use normalform::check;
-use std::alloc::{AllocError, Global};
+use std::alloc::Global;
 use std::io::Write;
 
 /// Reads and checks a grammar's text, and writes how many symbols and productions it has:
@@ -28,7 +27,7 @@ pub fn print_counts<W: Write>(alloc: Global, text: &[u8], out: &mut W) -> Result
         BeginsCounts text.now (W.contents out.old) (W.contents out.new) }
 {
     let grammar = grammar_of(alloc, text)?;
-    let line = counts_of(alloc, &grammar)?;
+    let line = counts_line(alloc, &grammar)?;
     write_text(out, line.as_str())?;
     Ok(())
 }
@@ -42,16 +41,4 @@ pub fn grammar_of(alloc: Global, text: &[u8]) -> Result<Grammar, BuildFault>
 {
     let raw = read_grammar(alloc, text)?;
     Ok(check(alloc, raw)?)
-}
-
-/// The line that tells how many symbols and productions a grammar has.
-fn counts_of(alloc: Global, grammar: &Grammar) -> Result<String, AllocError>
-    ensures { IfOk result (λ line. string_bytes line ≡ line_of grammar.now) }
-{
-    let mut line = grammar.symbols().len().to_string(alloc)?;
-    line.push_str(" symbols, ")?;
-    let productions = grammar.productions().len().to_string(alloc)?;
-    line.push_str(productions.as_str())?;
-    line.push_str(" productions\n")?;
-    Ok(line)
 }

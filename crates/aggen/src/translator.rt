@@ -1,7 +1,7 @@
 //! Translators: made once of a grammar's text, and then used for any number of sentences.
 
 ghost use Rattle.std.specs.Prelude.{◌≡◌, ◌≢◌, ◌≤◌, ◌⊎◌, IfErr, IfOk, IsErrOf, OnOk};
-ghost use Rattle.std.specs.Prelude.{OnErr, length, string_bytes};
+ghost use Rattle.std.specs.Prelude.{OnErr, length};
 ghost use Rattle.ag_grammar.specs.grammars.Accepted.{IsAccepted as IsAcceptedGrammar};
 ghost use Rattle.ag_grammar.specs.grammars.Tree.{node_count, IsWithinLimits, Tree};
 ghost use Rattle.ag_grammar.specs.grammars.Tree.{most_depth, most_nodes};
@@ -17,7 +17,6 @@ ghost use Rattle.aggen.specs.Building.{IsBuildFault, IsLeastPlan};
 ghost use Rattle.aggen.specs.Checking.{IsGrammarOf};
 ghost use Rattle.aggen.specs.Evaluating.{EvaluatesTree, IsEvaluationFault};
 ghost use Rattle.aggen.specs.Sentences.{IsScanFault, IsSentenceFault, IsTreeOfSentence};
-ghost use Rattle.aggen.specs.Sentences.{nodes_line as line_of};
 ghost use Rattle.aggen.specs.Translating.{IsRefusedSentence, IsTranslationFault};
 ghost use Rattle.aggen.specs.Translating.{TranslatesSentence};
 ghost use Rattle.aggen.specs.Translation.{BeginsText};
@@ -40,7 +39,7 @@ use passassign::{AssignFault, Assignment, assign};
 use passcode::generate;
 use passrun::upgrade;
 use planchecker::{Plan, check_plan};
-use std::alloc::{AllocError, Global};
+use std::alloc::Global;
 use std::io::Write;
 use std::marker::Model;
 use treefile::{Device, Writer};
@@ -326,13 +325,4 @@ fn plan_of(alloc: Global, grammar: &Grammar, assignment: Assignment) -> Result<P
         // what `assign` and `generate` give is a plan
         Err(_) => unreachable!(),
     }
-}
-
-/// The line that tells how many nodes a tree has.
-pub fn nodes_line(alloc: Global, count: u32) -> Result<String, AllocError>
-    ensures { IfOk result (λ line. string_bytes line ≡ line_of count) }
-{
-    let mut line = count.to_string(alloc)?;
-    line.push_str(" nodes\n")?;
-    Ok(line)
 }

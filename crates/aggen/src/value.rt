@@ -10,12 +10,12 @@ ghost use Rattle.aggen.specs.Showing.{OccursAt, Shows};
 ghost use Rattle.aggen.specs.Showing.{ShowsBeginning, WritesLine, first_place};
 
 use crate::fault::Fault;
-use crate::file::{line_of, read_file, write_file};
+use crate::value_file::{read_file, write_file};
 use ag_eval::{Environment, Meter, eval};
 use ag_expr::{ExprFault, read_expr};
 use ag_grammar::{Expr, occurrences};
 use ag_value::Value;
-use agoutput::write_text;
+use agoutput::{value_line, write_text};
 use std::alloc::Global;
 use std::io::Write;
 use treefile::Device;
@@ -66,7 +66,7 @@ pub fn show_value<D: Device, W: Write>(
     let value = value_of(alloc, text)?;
     write_file(alloc, device, value)?;
     let value = read_file(alloc, device)?;
-    let line = line_of(alloc, &value)?;
+    let line = value_line(alloc, &value)?;
     write_text(out, line.as_str())?;
     Ok(())
 }

@@ -13,10 +13,9 @@ mod faults;
 mod translations;
 
 use aggen::{
-    Fault, Translator, nodes_line, print_code, print_counts, print_plan, show_value, source_of,
-    status,
+    Fault, Translator, print_code, print_counts, print_plan, show_value, source_of, status,
 };
-use agoutput::write_text;
+use agoutput::{nodes_line, write_text};
 use command::{Paths, Request, UpgradePaths, request_of};
 use faults::{tell, tell_expression, tell_file, tell_grammar, tell_old_tree, tell_sentence};
 use std::alloc::{AllocError, Global};

@@ -1,3 +1,4 @@
+pub mod Lines
 pub mod Listings
 pub mod Sample
 pub mod Writing

@@ -1,8 +1,9 @@
-//! Texts that go out, and listings of a plan and of its code for a reader.
+//! Texts that go out: lines, and listings of a plan and of its code for a reader.
 #![tactic(auto)]
 
 mod code_listing;
 mod fault;
+mod lines;
 mod naming;
 mod plan_listing;
 pub mod samples;
@@ -10,5 +11,6 @@ mod writing;
 
 pub use code_listing::write_code;
 pub use fault::{ListingFault, TextOutFault};
+pub use lines::{counts_line, nodes_line, value_line};
 pub use plan_listing::write_plan;
 pub use writing::write_text;

@@ -1,16 +1,16 @@
-//! The tree file with one record that a value goes through, and the line that tells a value.
+//! The tree file with one record that a value goes through.
 
-ghost use Rattle.std.specs.Prelude.{◌≡◌, ◌+◌, ◌∷◌, ℕ, [], true, Ok, length, string_bytes, IfErr};
+ghost use Rattle.std.specs.Prelude.{◌≡◌, ◌+◌, ◌∷◌, ℕ, [], true, Ok, length, IfErr};
 ghost use Rattle.std.specs.Prelude.{IfOk, IsErrOf, MatchResult, OnOk};
 ghost use Rattle.ag_value.specs.Well.{IsWell};
 ghost use Rattle.ag_value.specs.declared.value.Value.{Value as AttributeValue};
 ghost use Rattle.treefile.specs.Device.{LeavesContent, Persists, WhenHonest};
 ghost use Rattle.treefile.specs.Ending.{last_body_of};
 ghost use Rattle.treefile.specs.TreeFile.{body_of, version_two};
-ghost use Rattle.aggen.specs.Showing.{IsFileFault, IsWant, file_of, line_of};
+ghost use Rattle.aggen.specs.Showing.{IsFileFault, IsWant, file_of};
 
 use crate::fault::Fault;
-use ag_value::{Value, ValueFault, decode, show};
+use ag_value::{Value, ValueFault, decode};
 use std::alloc::Global;
 use treefile::{Device, Kind, Writer, last_body, split_body};
 
@@ -79,14 +79,4 @@ fn value_in(alloc: Global, body: &[u8], end: u64) -> Result<Value, Fault>
         Err(ValueFault::NoMemory) => Err(Fault::NoMemory),
         Err(ValueFault::Malformed) => Err(Fault::Damaged(end)),
     }
-}
-
-/// The text of a value, and LF.
-pub fn line_of(alloc: Global, value: &Value) -> Result<String, Fault>
-    ensures ok { IfOk result (λ line. string_bytes line ≡ line_of value.now) }
-    ensures err { IfErr result (λ e. e ≡ Fault.NoMemory) }
-{
-    let mut line = show(alloc, value)?;
-    line.push_str("\n")?;
-    Ok(line)
 }
