@@ -312,7 +312,7 @@ impl<'t> Reader<'t> {
 
     /// Passes the operands behind the first, each with its operator, and answers their trees.
     #[cycle(parsing)]
-    #[tactic(auto, using(crate::proofs::language::Parts::looped, crate::proofs::language::Agree::other_shortens))]
+    #[tactic(auto, using(crate::proofs::language::Parts::shorter, crate::proofs::language::Agree::other_shortens))]
     fn others(
         &mut self,
         levels: usize,
@@ -429,9 +429,9 @@ impl<'t> Reader<'t> {
         Ok(Node::EmptyTable)
     }
 
-    /// Passes a list.
+    /// Passes a list: no items, or some with commas between them.
     #[cycle(parsing)]
-    #[tactic(auto, unfolding(crate::specs::language::Reading::list_from, crate::specs::language::Reading::none_from,))]
+    #[tactic(auto, unfolding(crate::specs::language::Reading::list_from, crate::specs::language::Reading::none_from, crate::specs::language::Reading::some_from,))]
     fn list(&mut self, levels: usize) -> Result<Node, ExprFault>
         ensures { Reads (λ all. reading.list_from (expr_in all levels)) self.old result self.new }
     {
@@ -440,15 +440,6 @@ impl<'t> Reader<'t> {
             self.expect(Punctuation::CloseList)?;
             return Ok(Node::List(Items::from_vec(Vec::new(self.alloc()))));
         }
-        self.some_items(levels)
-    }
-
-    /// Passes one item or more, and the sign that closes their list.
-    #[cycle(parsing)]
-    #[tactic(auto, unfolding(crate::specs::language::Reading::some_from))]
-    fn some_items(&mut self, levels: usize) -> Result<Node, ExprFault>
-        ensures { Reads (λ all. reading.some_from (expr_in all levels)) self.old result self.new }
-    {
         let first = self.expression(levels)?;
         let items = self.items(levels, first)?;
         self.expect(Punctuation::CloseList)?;
@@ -457,7 +448,7 @@ impl<'t> Reader<'t> {
 
     /// Passes the items behind the first, and answers all.
     #[cycle(parsing)]
-    #[tactic(auto, using(crate::proofs::language::Parts::looped, crate::proofs::language::Agree::next_shortens), unfolding(crate::specs::language::Reading::items_from))]
+    #[tactic(auto, using(crate::proofs::language::Parts::shorter, crate::proofs::language::Agree::next_shortens), unfolding(crate::specs::language::Reading::items_from))]
     fn items(&mut self, levels: usize, first: Node) -> Result<Vec<Node>, ExprFault>
         ensures { ReadsAs (λ items. items.items)
             (λ all names. reading.items_from (expr_in all levels) names first)

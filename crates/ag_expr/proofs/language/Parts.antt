@@ -63,6 +63,3 @@ module _ {A : Type 0} (single : Bool) (begins : Token → Bool) (item : List Occ
 
   pub shorter : (j : Input) (x : A) → item (everything s) s.scope (input s) ≡ Ok (x, j) → length j.left < length (input s).left
   shorter j x is = turns.shorter single begins _ found (input s) _ j x so_far.going (here _ is)
-
--- what a loop over them goes by
-pub ruleset looped = (goes_on, stopped, failed, ends, shorter)

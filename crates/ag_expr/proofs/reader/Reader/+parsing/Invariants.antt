@@ -53,9 +53,6 @@ decreases-parenthesized l = 40 * l.levels + 1
 abbrev pub decreases-list : goal.decreases-list
 decreases-list l = 40 * l.levels + 4
 
-abbrev pub decreases-some_items : goal.decreases-some_items
-decreases-some_items l = 40 * l.levels + 3
-
 abbrev pub decreases-items : goal.decreases-items
 decreases-items l = 40 * l.levels + 2
 
