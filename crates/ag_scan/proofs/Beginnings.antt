@@ -1,17 +1,14 @@
 -- Looking up a literal by the byte that a text begins with.
-use Rattle.std.proofs.Common.{◌≡◌, ℕ, ◌+◌, ◌<◌, ◌≤◌, List, ◌∷◌, ◌++◌, length, get_or, Option, Some, None, IfSome, IfNone, MatchOption, slice_get, refl, ap, sym, ◌∙◌, subst, arith}
-use Rattle.std.proofs.Math.ListN.{set, replicate}
-use Rattle.std.proofs.lemmas.List.{length-set, length-replicate, get_or-set_other}
+use Rattle.std.proofs.Common.{◌≡◌, ℕ, ◌+◌, ◌<◌, ◌≤◌, List, ◌∷◌, ◌++◌, length, get_or, Option, Some, None, IfSome, IfNone, MatchOption, slice_get, ap, sym, ◌∙◌, subst, arith}
+use Rattle.std.proofs.Math.ListN.{set}
+use Rattle.std.proofs.lemmas.List.{length-set, get_or-set_other}
 use Rattle.std.proofs.lemmas.Grind.{get_or-set_at}
 use Rattle.std.proofs.lemmas.Option.{slice_get_within}
 use Rattle.ag_scan.specs.declared.literals.Word.{Word}
 use Rattle.ag_scan.specs.declared.starts.Start.{Start}
-use Rattle.ag_scan.specs.declared.starts.Start.TheVariants.{Nothing, Sole}
+use Rattle.ag_scan.specs.declared.starts.Start.TheVariants.{Sole}
 use Rattle.ag_scan.specs.Table.{IsFront, IsTable, IsLongestFront, HasNoFront, AreTold, Tells, with_one}
 use Rattle.ag_scan.proofs.Tables.{compared, same_there}
-
-pub none_told : (words : List Word) (starts : List Start) → starts ≡ replicate 256 Nothing → AreTold words starts 0
-none_told words starts e = record { whole = ap length e ∙ length-replicate 256 Nothing; each = λ k w below there. let bad : ⊥ = omega arith in absurd bad }
 
 -- what is told of a word stays so when a word more begins with its byte
 still_told : (k : ℕ) (s : Start) (index : ℕ) → Tells k s → Tells k (with_one s index)
@@ -22,29 +19,17 @@ newly_told s index = grind arith
 
 -- one word more is told of
 module _ (words : List Word) (starts : List Start) (index b : ℕ) (rest : List ℕ) (w : Word) (s : Start) (told : AreTold words starts index) (there : slice_get words index ≡ Some w) (text : w.text.now ≡ b ∷ rest) (byte : b < 256) (is : get_or starts b s ≡ s) where
-  new : List Start
-  new = set starts b (with_one s index)
-
   within : b < length starts
   within = omega (arith, told.whole)
 
   kept : (k c : ℕ) → ((d : Start) → Tells k (get_or starts c d)) → (d : Start) → Tells k (get_or (set starts b (with_one s index)) c d)
-  kept k c old d =
-      compared c b
-      (λ less. subst (Tells k) (sym (get_or-set_other starts b c (with_one s index) d (λ e. let bad : ⊥ = omega (arith, e) in bad))) (old d))
-      (λ same. subst (Tells k) (sym (get_or-set_at starts b c (with_one s index) d same within)) (still_told k s index (subst (Tells k) is (subst (λ j. Tells k (get_or starts j s)) same (old s)))))
-      (λ more. subst (Tells k) (sym (get_or-set_other starts b c (with_one s index) d (λ e. let bad : ⊥ = omega (arith, e) in bad))) (old d))
+  kept k c old d = let at_d = old d in let at_s = old s in let still = still_told k s index in grind (arith, get_or-set_other, get_or-set_at)
 
   by : (k : ℕ) (u : Word) → k < index + 1 → slice_get words k ≡ Some u → (c : ℕ) × (more : List ℕ) × (u.text.now ≡ c ∷ more) × ((d : Start) → Tells k (get_or (set starts b (with_one s index)) c d))
   by k u below at =
       compared k index
       (λ less. let old = told.each k u less at in (old.0, old.1, old.2, kept k old.0 old.3))
-      (λ same. (
-        b,
-        rest,
-        ap (λ (v : Word). v.text.now) (same_there words k index u w at there same) ∙ text,
-        λ d. subst (Tells k) (sym (get_or-set_at starts b b (with_one s index) d refl within)) (subst (λ j. Tells j (with_one s index)) (sym same) (newly_told s index)),
-      ))
+      (λ same. (b, rest, ap (λ (v : Word). v.text.now) (same_there words k index u w at there same) ∙ text, λ d. (let new = newly_told s index in grind (arith, get_or-set_at))))
       (λ more. let bad : ⊥ = omega arith in absurd bad)
 
   pub one_told : AreTold words (set starts b (with_one s index)) (index + 1)

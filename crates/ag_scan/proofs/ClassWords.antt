@@ -1,5 +1,5 @@
 -- Cutting the word of a class and the definition of words agree.
-use Rattle.std.proofs.Common.{◌≡◌, ℕ, zero, suc, ◌<◌, ◌≤◌, Bool, true, false, cond, ◌==◌, List, [], ◌∷◌, ◌++◌, length, Option, Some, None, slice_get, encode_utf8_all, refl, ap, sym, ◌∙◌, subst, lit<, arith, append_assoc}
+use Rattle.std.proofs.Common.{◌≡◌, ℕ, zero, suc, ◌≤◌, Bool, true, false, cond, ◌==◌, List, [], ◌∷◌, ◌++◌, length, Option, Some, None, slice_get, encode_utf8_all, refl, ap, sym, ◌∙◌, subst, lit<, arith, append_assoc}
 use Rattle.std.proofs.lemmas.Bool.Decides.{nat_tests}
 use Rattle.std.proofs.lemmas.List.{length-append, length-drop, take-append-drop}
 use Rattle.std.proofs.lemmas.List.Sums.{prefix_len-le-length}
@@ -117,25 +117,14 @@ IsThere classes cs f = (class : ℕ) × (word : List ℕ) × (f.kind ≡ Class c
 where_used : (classes : List ℕ) (k : ℕ) (o : Option Front) (f : Front) → cond (uses classes k) o None ≡ Some f → Has classes k × (o ≡ Some f)
 where_used classes k o f e = (used_has classes k (grind arith), grind arith)
 
-name_there : (classes : List ℕ) (c : ℕ) (cs : List ℕ) (f : Front) → starts_name c ≡ true → Has classes 0 → Some (span_from is_xid_continue 0 (c ∷ cs)) ≡ Some f → IsThere classes (c ∷ cs) f
-name_there classes c cs f starts used e = subst (IsThere classes (c ∷ cs)) (same_Some _ _ e) (
-  0,
-  front_in is_xid_continue (c ∷ cs),
-  refl,
-  sym (take-append-drop (prefix_len is_xid_continue (c ∷ cs)) (c ∷ cs)),
-  used,
-  (let k : prefix_len is_xid_continue (c ∷ cs) ≡ suc (prefix_len is_xid_continue cs) = rw (name_goes_on c starts) (omega arith) in let is : IsName (front_in is_xid_continue (c ∷ cs)) = rw k (starts, front_passes is_xid_continue cs) in is, refl),
-)
+span_there : (p : ℕ → Bool) (classes : List ℕ) (class : ℕ) (cs : List ℕ) (f : Front) → Has classes class → IsWordOfClass class (front_in p cs) (encode_utf8_all (front_in p cs)) → Some (span_from p class cs) ≡ Some f → IsThere classes cs f
+span_there p classes class cs f used is e = rw (← same_Some _ _ e) (class, front_in p cs, refl, sym (take-append-drop (prefix_len p cs) cs), used, is)
 
-number_there : (classes : List ℕ) (c : ℕ) (cs : List ℕ) (f : Front) → is_ascii_digit c ≡ true → Has classes 1 → Some (span_from is_ascii_digit 1 (c ∷ cs)) ≡ Some f → IsThere classes (c ∷ cs) f
-number_there classes c cs f digit used e = subst (IsThere classes (c ∷ cs)) (same_Some _ _ e) (
-  1,
-  front_in is_ascii_digit (c ∷ cs),
-  refl,
-  sym (take-append-drop (prefix_len is_ascii_digit (c ∷ cs)) (c ∷ cs)),
-  used,
-  (let k : prefix_len is_ascii_digit (c ∷ cs) ≡ suc (prefix_len is_ascii_digit cs) = rw digit (omega arith) in let some : 0 < length (front_in is_ascii_digit (c ∷ cs)) = rw k (omega arith) in (some, front_passes is_ascii_digit (c ∷ cs)), refl),
-)
+name_front : (c : ℕ) (cs : List ℕ) → starts_name c ≡ true → IsName (front_in is_xid_continue (c ∷ cs))
+name_front c cs starts = let k : prefix_len is_xid_continue (c ∷ cs) ≡ suc (prefix_len is_xid_continue cs) = rw (name_goes_on c starts) (omega arith) in rw k (starts, front_passes is_xid_continue cs)
+
+number_front : (c : ℕ) (cs : List ℕ) → is_ascii_digit c ≡ true → IsDigits (front_in is_ascii_digit (c ∷ cs))
+number_front c cs digit = let k : prefix_len is_ascii_digit (c ∷ cs) ≡ suc (prefix_len is_ascii_digit cs) = rw digit (omega arith) in (rw k (omega arith), front_passes is_ascii_digit (c ∷ cs))
 
 closed_there : (classes front back : List ℕ) (f : Front) → Has classes 2 → list_all is_quotable front ≡ true → closed (encode_utf8_all front) back ≡ Some f → IsThere classes (34 ∷ (front ++ back)) f
 closed_there classes front [] f used all e = absurd (none-some _ e)
@@ -153,8 +142,8 @@ cut_is_there classes [] f e = absurd (none-some _ e)
 cut_is_there classes (c ∷ cs) f e = go (starts_name c) (is_ascii_digit c) (c == 34) refl refl refl e
   where
     go : (a b d : Bool) → starts_name c ≡ a → is_ascii_digit c ≡ b → (c == 34) ≡ d → class_from classes (c ∷ cs) ≡ Some f → IsThere classes (c ∷ cs) f
-    go true b d p q r e = let used = where_used classes 0 _ f (grind arith) in name_there classes c cs f p used.0 used.1
-    go false true d p q r e = let used = where_used classes 1 _ f (grind arith) in number_there classes c cs f q used.0 used.1
+    go true b d p q r e = let used = where_used classes 0 _ f (grind arith) in span_there is_xid_continue classes 0 (c ∷ cs) f used.0 (name_front c cs p, refl) used.1
+    go false true d p q r e = let used = where_used classes 1 _ f (grind arith) in span_there is_ascii_digit classes 1 (c ∷ cs) f used.0 (number_front c cs q, refl) used.1
     go false false true p q r e = let used = where_used classes 2 _ f (grind arith) in let same : c ≡ 34 = grind (arith, nat_tests) in rw same (text_is_there classes cs f used.0 used.1)
     go false false false p q r e = let none : ⊥ = grind arith in absurd none
 

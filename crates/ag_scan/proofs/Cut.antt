@@ -1,5 +1,5 @@
 -- The plain functions cut the words and the tokens that the definitions say.
-use Rattle.std.proofs.Common.{◌≡◌, ℕ, zero, suc, ◌+◌, ◌-◌, ◌<◌, ◌≤◌, Bool, true, false, cond, nat_eq, List, [], ◌∷◌, ◌++◌, length, take, drop, Option, Some, None, MatchOption, slice_get, chars, encode_utf8_all, refl, ap, sym, ◌∙◌, subst, arith}
+use Rattle.std.proofs.Common.{◌≡◌, ℕ, zero, suc, ◌+◌, ◌-◌, ◌≤◌, Bool, true, false, cond, nat_eq, List, [], ◌∷◌, ◌++◌, length, take, drop, Option, Some, None, MatchOption, slice_get, chars, encode_utf8_all, refl, ap, sym, ◌∙◌, subst, arith}
 use Rattle.std.proofs.lemmas.List.{length-append, length-take-le, take-append-drop}
 use Rattle.std.proofs.Math.Seq.{take-append_seam}
 use Rattle.std.specs.Bool.{MatchBool}
@@ -17,7 +17,7 @@ use Rattle.ag_scan.specs.Words.{Vocabulary, HasNoEmpty, IsClean, IsLiteral, IsLo
 use Rattle.ag_scan.proofs.Choosing.{IsLiteralIn, chosen}
 use Rattle.ag_scan.proofs.Listing.{word_some, length_width}
 use Rattle.ag_scan.proofs.OneToken.{IsWordIn, one_word, token_plain, no_spaces}
-use Rattle.ag_scan.proofs.Tables.{compared}
+use Rattle.ag_scan.proofs.Tables.{split}
 
 -- ---- the word in front
 
@@ -36,40 +36,39 @@ numbered n (y ∷ ys) x = go (pointwise nat_eq y x) (told_text y x (pointwise na
     go false apart None none = λ h. other apart none h.0 h.1
     go false apart (Some l) (i, e, at) = (suc i, omega arith, at)
 
--- no front of more than n characters is a literal
-abbrev NoneLonger : List (List ℕ) → List ℕ → ℕ → Type 0
-NoneLonger literals cs n = (w more : List ℕ) → cs ≡ w ++ more → n < length w → IsLiteral literals w → ⊥
+-- no front of n characters or more is a literal
+abbrev NoneFrom : List (List ℕ) → List ℕ → ℕ → Type 0
+NoneFrom literals cs n = (w more : List ℕ) → cs ≡ w ++ more → n ≤ length w → IsLiteral literals w → ⊥
 
 front_of_length : (cs w more : List ℕ) → cs ≡ w ++ more → take (length w) cs ≡ w
 front_of_length cs w more split = ap (take (length w)) split ∙ take-append_seam w more
 
 module _ (literals : List (List ℕ)) (cs : List ℕ) where
-  found : (n l : ℕ) → n ≤ length cs → NoneLonger literals cs n → slice_get literals l ≡ Some (encode_utf8_all (take n cs)) → CutsLiteral literals cs (record { kind = Literal l; lex = encode_utf8_all (take n cs); rest = drop n cs })
+  found : (n l : ℕ) → n ≤ length cs → NoneFrom literals cs (n + 1) → slice_get literals l ≡ Some (encode_utf8_all (take n cs)) → CutsLiteral literals cs (record { kind = Literal l; lex = encode_utf8_all (take n cs); rest = drop n cs })
   found n l within none there = record { number = l; word = take n cs; kind = refl; split = sym (take-append-drop n cs); there = there; text = refl; longest = longest }
     where
       longest : IsLongest (IsLiteral literals) (take n cs) (drop n cs)
       longest longer more same is =
           let len = length-take-le n cs within in
-          compared (length longer) n (λ less. omega arith) (λ equal. omega arith) (λ far. absurd (none longer more (sym (take-append-drop n cs) ∙ same) far is))
+          split (length longer) (n + 1) (λ less. omega arith) (λ far. absurd (none longer more (sym (take-append-drop n cs) ∙ same) far is))
 
   -- where the first n characters are no literal, no front of as many or more is one
-  none_from : (n : ℕ) → (Has literals (encode_utf8_all (take n cs)) → ⊥) → NoneLonger literals cs n → (w more : List ℕ) → cs ≡ w ++ more → n ≤ length w → IsLiteral literals w → ⊥
-  none_from n not none w more split le is = compared (length w) n
-      (λ less. (let bad : ⊥ = omega arith in bad))
-      (λ same. not (subst (λ x. Has literals (encode_utf8_all x)) (sym (front_of_length cs w more split) ∙ ap (λ k. take k cs) same) is))
-      (λ far. none w more split far is)
+  none_from : (n : ℕ) → (Has literals (encode_utf8_all (take n cs)) → ⊥) → NoneFrom literals cs (n + 1) → NoneFrom literals cs n
+  none_from n not none w more same le is = split n (length w)
+      (λ far. none w more same (omega arith) is)
+      (λ least. (let whole : length w ≡ n = omega arith in not (rw (← front_of_length cs w more same, whole) at is)))
 
-  or_else : (n : ℕ) → n ≤ length cs → NoneLonger literals cs n → (other : Option Front) → ((Has literals (encode_utf8_all (take n cs)) → ⊥) → IsLiteralIn literals cs other) → IsLiteralIn literals cs (literal_or literals cs n other)
+  or_else : (n : ℕ) → n ≤ length cs → NoneFrom literals cs (n + 1) → (other : Option Front) → ((Has literals (encode_utf8_all (take n cs)) → ⊥) → IsLiteralIn literals cs other) → IsLiteralIn literals cs (literal_or literals cs n other)
   or_else n within none other more = go (number_from 0 literals (encode_utf8_all (take n cs))) (numbered 0 literals (encode_utf8_all (take n cs)))
     where
       go : (o : Option ℕ) → MatchOption o (Has literals (encode_utf8_all (take n cs)) → ⊥) (λ l. (i : ℕ) × (l ≡ 0 + i) × (slice_get literals i ≡ Some (encode_utf8_all (take n cs))))
           → IsLiteralIn literals cs (elim o [ Some l ↦ Some (record { kind = Literal l; lex = encode_utf8_all (take n cs); rest = drop n cs }) | None ↦ other ])
       go None not = more not
-      go (Some l) (i, e, at) = let same : i ≡ l = omega (arith, e) in found n l within none (subst (λ k. slice_get literals k ≡ Some (encode_utf8_all (take n cs))) same at)
+      go (Some l) (i, e, at) = let same : i ≡ l = omega (arith, e) in found n l within none (rw same at at)
 
-  literal_is : (n : ℕ) → n ≤ length cs → NoneLonger literals cs n → IsLiteralIn literals cs (literal_within literals cs n)
-  literal_is zero within none = or_else zero within none None (λ not w more split is. none_from zero not none w more split (omega arith) is)
-  literal_is (suc n) within none = or_else (suc n) within none (literal_within literals cs n) (λ not. literal_is n (omega arith) (λ w more split far is. none_from (suc n) not none w more split (omega arith) is))
+  literal_is : (n : ℕ) → n ≤ length cs → NoneFrom literals cs (n + 1) → IsLiteralIn literals cs (literal_within literals cs n)
+  literal_is zero within none = or_else zero within none None (λ not w more same is. none_from zero not none w more same (omega arith) is)
+  literal_is (suc n) within none = or_else (suc n) within none (literal_within literals cs n) (λ not. literal_is n (omega arith) (λ w more same far is. none_from (suc n) not none w more same (omega arith) is))
 
 pub word_is : (v : Vocabulary) (cs : List ℕ) → IsWordIn v cs (word_from v cs)
 word_is v cs = chosen v cs _ _ (literal_is v.literals cs (length cs) (omega arith) (λ w more split far is. (let bad : ⊥ = omega (arith, ap length split, length-append w more) in bad))) refl
@@ -114,8 +113,7 @@ module _ (v : Vocabulary) (clean : IsClean v) where
   begin_with (ended at cs) e (Some f) is =
       let some = word_some v f.kind is.word f.lex clean.some is.token.is in
       let none : unspaced cs ≡ [] = ap unspaced e in
-      let bad : ⊥ = omega (arith, ap length (sym none ∙ is.split), length-append is.word f.rest) in
-      absurd bad
+      absurd (omega (arith, ap length (sym none ∙ is.split), length-append is.word f.rest))
   begin_with (separator at c cs ts end rest h are) e o is = go o (begin_with are e o (subst (λ xs. IsWordIn v xs o) same is))
     where
       same : unspaced (c ∷ cs) ≡ unspaced cs
@@ -137,7 +135,7 @@ module _ (v : Vocabulary) (clean : IsClean v) where
 
   agrees : (n at : ℕ) (cs : List ℕ) (ts : List Token) (end : ℕ) → AreTokens v at cs ts end [] → length ts ≤ n → tokens_from v n at cs ≡ ts
   agrees zero at cs [] end are few = refl
-  agrees zero at cs (t ∷ ts) end are few = let bad : ⊥ = omega arith in absurd bad
+  agrees zero at cs (t ∷ ts) end are few = absurd (omega arith)
   agrees (suc n) at cs ts end are few = go (word_from v (unspaced cs)) (begin_with are refl (word_from v (unspaced cs)) (word_is v (unspaced cs))) (agrees n)
     where
       go : (o : Option Front) → BeginWith v at cs ts end o → ((at : ℕ) (cs : List ℕ) (ts : List Token) (end : ℕ) → AreTokens v at cs ts end [] → length ts ≤ n → tokens_from v n at cs ≡ ts)

@@ -1,5 +1,6 @@
 -- Tokens that are handed out one by one are those of the text.
 use Rattle.std.proofs.Common.{◌≡◌, ℕ, zero, suc, ◌+◌, ◌-◌, ◌≤◌, List, [], ◌∷◌, length, drop, Option, Some, None, IsUtf8, slice_get, chars, option_map, refl, ap, sym, ◌∙◌, subst, arith}
+use Rattle.std.proofs.Math.Seq.{drop-nil}
 use Rattle.std.specs.List.{prefix_len}
 use Rattle.ag_tokens.specs.Left.{unspaced}
 use Rattle.ag_tokens.specs.Tokens.{is_separator, width}
@@ -34,23 +35,16 @@ front_told v text behind left has within utf8 utf8' is o cut ts are = go o (begi
 
 -- ---- offsets
 
-offset_there : (ts : List Token) (i : ℕ) (t : Token) → slice_get ts i ≡ Some t → offset_at ts i ≡ t.at
-offset_there ts i t e = rw (e, offset_at) refl
-
-offset_past : (ts : List Token) (i : ℕ) → slice_get ts i ≡ None → offset_at ts i ≡ last_offset ts
-offset_past ts i e = rw (e, offset_at) refl
-
 last_is : (ts : List Token) (i : ℕ) (t : Token) → drop i ts ≡ t ∷ [] → last_offset ts ≡ t.at
 last_is ts zero t e = ap last_offset e
 last_is [] (suc i) t e = absurd (cc)
-last_is (u ∷ []) (suc zero) t e = absurd (cc)
-last_is (u ∷ []) (suc (suc i)) t e = absurd (cc)
+last_is (u ∷ []) (suc i) t e = let none = drop-nil {A = Token} i in absurd (cc)
 last_is (u ∷ w ∷ ts) (suc i) t e = last_is (w ∷ ts) i t e
 
 -- the offset of the token in front, or of the last one
 place_told : (v : Vocabulary) (end : ℕ) (ts : List Token) (i at : ℕ) (o : Option Front) → IsFrontOf v end (drop i ts) o at → (o ≡ None → at ≡ last_offset ts) → at ≡ offset_at ts i
-place_told v end ts i at None none last = last refl ∙ sym (offset_past ts i (ended ts i none).0)
-place_told v end ts i at (Some f) (more, first, narrow, are) last = sym (offset_there ts i _ (there ts i _ more first))
+place_told v end ts i at None none last = last refl ∙ rw ((ended ts i none).0, offset_at) refl
+place_told v end ts i at (Some f) (more, first, narrow, are) last = rw (there ts i _ more first, offset_at) refl
 
 module _ (v : Vocabulary) (text : List ℕ) (has : HasTokens v text) where
   ts : List Token
@@ -61,11 +55,8 @@ module _ (v : Vocabulary) (text : List ℕ) (has : HasTokens v text) where
   begins o at told end =
       let none : 0 ≡ length text - length text = omega arith in
       let left = told (tokens_in v text) (subst (λ n. AreTokens v n (chars text) (tokens_in v text) (length text) []) none has.tokens.tokens.are) in
-      record { has = has; within = omega arith; left = left; place = place_told v (length text) (tokens_in v text) 0 at o left (last o left end) }
-    where
-      last : (o : Option Front) → IsFrontOf v (length text) (tokens_in v text) o at → (o ≡ None → at ≡ 0) → o ≡ None → at ≡ last_offset (tokens_in v text)
-      last None none end e = end e ∙ sym (ap last_offset none)
-      last (Some f) is end e = absurd (cc)
+      let last : o ≡ None → at ≡ last_offset (tokens_in v text) = λ none. end none ∙ sym (ap last_offset (rw none at left)) in
+      record { has = has; within = omega arith; left = left; place = place_told v (length text) (tokens_in v text) 0 at o left last }
 
   -- behind the token in front
   pub goes_on : (i : ℕ) (f : Front) (at : ℕ) (rest : List ℕ) → IsAt v text i (Some f) at → f.rest ≡ chars rest → IsUtf8 rest → (o : Option Front) (next : ℕ)
@@ -75,12 +66,10 @@ module _ (v : Vocabulary) (text : List ℕ) (has : HasTokens v text) where
       let w : width f.rest ≡ length rest = ap width same ∙ width-chars rest utf8 in
       let stand = subst (λ n. AreTokens v (length text - n) (chars rest) more (length text) []) w (subst (λ cs. AreTokens v (length text - width f.rest) cs more (length text) []) same are) in
       let after = behind (tokens_in v text) i _ more first in
-      let left = subst (λ us. IsFrontOf v (length text) us o next) (sym after.0) (told more stand) in
-      record { has = has; within = after.1; left = left; place = place_told v (length text) (tokens_in v text) (i + 1) next o left (last o more first (told more stand) end) }
-    where
-      last : (o : Option Front) (more : List Token) → drop i (tokens_in v text) ≡ record { kind = f.kind; lex = f.lex; at = at } ∷ more → IsFrontOf v (length text) more o next → (o ≡ None → next ≡ at) → o ≡ None → next ≡ last_offset (tokens_in v text)
-      last None more first none end e = end e ∙ sym (last_is (tokens_in v text) i _ (first ∙ ap (λ us. record { kind = f.kind; lex = f.lex; at = at } ∷ us) none))
-      last (Some g) more first is end e = absurd (cc)
+      let left = told more stand in
+      let last : o ≡ None → next ≡ last_offset (tokens_in v text) = λ none. end none ∙ sym (last_is (tokens_in v text) i _ (first ∙ ap (λ us. record { kind = f.kind; lex = f.lex; at = at } ∷ us) (rw none at left))) in
+      let behind_it = subst (λ us. IsFrontOf v (length text) us o next) (sym after.0) left in
+      record { has = has; within = after.1; left = behind_it; place = place_told v (length text) (tokens_in v text) (i + 1) next o behind_it last }
 
 -- the token in front is the one of that index
 pub is_next : (v : Vocabulary) (text : List ℕ) (i at : ℕ) (f : Front) → IsAt v text i (Some f) at → slice_get (tokens_in v text) i ≡ Some (record { kind = f.kind; lex = f.lex; at = at })

@@ -16,7 +16,7 @@ front_up (c ∷ p) rest = rw (tied_itself nat_cmp_total c) (front_up p rest)
 -- a front of a text is also one of each text between the two
 pub between : (p m rest : List ℕ) → is_gt (slice_cmp nat_cmp p m) ≡ false → is_gt (slice_cmp nat_cmp m (p ++ rest)) ≡ false → IsFront p m
 between [] m rest a b = (m, refl)
-between (c ∷ p) [] rest a b = let bad : ⊥ = cc in absurd bad
+between (c ∷ p) [] rest a b = absurd (cc)
 between (c ∷ p) (d ∷ m) rest a b =
     let rank = ranks c d in
     let turned = nat_cmp_total.antisymm d c in

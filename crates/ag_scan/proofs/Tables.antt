@@ -5,12 +5,12 @@ use Rattle.std.specs.Cmp.{ranks}
 use Rattle.std.specs.Cmp.Lexicographic.{slice_cmp, on_texts}
 use Rattle.std.specs.List.Sorted.{IsPermutation, IsSortedByKey, IsPartitionedBy, IsPartitionPoint}
 use Rattle.std.proofs.lemmas.List.Sorted.{All-permutation, Contains-permutation, sorted_far, ranks_by}
-use Rattle.std.proofs.lemmas.Option.{get_or_from_slice_get, slice_get-get_or, slice_get_within}
-use Rattle.std.specs.Ordering.{nat_cmp, is_lt, is_le, MatchOrdering}
+use Rattle.std.proofs.lemmas.Option.{get_or_from_slice_get, slice_get-get_or, slice_get_within, same_Some}
+use Rattle.std.specs.Ordering.{nat_cmp, is_le, MatchOrdering}
 use Rattle.std.specs.declared.cmp.Ordering.{Ordering}
 use Rattle.std.specs.declared.cmp.Ordering.TheVariants.{Less, Equal, Greater}
 use Rattle.ag_scan.specs.declared.literals.Word.{Word}
-use Rattle.ag_scan.specs.Table.{IsFront, IsUpTo, AreUpTo, NoFront, IsLastFront, GivesLast, behind_last, AreLinked, AreOrdered, AreLiterals, IsTable, IsLongestFront, HasNoFront}
+use Rattle.ag_scan.specs.Table.{IsFront, IsUpTo, AreUpTo, NoFront, IsLastFront, GivesLast, behind_last, AreLinked, AreOrdered, AreLiterals, IsTable, IsLongestFront}
 use Rattle.ag_scan.proofs.Orders.{front_between, front_is_up, up_up, not_less}
 
 -- an element stands at each index of a list
@@ -42,21 +42,22 @@ compared {A = A} i k less same more = go (nat_cmp i k) (ranks i k)
     go Equal h = same h
     go Greater h = more h
 
+pub split : {A : Type 0} (i k : ℕ) → (i < k → A) → (k ≤ i → A) → A
+split i k less others = compared i k less (λ same. others (omega arith)) (λ more. others (omega arith))
+
 module _ (words : List Word) (shorter : List (Option ℕ)) (bound : ℕ) (text : List ℕ) (ordered : AreOrdered words) (linked : AreLinked words shorter) (up : AreUpTo words bound text) where
   -- the word at `last` is not in front: the next that may be is the one that it is linked to
   pub goes_on : (limit last : ℕ) (w : Word) (o : Option ℕ) → limit ≤ bound → limit ≡ last + 1 → NoFront words limit bound text → slice_get words last ≡ Some w → slice_get shorter last ≡ Some o → (IsFront w.text.now text → ⊥)
       → NoFront words (behind_last o) bound text
-  goes_on limit last w o within is none there link not_here = record { none = by }
-    where
-      lower : NoFront words (behind_last o) last w.text.now
-      lower = last_behind words last w.text.now o (linked.each last w o there link)
-
-      by : (i : ℕ) (u : Word) → behind_last o ≤ i → i < bound → slice_get words i ≡ Some u → IsFront u.text.now text → ⊥
-      by i u low high at front =
-          compared i last
-          (λ less. lower.none i u low less at (front_between u.text.now w.text.now text (ordered.each i last u w (omega arith) at there) (up.each last w (omega arith) there) front))
-          (λ same. not_here (subst (λ (u : Word). IsFront u.text.now text) (same_there words i last u w at there same) front))
-          (λ more. none.none i u (omega arith) high at front)
+  goes_on limit last w o within is none there link not_here =
+      let lower = last_behind words last w.text.now o (linked.each last w o there link) in
+      record {
+        none = λ i u low high at front.
+            compared i last
+            (λ less. lower.none i u low less at (front_between u.text.now w.text.now text (ordered.each i last u w (omega arith) at there) (up.each last w (omega arith) there) front))
+            (λ same. not_here (subst (λ (u : Word). IsFront u.text.now text) (same_there words i last u w at there same) front))
+            (λ more. none.none i u (omega arith) high at front);
+      }
 
 -- the last of the words up to the text that is in front of it is the longest literal that is
 module _ (literals : List (List ℕ)) (words : List Word) (shorter : List (Option ℕ)) (table : IsTable literals words shorter) (bound : ℕ) (text : List ℕ) (up : AreUpTo words bound text) (others : NoFront words bound (length words) text) where
@@ -66,32 +67,14 @@ module _ (literals : List (List ℕ)) (words : List Word) (shorter : List (Optio
       front : IsFront w.text.now text
       front = subst (λ (u : Word). IsFront u.text.now text) (same_there words k k last.word w last.there there refl) last.front
 
-      fits : (j : ℕ) (u : Word) → slice_get words j ≡ Some u → IsFront u.text.now text → j ≤ k → length u.text.now ≤ length w.text.now
-      fits j u at is le = front_fits u.text.now w.text.now (front_between u.text.now w.text.now text (table.ordered.each j k u w le at there) (up.each k w last.below there) is)
-
-      later : (j : ℕ) (u : Word) → slice_get words j ≡ Some u → IsFront u.text.now text → k < j → ⊥
-      later j u at is more =
-          compared j bound
-          (λ less. last.last.none j u (omega arith) less at is)
-          (λ same. others.none j u (omega arith) (slice_get_within words j u at) at is)
-          (λ far. others.none j u (omega arith) (slice_get_within words j u at) at is)
+      fits : (j : ℕ) (u : Word) → slice_get words j ≡ Some u → IsFront u.text.now text → length u.text.now ≤ length w.text.now
+      fits j u at is =
+          split k j
+          (λ more. absurd (split j bound (λ less. last.last.none j u (omega arith) less at is) (λ far. others.none j u far (slice_get_within words j u at) at is)))
+          (λ le. front_fits u.text.now w.text.now (front_between u.text.now w.text.now text (table.ordered.each j k u w le at there) (up.each k w last.below there) is))
 
       longest : (n : ℕ) (x : List ℕ) → slice_get literals n ≡ Some x → IsFront x text → length x ≤ length w.text.now
-      longest n x at is =
-          let found = table.literals_all.whole n x at in
-          let here : IsFront found.1.text.now text = subst (λ y. IsFront y text) (sym found.3) is in
-          subst (λ y. length y ≤ length w.text.now) found.3
-          (compared found.0 k (λ less. fits found.0 found.1 found.2 here (omega arith)) (λ same. fits found.0 found.1 found.2 here (omega arith)) (λ more. absurd (later found.0 found.1 found.2 here more)))
-
-  pub none_is_none : NoFront words 0 bound text → HasNoFront literals text
-  none_is_none none n x at is =
-      let found = table.literals_all.whole n x at in
-      let here : IsFront found.1.text.now text = subst (λ y. IsFront y text) (sym found.3) is in
-      let within = slice_get_within words found.0 found.1 found.2 in
-      compared found.0 bound
-      (λ less. none.none found.0 found.1 (omega arith) less found.2 here)
-      (λ same. others.none found.0 found.1 (omega arith) within found.2 here)
-      (λ more. others.none found.0 found.1 (omega arith) within found.2 here)
+      longest n x at is = let found = table.literals_all.whole n x at in rw (← found.3) (fits found.0 found.1 found.2 (rw (← found.3) at is))
 
 -- ---- how the table is made
 
@@ -106,67 +89,33 @@ pub record AreFirst (literals : List (List ℕ)) (words : List Word) (count : �
   pub many : length words ≡ count
   pub each : (k : ℕ) (w : Word) → slice_get words k ≡ Some w → (w.number ≡ k) × (slice_get literals k ≡ Some w.text.now)
 
-pub none_first : (literals : List (List ℕ)) → AreFirst literals [] 0
-none_first literals = record { many = refl; each = λ k w e. let bad : ⊥ = cc in absurd bad }
-
-pub one_more : (literals : List (List ℕ)) (words : List Word) (count : ℕ) (w : Word) → AreFirst literals words count → w.number ≡ count → slice_get literals count ≡ Some w.text.now → AreFirst literals (words ++ w ∷ []) (count + 1)
-one_more literals words count w first number text = record { many = let n = first.many in omega (arith, length-append words (w ∷ [])); each = λ k u e. by k u (pushed words w k u e) }
-  where
-    by : (k : ℕ) (u : Word) → (slice_get words k ≡ Some u) ⊎ ((k ≡ length words) × (w ≡ u)) → (u.number ≡ k) × (slice_get literals k ≡ Some u.text.now)
-    by k u (inl h) = first.each k u h
-    by k u (inr h) =
-        let n : k ≡ count = h.0 ∙ first.many in
-        subst (λ (u : Word). (u.number ≡ k) × (slice_get literals k ≡ Some u.text.now)) h.1 (number ∙ sym n, ap (slice_get literals) n ∙ text)
-
 pub all_first : (literals : List (List ℕ)) (words : List Word) → AreFirst literals words (length literals) → AreLiterals literals words
-all_first literals words first = record { numbered = λ k w e. ap (slice_get literals) (first.each k w e).0 ∙ (first.each k w e).1; whole = whole }
-  where
-    whole : (n : ℕ) (x : List ℕ) → slice_get literals n ≡ Some x → (k : ℕ) × (w : Word) × (slice_get words k ≡ Some w) × (w.text.now ≡ x)
-    whole n x e =
-        let within : n < length literals = slice_get_within literals n x e in
-        let there = some_there words n (omega (arith, first.many)) in
-        let same : Some there.0.text.now ≡ Some x = sym (first.each n there.0 there.1).1 ∙ e in
-        let text : there.0.text.now ≡ x = cc in
-        (n, there.0, there.1, text)
+all_first literals words first = record {
+  numbered = λ k w e. ap (slice_get literals) (first.each k w e).0 ∙ (first.each k w e).1;
+  whole = λ n x e.
+      let within : n < length literals = slice_get_within literals n x e in
+      let there = some_there words n (omega (arith, first.many)) in
+      let same : Some there.0.text.now ≡ Some x = sym (first.each n there.0 there.1).1 ∙ e in
+      (n, there.0, there.1, same_Some _ _ same);
+}
 
 -- the same words in another order
 pub moved : (literals : List (List ℕ)) (xs ys : List Word) → IsPermutation xs ys → AreLiterals literals xs → AreLiterals literals ys
 moved literals xs ys perm are = record {
   numbered = λ k w e. subst (λ (w : Word). slice_get literals w.number ≡ Some w.text.now) (get_or_from_slice_get ys k w w e)
       (All-permutation (λ w. slice_get literals w.number ≡ Some w.text.now) xs ys perm (λ i d lt. are.numbered i (get_or xs i d) (slice_get-get_or xs i d lt)) k w (slice_get_within ys k w e));
-  whole = whole;
+  whole = λ n x e.
+      let old = are.whole n x e in
+      let new = Contains-permutation xs ys old.1 perm (old.0, slice_get_within xs old.0 old.1 old.2, get_or_from_slice_get xs old.0 old.1 old.1 old.2) in
+      (new.0, old.1, slice_get-get_or ys new.0 old.1 new.1 ∙ ap Some new.2, old.3);
 }
-  where
-    whole : (n : ℕ) (x : List ℕ) → slice_get literals n ≡ Some x → (k : ℕ) × (w : Word) × (slice_get ys k ≡ Some w) × (w.text.now ≡ x)
-    whole n x e =
-        let old = are.whole n x e in
-        let new = Contains-permutation xs ys old.1 perm (old.0, slice_get_within xs old.0 old.1 old.2, get_or_from_slice_get xs old.0 old.1 old.1 old.2) in
-        (new.0, old.1, slice_get-get_or ys new.0 old.1 new.1 ∙ ap Some new.2, old.3)
 
 pub sorted_is_ordered : (words : List Word) → IsSortedByKey (λ (w : Word). w.text) (λ x y. slice_cmp nat_cmp x.now y.now) words → AreOrdered words
-sorted_is_ordered words up = record { each = λ i j a b le at there. by i j a b le at there }
-  where
-    by : (i j : ℕ) (a b : Word) → i ≤ j → slice_get words i ≡ Some a → slice_get words j ≡ Some b → IsUpTo a.text.now b.text.now
-    by i j a b le at there =
-        let far = sorted_far _ (ranks_by (on_texts (λ (x : Bor (List ℕ)). x.now)) (λ (w : Word). w.text)) words up i j a le (slice_get_within words j b there) in
-        not_less a.text.now b.text.now (subst (λ (u : Word). is_lt (slice_cmp nat_cmp u.text.now a.text.now) ≡ false) (get_or_from_slice_get words j b a there)
-        (subst (λ (u : Word). is_lt (slice_cmp nat_cmp (get_or words j a).text.now u.text.now) ≡ false) (get_or_from_slice_get words i a a at) far))
-
--- the words before one stand no later than it
-pub up_before : (words : List Word) (i : ℕ) (w : Word) → AreOrdered words → slice_get words i ≡ Some w → AreUpTo words i w.text.now
-up_before words i w ordered there = record { each = λ j u less at. ordered.each j i u w (omega arith) at there }
-
-pub none_linked : (words : List Word) → AreLinked words []
-none_linked words = record { each = λ i w o at link. let bad : ⊥ = cc in absurd bad }
-
-pub one_linked : (words : List Word) (shorter : List (Option ℕ)) (count : ℕ) (w : Word) (o : Option ℕ) → AreLinked words shorter → length shorter ≡ count → slice_get words count ≡ Some w → GivesLast words count w.text.now o → AreLinked words (shorter ++ o ∷ [])
-one_linked words shorter count w o linked many there last = record { each = λ i u p at link. by i u p at (pushed shorter o i p link) }
-  where
-    by : (i : ℕ) (u : Word) (p : Option ℕ) → slice_get words i ≡ Some u → (slice_get shorter i ≡ Some p) ⊎ ((i ≡ length shorter) × (o ≡ p)) → GivesLast words i u.text.now p
-    by i u p at (inl h) = linked.each i u p at h
-    by i u p at (inr h) =
-        let n : count ≡ i = sym many ∙ sym h.0 in
-        subst (GivesLast words i u.text.now) h.1 (subst (λ (v : Word). GivesLast words i v.text.now o) (same_there words count i w u there at n) (subst (λ k. GivesLast words k w.text.now o) n last))
+sorted_is_ordered words up = record {
+  each = λ i j a b le at there.
+      let far = sorted_far _ (ranks_by (on_texts (λ (x : Bor (List ℕ)). x.now)) (λ (w : Word). w.text)) words up i j a le (slice_get_within words j b there) in
+      not_less a.text.now b.text.now (rw (get_or_from_slice_get words j b a there, get_or_from_slice_get words i a a at) at far);
+}
 
 -- ---- where the text stands among the words
 
@@ -190,14 +139,13 @@ pub up_to_point : (words : List Word) (text : List ℕ) (n : ℕ) → IsPartitio
 up_to_point words text n point = record { each = λ i w less at. up_of_test w.text.now text (subst (λ (u : Word). stands_up text u ≡ true) (get_or_from_slice_get words i w w at) (point.0 i w (omega arith) less)) }
 
 pub none_past_point : (words : List Word) (text : List ℕ) (n : ℕ) → IsPartitionPoint (λ w. stands_up text w ≡ true) (λ w. stands_up text w ≡ false) words n → NoFront words n (length words) text
-none_past_point words text n point = record { none = none }
-  where
-    none : (i : ℕ) (w : Word) → n ≤ i → i < length words → slice_get words i ≡ Some w → IsFront w.text.now text → ⊥
-    none i w low high at front =
-        let fails : stands_up text w ≡ false = subst (λ (u : Word). stands_up text u ≡ false) (get_or_from_slice_get words i w w at) (point.1 i w low high) in
-        let passes : stands_up text w ≡ true = test_of_up w.text.now text (front_is_up w.text.now text front) in
-        let bad : true ≡ false = sym passes ∙ fails in
-        cc
+none_past_point words text n point = record {
+  none = λ i w low high at front.
+      let fails = point.1 i w low high in
+      let passes = test_of_up w.text.now text (front_is_up w.text.now text front) in
+      let same = get_or_from_slice_get words i w w at in
+      grind arith;
+}
 
 -- a link leads to a word before
 pub links_below : (words : List Word) (shorter : List (Option ℕ)) (last : ℕ) (o : Option ℕ) → AreLinked words shorter → last < length words → slice_get shorter last ≡ Some o → behind_last o ≤ last

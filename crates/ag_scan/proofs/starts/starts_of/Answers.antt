@@ -10,5 +10,5 @@ loop-index-preserved c =
     let words = c.args.words.now in
     let first = c.first_byte-first.result in
     let byte : first < 256 = omega arith in
-    subst (λ s. AreTold words (set c.loop-index.starts.items first s) (c.loop-index.index + 1)) (sym c.with_one.ensures)
+    rw c.with_one.ensures
     (one_told words c.loop-index.starts.items c.loop-index.index first c.first_byte-first.ensures.0 _ c.index-start.result.now c.loop-index.invariant (slice_get-get_or words c.loop-index.index _ (omega arith)) c.first_byte-first.ensures.1 byte (sym c.index-start.ensures))
