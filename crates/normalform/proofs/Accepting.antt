@@ -29,7 +29,8 @@ use Rattle.normalform.proofs.Known.{symbols_differ, attributes_differ, differ_do
 use Rattle.normalform.proofs.Listed.{any_has, has_any, literals_apart, literal_stands, literal_listed, apart_same, number_at, filter_has, has_filter, class_stands, stands_class}
 use Rattle.normalform.proofs.Placing.{stored_same}
 use Rattle.normalform.proofs.Reduced.{symbols, produces, name_known, known, unknown_parts}
-use Rattle.normalform.proofs.Right.{both_right, together, is_right, right_is, flat_each, each_flat, along_each, each_along, at_mapped}
+use Rattle.closure.proofs.Places.{at_mapped}
+use Rattle.normalform.proofs.Right.{both_right, together, is_right, right_is, flat_each, each_flat, along_each, each_along}
 use Rattle.normalform.proofs.Ruled.{all_ruled, ruled_all, rules_single, single_rules, targets_given, given_targets, arguments_found, found_arguments, each_mapped, mapped_each}
 use Rattle.normalform.proofs.Small.{passes_at}
 

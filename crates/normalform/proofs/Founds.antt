@@ -1,5 +1,5 @@
 -- What the search for the first fault finds is the first.
-use Rattle.std.proofs.Common.{ℕ, ◌≡◌, ◌<◌, ◌++◌, [], ◌∷◌, length, Some, None, Option, Result, Ok, Err, IfOk, IfSome, All}
+use Rattle.std.proofs.Common.{ℕ, ◌≡◌, ◌<◌, ◌++◌, [], ◌∷◌, map, length, Some, None, Option, Result, Ok, Err, IfOk, IfSome, All}
 use Rattle.std.proofs.lemmas.List.{length-map}
 use Rattle.std.proofs.lemmas.List.Elements.{All-cons, All-nil}
 use Rattle.ag_grammar.specs.grammars.Accepted.{IsProductive, IsReached}
@@ -9,6 +9,7 @@ use Rattle.normalform.specs.Faults.{first_wrong, unknown, doubled, start_places,
 use Rattle.normalform.specs.Found.{IsFoundAt}
 use Rattle.normalform.specs.Numbers.{symbol_of, numbered}
 use Rattle.closure.specs.Clauses.{IsClauseBelow}
+use Rattle.closure.specs.Edges.{along, IsEdgeBelow}
 use Rattle.closure.specs.Following.{Follows}
 use Rattle.normalform.specs.Lacking.{IsFirstLeft}
 use Rattle.normalform.proofs.Reduced.{symbols, clauses, edges, follows_productive, productive_follows, follows_reached, reached_follows, clauses_below, edges_below, start, start_below, FollowsStart}
@@ -23,7 +24,7 @@ naming_parts raw h =
 pub bounded : (raw : RawGrammar) → first_wrong (naming_places raw) ≡ None → All (IsClauseBelow (length (symbols raw))) (clauses raw)
 bounded raw h = clauses_below (symbols raw) raw.productions (naming_parts raw h).0
 
-pub edges_bounded : (raw : RawGrammar) → first_wrong (naming_places raw) ≡ None → All (IsClauseBelow (length (symbols raw))) (edges raw)
+pub edges_bounded : (raw : RawGrammar) → first_wrong (naming_places raw) ≡ None → All (IsEdgeBelow (length (symbols raw))) (edges raw)
 edges_bounded raw h = edges_below (length (symbols raw)) (clauses raw) (bounded raw h)
 
 pub start_bounded : (raw : RawGrammar) → first_wrong (naming_places raw) ≡ None → All (λ t. t < length (symbols raw)) (start raw ∷ [])
@@ -48,7 +49,7 @@ unproductive_found raw n none left = record {
 pub all_productive : (raw : RawGrammar) → ((t : ℕ) → t < length (symbols raw) → Follows (clauses raw) [] t) → AreAll (IsProductive (numbered raw)) raw
 all_productive raw h s lt = follows_productive raw s (h s (rw (count raw) lt))
 
-pub unreached_found : (raw : RawGrammar) (n : ℕ) → first_wrong (naming_places raw) ≡ None → AreAll (IsProductive (numbered raw)) raw → IsFirstLeft (edges raw) (start raw ∷ []) (length (symbols raw)) n → IsFoundAt raw fault.Unreachable n
+pub unreached_found : (raw : RawGrammar) (n : ℕ) → first_wrong (naming_places raw) ≡ None → AreAll (IsProductive (numbered raw)) raw → IsFirstLeft (map along (edges raw)) (start raw ∷ []) (length (symbols raw)) n → IsFoundAt raw fault.Unreachable n
 unreached_found raw n none all left = record {
   within = rw (← count raw) left.within;
   first = λ name at. in_reached none all (record {

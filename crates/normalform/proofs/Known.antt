@@ -22,7 +22,8 @@ use Rattle.normalform.proofs.Apart.{Apart, none_apart, apart_along, more_along, 
 use Rattle.normalform.proofs.Listed.{tells_texts, has_any}
 use Rattle.normalform.proofs.Placing.{some_kind, stands_for, named_there, names_of}
 use Rattle.normalform.proofs.Reduced.{symbols, produces, name_known, below_known, unknown_parts}
-use Rattle.normalform.proofs.Right.{both_right, together, is_right, right_is, flat_each, each_flat, map_each, each_map, mapped_at, at_mapped}
+use Rattle.closure.proofs.Places.{at_mapped, mapped_at}
+use Rattle.normalform.proofs.Right.{both_right, together, is_right, right_is, flat_each, each_flat, map_each, each_map}
 use Rattle.normalform.proofs.Ruled.{differ_mapped, mapped_differ, each_mapped, mapped_each}
 
 abbrev named_text : Named → List ℕ

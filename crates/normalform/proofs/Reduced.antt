@@ -4,7 +4,7 @@ use Rattle.std.proofs.lemmas.Bool.{ltb-true, lt-ltb}
 use Rattle.std.proofs.lemmas.List.{length-map}
 use Rattle.std.proofs.lemmas.Option.{slice_get_within}
 use Rattle.std.specs.List.{list_any}
-use Rattle.std.proofs.lemmas.List.Elements.{All-append, All-nil, All-cons, All-head, All-tail, All-contains, Contains-get_or}
+use Rattle.std.proofs.lemmas.List.Elements.{All-append, All-nil, All-cons, All-head, All-tail, All-map, All-contains, Contains-get_or}
 use Rattle.ag_grammar.specs.Lists.{Has}
 use Rattle.ag_grammar.specs.declared.grammar.Item.{Item}
 use Rattle.ag_grammar.specs.declared.grammar.Item.TheVariants as item
@@ -18,7 +18,11 @@ use Rattle.ag_grammar.specs.declared.raw.RawItem.TheVariants as raw_item
 use Rattle.ag_grammar.specs.declared.raw.RawProduction.{RawProduction}
 use Rattle.closure.specs.declared.clause.Clause.{Clause}
 use Rattle.closure.specs.Clauses.{IsClauseBelow}
+use Rattle.closure.specs.Edges.{along, IsEdgeBelow}
 use Rattle.closure.specs.Following.{Follows, seed}
+use Rattle.closure.specs.declared.edges.Edge.{Edge}
+use Rattle.closure.proofs.Places.{at_mapped, element_at, mapped_at, place_of_element}
+use Rattle.closure.proofs.Reached.{reached_in, step}
 use Rattle.closure.proofs.Following.{follows_in, head_follows}
 use Rattle.normalform.specs.Clauses.{body_of, clause_of, clauses_of, edge, edges_of, reaching}
 use Rattle.normalform.specs.Numbers.{number_in, symbol_of, symbol_names, item_of, literals_of, placed, production_of, numbered}
@@ -26,7 +30,7 @@ use Rattle.normalform.proofs.Texts.{found}
 use Rattle.ag_grammar.specs.declared.raw.Named.{Named}
 use Rattle.normalform.specs.declared.fault.NormalFault.TheVariants as fault
 use Rattle.normalform.specs.Faults.{first_wrong, name_place, item_places, rule_places, unknown_in, unknown, is_start, start_places}
-use Rattle.normalform.proofs.Right.{is_right, both_right, mapped_at, at_mapped, has_flat}
+use Rattle.normalform.proofs.Right.{is_right, both_right, has_flat}
 
 abbrev symbols_of : List Item → List ℕ
 symbols_of [] = []
@@ -44,9 +48,9 @@ mutual
   items_in g P closed (item.Terminal a ∷ xs) (a_word k) = items_in g P closed xs k
 
 -- and of reached ones
-reached_in : (g : Grammar) (P : ℕ → Type 0) → P g.start → ((p : ℕ) (q : Production) (s : ℕ) → slice_get g.productions p ≡ Some q → P q.left → Has q.items (item.Symbol s) → P s) → (s : ℕ) → IsReached g s → P s
-reached_in g P start step s at_start = start
-reached_in g P start step s (within p q e h has) = step p q s e (reached_in g P start step q.left h) has
+symbols_in : (g : Grammar) (P : ℕ → Type 0) → P g.start → ((p : ℕ) (q : Production) (s : ℕ) → slice_get g.productions p ≡ Some q → P q.left → Has q.items (item.Symbol s) → P s) → (s : ℕ) → IsReached g s → P s
+symbols_in g P start step s at_start = start
+symbols_in g P start step s (within p q e h has) = step p q s e (symbols_in g P start step q.left h) has
 
 -- the names of the declared symbols
 abbrev pub symbols : RawGrammar → List Symbol
@@ -90,12 +94,12 @@ productive_follows raw = productive_in (numbered raw) (Follows (clauses raw) [])
 abbrev pub start : RawGrammar → ℕ
 start raw = number_in (names raw) raw.start.name
 
-abbrev pub edges : RawGrammar → List Clause
+abbrev pub edges : RawGrammar → List Edge
 edges raw = reaching (clauses raw)
 
 -- what is reached from the start symbol
 abbrev pub FollowsStart : RawGrammar → ℕ → Type 0
-FollowsStart raw = Follows (edges raw) (start raw ∷ [])
+FollowsStart raw = Follows (map along (edges raw)) (start raw ∷ [])
 
 -- a symbol on a right side is in the body, and the other way round
 symbol_body : (ns lits : List (List ℕ)) (xs : List RawItem) (i s : ℕ) → slice_get (map (item_of ns lits) xs) i ≡ Some (item.Symbol s) → Has (body_of ns xs) s
@@ -115,14 +119,14 @@ body_symbol ns lits (raw_item.Literal text ∷ xs) i s e = let w = body_symbol n
 body_symbol ns lits (raw_item.Class c ∷ xs) i s e = let w = body_symbol ns lits xs i s e in (suc w.0, w.1)
 
 pub reached_follows : (raw : RawGrammar) (s : ℕ) → IsReached (numbered raw) s → FollowsStart raw s
-reached_follows raw = reached_in (numbered raw) (FollowsStart raw) (seed (Contains-get_or (start raw ∷ []) 0 0 (omega arith))) (λ p q s e left has.
+reached_follows raw = symbols_in (numbered raw) (FollowsStart raw) (seed (Contains-get_or (start raw ∷ []) 0 0 (omega arith))) (λ p q s e left has.
     let w = mapped_at (produces raw) raw.productions p q e in
     let here = symbol_body (names raw) (literals_of raw.productions) w.0.items has.0 s (rw (← w.2) at has.1) in
     let c = clause_of (symbols raw) w.0 in
     let at_clause = at_mapped (clause_of (symbols raw)) raw.productions p w.0 w.1 in
     let there : Has (flat_map edges_of (clauses raw)) (edge c.head s) = has_flat edges_of (clauses raw) p c (edge c.head s) at_clause (here.0, at_mapped (edge c.head) c.body here.0 s here.1) in
     let same : q.left ≡ c.head = sym (ap (λ (r : Production). r.left) w.2) in
-    head_follows (edges raw) (start raw ∷ []) there.0 (edge c.head s) there.1 (All-cons (FollowsStart raw) c.head [] (rw same at left) (All-nil (FollowsStart raw))))
+    step (edges raw) (start raw ∷ []) (edge c.head s) (element_at (edges raw) there.0 (edge c.head s) there.1) (rw same at left))
 
 pub split_has : {X : Type 0} (xs ys : List X) (p : ℕ) (y : X) → slice_get (xs ++ ys) p ≡ Some y → Has xs y ⊎ Has ys y
 split_has [] ys p y e = inr (p, e)
@@ -140,20 +144,20 @@ flat_has f (x ∷ xs) p y e = elim (split_has (f x) (flat_map f xs) p y e) [
   | inr there ↦ let w = flat_has f xs there.0 y there.1 in (suc w.0, w.1, w.2, w.3)
 ]
 
-edge_reached : (raw : RawGrammar) (p : ℕ) (c : Clause) → slice_get (edges raw) p ≡ Some c → All (IsReached (numbered raw)) c.body → IsReached (numbered raw) c.head
-edge_reached raw p c e all =
-    let w = flat_has edges_of (clauses raw) p c e in
+edge_reached : (raw : RawGrammar) (p : ℕ) (e : Edge) → slice_get (edges raw) p ≡ Some e → IsReached (numbered raw) e.from → IsReached (numbered raw) e.to
+edge_reached raw p e at before =
+    let w = flat_has edges_of (clauses raw) p e at in
     let v = mapped_at (clause_of (symbols raw)) raw.productions w.0 w.1 w.2 in
-    let t = mapped_at (edge w.1.head) w.1.body w.3.0 c w.3.1 in
-    let left : IsReached (numbered raw) w.1.head = All-head (IsReached (numbered raw)) w.1.head [] (rw (← t.2) at all) in
+    let t = mapped_at (edge w.1.head) w.1.body w.3.0 e w.3.1 in
+    let left : IsReached (numbered raw) w.1.head = subst (λ (d : Edge). IsReached (numbered raw) d.from) (sym t.2) before in
     let body : slice_get (body_of (names raw) v.0.items) w.3.0 ≡ Some t.0 = subst (λ (d : Clause). slice_get d.body w.3.0 ≡ Some t.0) (sym v.2) t.1 in
     let has = body_symbol (names raw) (literals_of raw.productions) v.0.items w.3.0 t.0 body in
     let from : IsReached (numbered raw) (number_in (names raw) v.0.left.name) = subst (λ (d : Clause). IsReached (numbered raw) d.head) (sym v.2) left in
-    let there : IsReached (numbered raw) t.0 = within w.0 (produces raw v.0) (at_mapped (produces raw) raw.productions w.0 v.0 v.1) from has in
-    subst (IsReached (numbered raw)) (ap (λ (d : Clause). d.head) t.2) there
+    subst (λ (d : Edge). IsReached (numbered raw) d.to) t.2 (within w.0 (produces raw v.0) (at_mapped (produces raw) raw.productions w.0 v.0 v.1) from has)
 
 pub follows_reached : (raw : RawGrammar) (s : ℕ) → FollowsStart raw s → IsReached (numbered raw) s
-follows_reached raw = follows_in (edges raw) (start raw ∷ []) (IsReached (numbered raw)) (λ t h. All-contains (IsReached (numbered raw)) (start raw ∷ []) t (All-cons (IsReached (numbered raw)) (start raw) [] at_start (All-nil (IsReached (numbered raw)))) h) (edge_reached raw)
+follows_reached raw = reached_in (edges raw) (start raw ∷ []) (IsReached (numbered raw)) (λ t h. All-contains (IsReached (numbered raw)) (start raw ∷ []) t (All-cons (IsReached (numbered raw)) (start raw) [] at_start (All-nil (IsReached (numbered raw)))) h)
+    (λ e h. let w = place_of_element (edges raw) e h in edge_reached raw w.0 e w.1)
 
 -- Where names are known the numbers are of symbols.
 pub known : (texts : List (List ℕ)) (text : List ℕ) → list_any (bytes_eq text) texts ≡ true → number_in texts text < length texts
@@ -192,16 +196,11 @@ clauses_below ss (q ∷ qs) h =
     let v = unknown_parts ss q w.0 in
     All-cons (IsClauseBelow (length ss)) (clause_of ss q) (clauses_of ss qs) (record { head = name_known ss q.left v.0; body = body_below ss q.items v.1 }) (clauses_below ss qs w.1)
 
-edge_below : (n left : ℕ) → left < n → (ts : List ℕ) → All (λ t. t < n) ts → All (IsClauseBelow n) (map (edge left) ts)
-edge_below n left lt [] all = All-nil (IsClauseBelow n)
-edge_below n left lt (t ∷ ts) all =
-    All-cons (IsClauseBelow n) (edge left t) (map (edge left) ts) (record { head = All-head (λ u. u < n) t ts all; body = All-cons (λ u. u < n) left [] lt (All-nil (λ u. u < n)) }) (edge_below n left lt ts (All-tail (λ u. u < n) t ts all))
-
-pub edges_below : (n : ℕ) (cs : List Clause) → All (IsClauseBelow n) cs → All (IsClauseBelow n) (flat_map edges_of cs)
-edges_below n [] all = All-nil (IsClauseBelow n)
+pub edges_below : (n : ℕ) (cs : List Clause) → All (IsClauseBelow n) cs → All (IsEdgeBelow n) (flat_map edges_of cs)
+edges_below n [] all = All-nil (IsEdgeBelow n)
 edges_below n (c ∷ cs) all =
     let here = All-head (IsClauseBelow n) c cs all in
-    All-append (IsClauseBelow n) (edges_of c) (flat_map edges_of cs) (edge_below n c.head here.head c.body here.body) (edges_below n cs (All-tail (IsClauseBelow n) c cs all))
+    All-append (IsEdgeBelow n) (edges_of c) (flat_map edges_of cs) (All-map (IsEdgeBelow n) (edge c.head) c.body (λ k d lt. record { from = here.head; to = here.body k d lt })) (edges_below n cs (All-tail (IsClauseBelow n) c cs all))
 
 start_there : (ss : List Symbol) (n : ℕ) → is_start (slice_get ss n) ≡ true → n < length ss
 start_there ss n h = go (slice_get ss n) refl h

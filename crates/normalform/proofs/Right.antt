@@ -1,5 +1,5 @@
 -- Lists of places without a wrong one, and elements of mapped and joined lists.
-use Rattle.std.proofs.Common.{ℕ, zero, suc, ◌≡◌, ◌+◌, Bool, true, false, List, [], ◌∷◌, ◌++◌, map, flat_map, Some, None, Option, slice_get, refl, ap, sym, ◌∙◌, arith}
+use Rattle.std.proofs.Common.{ℕ, zero, suc, ◌≡◌, ◌+◌, Bool, true, false, List, [], ◌∷◌, ◌++◌, map, flat_map, Some, None, Option, slice_get, refl, sym, ◌∙◌, arith}
 use Rattle.std.specs.Option.{option_or}
 use Rattle.ag_grammar.specs.Lists.{Has}
 use Rattle.normalform.specs.declared.fault.NormalFault.{NormalFault}
@@ -60,17 +60,6 @@ each_along f n (y ∷ ys) h =
     let here : n + 0 ≡ n = omega arith in
     together (f n y) (places_along f after (n + 1) ys) (rw here at (h zero y refl))
     (each_along f (n + 1) ys (λ i x e. let there : n + suc i ≡ (n + 1) + i = omega arith in rw there at (h (suc i) x e)))
-
--- an element of a mapped list is that of one
-pub mapped_at : {X Y : Type 0} (f : X → Y) (xs : List X) (i : ℕ) (y : Y) → slice_get (map f xs) i ≡ Some y → (x : X) × (slice_get xs i ≡ Some x) × (f x ≡ y)
-mapped_at f [] i y e = absurd (cc)
-mapped_at f (x ∷ xs) zero y e = (x, refl, cc)
-mapped_at f (x ∷ xs) (suc i) y e = mapped_at f xs i y e
-
-pub at_mapped : {X Y : Type 0} (f : X → Y) (xs : List X) (i : ℕ) (x : X) → slice_get xs i ≡ Some x → slice_get (map f xs) i ≡ Some (f x)
-at_mapped f [] i x e = absurd (cc)
-at_mapped f (y ∷ ys) zero x e = let same : y ≡ x = cc in ap (λ z. Some (f z)) same
-at_mapped f (y ∷ ys) (suc i) x e = at_mapped f ys i x e
 
 -- an element of joined lists is of one of them
 pub has_left : {X : Type 0} (xs ys : List X) (x : X) → Has xs x → Has (xs ++ ys) x

@@ -22,7 +22,8 @@ use Rattle.normalform.proofs.KindAt.{synthesized_at, inherited_at}
 use Rattle.normalform.proofs.Listed.{any_at, at_any}
 use Rattle.normalform.proofs.Placing.{kinds_at, kind_has, has_its_kind, is_its_kind}
 use Rattle.normalform.proofs.Reduced.{symbols, produces, split_has}
-use Rattle.normalform.proofs.Right.{flat_each, each_flat, map_each, each_map, along_each, each_along, mapped_at, at_mapped}
+use Rattle.closure.proofs.Places.{at_mapped, mapped_at}
+use Rattle.normalform.proofs.Right.{flat_each, each_flat, map_each, each_map, along_each, each_along}
 
 both : (a b : Bool) → (a && b) ≡ true → (a ≡ true) × (b ≡ true)
 both true b h = (refl, h)

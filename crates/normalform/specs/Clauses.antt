@@ -6,6 +6,7 @@ use Rattle.ag_grammar.specs.declared.raw.RawItem.TheVariants as raw_item
 use Rattle.ag_grammar.specs.declared.raw.RawProduction.{RawProduction}
 use Rattle.normalform.specs.Numbers.{number_in, symbol_names}
 use Rattle.closure.specs.declared.clause.Clause.{Clause}
+use Rattle.closure.specs.declared.edges.Edge.{Edge}
 
 -- the symbols on a right side
 abbrev pub body_of : List (List ℕ) → List RawItem → List ℕ
@@ -22,11 +23,11 @@ abbrev pub clauses_of : List Symbol → List RawProduction → List Clause
 clauses_of ss qs = map (clause_of ss) qs
 
 -- a symbol of a right side is reached where the left side is
-abbrev pub edge : ℕ → ℕ → Clause
-edge left t = record { head = t; body = left ∷ [] }
+abbrev pub edge : ℕ → ℕ → Edge
+edge left t = record { from = left; to = t }
 
-abbrev pub edges_of : Clause → List Clause
+abbrev pub edges_of : Clause → List Edge
 edges_of q = map (edge q.head) q.body
 
-abbrev pub reaching : List Clause → List Clause
+abbrev pub reaching : List Clause → List Edge
 reaching clauses = flat_map edges_of clauses

@@ -23,7 +23,7 @@ use crate::numbering::{classes_of, literal_texts, names_of, productions_of, star
 use crate::rules::{doubled_rules, missing, not_found, not_given};
 use ag_grammar::{Grammar, Named, Production, RawGrammar, RawProduction, RawSymbol};
 use ag_value::{Items, NoMemory, Text};
-use closure::Clause;
+use closure::{Clause, Clauses, Edge};
 use std::alloc::Global;
 
 /// What is wrong first: a fault, or a symbol by its number.
@@ -116,7 +116,8 @@ fn unproductive(
         (λ name. NormalFault.Unproductive name) n)) }
     ensures none { IfOk result (λ o. o ≡ None → AreAll (IsProductive (numbered raw.now)) raw.now) }
 {
-    first_left(alloc, clauses, raw.symbols.as_slice().len(), &[])
+    let clauses = Clauses::new(alloc, clauses, raw.symbols.as_slice().len())?;
+    first_left(alloc, &clauses, &[])
 }
 
 /// N5: the number of the first symbol that is not reached.
@@ -124,9 +125,9 @@ fn unreachable(
     alloc: Global,
     raw: &RawGrammar,
     start: usize,
-    edges: Vec<Clause>,
+    edges: &[Edge],
 ) -> Result<Option<usize>, NoMemory>
-    requires edges { edges.items ≡ spec.reaching
+    requires edges { edges.now ≡ spec.reaching
         (spec.clauses_of (map symbol_of raw.now.symbols) raw.now.productions) }
     requires start { start
         ≡ number_in (symbol_names (map symbol_of raw.now.symbols)) raw.now.start.name }
@@ -136,7 +137,8 @@ fn unreachable(
         (λ name. NormalFault.Unreachable name) n)) }
     ensures none { IfOk result (λ o. o ≡ None → AreAll (IsReached (numbered raw.now)) raw.now) }
 {
-    first_left(alloc, edges, raw.symbols.as_slice().len(), &[start])
+    let clauses = Clauses::of_edges(alloc, edges, raw.symbols.as_slice().len())?;
+    first_left(alloc, &clauses, &[start])
 }
 
 /// The first fault of the kinds from N4 on.
@@ -155,7 +157,7 @@ fn structure_fault(
         return Ok(Some(Found::Unproductive(number)));
     }
     let start = declared.number(raw.start.name.as_str());
-    if let Some(number) = unreachable(alloc, raw, start, edges)? {
+    if let Some(number) = unreachable(alloc, raw, start, edges.as_slice())? {
         return Ok(Some(Found::Unreachable(number)));
     }
     if let Some(fault) = further_fault(alloc, raw, declared)? {

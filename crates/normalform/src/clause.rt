@@ -7,7 +7,7 @@ ghost use Rattle.normalform.specs.Numbers.{symbol_names};
 use crate::declared::Declared;
 use ag_grammar::{RawItem, RawProduction};
 use ag_value::{Items, NoMemory};
-use closure::Clause;
+use closure::{Clause, Edge};
 use std::alloc::Global;
 
 /// The symbols on a right side.
@@ -56,27 +56,26 @@ pub fn clauses_of(
     Ok(clauses)
 }
 
-/// Appends that each number of a body follows from the head.
-fn push_edges(alloc: Global, edges: &mut Vec<Clause>, clause: &Clause) -> Result<(), NoMemory>
+/// Appends the edges from the head to each number of a body.
+fn push_edges(edges: &mut Vec<Edge>, clause: &Clause) -> Result<(), NoMemory>
     ensures { OnOk result (edges.new.items ≡ edges.old.items ++ edges_of clause.now) }
 {
     for symbol in clause.body.as_slice() {
-        let body = Items::from_vec(vec![in alloc; clause.head]?);
-        edges.push(Clause {
-            head: *symbol,
-            body,
+        edges.push(Edge {
+            from: clause.head,
+            to: *symbol,
         })?;
     }
     Ok(())
 }
 
-/// The clauses of what is reached: each number of a body from the head.
-pub fn reaching(alloc: Global, clauses: &[Clause]) -> Result<Vec<Clause>, NoMemory>
+/// The edges along which symbols are reached: from the head to each number of a body.
+pub fn reaching(alloc: Global, clauses: &[Clause]) -> Result<Vec<Edge>, NoMemory>
     ensures { IfOk result (λ edges. edges.items ≡ spec.reaching clauses.now) }
 {
     let mut edges = Vec::new(alloc);
     for clause in clauses {
-        push_edges(alloc, &mut edges, clause)?;
+        push_edges(&mut edges, clause)?;
     }
     Ok(edges)
 }

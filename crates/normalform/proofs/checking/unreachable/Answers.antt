@@ -1,6 +1,8 @@
 -- The goals of `unreachable` that are left.
-use Rattle.std.proofs.Common.{◌≡◌, ◌<◌, [], ◌∷◌, All, length, ap, subst, sym, ◌∙◌}
+use Rattle.std.proofs.Common.{◌≡◌, ◌<◌, [], ◌∷◌, All, length, map, ap, subst, sym, ◌∙◌}
 use Rattle.std.proofs.lemmas.List.{length-map}
+use Rattle.closure.specs.Clauses.{Clauses}
+use Rattle.closure.specs.Edges.{along}
 use Rattle.normalform.specs.Found.{IsFoundAt}
 use Rattle.normalform.specs.Lacking.{IsFirstLeft}
 use Rattle.normalform.specs.Numbers.{symbol_of}
@@ -9,26 +11,28 @@ use Rattle.normalform.proofs.Founds.{edges_bounded, unreached_found, all_reached
 use Rattle.normalform.proofs.Reduced.{symbols, start, edges}
 use Rattle.normalform.proofs.checking.unreachable.Goals as goal
 
-pub first_left-requires-clause-clauses : goal.first_left-requires-clause-clauses
-first_left-requires-clause-clauses c =
+pub of_edges-requires : goal.of_edges-requires
+of_edges-requires c =
     let raw = c.args.raw.now in
     let count : length c.as_slice.result.now ≡ length (symbols raw) = ap length c.as_slice.ensures ∙ sym (length-map raw.symbols symbol_of) in
     rw (count, c.requires.edges) (edges_bounded raw c.requires.names)
 
-pub first_left-requires-clause-seeds : goal.first_left-requires-clause-seeds
-first_left-requires-clause-seeds c =
+pub first_left-requires : goal.first_left-requires
+first_left-requires c =
     let raw = c.args.raw.now in
-    let count : length c.as_slice.result.now ≡ length (symbols raw) = ap length c.as_slice.ensures ∙ sym (length-map raw.symbols symbol_of) in
-    subst (λ n. All (λ t. t < length c.as_slice.result.now) (n ∷ [])) (sym c.requires.start) (rw count (start_bounded raw c.requires.names))
+    let count : c.in_ok-clauses.clauses.count ≡ length (symbols raw) = ap (λ (k : Clauses). k.count) c.in_ok-clauses.ensures ∙ ap length c.as_slice.ensures ∙ sym (length-map raw.symbols symbol_of) in
+    subst (λ n. All (λ t. t < c.in_ok-clauses.clauses.count) (n ∷ [])) (sym c.requires.start) (rw count (start_bounded raw c.requires.names))
 
 pub returns-clause-found : goal.returns-clause-found
 returns-clause-found c =
     let raw = c.args.raw.now in
-    let count : length c.as_slice.result.now ≡ length (symbols raw) = ap length c.as_slice.ensures ∙ sym (length-map raw.symbols symbol_of) in
-    found_map (IsFirstLeft (edges raw) (start raw ∷ []) (length (symbols raw))) (IsFoundAt raw fault.Unreachable) (λ n. unreached_found raw n c.requires.names c.requires.productive) c.first_left.result (rw (← count, ← c.requires.edges, ← c.requires.start) c.first_left.ensures.found)
+    let count : c.in_ok-clauses.clauses.count ≡ length (symbols raw) = ap (λ (k : Clauses). k.count) c.in_ok-clauses.ensures ∙ ap length c.as_slice.ensures ∙ sym (length-map raw.symbols symbol_of) in
+    let here : c.in_ok-clauses.clauses.clauses ≡ map along (edges raw) = ap (λ (k : Clauses). k.clauses) c.in_ok-clauses.ensures ∙ ap (map along) c.requires.edges in
+    found_map (IsFirstLeft (map along (edges raw)) (start raw ∷ []) (length (symbols raw))) (IsFoundAt raw fault.Unreachable) (λ n. unreached_found raw n c.requires.names c.requires.productive) c.first_left.result (rw (← count, ← here, ← c.requires.start) c.first_left.ensures.found)
 
 pub returns-clause-none : goal.returns-clause-none
 returns-clause-none c =
     let raw = c.args.raw.now in
-    let count : length c.as_slice.result.now ≡ length (symbols raw) = ap length c.as_slice.ensures ∙ sym (length-map raw.symbols symbol_of) in
-    none_map (all_reached raw) c.first_left.result (rw (← count, ← c.requires.edges, ← c.requires.start) c.first_left.ensures.none)
+    let count : c.in_ok-clauses.clauses.count ≡ length (symbols raw) = ap (λ (k : Clauses). k.count) c.in_ok-clauses.ensures ∙ ap length c.as_slice.ensures ∙ sym (length-map raw.symbols symbol_of) in
+    let here : c.in_ok-clauses.clauses.clauses ≡ map along (edges raw) = ap (λ (k : Clauses). k.clauses) c.in_ok-clauses.ensures ∙ ap (map along) c.requires.edges in
+    none_map (all_reached raw) c.first_left.result (rw (← count, ← here, ← c.requires.start) c.first_left.ensures.none)
