@@ -42,7 +42,7 @@ behind_one t taken = record { tokens = t ∷ taken.tokens; end = taken.end; rest
 -- the token in front of characters, at an offset, and those that are taken behind it
 abbrev taken_at : (ℕ → List ℕ → Taken) → Vocabulary → ℕ → List ℕ → Taken
 taken_at more v at cs = elim (short_of (word_from v cs)) [
-  None ↦ record { tokens = []; end = at; rest = cs }
+  | None ↦ record { tokens = []; end = at; rest = cs }
   | Some f ↦ behind_one (record { kind = f.kind; lex = f.lex; at = at }) (more (at + (width cs - width f.rest)) f.rest)
 ]
 
@@ -89,6 +89,7 @@ at_once v n at cs plain =
     let place : at + prefix_len is_separator cs ≡ at = omega (arith, none) in
     λ i. taken_at (taken_from v n) v (place i) (drop (none i) cs)
 
+-- tokens that end where no more is taken are those that are taken
 taken_is : (v : Vocabulary) → IsClean v → (n : ℕ) {at : ℕ} {cs : List ℕ} {ts : List Token} {end : ℕ} {rest : List ℕ} → AreTokens v at cs ts end rest → AreShort ts → IsEnd v rest → length ts < n
     → taken_from v n at cs ≡ record { tokens = ts; end = end; rest = rest }
 taken_is v clean zero are short ends less = absurd (omega arith)
@@ -116,6 +117,7 @@ ended_by (c ∷ cs) (Some f) ts at = Err (fault.LongToken at)
 abbrev answer_by : Vocabulary → Taken → Result (List Token) ScanFault
 answer_by v t = ended_by t.rest (word_from v t.rest) t.tokens t.end
 
+-- the answer to a sentence
 abbrev pub answer_to : Vocabulary → List ℕ → Result (List Token) ScanFault
 answer_to v s =
     cond (nat_lt most_sentence_bytes (length s)) (Err fault.TooLong) (cond (is_utf8 s) (answer_by v (taken_from v (suc (length (chars s))) 0 (chars s))) (Err (fault.BadUtf8 (utf8_valid_len s))))
@@ -134,21 +136,22 @@ answers v s readable t taken = go t.rest taken.are taken.ends (word_from v t.res
         let long : most_token_bytes < length f.lex = grind (arith, nat_tests) in
         (readable, record { before = t.tokens; kind = f.kind; lex = f.lex; word = cut.word; rest = f.rest; reaches = record { are = rw cut.split at are; short = taken.short }; token = cut.token; long = long })
 
-pub accepted_clean : (g : Grammar) → IsAccepted g → IsClean (vocabulary_of g)
-accepted_clean g is = record { some = λ i x e. (is.limits.literal_bytes i x e).0; plain = is.named.without_separators; differ = is.named.literals_differ }
-
-pub an_answer : AnAnswer
-an_answer g accepted s = (answer_to (vocabulary_of g) s, go (nat_lt most_sentence_bytes (length s)) (is_utf8 s) refl refl)
+-- the function's answer is one,
+answered : (v : Vocabulary) → IsClean v → (s : List ℕ) → IsAnswer v s (answer_to v s)
+answered v clean s = go (nat_lt most_sentence_bytes (length s)) (is_utf8 s) refl refl
   where
-    v : Vocabulary
-    v = vocabulary_of g
-
-    go : (long utf8 : Bool) → nat_lt most_sentence_bytes (length s) ≡ long → is_utf8 s ≡ utf8 → IsAnswer (vocabulary_of g) s (answer_to (vocabulary_of g) s)
+    go : (long utf8 : Bool) → nat_lt most_sentence_bytes (length s) ≡ long → is_utf8 s ≡ utf8 → IsAnswer v s (answer_to v s)
     go true utf8 e f = rw e (grind (arith, nat_tests))
     go false false e f = let short : length s ≤ most_sentence_bytes = grind (arith, nat_tests) in rw (e, f) (short, λ is. (let utf8 = is_utf8-from_IsUtf8 s is in cc), refl)
     go false true e f =
         let short : length s ≤ most_sentence_bytes = grind (arith, nat_tests) in
-        rw (e, f) (answers (vocabulary_of g) s (record { short = short; utf8 = IsUtf8-from_is_utf8 s f }) _ (are_taken (vocabulary_of g) (accepted_clean g accepted) (suc (length (chars s))) 0 (chars s) (omega arith)))
+        rw (e, f) (answers v s (record { short = short; utf8 = IsUtf8-from_is_utf8 s f }) _ (are_taken v clean (suc (length (chars s))) 0 (chars s) (omega arith)))
+
+pub accepted_clean : (g : Grammar) → IsAccepted g → IsClean (vocabulary_of g)
+accepted_clean g is = record { some = λ i x e. (is.limits.literal_bytes i x e).0; plain = is.named.without_separators; differ = is.named.literals_differ }
+
+pub an_answer : AnAnswer
+an_answer g accepted s = (answer_to (vocabulary_of g) s, answered (vocabulary_of g) (accepted_clean g accepted) s)
 
 -- ---- there is no other
 
@@ -167,6 +170,7 @@ module _ (v : Vocabulary) (clean : IsClean v) (s : List ℕ) where
   long_left [] f ts at cut = let some = word_some v f.kind cut.word f.lex clean.some cut.token.is in absurd (omega (arith, ap length cut.split, length-append cut.word f.rest))
   long_left (c ∷ cs) f ts at cut = refl
 
+  -- and each answer is the function's
   pub is_answer : (q : Result (List Token) ScanFault) → IsAnswer v s q → answer_to v s ≡ q
   is_answer (Ok ts) is = reached is.readable is.tokens (record { plain = tt; none = rw no_word_left refl })
   is_answer (Err fault.NoMemory) is = absurd is

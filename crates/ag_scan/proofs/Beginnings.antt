@@ -1,5 +1,5 @@
 -- Looking up a literal by the byte that a text begins with.
-use Rattle.std.proofs.Common.{◌≡◌, ℕ, ◌+◌, ◌<◌, ◌≤◌, List, ◌∷◌, ◌++◌, length, get_or, Option, Some, None, IfSome, IfNone, MatchOption, slice_get, ap, sym, ◌∙◌, subst, arith}
+use Rattle.std.proofs.Common.{◌≡◌, ℕ, ◌+◌, ◌<◌, List, ◌∷◌, ◌++◌, length, get_or, Option, Some, None, IfSome, IfNone, MatchOption, slice_get, refl, ap, sym, ◌∙◌, subst, arith}
 use Rattle.std.proofs.Math.ListN.{set}
 use Rattle.std.proofs.lemmas.List.{length-set, get_or-set_other}
 use Rattle.std.proofs.lemmas.Grind.{get_or-set_at}
@@ -35,35 +35,26 @@ module _ (words : List Word) (starts : List Start) (index b : ℕ) (rest : List 
   pub one_told : AreTold words (set starts b (with_one s index)) (index + 1)
   one_told = record { whole = length-set starts b (with_one s index) ∙ told.whole; each = by }
 
--- what the table tells of a text
-module _ (literals : List (List ℕ)) (words : List Word) (shorter : List (Option ℕ)) (table : IsTable literals words shorter) (starts : List Start) (told : AreTold words starts (length words)) (text : List ℕ) where
-  -- a literal in front of the text is a word that begins as the text does
-  told_front : (b : ℕ) (rest x : List ℕ) (n : ℕ) → text ≡ b ∷ rest → slice_get literals n ≡ Some x → IsFront x text → (k : ℕ) × (w : Word) × (slice_get words k ≡ Some w) × (w.text.now ≡ x) × ((d : Start) → Tells k (get_or starts b d))
-  told_front b rest x n e at front =
+-- What the table tells of a text that begins with a byte with which one word alone begins.
+module _ (literals : List (List ℕ)) (words : List Word) (shorter : List (Option ℕ)) (table : IsTable literals words shorter) (starts : List Start) (told : AreTold words starts (length words)) (text : List ℕ) (b : ℕ) (rest : List ℕ) (e : text ≡ b ∷ rest) (d : Start) (i : ℕ) (sole : get_or starts b d ≡ Sole i) where
+  -- a literal in front is that word
+  sole_front : (n : ℕ) (x : List ℕ) → slice_get literals n ≡ Some x → IsFront x text → (w : Word) × (slice_get words i ≡ Some w) × (w.text.now ≡ x)
+  sole_front n x at front =
       let found = table.literals_all.whole n x at in
       let of = told.each found.0 found.1 (slice_get_within words found.0 found.1 found.2) found.2 in
-      let same : of.0 ∷ (of.1 ++ front.0) ≡ b ∷ rest = ap (λ y. y ++ front.0) (sym of.2 ∙ found.3) ∙ sym front.1 ∙ e in
+      let both : of.0 ∷ (of.1 ++ front.0) ≡ b ∷ rest = ap (λ y. y ++ front.0) (sym of.2 ∙ found.3) ∙ sym front.1 ∙ e in
       let first : of.0 ≡ b = cc in
-      (found.0, found.1, found.2, found.3, λ d. subst (λ c. Tells found.0 (get_or starts c d)) first (of.3 d))
+      let same : i ≡ found.0 = subst (Tells found.0) sole (rw first at (of.3 d)) in
+      (found.1, rw same found.2, found.3)
 
-  module _ (b : ℕ) (rest : List ℕ) (e : text ≡ b ∷ rest) (d : Start) (i : ℕ) (sole : get_or starts b d ≡ Sole i) where
-    sole_none : ((w : Word) → slice_get words i ≡ Some w → IsFront w.text.now text → ⊥) → HasNoFront literals text
-    sole_none not_here n x at front =
-        let found = told_front b rest x n e at front in
-        let same : i ≡ found.0 = subst (Tells found.0) sole (found.4 d) in
-        not_here found.1 (subst (λ j. slice_get words j ≡ Some found.1) (sym same) found.2) (subst (λ y. IsFront y text) (sym found.3) front)
-
-    sole_longest : (w : Word) → slice_get words i ≡ Some w → IsFront w.text.now text → IsLongestFront literals text w
-    sole_longest w there front = record { numbered = table.literals_all.numbered i w there; front = front; longest = longest }
-      where
-        longest : (n : ℕ) (x : List ℕ) → slice_get literals n ≡ Some x → IsFront x text → length x ≤ length w.text.now
-        longest n x at is_front =
-            let found = told_front b rest x n e at is_front in
-            let same : i ≡ found.0 = subst (Tells found.0) sole (found.4 d) in
-            let texts : w.text.now ≡ x = ap (λ (v : Word). v.text.now) (same_there words i found.0 w found.1 there found.2 same) ∙ found.3 in
-            omega (arith, ap length texts)
-
-    pub sole_told : (r : Option Word) → IfSome r (λ w. slice_get words i ≡ Some w) → IfSome r (λ w. IsFront w.text.now text) → IfNone r ((w : Word) → slice_get words i ≡ Some w → IsFront w.text.now text → ⊥)
-        → MatchOption r (HasNoFront literals text) (λ w. IsLongestFront literals text w)
-    sole_told None there front not_here = sole_none not_here
-    sole_told (Some w) there front not_here = sole_longest w there front
+  pub sole_told : (r : Option Word) → IfSome r (λ w. slice_get words i ≡ Some w) → IfSome r (λ w. IsFront w.text.now text) → IfNone r ((w : Word) → slice_get words i ≡ Some w → IsFront w.text.now text → ⊥)
+      → MatchOption r (HasNoFront literals text) (λ w. IsLongestFront literals text w)
+  sole_told None there front not_here = λ n x at is. (let (w, here, same) = sole_front n x at is in not_here w here (rw same is))
+  sole_told (Some w) there front not_here = record {
+    numbered = table.literals_all.numbered i w there;
+    front = front;
+    longest = λ n x at is.
+        let (u, here, same) = sole_front n x at is in
+        let one = same_there words i i w u there here refl in
+        omega (arith, ap (λ (v : Word). length v.text.now) one, ap length same);
+  }

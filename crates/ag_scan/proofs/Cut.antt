@@ -1,5 +1,6 @@
 -- The plain functions cut the words and the tokens that the definitions say.
-use Rattle.std.proofs.Common.{◌≡◌, ℕ, zero, suc, ◌+◌, ◌-◌, ◌≤◌, Bool, true, false, cond, nat_eq, List, [], ◌∷◌, ◌++◌, length, take, drop, Option, Some, None, MatchOption, slice_get, chars, encode_utf8_all, refl, ap, sym, ◌∙◌, subst, arith}
+use Rattle.std.proofs.Common.{◌==◌, IsUtf8, ◌≡◌, ℕ, zero, suc, ◌+◌, ◌-◌, ◌≤◌, Bool, true, false, cond, nat_eq, List, [], ◌∷◌, ◌++◌, length, take, drop, Option, Some, None, MatchOption, slice_get, chars, encode_utf8_all, refl, ap, sym, ◌∙◌, subst, arith}
+use Rattle.std.proofs.lemmas.Bool.Decides.{nat_tests}
 use Rattle.std.proofs.lemmas.List.{length-append, length-take-le, take-append-drop}
 use Rattle.std.proofs.Math.Seq.{take-append_seam}
 use Rattle.std.specs.Bool.{MatchBool}
@@ -12,10 +13,10 @@ use Rattle.ag_tokens.specs.Tokens.{is_separator, width}
 use Rattle.ag_tokens.proofs.Lexed.{width-append, width-chars, separator_width}
 use Rattle.ag_scan.specs.Cutting.{Front, CutsLiteral, CutsToken, number_from, literal_or, literal_within, word_from, tokens_from, tokens_in}
 use Rattle.ag_scan.specs.Handed.{HasTokens}
-use Rattle.ag_scan.specs.Tokens.{Token, AreTokens, ended, separator, word, AreTokensOf, FitAll}
+use Rattle.ag_scan.specs.Tokens.{most_sentence_bytes, Token, AreTokens, ended, separator, word, AreTokensOf, FitAll}
 use Rattle.ag_scan.specs.Words.{Vocabulary, HasNoEmpty, IsClean, IsLiteral, IsLongest}
 use Rattle.ag_scan.proofs.Choosing.{IsLiteralIn, chosen}
-use Rattle.ag_scan.proofs.Listing.{word_some, length_width}
+use Rattle.ag_scan.proofs.Listing.{word_some, length_width, Scanned, ends}
 use Rattle.ag_scan.proofs.OneToken.{IsWordIn, one_word, token_plain, no_spaces}
 use Rattle.ag_scan.proofs.Tables.{split}
 
@@ -87,10 +88,7 @@ one_more v at cs f ts end rest e are =
 pub fewer : {v : Vocabulary} {at : ℕ} {cs : List ℕ} {ts : List Token} {end : ℕ} {rest : List ℕ} → HasNoEmpty v.literals → AreTokens v at cs ts end rest → length ts ≤ length cs
 fewer some (ended at cs) = omega arith
 fewer some (separator at c cs ts end rest h are) = let n = fewer some are in omega arith
-fewer some (word at whole w cs lex t ts end rest split is are) =
-    let n = fewer some are in
-    let m = word_some _ t w lex some is.is in
-    omega (arith, ap length split, length-append w cs)
+fewer some (word at whole w cs lex t ts end rest split is are) = omega (arith, fewer some are, word_some _ t w lex some is.is, ap length split, length-append w cs)
 
 -- tokens are as wide as the characters that they stand for
 pub as_wide : {v : Vocabulary} {at : ℕ} {cs : List ℕ} {ts : List Token} {end : ℕ} {rest : List ℕ} → AreTokens v at cs ts end rest → at + width cs ≡ end + width rest
@@ -146,19 +144,19 @@ module _ (v : Vocabulary) (clean : IsClean v) where
 
   -- there are no more tokens than bytes
   few : (text : List ℕ) (ts : List Token) → AreTokensOf v text ts → length ts ≤ length text
-  few text ts is =
-      let some = fewer clean.some is.tokens.are in
-      let wide = length_width (chars text) in
-      let bytes = width-chars text is.readable.utf8 in
-      omega arith
+  few text ts is = omega (arith, fewer clean.some is.tokens.are, length_width (chars text), width-chars text is.readable.utf8)
 
   -- the tokens of a text are those that are cut
   pub are_cut : (text : List ℕ) (ts : List Token) → AreTokensOf v text ts → tokens_in v text ≡ ts
   are_cut text ts is = agrees (length text) 0 (chars text) ts (length text) is.tokens.are (few text ts is)
 
--- tokens that there are, are those that are cut
-pub are_all : (v : Vocabulary) → IsClean v → (text : List ℕ) → (ts : List Token) × AreTokensOf v text ts × FitAll v ts → AreTokensOf v text (tokens_in v text) × FitAll v (tokens_in v text)
-are_all v clean text (ts, are, fit) = let same = are_cut v clean text ts are in (subst (AreTokensOf v text) (sym same) are, subst (FitAll v) (sym same) fit)
+-- where nothing is left of a text that is scanned, its tokens are those that are cut
+pub all_cut : (v : Vocabulary) → IsClean v → (text rest : List ℕ) → IsUtf8 text → length text ≤ most_sentence_bytes → Scanned v text rest → true ≡ (length rest == 0) → AreTokensOf v text (tokens_in v text) × FitAll v (tokens_in v text)
+all_cut v clean text rest utf8 short scanned test =
+    let none : length rest ≡ 0 = grind (arith, nat_tests) in
+    let (ts, are, fit) = ends v text rest utf8 short scanned none in
+    let same = are_cut v clean text ts are in
+    (subst (AreTokensOf v text) (sym same) are, subst (FitAll v) (sym same) fit)
 
 pub few_tokens : (v : Vocabulary) (text : List ℕ) → HasTokens v text → length (tokens_in v text) ≤ length text
 few_tokens v text has = few v has.clean text (tokens_in v text) has.tokens

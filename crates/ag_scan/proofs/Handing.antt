@@ -47,9 +47,6 @@ place_told v end ts i at None none last = last refl ∙ rw ((ended ts i none).0,
 place_told v end ts i at (Some f) (more, first, narrow, are) last = rw (there ts i _ more first, offset_at) refl
 
 module _ (v : Vocabulary) (text : List ℕ) (has : HasTokens v text) where
-  ts : List Token
-  ts = tokens_in v text
-
   -- at the front of a text
   pub begins : (o : Option Front) (at : ℕ) → IsLookedAt v text text o at → (o ≡ None → at ≡ 0) → IsAt v text 0 o at
   begins o at told end =

@@ -1,6 +1,5 @@
 -- Tokens one after the other, and the separators between them.
-use Rattle.std.proofs.Common.{◌≡◌, ℕ, zero, suc, ◌+◌, ◌-◌, ◌<◌, ◌≤◌, Bool, true, false, ◌==◌, List, [], ◌∷◌, ◌++◌, length, Some, IsUtf8, chars, refl, ap, sym, ◌∙◌, subst, arith}
-use Rattle.std.proofs.lemmas.Bool.Decides.{nat_tests}
+use Rattle.std.proofs.Common.{◌≡◌, ℕ, zero, suc, ◌+◌, ◌-◌, ◌<◌, ◌≤◌, Bool, true, false, List, [], ◌∷◌, ◌++◌, length, Some, IsUtf8, chars, refl, ap, sym, ◌∙◌, subst, arith}
 use Rattle.std.proofs.lemmas.Str.{is_utf8-from_IsUtf8, chars-nil, len_utf8_bounds}
 use Rattle.std.specs.List.{prefix_len}
 use Rattle.ag_grammar.specs.declared.grammar.Terminal.{Terminal}
@@ -133,10 +132,3 @@ stops v text rest (fault.NoToken k) utf8 utf8' short scanned some (place, none) 
     go : (ts : List Token) (cs : List ℕ) → width cs ≡ length rest → StartsPlain cs → BeginsNone (IsAnyWord v) cs → AreTokens v 0 (chars text) ts k cs → AreShort ts → NoTokenAt v (chars text) k
     go ts [] bytes plain none are few = absurd (omega arith)
     go ts (c ∷ cs) bytes plain none are few = record { before = ts; first = c; rest = cs; reaches = record { are = are; short = few }; no_separator = plain; no_word = none }
-
--- what the test of an empty rest tells
-pub told_some : (n : ℕ) → false ≡ (n == 0) → 0 < n
-told_some n e = grind (arith, nat_tests)
-
-pub told_none : (n : ℕ) → true ≡ (n == 0) → n ≡ 0
-told_none n e = grind (arith, nat_tests)

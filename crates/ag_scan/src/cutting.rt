@@ -49,7 +49,11 @@ fn is_shorter(text: &str, other: &str) -> bool
 }
 
 /// The longest word at the front; a literal wins a tie.
-pub fn word_in_front<'t>(literals: &Literals<'_>, classes: &[u16], text: &'t str) -> Option<Front<'t>>
+pub fn word_in_front<'t>(
+    literals: &Literals<'_>,
+    classes: &[u16],
+    text: &'t str,
+) -> Option<Front<'t>>
     ensures { MatchOption result
         (BeginsNone (IsAnyWord (over literals.now classes.now)) (chars text.now))
         (λ f. CutsToken (over literals.now classes.now) (chars text.now) (front_of f)) }

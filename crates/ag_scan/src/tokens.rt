@@ -118,13 +118,7 @@ impl<'t> Tokens<'t> {
         if let Some(front) = self.front {
             // a look tells the prover that a text is UTF-8
             let _utf8 = front.rest.as_bytes();
-            let (front, at) = look(
-                self.literals,
-                self.classes,
-                self.text,
-                front.rest,
-                self.at,
-            );
+            let (front, at) = look(self.literals, self.classes, self.text, front.rest, self.at);
             self.front = front;
             self.at = at;
             self.taken += 1;

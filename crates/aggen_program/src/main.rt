@@ -23,7 +23,7 @@ use std::process::ExitCode;
 use std::rt::{Env, Files};
 use std::{fs, io};
 use translations::{evaluate_file, run_files, run_input, sentence_in, translator_in};
-use treefile::{FileDevice, MemDevice};
+use treefile::{Device, FileDevice, MemDevice};
 
 /// A file that can be opened, and neither read nor written.
 const FOLDER: &str = "/";
@@ -161,9 +161,7 @@ fn print_nodes<R: Print>(rt: &R, alloc: Global, count: u32) -> Result<(), Fault>
 }
 
 /// Makes the tree file of version 2 of the tree in a file of version 1, and prints how many nodes it
-/// has. The grammar is read first, then the old file is opened, and only then is the other one made;
-/// what stands between them is in memory. Where the two files are one, all of the old tree has been
-/// read before the new one is written.
+/// has. The grammar is read first, then the old file is opened, and only then is the other one made.
 fn upgrade_file<R: Files + Print + Eprint>(
     rt: &R,
     alloc: Global,
@@ -174,23 +172,25 @@ fn upgrade_file<R: Files + Print + Eprint>(
         Ok(old) => old,
         Err(fault) => return Err(tell_file(rt, Fault::from(fault), paths.old)),
     };
-    let mut tree = match FileDevice::create(rt, alloc, paths.tree) {
-        Ok(tree) => tree,
-        Err(fault) => return Err(tell_file(rt, Fault::from(fault), paths.tree)),
-    };
-    let mut mid = MemDevice::new(alloc);
-    let count = match translator.upgrade(&mut old, &mut mid, &mut tree) {
-        Ok(count) => count,
-        Err(fault) => {
-            return Err(tell_old_tree(rt, alloc, fault, &translator, &mut old, paths));
-        }
-    };
-    match tree.finish() {
-        Ok(()) => (),
-        Err(fault) => return Err(tell_file(rt, Fault::from(fault), paths.tree)),
-    }
-    match print_nodes(rt, alloc, count) {
+    match write_upgraded(rt, alloc, &translator, &mut old, paths.tree) {
         Ok(()) => Ok(()),
-        Err(fault) => Err(tell(rt, fault)),
+        Err(fault) => Err(tell_old_tree(rt, alloc, fault, &translator, &mut old, paths)),
     }
+}
+
+/// Makes the tree file of version 2 of an old tree, and prints how many nodes it has. What stands
+/// between the two files is in memory. Where they are one, all of the old tree has been read before
+/// the new one is written.
+fn write_upgraded<R: Files + Print, D: Device>(
+    rt: &R,
+    alloc: Global,
+    translator: &Translator,
+    old: &mut D,
+    path: &str,
+) -> Result<(), Fault> {
+    let mut tree = FileDevice::create(rt, alloc, path)?;
+    let mut mid = MemDevice::new(alloc);
+    let count = translator.upgrade(old, &mut mid, &mut tree)?;
+    tree.finish()?;
+    print_nodes(rt, alloc, count)
 }

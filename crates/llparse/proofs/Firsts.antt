@@ -38,6 +38,10 @@ module _ (g : Grammar) (ok : IsAccepted g) where
   node_below (item.Terminal (Literal l)) h = omega arith
   node_below (item.Terminal (Class c)) h = let lt = ok.named.classes_known h.0 c h.1 in omega arith
 
+  pub symbol_item : (y : Item) (u : ℕ) → u < length g.symbols → u ≡ node_in g y → y ≡ item.Symbol u
+  symbol_item (item.Symbol s) u lt e = ap item.Symbol (sym e)
+  symbol_item (item.Terminal a) u lt e = absurd (omega arith)
+
   pub known_terminal : (a : Terminal) → IsNamedItem g (item.Terminal a) → IsKnownAhead g (ahead.Terminal a)
   known_terminal (Literal l) h = h
   known_terminal (Class c) h = ok.named.classes_known h.0 c h.1
@@ -128,10 +132,6 @@ module _ (g : Grammar) (ok : IsAccepted g) where
       root_item (item.Terminal a) h e =
           let same : place_of (length g.literals) x ≡ place_of (length g.literals) (ahead.Terminal a) = omega arith in
           (a, refl, same_ahead x (ahead.Terminal a) known (known_terminal a h) same)
-
-      symbol_item : (y : Item) (u : ℕ) → u < length g.symbols → u ≡ node_in g y → y ≡ item.Symbol u
-      symbol_item (item.Symbol s) u lt e = ap item.Symbol (sym e)
-      symbol_item (item.Terminal a) u lt e = absurd (omega arith)
 
       -- what is reached is the look-ahead, or begins with it
       reached_may : ((s : ℕ) → n s ≡ true → IsNullable g s) → ((e : Edge) → Contains edges e → OfSome (IsFirstEdge g n) g.productions e) → (t : ℕ) → Reached t → (t ≡ root) ⊎ May t

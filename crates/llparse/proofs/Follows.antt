@@ -21,7 +21,7 @@ use Rattle.llparse.specs.declared.ahead.Ahead.{Ahead}
 use Rattle.llparse.specs.declared.ahead.Ahead.TheVariants as ahead
 use Rattle.llparse.proofs.Comes.{comes_iff, nullable_iff, rest_of_split, rest_split}
 use Rattle.llparse.proofs.Edges.{adds_more, contains_here, contains_there}
-use Rattle.llparse.proofs.Firsts.{left_in, named_in, node_below}
+use Rattle.llparse.proofs.Firsts.{left_in, named_in, node_below, symbol_item}
 
 module _ (g : Grammar) (ok : IsAccepted g) (n : ℕ → Bool) where
   pub start_below : g.start < length g.symbols
@@ -68,10 +68,6 @@ module _ (g : Grammar) (ok : IsAccepted g) (n : ℕ → Bool) where
     ],
   )
 
-  symbol_item : (y : Item) (u : ℕ) → u < length g.symbols → u ≡ node_in g y → y ≡ item.Symbol u
-  symbol_item (item.Symbol s) u lt e = ap item.Symbol (sym e)
-  symbol_item (item.Terminal a) u lt e = absurd (omega arith)
-
   module _ (known : (s : ℕ) → n s ≡ true ↔ IsNullable g s) (x : Ahead) (b : ℕ → Bool) (begins : (y : Item) → IsNamedItem g y → b (node_in g y) ≡ true ↔ Begins g y x) where
     followed : (p : ℕ) (q : Production) (xs ys : List Item) (s : ℕ) (x' : Ahead) → IsProduction g p q → q.items ≡ xs ++ item.Symbol s ∷ ys → ComesFirst g ys x' → InFollow g s x'
     followed p q xs ys s (ahead.Terminal a) e f h = next p q xs ys e f h
@@ -82,7 +78,7 @@ module _ (g : Grammar) (ok : IsAccepted g) (n : ℕ → Bool) where
     seeded t lt (inr r) =
         let w = rest_split (next_in (λ x. b (node_in g x)) (is_empty n) false) (λ x t. t ≡ node_in g x) r.0.items t r.2 in
         let p = place_of_element g.productions r.0 r.1 in
-        let same = symbol_item w.1 t lt w.5 in
+        let same = symbol_item g ok w.1 t lt w.5 in
         let split = subst (λ z. r.0.items ≡ w.0 ++ z ∷ w.2) same w.3 in
         followed p.0 r.0 w.0 w.2 t x p.1 split ((comes_iff g n known x (λ y. b (node_in g y)) begins w.2 (rest_named r.0 w.0 w.2 w.1 r.1 w.3)).0 w.4)
 
@@ -93,7 +89,7 @@ module _ (g : Grammar) (ok : IsAccepted g) (n : ℕ → Bool) where
           let q = r.0 in
           let w = rest_split (all_empty (is_empty n)) (λ x e. IsEdge q.left (node_in g x) e) q.items e r.2 in
           let p = place_of_element g.productions q r.1 in
-          let same = symbol_item w.1 e.to lt w.5.head in
+          let same = symbol_item g ok w.1 e.to lt w.5.head in
           let split = subst (λ z. q.items ≡ w.0 ++ z ∷ w.2) same w.3 in
           let from : e.from ≡ q.left = w.5.tail in
           let inner : e.from < length g.symbols = rw from (left_in g ok q r.1) in

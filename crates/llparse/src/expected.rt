@@ -193,7 +193,7 @@ fn stopped<'t>(
     alloc: Global,
     grammar: &Grammar,
     tables: &Tables,
-    sentence: &'t Sentence<'t>,
+    sentence: &'t Sentence<'_>,
 ) -> Result<(Parser<'t>, bool), NoMemory> {
     let mut parser = Parser::new(alloc, sentence);
     let refused = match begin(&mut parser, grammar, tables, usize::MAX) {
@@ -211,7 +211,7 @@ fn parser_behind<'t>(
     alloc: Global,
     grammar: &Grammar,
     tables: &Tables,
-    sentence: &'t Sentence<'t>,
+    sentence: &'t Sentence<'_>,
     count: usize,
 ) -> Result<(Parser<'t>, Option<OpenNode>), ParseFault> {
     let mut parser = Parser::new(alloc, sentence);
@@ -234,7 +234,7 @@ pub fn expected_at<'t>(
     alloc: Global,
     grammar: &Grammar,
     tables: &Tables,
-    sentence: &'t Sentence<'t>,
+    sentence: &'t Sentence<'_>,
 ) -> Result<Stuck<'t>, NoMemory>
     ensures known { IfOk result (λ stuck. All
         (λ ahead. is_known (length grammar.now.literals) ahead ≡ true) stuck.expected.items) }

@@ -173,7 +173,7 @@ pub(crate) struct Parser<'t> {
 
 impl<'t> Parser<'t> {
     /// A parser whose root alone is open, and which has taken no token.
-    pub(crate) fn new(alloc: Global, sentence: &'t Sentence<'t>) -> Parser<'t>
+    pub(crate) fn new(alloc: Global, sentence: &'t Sentence<'_>) -> Parser<'t>
         ensures waiting { result.waiting.items ≡ [] }
         ensures texts { result.texts.items ≡ [] }
         ensures tokens { result.tokens ≡ handed sentence.now 0 }

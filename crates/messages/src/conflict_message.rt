@@ -1,6 +1,7 @@
 //! A conflict of two productions, in words.
 
-use crate::telling::{front_of, place_of, tell_place, tell_word};
+use crate::position::Position;
+use crate::telling::{front_of, tell_word};
 use crate::terminals::{class_name, tell_ahead};
 use ag_grammar::{Grammar, RawGrammar, RawItem, RawProduction};
 use ag_text::read_grammar;
@@ -10,7 +11,7 @@ use std::alloc::Global;
 use std::fmt;
 
 /// What is told behind L1, which two productions of a symbol predict one look-ahead, as
-/// ` (line 3, column 1): `A = ..` and in line 4 `A = ..` both fit where .. comes next, write ..`.
+/// `: `A = ..` and in line 4 `A = ..` both fit where .. comes next, write ..`.
 #[derive(Drop)]
 pub struct ConflictMessage<'a> {
     fault: TableFault,
@@ -21,7 +22,7 @@ pub struct ConflictMessage<'a> {
 
 impl<'a> ConflictMessage<'a> {
     /// The message of the grammar's text with these bytes. Takes memory, and reads the text again;
-    /// where memory is refused, the message has the place alone, or nothing.
+    /// where memory is refused, the message has the position alone, or nothing.
     pub fn new(alloc: Global, fault: TableFault, bytes: &'a [u8]) -> ConflictMessage<'a> {
         ConflictMessage {
             fault,
@@ -29,6 +30,12 @@ impl<'a> ConflictMessage<'a> {
             raw: read_grammar(alloc, bytes).ok(),
             grammar: grammar_in(alloc, bytes),
         }
+    }
+
+    /// Where the first of the two productions begins.
+    pub fn position(&self) -> Option<Position> {
+        let clash = clash_of(self.fault, self.raw.as_ref()?)?;
+        Some(Position::of(self.text, clash.first.left.at))
     }
 }
 
@@ -49,7 +56,6 @@ impl fmt::Display for ConflictMessage<'_> {
         let Some(clash) = clash_of(self.fault, raw) else {
             return Ok(());
         };
-        tell_place(f, self.text, clash.first.left.at)?;
         match &self.grammar {
             Some(grammar) => tell_clash(f, &clash, self.text, grammar),
             None => Ok(()),
@@ -92,7 +98,7 @@ fn tell_clash<W: fmt::Write>(
     text: &str,
     grammar: &Grammar,
 ) -> fmt::Result {
-    let (line, _) = place_of(text, clash.second.left.at);
+    let line = Position::of(text, clash.second.left.at).line;
     write!(f, ": `")?;
     tell_production(f, clash.first)?;
     write!(f, "` and in line {line} `")?;

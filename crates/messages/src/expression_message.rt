@@ -1,6 +1,7 @@
 //! What is wrong with an expression, in words.
 
-use crate::telling::{begins_with, found_at, tell_expected, tell_found, tell_place};
+use crate::position::Position;
+use crate::telling::{begins_with, found_at, tell_expected, tell_found};
 use ag_expr::{Expected as Part, ExprFault, expected_at};
 use ag_grammar::limits::{MOST_LEVELS, MOST_PLACE};
 use ag_text::Expected;
@@ -9,7 +10,7 @@ use std::alloc::Global;
 use std::fmt;
 
 /// What is told behind X1 to X4, why a text is no expression, as
-/// `: found .., where only .. can stand`; before it the place, where the text has several lines.
+/// `: found .., where only .. can stand`.
 #[derive(Drop)]
 pub struct ExpressionMessage<'a> {
     fault: ExprFault,
@@ -20,13 +21,13 @@ pub struct ExpressionMessage<'a> {
 
 impl<'a> ExpressionMessage<'a> {
     /// The message of a text. Takes memory; where that is refused, the message does not say what
-    /// could stand at the fault's place.
+    /// could stand at the fault's offset.
     pub fn new(alloc: Global, fault: ExprFault, text: &'a str) -> ExpressionMessage<'a> {
         let expected = match could_stand(alloc, fault, text) {
             Ok(expected) => expected,
             Err(_) => Vec::new(alloc),
         };
-        let found = match place_in(fault) {
+        let found = match offset_in(fault) {
             Some(at) => found_at(text, at),
             None => None,
         };
@@ -35,6 +36,14 @@ impl<'a> ExpressionMessage<'a> {
             text,
             found,
             expected,
+        }
+    }
+
+    /// Where the text is refused, if it has several lines.
+    pub fn position(&self) -> Option<Position> {
+        match offset_in(self.fault) {
+            Some(at) if self.text.contains('\n') => Some(Position::of(self.text, at)),
+            _ => None,
         }
     }
 }
@@ -52,16 +61,12 @@ fn could_stand(alloc: Global, fault: ExprFault, text: &str) -> Result<Vec<Expect
 
 impl fmt::Display for ExpressionMessage<'_> {
     fn fmt<W: fmt::Write>(&self, f: &mut fmt::Formatter<W>) -> fmt::Result {
-        match place_in(self.fault) {
-            Some(at) if self.text.contains('\n') => tell_place(f, self.text, at)?,
-            _ => {}
-        }
         tell_expression(f, self.fault, self.found, self.expected.as_slice())
     }
 }
 
 /// The offset at which an expression is refused.
-pub fn place_in(fault: ExprFault) -> Option<usize> {
+pub fn offset_in(fault: ExprFault) -> Option<usize> {
     match fault {
         ExprFault::NoToken(at)
         | ExprFault::Unexpected(at)
@@ -113,7 +118,7 @@ fn hint_of(found: Option<&str>) -> &'static str {
     }
 }
 
-/// What stands at a place, and what could, or what is wrong with the name or the occurrence there.
+/// What stands at an offset, and what could, or what is wrong with the name or the occurrence there.
 fn tell_unexpected<W: fmt::Write>(
     f: &mut fmt::Formatter<W>,
     found: Option<&str>,

@@ -9,9 +9,9 @@ use ag_grammar::{RawGrammar, RawItem, RawProduction, RawSymbol};
 use normalform::LimitKind;
 use std::fmt;
 
-/// Where what exceeds a limit begins, where it has a place: the name of a symbol, or that on the
+/// Where what exceeds a limit begins, where it has an offset: the name of a symbol, or that on the
 /// left of a production.
-pub fn place_of_limit(raw: &RawGrammar, kind: LimitKind) -> Option<usize> {
+pub fn offset_of_limit(raw: &RawGrammar, kind: LimitKind) -> Option<usize> {
     if kind == LimitKind::Attributes {
         return Some(large_symbol(raw)?.name.at);
     }

@@ -1,11 +1,12 @@
 //! What is wrong with a grammar, in words, with the grammar's names.
 
-use crate::limit_message::{place_of_limit, tell_limit};
+use crate::limit_message::{offset_of_limit, tell_limit};
+use crate::position::Position;
 use crate::sites::{
     Site, Stored, attribute_named, has_production, named_at, site_at, stored_at, symbol_named,
     symbol_with,
 };
-use crate::telling::{NAMED, front_of, place_of, tell_place};
+use crate::telling::{NAMED, front_of};
 use ag_grammar::{Named, Occ, RawGrammar, RawProduction, RawSymbol};
 use ag_text::read_grammar;
 use ag_value::Items;
@@ -14,8 +15,8 @@ use std::alloc::Global;
 use std::fmt;
 
 /// What is told behind N1 to N10, why a grammar is not accepted, as
-/// ` (line 4, column 52): `$1.i` may not stand here, since ..`; a limit of the whole grammar has no
-/// place, and is told as ` the grammar has more than ..`.
+/// `: `$1.i` may not stand here, since ..`; a limit of the whole grammar has no offset, and is told as
+/// ` the grammar has more than ..`.
 #[derive(Drop)]
 pub struct NormalMessage<'a> {
     fault: &'a NormalFault,
@@ -34,6 +35,12 @@ impl<'a> NormalMessage<'a> {
             raw: read_grammar(alloc, bytes).ok(),
         }
     }
+
+    /// Where the grammar is refused, or where what is refused begins, if it has an offset.
+    pub fn position(&self) -> Option<Position> {
+        let at = offset_of(self.fault, self.raw.as_ref()?)?;
+        Some(Position::of(self.text, at))
+    }
 }
 
 impl fmt::Display for NormalMessage<'_> {
@@ -41,11 +48,8 @@ impl fmt::Display for NormalMessage<'_> {
         let Some(raw) = &self.raw else {
             return Ok(());
         };
-        match place_of_fault(self.fault, raw) {
-            Some(at) => {
-                tell_place(f, self.text, at)?;
-                write!(f, ": ")?;
-            }
+        match offset_of(self.fault, raw) {
+            Some(_) => write!(f, ": ")?,
             None => write!(f, " ")?,
         }
         tell_normal(f, self.fault, self.text, raw)
@@ -53,7 +57,7 @@ impl fmt::Display for NormalMessage<'_> {
 }
 
 /// The offset at which a grammar is refused, or at which what is refused begins.
-fn place_of_fault(fault: &NormalFault, raw: &RawGrammar) -> Option<usize> {
+fn offset_of(fault: &NormalFault, raw: &RawGrammar) -> Option<usize> {
     match fault {
         NormalFault::UnknownName(at)
         | NormalFault::DoubledName(at)
@@ -66,7 +70,7 @@ fn place_of_fault(fault: &NormalFault, raw: &RawGrammar) -> Option<usize> {
             let production = raw.productions.as_slice().get(*production)?;
             Some(production.left.at)
         }
-        NormalFault::Limit(kind) => place_of_limit(raw, *kind),
+        NormalFault::Limit(kind) => offset_of_limit(raw, *kind),
         NormalFault::NoMemory => None,
     }
 }
@@ -255,7 +259,7 @@ fn tell_missing<W: fmt::Write>(
         Some(Stored::Symbol(symbol)) => symbol.attribute_name(attr).unwrap_or(".."),
         _ => "..",
     };
-    let (line, _) = place_of(text, production.left.at);
+    let line = Position::of(text, production.left.at).line;
     let left = production.left.name.as_str();
     write!(
         f,

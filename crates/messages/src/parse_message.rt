@@ -1,6 +1,7 @@
 //! Why a sentence has no tree, in words.
 
-use crate::telling::{front_of, tell_found, tell_number, tell_place};
+use crate::position::Position;
+use crate::telling::{front_of, tell_found, tell_number};
 use crate::terminals::{class_name, tell_aheads};
 use ag_grammar::limits::{MOST_DEPTH, MOST_NODES};
 use ag_grammar::{Grammar, Terminal};
@@ -10,7 +11,7 @@ use std::alloc::Global;
 use std::fmt;
 
 /// What is told behind P1 to P3, why a sentence has no tree, as
-/// ` (line 1, column 3): found .., where only .. can stand`. Nothing is told of a failed device and
+/// `: found .., where only .. can stand`. Nothing is told of a failed device and
 /// of want of memory.
 #[derive(Drop)]
 pub struct ParseMessage<'a> {
@@ -24,7 +25,7 @@ pub struct ParseMessage<'a> {
 impl<'a> ParseMessage<'a> {
     /// The message of the sentence with these bytes, which has no tree of the grammar with these
     /// tables. Takes memory, and cuts the sentence again; where memory is refused, the message
-    /// doesn't say what could stand at the fault's place.
+    /// doesn't say what could stand at the fault's offset.
     pub fn new(
         alloc: Global,
         fault: ParseFault,
@@ -46,9 +47,17 @@ impl<'a> ParseMessage<'a> {
         message
     }
 
+    /// Where the sentence is refused, if at an offset.
+    pub fn position(&self) -> Option<Position> {
+        match self.fault {
+            ParseFault::Unexpected(at) => Some(Position::of(self.text, at as usize)),
+            _ => None,
+        }
+    }
+
     /// Finds the token that can't be taken, and what could stand in its place; nothing for want of
     /// memory.
-    fn look(&mut self, alloc: Global, tables: &Tables, sentence: &[u8]) -> Option<()> {
+    fn look(&mut self, alloc: Global, tables: &Tables, sentence: &'a [u8]) -> Option<()> {
         let tokens = scan(alloc, self.grammar, sentence).ok()?;
         let stuck = expected_at(alloc, self.grammar, tables, &tokens).ok()?;
         self.expected = stuck.expected;
@@ -72,8 +81,7 @@ fn as_it_stands<'a>(text: &'a str, token: Token<'_>) -> Option<&'a str> {
 impl fmt::Display for ParseMessage<'_> {
     fn fmt<W: fmt::Write>(&self, f: &mut fmt::Formatter<W>) -> fmt::Result {
         match self.fault {
-            ParseFault::Unexpected(at) => {
-                tell_place(f, self.text, at as usize)?;
+            ParseFault::Unexpected(_) => {
                 if self.expected.is_empty() {
                     return Ok(());
                 }

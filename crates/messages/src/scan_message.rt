@@ -1,6 +1,7 @@
 //! Why a sentence has no tokens, in words.
 
-use crate::telling::{front_of, tell_found, tell_number, tell_place};
+use crate::position::Position;
+use crate::telling::{front_of, tell_found, tell_number};
 use crate::terminals::tell_terminals;
 use ag_grammar::Grammar;
 use ag_grammar::limits::{MOST_TEXT_BYTES, MOST_TOKEN_BYTES};
@@ -8,7 +9,7 @@ use ag_scan::ScanFault;
 use std::fmt;
 
 /// What is told behind S1 to S4, why a sentence has no tokens, as
-/// ` (line 1, column 2): no token begins with .. here, a token is ..`.
+/// `: no token begins with .. here, a token is ..`.
 #[derive(Clone, Copy)]
 pub struct ScanMessage<'a> {
     fault: ScanFault,
@@ -26,19 +27,21 @@ impl<'a> ScanMessage<'a> {
             grammar,
         }
     }
+
+    /// Where the sentence is refused, if at an offset.
+    pub fn position(&self) -> Option<Position> {
+        Some(Position::of(self.text, offset_in(self.fault)?))
+    }
 }
 
 impl fmt::Display for ScanMessage<'_> {
     fn fmt<W: fmt::Write>(&self, f: &mut fmt::Formatter<W>) -> fmt::Result {
-        if let Some(at) = place_in(self.fault) {
-            tell_place(f, self.text, at)?;
-        }
         tell_scan(f, self.fault, self.text, self.grammar)
     }
 }
 
 /// The offset at which a sentence has no token.
-fn place_in(fault: ScanFault) -> Option<usize> {
+fn offset_in(fault: ScanFault) -> Option<usize> {
     match fault {
         ScanFault::BadUtf8(at) | ScanFault::NoToken(at) | ScanFault::LongToken(at) => Some(at),
         ScanFault::TooLong | ScanFault::NoMemory => None,

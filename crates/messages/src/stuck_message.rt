@@ -1,6 +1,7 @@
 //! Why no order of passes serves a grammar, in words.
 
-use crate::telling::{front_of, tell_place};
+use crate::position::Position;
+use crate::telling::front_of;
 use ag_grammar::{Direction, Occ, RawGrammar, occurrences};
 use ag_text::read_grammar;
 use passassign::{Strike, Stuck};
@@ -183,8 +184,7 @@ fn tell_delay<W: fmt::Write>(
         ..
     } = delay;
     tell_occurrence(f, target)?;
-    tell_place(f, text, target.at)?;
-    write!(f, " takes ")?;
+    write!(f, " {} takes ", Position::of(text, target.at))?;
     tell_occurrence(f, argument)?;
     let (first, second) = (target.place, argument.place);
     match delay.reason() {

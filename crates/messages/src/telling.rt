@@ -1,4 +1,4 @@
-//! The parts of messages: places in a text, what stands there, and what could.
+//! The parts of messages: what stands at an offset of a text, and what could.
 
 use ag_expr::{Cursor, Expected as Part, ExprFault, refusal};
 use ag_text::Expected;
@@ -9,12 +9,6 @@ pub const NAMED: usize = 12;
 
 /// How many characters of a token a message shows.
 const SHOWN: usize = 24;
-
-/// The line and the column of an offset of a text.
-pub fn tell_place<W: fmt::Write>(f: &mut fmt::Formatter<W>, text: &str, at: usize) -> fmt::Result {
-    let (line, column) = place_of(text, at);
-    write!(f, " (line {line}, column {column})")
-}
 
 /// A number, with a comma before each of its last two groups of three digits.
 pub fn tell_number<W: fmt::Write>(f: &mut fmt::Formatter<W>, number: usize) -> fmt::Result {
@@ -31,24 +25,6 @@ pub fn tell_number<W: fmt::Write>(f: &mut fmt::Formatter<W>, number: usize) -> f
         thousands / 1_000,
         thousands % 1_000
     )
-}
-
-/// The line of an offset in bytes, and its column in characters, both from 1.
-pub fn place_of(text: &str, at: usize) -> (usize, usize) {
-    let mut line = 1usize;
-    let mut column = 1usize;
-    for (offset, character) in text.char_indices() {
-        if offset >= at {
-            break;
-        }
-        if character == '\n' {
-            line = line.saturating_add(1);
-            column = 1;
-        } else {
-            column = column.saturating_add(1);
-        }
-    }
-    (line, column)
 }
 
 /// The longest front of bytes that is UTF-8.
@@ -107,7 +83,7 @@ pub fn begins_with(found: Option<&str>, character: char) -> bool {
     }
 }
 
-/// What stands at a place; None: that the text ends there.
+/// What stands at an offset; None: that the text ends there.
 pub fn tell_found<W: fmt::Write>(f: &mut fmt::Formatter<W>, found: Option<&str>) -> fmt::Result {
     let Some(found) = found else {
         return write!(f, "the end of the text");
@@ -146,7 +122,7 @@ fn tell_character<W: fmt::Write>(f: &mut fmt::Formatter<W>, character: char) -> 
     Ok(())
 }
 
-/// What could stand at a place, where that is known.
+/// What could stand at an offset, where that is known.
 pub fn tell_expected<W: fmt::Write>(
     f: &mut fmt::Formatter<W>,
     expected: &[Expected],
@@ -168,7 +144,7 @@ pub fn tell_expected<W: fmt::Write>(
     write!(f, " can stand")
 }
 
-/// One of the things that could stand at a place.
+/// One of the things that could stand at an offset.
 fn tell_one<W: fmt::Write>(f: &mut fmt::Formatter<W>, expected: Expected) -> fmt::Result {
     match expected {
         Expected::Name => write!(f, "a name"),
@@ -180,7 +156,7 @@ fn tell_one<W: fmt::Write>(f: &mut fmt::Formatter<W>, expected: Expected) -> fmt
     }
 }
 
-/// One of the parts of an expression that could stand at a place.
+/// One of the parts of an expression that could stand at an offset.
 fn tell_part<W: fmt::Write>(f: &mut fmt::Formatter<W>, part: Part) -> fmt::Result {
     match part {
         Part::Expression => write!(f, "an expression"),

@@ -1,8 +1,9 @@
 //! Why a text reads as no grammar, in words.
 
-use crate::expression_message::{place_in, tell_expression};
+use crate::expression_message::{offset_in, tell_expression};
+use crate::position::Position;
 use crate::telling::{
-    begins_with, found_at, front_of, refusal_of, tell_expected, tell_found, tell_number, tell_place,
+    begins_with, found_at, front_of, refusal_of, tell_expected, tell_found, tell_number,
 };
 use ag_expr::ExprFault;
 use ag_grammar::limits::MOST_TEXT_BYTES;
@@ -11,7 +12,7 @@ use std::alloc::Global;
 use std::fmt;
 
 /// What is told behind G1 to G4, why a text reads as no grammar, as
-/// ` (line 1, column 1): found .., where only .. can stand`.
+/// `: found .., where only .. can stand`.
 #[derive(Drop)]
 pub struct TextMessage<'a> {
     fault: TextFault,
@@ -23,10 +24,10 @@ pub struct TextMessage<'a> {
 
 impl<'a> TextMessage<'a> {
     /// The message of the text with these bytes. Takes memory, and reads the text again; where
-    /// memory is refused, the message doesn't say what could stand at the fault's place.
+    /// memory is refused, the message doesn't say what could stand at the fault's offset.
     pub fn new(alloc: Global, fault: TextFault, bytes: &'a [u8]) -> TextMessage<'a> {
         let text = front_of(bytes);
-        let found = match place_of(fault) {
+        let found = match offset_of(fault) {
             Some(at) => found_at(text, at),
             None => None,
         };
@@ -43,13 +44,18 @@ impl<'a> TextMessage<'a> {
             broken,
         }
     }
+
+    /// Where the text is refused, if at an offset.
+    pub fn position(&self) -> Option<Position> {
+        Some(Position::of(self.text, offset_of(self.fault)?))
+    }
 }
 
 /// The offset at which a text reads as no grammar.
-fn place_of(fault: TextFault) -> Option<usize> {
+fn offset_of(fault: TextFault) -> Option<usize> {
     match fault {
         TextFault::BadUtf8(at) | TextFault::Unexpected(_, at) => Some(at),
-        TextFault::Expr(fault) => place_in(fault),
+        TextFault::Expr(fault) => offset_in(fault),
         TextFault::TooLong | TextFault::NoMemory => None,
     }
 }
@@ -63,9 +69,6 @@ fn broken_of(found: Option<&str>, expected: &[Expected]) -> Option<ExprFault> {
 
 impl fmt::Display for TextMessage<'_> {
     fn fmt<W: fmt::Write>(&self, f: &mut fmt::Formatter<W>) -> fmt::Result {
-        if let Some(at) = place_of(self.fault) {
-            tell_place(f, self.text, at)?;
-        }
         match self.broken {
             Some(broken) => tell_expression(f, broken, self.found, &[]),
             None => tell_text(f, self.fault, self.found, self.expected.as_slice()),

@@ -5,22 +5,22 @@ use std::fmt;
 
 /// What is told behind O1: the value that the root's `out` has instead of a text, as
 /// `, it is `5`; make a text of it, as `text(..)` does`.
-#[derive(Clone, Copy)]
-pub struct ValueMessage<'a> {
-    shown: &'a str,
+#[derive(Drop)]
+pub struct ValueMessage {
+    shown: String,
 }
 
-impl<'a> ValueMessage<'a> {
+impl ValueMessage {
     /// The message of a value that is shown so. Takes no memory.
-    pub fn new(shown: &'a str) -> ValueMessage<'a> {
+    pub fn new(shown: String) -> ValueMessage {
         ValueMessage { shown }
     }
 }
 
-impl fmt::Display for ValueMessage<'_> {
+impl fmt::Display for ValueMessage {
     fn fmt<W: fmt::Write>(&self, f: &mut fmt::Formatter<W>) -> fmt::Result {
         write!(f, ", it is ")?;
-        tell_found(f, Some(self.shown))?;
+        tell_found(f, Some(self.shown.as_str()))?;
         write!(
             f,
             ": let the rule of the root's `out` give a text, as `text(..)` makes one of a number"

@@ -20,14 +20,7 @@ fn told(alloc: Global, call: u64) -> Result<String, Fail> {
     let tokens = scan(alloc, &grammar, b"iffy if")?;
     let mut device = FuseDevice::new(MemDevice::new(alloc), call);
     let mut writer = Writer::begin(alloc, &mut device, 0)?;
-    let parsed = parse(
-        alloc,
-        &grammar,
-        &tables,
-        &tokens,
-        &mut device,
-        &mut writer,
-    );
+    let parsed = parse(alloc, &grammar, &tables, &tokens, &mut device, &mut writer);
     if let Err(ParseFault::NoMemory) = parsed {
         return Err(Fail::from(ParseFault::NoMemory));
     }

@@ -1,7 +1,8 @@
-use Rattle.std.proofs.Common.{chars}
+use Rattle.std.proofs.Common.{◌<◌, length, chars, arith}
+use Rattle.std.proofs.lemmas.Bool.Decides.{nat_tests}
 use Rattle.ag_scan.specs.Words.{over}
-use Rattle.ag_scan.proofs.Cut.{are_all}
-use Rattle.ag_scan.proofs.Listing.{starts, shorter, goes_on, ends, stops, told_some, told_none}
+use Rattle.ag_scan.proofs.Cut.{all_cut}
+use Rattle.ag_scan.proofs.Listing.{starts, shorter, goes_on, stops}
 use Rattle.ag_scan.proofs.sentence.cut.Goals as goal
 
 pub loop-rest-init : goal.loop-rest-init
@@ -12,7 +13,9 @@ loop-rest-init c =
 pub returns-in-Err-clause-refused : goal.returns-in-Err-clause-refused
 returns-in-Err-clause-refused c =
     let (utf8, scanned) = c.loop-rest.invariant in
-    stops (over c.args.literals.now c.args.classes.now) c.args.text.now c.loop-rest.rest.now c.in-Err.fault c.utf8.text utf8 c.requires.short scanned (told_some _ c.loop-rest-test.ensures) c.in-Err.ensures.stopped
+    let test = c.loop-rest-test.ensures in
+    let some : 0 < length c.loop-rest.rest.now = grind (arith, nat_tests) in
+    stops (over c.args.literals.now c.args.classes.now) c.args.text.now c.loop-rest.rest.now c.in-Err.fault c.utf8.text utf8 c.requires.short scanned some c.in-Err.ensures.stopped
 
 pub loop-rest-smaller : goal.loop-rest-smaller
 loop-rest-smaller c =
@@ -29,12 +32,10 @@ loop-rest-preserved c =
 
 pub returns-clause-tokens : goal.returns-clause-tokens
 returns-clause-tokens c =
-    let v = over c.args.literals.now c.args.classes.now in
     let (utf8, scanned) = c.loop-rest.invariant in
-    (are_all v c.requires.clean c.args.text.now (ends v c.args.text.now c.loop-rest.rest.now c.utf8.text c.requires.short scanned (told_none _ c.loop-rest-test.ensures))).0
+    (all_cut (over c.args.literals.now c.args.classes.now) c.requires.clean c.args.text.now c.loop-rest.rest.now c.utf8.text c.requires.short scanned c.loop-rest-test.ensures).0
 
 pub returns-clause-fit : goal.returns-clause-fit
 returns-clause-fit c =
-    let v = over c.args.literals.now c.args.classes.now in
     let (utf8, scanned) = c.loop-rest.invariant in
-    (are_all v c.requires.clean c.args.text.now (ends v c.args.text.now c.loop-rest.rest.now c.utf8.text c.requires.short scanned (told_none _ c.loop-rest-test.ensures))).1
+    (all_cut (over c.args.literals.now c.args.classes.now) c.requires.clean c.args.text.now c.loop-rest.rest.now c.utf8.text c.requires.short scanned c.loop-rest-test.ensures).1

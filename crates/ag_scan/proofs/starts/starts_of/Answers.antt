@@ -1,7 +1,5 @@
-use Rattle.std.proofs.Common.{◌+◌, ◌<◌, sym, subst, arith}
-use Rattle.std.proofs.Math.ListN.{set}
+use Rattle.std.proofs.Common.{◌<◌, sym, arith}
 use Rattle.std.proofs.lemmas.Option.{slice_get-get_or}
-use Rattle.ag_scan.specs.Table.{AreTold}
 use Rattle.ag_scan.proofs.Beginnings.{one_told}
 use Rattle.ag_scan.proofs.starts.starts_of.Goals as goal
 

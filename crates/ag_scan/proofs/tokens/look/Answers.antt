@@ -6,13 +6,10 @@ use Rattle.ag_scan.proofs.tokens.look.Goals as goal
 
 pub overflow_sub-result : goal.overflow_sub-result
 overflow_sub-result c =
-    let less = no_longer c.args.behind.now c.skip_separators-left.result.now c.utf8.behind c.skip_separators-left.utf8 c.skip_separators-left.ensures in
-    omega (arith, c.requires.within)
+    omega (arith, c.requires.within, no_longer c.args.behind.now c.skip_separators-left.result.now c.utf8.behind c.skip_separators-left.utf8 c.skip_separators-left.ensures)
 
 pub overflow_cast-result : goal.overflow_cast-result
-overflow_cast-result c =
-    let short = c.requires.has.tokens.readable.short in
-    omega arith
+overflow_cast-result c = omega (arith, c.requires.has.tokens.readable.short)
 
 pub returns-in-Some-clause-front : goal.returns-in-Some-clause-front
 returns-in-Some-clause-front c =

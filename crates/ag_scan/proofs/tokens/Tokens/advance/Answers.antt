@@ -10,9 +10,7 @@ pub look-at-requires-clause-within : goal.look-at-requires-clause-within
 look-at-requires-clause-within c =
     let at = rw c.in-Some.is at c.self.invariant in
     let utf8 = subst IsUtf8 c.as_bytes-utf8.ensures.value c.as_bytes-utf8.ensures.utf8 in
-    let wide = width-chars c.in-Some.front.rest.now utf8 in
-    let narrow = at.left.2 in
-    omega arith
+    omega (arith, width-chars c.in-Some.front.rest.now utf8, at.left.2)
 
 pub overflow_add-self : goal.overflow_add-self
 overflow_add-self c =
@@ -33,6 +31,4 @@ returns-in_default c =
     let at = rw c.in_default.is at c.self.invariant in
     let past = (none_next _ _ _ _ at).1 in
     let short : length c.args.self.now.list ≤ c.args.self.now.taken = subst (λ (h : Handed). length h.list ≤ h.taken) c.self.view_is past in
-    let less = c.requires in
-    let bad : ⊥ = omega arith in
-    absurd bad
+    absurd (omega (arith, c.requires))
