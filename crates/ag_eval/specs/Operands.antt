@@ -5,7 +5,7 @@ use Rattle.ag_eval.specs.declared.operand.Held.{Held}
 use Rattle.ag_eval.specs.declared.operand.Held.TheVariants as held
 use Rattle.ag_eval.specs.declared.operand.Operand.{Operand}
 use Rattle.ag_eval.specs.declared.operand.Operand.TheVariants as operand
-use Rattle.ag_grammar.specs.declared.node.Node.{Node}
+use Rattle.ag_grammar.specs.declared.syntax.node.Node.{Node}
 use Rattle.ag_grammar.specs.expressions.Evaluation.{bound_value}
 use Rattle.ag_grammar.specs.expressions.Trees.{each_passes, is_within}
 

@@ -20,7 +20,7 @@ pub struct OccurrenceTable<'t> {
 
 impl<'t> Model for OccurrenceTable<'t> {
     ghost use Rattle.std.specs.Prelude.{List};
-    ghost use Rattle.ag_grammar.specs.declared.occurrence.Occ.{Occ};
+    ghost use Rattle.ag_grammar.specs.declared.syntax.occurrence.Occ.{Occ};
 
     ghost Value = { List Occ };
 

@@ -5,11 +5,9 @@ pub mod Directions
 pub mod EachNode
 pub mod Kept
 pub mod Members
-pub mod NumberSample
 pub mod OneSolution
 pub mod Productive
-pub mod Refused
 pub mod Rules
 pub mod Running
-pub mod TokenSample
+pub mod samples
 pub mod Translated

@@ -20,7 +20,7 @@ pub struct Grammar {
 
 impl Model for Grammar {
     ghost use Rattle.std.specs.Coded.{codes};
-    ghost use Rattle.ag_grammar.specs.contracts.node.Node as node_row;
+    ghost use Rattle.ag_grammar.specs.contracts.syntax.node.Node as node_row;
     ghost use Rattle.ag_grammar.specs.grammars.Accepted.{IsAccepted};
     ghost use Rattle.ag_grammar.specs.grammars.AttributeGrammar.{Grammar as Plain};
 

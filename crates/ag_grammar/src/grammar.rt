@@ -1,7 +1,7 @@
 //! The parts of an attribute grammar as plain data: symbols, productions and rules. What a grammar
 //! of them means, and which ones are accepted, is defined over these types.
 
-use crate::expression::Expr;
+use crate::syntax::expression::Expr;
 use ag_value::{Items, Text};
 
 /// A declared symbol. Its attributes are numbered from 0, the synthesized ones first, then the

@@ -6,23 +6,20 @@
 
 mod accepted;
 mod direction;
-mod expression;
 mod grammar;
 pub mod grammar_laws;
 pub mod limits;
-mod literal;
-mod node;
-mod occurrence;
 mod parts;
 mod raw;
 pub mod samples;
+mod syntax;
 pub mod value_laws;
 
 pub use accepted::Grammar;
 pub use direction::Direction;
-pub use expression::{Expr, occurrences};
 pub use grammar::{Item, Production, Rule, Symbol, Target, Terminal};
-pub use literal::Literal;
-pub use node::{BinaryCall, Node, Operator, UnaryCall};
-pub use occurrence::Occ;
 pub use raw::{Named, RawGrammar, RawItem, RawProduction, RawRule, RawSymbol};
+pub use syntax::expression::{Expr, occurrences};
+pub use syntax::literal::Literal;
+pub use syntax::node::{BinaryCall, Node, Operator, UnaryCall};
+pub use syntax::occurrence::Occ;

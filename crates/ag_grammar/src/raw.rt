@@ -6,8 +6,8 @@ ghost use Rattle.std.specs.Prelude.{slice_get};
 ghost use Rattle.ag_grammar.specs.declared.raw.RawItem.{RawItem as TheRawItem};
 ghost use Rattle.ag_grammar.specs.grammars.Raw.{raw_attribute_names, raw_stored};
 
-use crate::expression::Expr;
-use crate::occurrence::Occ;
+use crate::syntax::expression::Expr;
+use crate::syntax::occurrence::Occ;
 use ag_value::{Items, Text};
 
 /// A name where it stands.

@@ -23,37 +23,37 @@ ghost use Rattle.ag_grammar.specs.grammars.Sample.{sample_passes, token_sample, 
 ghost use Rattle.ag_grammar.specs.grammars.Sample.{token_values, iffy};
 
 /// The first grammar is accepted.
-#[tactic(auto, using(crate::proofs::grammars::NumberSample::accepted))]
+#[tactic(auto, using(crate::proofs::grammars::samples::NumberSample::accepted))]
 pub fn sample_accepted()
     ensures { IsAccepted sample }
 {}
 
 /// Without the rule for `out` of the left side its first production is not complete.
-#[tactic(auto, using(crate::proofs::grammars::NumberSample::missing))]
+#[tactic(auto, using(crate::proofs::grammars::samples::NumberSample::missing))]
 pub fn rule_missing()
     ensures { IsComplete without_out (production_r (rule_first ∷ rule_second ∷ [])) → ⊥ }
 {}
 
 /// Without that rule the grammar is not accepted.
-#[tactic(auto, using(crate::proofs::grammars::NumberSample::refused))]
+#[tactic(auto, using(crate::proofs::grammars::samples::NumberSample::refused))]
 pub fn missing_refused()
     ensures { IsAccepted without_out → ⊥ }
 {}
 
 /// With the rule for the second child's `i` twice it is not accepted.
-#[tactic(auto, using(crate::proofs::grammars::NumberSample::doubled_refused))]
+#[tactic(auto, using(crate::proofs::grammars::samples::NumberSample::doubled_refused))]
 pub fn doubled_refused()
     ensures { IsAccepted doubled → ⊥ }
 {}
 
 /// With a rule whose expression has an occurrence, but without its argument, it is not accepted.
-#[tactic(auto, using(crate::proofs::grammars::NumberSample::bare_refused))]
+#[tactic(auto, using(crate::proofs::grammars::samples::NumberSample::bare_refused))]
 pub fn bare_refused()
     ensures { IsAccepted bare → ⊥ }
 {}
 
 /// Its tree of `x x` is one of the grammar.
-#[tactic(auto, using(crate::proofs::grammars::NumberSample::fits))]
+#[tactic(auto, using(crate::proofs::grammars::samples::NumberSample::fits))]
 pub fn sample_fits()
     ensures { IsTreeOf sample sample_tree }
 {}
@@ -71,19 +71,19 @@ pub fn sample_yield()
 {}
 
 /// The values with 2 for `out` solve the grammar on it.
-#[tactic(auto, using(crate::proofs::grammars::NumberSample::solved))]
+#[tactic(auto, using(crate::proofs::grammars::samples::NumberSample::solved))]
 pub fn sample_solved()
     ensures { Solves AnyRule sample sample_tree (sample_values 2) }
 {}
 
 /// The same values with 1 for `out` do not.
-#[tactic(auto, using(crate::proofs::grammars::NumberSample::unsolved))]
+#[tactic(auto, using(crate::proofs::grammars::samples::NumberSample::unsolved))]
 pub fn sample_unsolved()
     ensures { Solves AnyRule sample sample_tree (sample_values 1) → ⊥ }
 {}
 
 /// The translation is 2.
-#[tactic(auto, using(crate::proofs::grammars::NumberSample::translation))]
+#[tactic(auto, using(crate::proofs::grammars::samples::NumberSample::translation))]
 pub fn sample_translation()
     ensures { IsTranslation sample (sample_values 2) (Num (pos 2)) }
 {}
@@ -124,20 +124,20 @@ pub fn one_occurrence()
 {}
 
 /// With `$2.i = $1.i` its first production is not normal.
-#[tactic(auto, using(crate::proofs::grammars::Refused::not_normal))]
+#[tactic(auto, using(crate::proofs::grammars::samples::Refused::not_normal))]
 pub fn not_normal()
     ensures { IsNormal sample (production_r (rule_out ∷ rule_first ∷ rule_inherited ∷ [])) → ⊥ }
 {}
 
 /// A node of `R = A A` with one child is no tree of the grammar.
-#[tactic(auto, using(crate::proofs::grammars::Refused::child_missing))]
+#[tactic(auto, using(crate::proofs::grammars::samples::Refused::child_missing))]
 pub fn child_missing()
     ensures { IsTreeOf sample (node 0 (more (node 1 none) none)) → ⊥ }
 {}
 
 /// The second pass for all attributes is not legal: from left to right the first child comes before
 /// what its `i` uses.
-#[tactic(auto, using(crate::proofs::grammars::Refused::not_legal))]
+#[tactic(auto, using(crate::proofs::grammars::samples::Refused::not_legal))]
 pub fn not_legal()
     ensures { IsLegal sample later_passes → ⊥ }
 {}
@@ -149,25 +149,25 @@ pub fn none_legal()
 {}
 
 /// A symbol with the production `R = R` alone derives no list of terminals.
-#[tactic(auto, using(crate::proofs::grammars::Refused::not_productive))]
+#[tactic(auto, using(crate::proofs::grammars::samples::Refused::not_productive))]
 pub fn not_productive()
     ensures { IsProductive endless 0 → ⊥ }
 {}
 
 /// A symbol that stands on no right side, and is not the start symbol, is not reached.
-#[tactic(auto, using(crate::proofs::grammars::Refused::not_reached))]
+#[tactic(auto, using(crate::proofs::grammars::samples::Refused::not_reached))]
 pub fn not_reached()
     ensures { IsReached with_unreached 2 → ⊥ }
 {}
 
 /// The second grammar, with a token, is accepted.
-#[tactic(auto, using(crate::proofs::grammars::TokenSample::accepted))]
+#[tactic(auto, using(crate::proofs::grammars::samples::TokenSample::accepted))]
 pub fn token_accepted()
     ensures { IsAccepted token_sample }
 {}
 
 /// The tree of `iffy if`, with a token, is one of the second grammar.
-#[tactic(auto, using(crate::proofs::grammars::TokenSample::fits))]
+#[tactic(auto, using(crate::proofs::grammars::samples::TokenSample::fits))]
 pub fn token_fits()
     ensures { IsTreeOf token_sample token_tree }
 {}
@@ -185,19 +185,19 @@ pub fn token_yield()
 {}
 
 /// The name for `out` solves the grammar on it.
-#[tactic(auto, using(crate::proofs::grammars::TokenSample::solved))]
+#[tactic(auto, using(crate::proofs::grammars::samples::TokenSample::solved))]
 pub fn token_solved()
     ensures { Solves AnyRule token_sample token_tree (token_values iffy) }
 {}
 
 /// The empty text does not.
-#[tactic(auto, using(crate::proofs::grammars::TokenSample::unsolved))]
+#[tactic(auto, using(crate::proofs::grammars::samples::TokenSample::unsolved))]
 pub fn token_unsolved()
     ensures { Solves AnyRule token_sample token_tree (token_values []) → ⊥ }
 {}
 
 /// The translation is the name.
-#[tactic(auto, using(crate::proofs::grammars::TokenSample::translation))]
+#[tactic(auto, using(crate::proofs::grammars::samples::TokenSample::translation))]
 pub fn token_translation()
     ensures { IsTranslation token_sample (token_values iffy) (Text iffy) }
 {}

@@ -5,9 +5,9 @@ ghost use Rattle.std.specs.Prelude.{◌≡◌, ◌∷◌, [], ℕ, neg_ℤ, negs
 ghost use Rattle.ag_value.specs.declared.value.ErrorCode.TheVariants as code;
 ghost use Rattle.ag_value.specs.declared.value.Value.{Value as AttributeValue};
 ghost use Rattle.ag_value.specs.declared.value.Value.TheVariants as value;
-ghost use Rattle.ag_grammar.specs.declared.node.BinaryCall.TheVariants as binary;
-ghost use Rattle.ag_grammar.specs.declared.node.Operator.TheVariants as operator;
-ghost use Rattle.ag_grammar.specs.declared.node.UnaryCall.TheVariants as unary;
+ghost use Rattle.ag_grammar.specs.declared.syntax.node.BinaryCall.TheVariants as binary;
+ghost use Rattle.ag_grammar.specs.declared.syntax.node.Operator.TheVariants as operator;
+ghost use Rattle.ag_grammar.specs.declared.syntax.node.UnaryCall.TheVariants as unary;
 ghost use Rattle.ag_grammar.specs.expressions.Evaluation.{value_of};
 ghost use Rattle.ag_grammar.specs.expressions.Laws.{OccurrencesAreListed, RuleHasOneValue};
 ghost use Rattle.ag_grammar.specs.expressions.Laws.{RuleHoldsByOne, ValueOfOccurrences};

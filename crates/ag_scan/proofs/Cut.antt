@@ -15,10 +15,10 @@ use Rattle.ag_scan.specs.Cutting.{Front, CutsLiteral, CutsToken, number_from, li
 use Rattle.ag_scan.specs.Handed.{HasTokens}
 use Rattle.ag_scan.specs.Tokens.{most_sentence_bytes, Token, AreTokens, ended, separator, word, AreTokensOf, FitAll}
 use Rattle.ag_scan.specs.Words.{Vocabulary, HasNoEmpty, IsClean, IsLiteral, IsLongest}
-use Rattle.ag_scan.proofs.Choosing.{IsLiteralIn, chosen}
+use Rattle.ag_scan.proofs.words.Choosing.{IsLiteralIn, chosen}
 use Rattle.ag_scan.proofs.Listing.{word_some, length_width, Scanned, ends}
 use Rattle.ag_scan.proofs.OneToken.{IsWordIn, one_word, token_plain, no_spaces}
-use Rattle.ag_scan.proofs.Tables.{split}
+use Rattle.ag_scan.proofs.words.Tables.{split}
 
 -- ---- the word in front
 

@@ -1,14 +1,9 @@
 pub mod Answered
-pub mod Beginnings
-pub mod Choosing
-pub mod ClassWords
 pub mod Cut
 pub mod Examples
-pub mod Listing
 pub mod Handing
 pub mod Lefts
-pub mod LiteralWords
+pub mod Listing
 pub mod OneAnswer
 pub mod OneToken
-pub mod Orders
-pub mod Tables
+pub mod words

@@ -12,7 +12,7 @@ use Rattle.ag_tokens.specs.Tokens.{is_separator}
 use Rattle.ag_tokens.proofs.TokenLaws.{no_start}
 use Rattle.ag_scan.specs.Cutting.{Front, CutsToken}
 use Rattle.ag_scan.specs.Words.{Vocabulary, IsClean, IsWordOfClass, IsWord, IsAnyWord, BeginsNone, LiteralWins, IsToken}
-use Rattle.ag_scan.proofs.ClassWords.{one_class}
+use Rattle.ag_scan.proofs.words.ClassWords.{one_class}
 use Rattle.ag_scan.proofs.Listing.{word_some}
 
 -- ---- no word begins with a separator

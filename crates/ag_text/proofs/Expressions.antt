@@ -2,9 +2,9 @@
 use Rattle.std.proofs.Common.{◌≡◌, ◌≢◌, ℕ, pos, Bool, true, List, [], ◌∷◌, ◌++◌, map, Option, Some, None, Result, Ok, Err, refl, ap, sym, ◌∙◌, subst, append_assoc, arith}
 use Rattle.ag_expr.specs.declared.fault.ExprFault.{ExprFault}
 use Rattle.ag_expr.specs.declared.fault.ExprFault.TheVariants as fault
-use Rattle.ag_grammar.specs.declared.node.Node.{Node}
-use Rattle.ag_grammar.specs.declared.node.Node.TheVariants as node
-use Rattle.ag_grammar.specs.declared.occurrence.Occ.{Occ}
+use Rattle.ag_grammar.specs.declared.syntax.node.Node.{Node}
+use Rattle.ag_grammar.specs.declared.syntax.node.Node.TheVariants as node
+use Rattle.ag_grammar.specs.declared.syntax.occurrence.Occ.{Occ}
 use Rattle.ag_tokens.specs.declared.token.Punctuation.TheVariants as punctuation
 use Rattle.ag_value.specs.declared.value.Value.TheVariants as value
 use Rattle.ag_tokens.specs.Ending.{Ending}

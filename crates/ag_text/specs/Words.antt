@@ -2,7 +2,7 @@
 use Rattle.std.specs.Prelude.{ℕ, ◌==◌, ◌&&◌, length, Bool, not, cond, if◌then◌else◌, List, [], ◌∷◌, Option, Some, None, bytes_eq, codes}
 use Rattle.std.specs.List.{list_any}
 use Rattle.ag_tokens.specs.declared.token.Punctuation.{Punctuation}
-use Rattle.ag_grammar.specs.declared.occurrence.Occ.{Occ}
+use Rattle.ag_grammar.specs.declared.syntax.occurrence.Occ.{Occ}
 use Rattle.ag_tokens.specs.Parsing.{is_sign}
 use Rattle.ag_tokens.specs.Token.{Token, mark, word}
 use Rattle.ag_tokens.specs.Token as token

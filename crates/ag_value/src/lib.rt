@@ -3,30 +3,25 @@
 #![tactic(auto)]
 
 mod boxed;
-mod comparing;
-mod copying;
-mod decoding;
-mod encoding;
 mod fault;
 mod items;
 pub mod laws;
 mod limits;
-mod measuring;
-mod showing;
+mod spelling;
 mod text;
 mod value;
-mod wellness;
+mod walks;
 
 pub use boxed::Boxed;
-pub use comparing::same;
-pub use copying::copy;
-pub use decoding::decode;
-pub use encoding::encode;
 pub use fault::{NoMemory, ValueFault};
 pub use items::Items;
 pub use limits::{MAX_DEPTH, MAX_WEIGHT};
-pub use measuring::{depth, weight};
-pub use showing::show;
+pub use spelling::decoding::decode;
+pub use spelling::encoding::encode;
+pub use spelling::showing::show;
 pub use text::Text;
 pub use value::{ErrorCode, Value};
-pub use wellness::is_well;
+pub use walks::comparing::same;
+pub use walks::copying::copy;
+pub use walks::measuring::{depth, weight};
+pub use walks::wellness::is_well;

@@ -4,10 +4,10 @@ use Rattle.std.specs.Prelude.{IsErrOf}
 use Rattle.agoutput.specs.declared.fault.ListingFault.{ListingFault}
 use Rattle.agoutput.specs.declared.fault.ListingFault.TheVariants as listing
 use Rattle.ag_grammar.specs.grammars.AttributeGrammar.{Grammar}
-use Rattle.llparse.specs.Tables.{IsLeastConflict}
+use Rattle.llparse.specs.table.Tables.{IsLeastConflict}
 use Rattle.llparse.specs.declared.ahead.Ahead.{Ahead}
-use Rattle.llparse.specs.declared.fault.TableFault.{TableFault}
-use Rattle.llparse.specs.declared.fault.TableFault.TheVariants as table
+use Rattle.llparse.specs.declared.table.fault.TableFault.{TableFault}
+use Rattle.llparse.specs.declared.table.fault.TableFault.TheVariants as table
 use Rattle.passassign.specs.Least.{IsLeast}
 use Rattle.passassign.specs.Rows.{passes_of}
 use Rattle.passcode.specs.Order.{AreInOrder}

@@ -2,8 +2,8 @@
 use Rattle.std.proofs.Common.{◌≡◌, ℕ, List, [], Some, None, inl, ap, ◌∙◌}
 use Rattle.ag_expr.specs.declared.fault.ExprFault.{ExprFault}
 use Rattle.ag_expr.specs.declared.fault.ExprFault.TheVariants.{NoToken, Unexpected, NumberTooLarge, TooDeep, NoMemory}
-use Rattle.ag_grammar.specs.declared.node.Node.{Node}
-use Rattle.ag_grammar.specs.declared.occurrence.Occ.{Occ}
+use Rattle.ag_grammar.specs.declared.syntax.node.Node.{Node}
+use Rattle.ag_grammar.specs.declared.syntax.occurrence.Occ.{Occ}
 use Rattle.ag_expr.specs.language.Expression.{IsAt, IsRefused, ReadsAsExpr, ReadsAsNone}
 use Rattle.ag_expr.proofs.language.Texts.{one_expression}
 use Rattle.ag_value.specs.declared.value.Value.{Value}

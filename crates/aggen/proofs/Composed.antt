@@ -11,14 +11,14 @@ use Rattle.ag_grammar.specs.grammars.Tree.{IsWithinLimits, Tree, IsTreeOf, most_
 use Rattle.passassign.specs.Rows.{IsGreatest, passes_of}
 use Rattle.passcode.specs.Rows.{Lists}
 use Rattle.planchecker.specs.Plans.{IsPlan}
-use Rattle.treefile.specs.Device.{WhenHonest}
-use Rattle.treefile.proofs.Texts.{texts_are_given}
-use Rattle.treefile.specs.FirstFile.{IsFirstFile}
-use Rattle.treefile.specs.TreeFile.{version_two}
+use Rattle.treefile.specs.devices.Device.{WhenHonest}
+use Rattle.treefile.proofs.records.Texts.{texts_are_given}
+use Rattle.treefile.specs.records.FirstFile.{IsFirstFile}
+use Rattle.treefile.specs.records.TreeFile.{version_two}
 use Rattle.aggen.specs.Building.{IsLeastPlan}
 use Rattle.aggen.specs.Sentences.{IsTreeOfSentence}
 use Rattle.agoutput.specs.Writing.{AppendsBeginning}
-use Rattle.passrun.specs.declared.ends.Passed.{Passed}
+use Rattle.passrun.specs.declared.passing.ends.Passed.{Passed}
 use Rattle.aggen.specs.declared.report.Report.{Report}
 use Rattle.passrun.specs.declared.run_fault.RunFault.{RunFault}
 use Rattle.passrun.specs.declared.run_fault.RunFault.TheVariants as run
@@ -30,8 +30,8 @@ use Rattle.passrun.specs.Rounds.{last_content}
 use Rattle.roottext.specs.Roots.{IsRootText, TellsRoot}
 use Rattle.passrun.specs.Rounds.{HasCounted, HasRunAll}
 use Rattle.ag_grammar.specs.grammars.Running.{IsLastPass}
-use Rattle.passrun.specs.Ahead.{IsRunFault}
-use Rattle.planchecker.specs.Settings.{setting_of}
+use Rattle.passrun.specs.passing.Ahead.{IsRunFault}
+use Rattle.planchecker.specs.courses.Settings.{setting_of}
 use Rattle.aggen.specs.Translating.{AreLeft, IsFilesFault, IsTranslationFault, LeavesFiles, TranslatesSentence}
 use Rattle.ag_grammar.proofs.grammars.Counting.{passes_have_all_rules}
 use Rattle.ag_grammar.proofs.grammars.Running.{run_is_the_solution}

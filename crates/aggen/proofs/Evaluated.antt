@@ -11,26 +11,26 @@ use Rattle.ag_grammar.specs.grammars.Solution.{IsTranslation, Valuation}
 use Rattle.ag_grammar.specs.grammars.Tree.{Tree, IsTreeOf, node_count}
 use Rattle.ag_grammar.proofs.grammars.Counting.{passes_have_all_rules}
 use Rattle.ag_grammar.proofs.grammars.Running.{run_is_the_solution}
-use Rattle.treefile.specs.Device.{WhenHonest}
-use Rattle.treefile.specs.Ending.{version_two_usable}
-use Rattle.treefile.specs.Records.{IsFileOfTree}
+use Rattle.treefile.specs.devices.Device.{WhenHonest}
+use Rattle.treefile.specs.ways.Ending.{version_two_usable}
+use Rattle.treefile.specs.records.Records.{IsFileOfTree}
 use Rattle.treefile.specs.Runs.{HasRun}
-use Rattle.treefile.specs.TreeFile.{header, version_two}
-use Rattle.treefile.proofs.Fitting.{fits_version_two}
-use Rattle.treefile.proofs.OneTree.{one_file}
-use Rattle.treefile.specs.FirstFile.{AreFromOne, IsFirstFile}
-use Rattle.treefile.proofs.FirstFile.{first_file_of}
-use Rattle.treefile.proofs.Texts.{texts_are_given}
+use Rattle.treefile.specs.records.TreeFile.{header, version_two}
+use Rattle.treefile.proofs.records.Fitting.{fits_version_two}
+use Rattle.treefile.proofs.records.OneTree.{one_file}
+use Rattle.treefile.specs.records.FirstFile.{AreFromOne, IsFirstFile}
+use Rattle.treefile.proofs.records.FirstFile.{first_file_of}
+use Rattle.treefile.proofs.records.Texts.{texts_are_given}
 use Rattle.passassign.specs.Rows.{IsGreatest, passes_of}
 use Rattle.passcode.specs.Rows.{Lists}
 use Rattle.planchecker.specs.Plans.{IsPlan}
-use Rattle.planchecker.specs.Settings.{setting_of}
-use Rattle.passrun.specs.declared.ends.Passed.{Passed}
+use Rattle.planchecker.specs.courses.Settings.{setting_of}
+use Rattle.passrun.specs.declared.passing.ends.Passed.{Passed}
 use Rattle.passrun.specs.declared.last.Last.{Last}
 use Rattle.passrun.specs.declared.last.Last.TheVariants.{A, B}
 use Rattle.passrun.specs.declared.run_fault.RunFault.{RunFault}
 use Rattle.passrun.specs.declared.run_fault.RunFault.TheVariants as run
-use Rattle.passrun.specs.Ahead.{IsRunFault}
+use Rattle.passrun.specs.passing.Ahead.{IsRunFault}
 use Rattle.passrun.specs.Passed.{IsPassed}
 use Rattle.passrun.specs.Rounds.{HasRunAll, last_content, other_content, other_last}
 use Rattle.passrun.proofs.Totals.{greatest_is_last}

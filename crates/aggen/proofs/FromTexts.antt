@@ -16,9 +16,9 @@ use Rattle.ag_grammar.specs.declared.raw.RawProduction.{RawProduction}
 use Rattle.ag_tokens.specs.Words.{Many, none, more}
 use Rattle.ag_text.specs.Syntax.{IsProduction, IsGrammar, one}
 use Rattle.ag_text.specs.Words.{class_of, class_or_name, is_literal, item_in, named, some_where}
-use Rattle.normalform.specs.Faults.{IsReadable, IsReadableItem}
+use Rattle.normalform.specs.faults.Faults.{IsReadable, IsReadableItem}
 use Rattle.aggen.specs.Checking.{TextsAreReadable}
-use Rattle.normalform.proofs.Tested.{separator_is}
+use Rattle.normalform.proofs.found.Tested.{separator_is}
 
 -- ---- a literal
 

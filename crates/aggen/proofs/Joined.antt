@@ -10,11 +10,11 @@ use Rattle.ag_grammar.specs.grammars.Solution.{OfPass, Same, Solves, Valuation}
 use Rattle.ag_grammar.specs.grammars.Tree.{Tree, IsTreeOf, node_count}
 use Rattle.ag_grammar.proofs.grammars.EachNode.{same_weaker}
 use Rattle.ag_grammar.proofs.grammars.Kept.{equations_kept}
-use Rattle.treefile.specs.Records.{IsFileOfTree}
+use Rattle.treefile.specs.records.Records.{IsFileOfTree}
 use Rattle.treefile.specs.Runs.{HasRun}
-use Rattle.treefile.specs.TreeFile.{Version}
+use Rattle.treefile.specs.records.TreeFile.{Version}
 use Rattle.treefile.proofs.SameFile.{same_file}
-use Rattle.passrun.specs.declared.ends.Passed.{Passed}
+use Rattle.passrun.specs.declared.passing.ends.Passed.{Passed}
 use Rattle.passrun.specs.declared.last.Last.{Last}
 use Rattle.passrun.specs.Rounds.{HasCounted, other_content}
 use Rattle.aggen.specs.Translation.{before_last}

@@ -6,10 +6,10 @@ use Rattle.ag_value.specs.Well.{IsWell}
 use Rattle.treefile.specs.declared.body.Kind.TheVariants.{Token}
 use Rattle.treefile.specs.declared.reading.FrameFault.{FrameFault}
 use Rattle.treefile.specs.declared.reading.FrameFault.TheVariants.{NotATreeFile, Damaged, Device, NoMemory}
-use Rattle.treefile.specs.Ending.{Told, last_body_of, version_two_usable}
-use Rattle.treefile.specs.TreeFile.{body_of, version_two}
-use Rattle.treefile.proofs.Files.{damaged_at_end, last_of_file}
-use Rattle.treefile.proofs.Sizes.{body_size}
+use Rattle.treefile.specs.ways.Ending.{Told, last_body_of, version_two_usable}
+use Rattle.treefile.specs.records.TreeFile.{body_of, version_two}
+use Rattle.treefile.proofs.ways.Files.{damaged_at_end, last_of_file}
+use Rattle.treefile.proofs.records.Sizes.{body_size}
 use Rattle.aggen.specs.declared.fault.Fault.{Fault}
 use Rattle.aggen.specs.declared.fault.Fault.TheVariants as fault
 use Rattle.aggen.specs.Showing.{IsWant, file_of}

@@ -10,11 +10,11 @@ use Rattle.ag_scan.specs.Words.{vocabulary_of}
 use Rattle.ag_scan.specs.declared.fault.ScanFault.{ScanFault}
 use Rattle.ag_scan.specs.declared.fault.ScanFault.TheVariants as scan
 use Rattle.ag_scan.proofs.OneAnswer.{at_most_one}
-use Rattle.llparse.specs.Sentences.{IsTreeWith, IsUnexpectedAt, LeavesOnlyDeeper, LeavesOnlyLarger, words_of}
-use Rattle.llparse.specs.Tables.{Choices, FitsGrammar}
-use Rattle.llparse.specs.declared.parse_fault.ParseFault.{ParseFault}
-use Rattle.llparse.specs.declared.parse_fault.ParseFault.TheVariants as parse
-use Rattle.llparse.proofs.Steps.{one_parse}
+use Rattle.llparse.specs.sentence.Sentences.{IsTreeWith, IsUnexpectedAt, LeavesOnlyDeeper, LeavesOnlyLarger, words_of}
+use Rattle.llparse.specs.table.Tables.{Choices, FitsGrammar}
+use Rattle.llparse.specs.declared.sentence.parse_fault.ParseFault.{ParseFault}
+use Rattle.llparse.specs.declared.sentence.parse_fault.ParseFault.TheVariants as parse
+use Rattle.llparse.proofs.steps.Steps.{one_parse}
 use Rattle.aggen.specs.Sentences.{HasNoTree, IsTreeOfSentence, IsSentenceFault}
 use Rattle.aggen.specs.Status.{parse_fault_of, scan_fault_of}
 

@@ -4,9 +4,9 @@ use Rattle.ag_grammar.specs.grammars.AttributeGrammar.{Grammar}
 use Rattle.ag_text.specs.declared.fault.TextFault.{TextFault}
 use Rattle.ag_text.specs.declared.fault.TextFault.TheVariants as text
 use Rattle.llparse.specs.Ahead.{HasNoConflict}
-use Rattle.llparse.specs.Tables.{IsLeastConflict}
-use Rattle.llparse.specs.declared.fault.TableFault.{TableFault}
-use Rattle.llparse.specs.declared.fault.TableFault.TheVariants as table
+use Rattle.llparse.specs.table.Tables.{IsLeastConflict}
+use Rattle.llparse.specs.declared.table.fault.TableFault.{TableFault}
+use Rattle.llparse.specs.declared.table.fault.TableFault.TheVariants as table
 use Rattle.normalform.specs.declared.fault.NormalFault.{NormalFault}
 use Rattle.normalform.specs.declared.fault.NormalFault.TheVariants as normal
 use Rattle.passassign.specs.Answer.{IsRefused}

@@ -10,8 +10,8 @@ use Rattle.ag_text.specs.Grammar.{ReadsAsGrammar}
 use Rattle.ag_text.specs.declared.fault.TextFault.{TextFault}
 use Rattle.ag_text.specs.declared.fault.TextFault.TheVariants as text_fault
 use Rattle.ag_grammar.specs.declared.raw.RawGrammar.{RawGrammar}
-use Rattle.normalform.specs.Faults.{IsFirstFault, IsReadable}
-use Rattle.normalform.specs.Numbers.{numbered}
+use Rattle.normalform.specs.faults.Faults.{IsFirstFault, IsReadable}
+use Rattle.normalform.specs.numbers.Numbers.{numbered}
 use Rattle.normalform.specs.declared.fault.NormalFault.{NormalFault}
 use Rattle.agoutput.specs.Lines.{counts_line}
 use Rattle.agoutput.specs.Writing.{AppendsBeginning}

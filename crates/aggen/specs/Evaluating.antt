@@ -5,15 +5,15 @@ use Rattle.ag_grammar.specs.grammars.AttributeGrammar.{Grammar}
 use Rattle.ag_grammar.specs.grammars.Passes.{Passes}
 use Rattle.ag_grammar.specs.grammars.Solution.{Valuation}
 use Rattle.ag_grammar.specs.grammars.Tree.{Tree, IsWithinLimits, most_depth, most_nodes}
-use Rattle.treefile.specs.FirstFile.{AreFromOne}
+use Rattle.treefile.specs.records.FirstFile.{AreFromOne}
 use Rattle.passassign.specs.Rows.{IsGreatest, passes_of}
 use Rattle.passcode.specs.Rows.{Lists}
-use Rattle.planchecker.specs.Settings.{setting_of}
+use Rattle.planchecker.specs.courses.Settings.{setting_of}
 use Rattle.passrun.specs.Damage.{ShowsAt, source}
 use Rattle.passrun.specs.declared.run_fault.RunFault.{RunFault}
 use Rattle.passrun.specs.declared.run_fault.RunFault.TheVariants as run
 use Rattle.passrun.specs.Rounds.{last_content}
-use Rattle.treefile.specs.Device.{WhenHonest}
+use Rattle.treefile.specs.devices.Device.{WhenHonest}
 use Rattle.aggen.specs.Translating.{ArePassesOf}
 use Rattle.aggen.specs.Translation.{BeginsTranslation, Evaluates, HasNoText, IsOneTree, IsReport, IsTreeInFile, LeavesSolution, before_last}
 use Rattle.aggen.specs.declared.fault.Fault.{Fault}

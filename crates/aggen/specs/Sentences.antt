@@ -7,9 +7,9 @@ use Rattle.ag_scan.specs.Tokens.{Token, AreTokensOf, IsRefused}
 use Rattle.ag_scan.specs.Words.{vocabulary_of}
 use Rattle.ag_scan.specs.declared.fault.ScanFault.{ScanFault}
 use Rattle.ag_scan.specs.declared.fault.ScanFault.TheVariants as scan
-use Rattle.llparse.specs.Sentences.{IsTreeWith, IsUnexpectedAt, LeavesOnlyDeeper, LeavesOnlyLarger, words_of}
-use Rattle.llparse.specs.declared.parse_fault.ParseFault.{ParseFault}
-use Rattle.llparse.specs.declared.parse_fault.ParseFault.TheVariants as parse
+use Rattle.llparse.specs.sentence.Sentences.{IsTreeWith, IsUnexpectedAt, LeavesOnlyDeeper, LeavesOnlyLarger, words_of}
+use Rattle.llparse.specs.declared.sentence.parse_fault.ParseFault.{ParseFault}
+use Rattle.llparse.specs.declared.sentence.parse_fault.ParseFault.TheVariants as parse
 use Rattle.aggen.specs.declared.fault.Fault.{Fault}
 use Rattle.aggen.specs.declared.fault.Fault.TheVariants as fault
 

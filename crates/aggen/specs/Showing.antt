@@ -6,12 +6,12 @@ use Rattle.ag_grammar.specs.expressions.Evaluation.{value_of}
 use Rattle.ag_expr.specs.language.Expression.{IsAt, ReadsAsExpr, ReadsAsNone}
 use Rattle.ag_expr.specs.declared.fault.ExprFault.{ExprFault}
 use Rattle.ag_expr.specs.declared.fault.ExprFault.TheVariants as expr
-use Rattle.ag_grammar.specs.declared.node.Node.{Node}
-use Rattle.ag_grammar.specs.declared.occurrence.Occ.{Occ}
+use Rattle.ag_grammar.specs.declared.syntax.node.Node.{Node}
+use Rattle.ag_grammar.specs.declared.syntax.occurrence.Occ.{Occ}
 use Rattle.ag_value.specs.Well.{IsWell}
 use Rattle.ag_value.specs.declared.value.Value.{Value}
 use Rattle.ag_value.specs.declared.value.Value.TheVariants as value
-use Rattle.treefile.specs.TreeFile.{body_of, file, version_two}
+use Rattle.treefile.specs.records.TreeFile.{body_of, file, version_two}
 use Rattle.treefile.specs.declared.body.Kind.TheVariants.{Token}
 use Rattle.aggen.specs.declared.fault.Fault.{Fault}
 use Rattle.aggen.specs.declared.fault.Fault.TheVariants as fault

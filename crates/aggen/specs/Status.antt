@@ -8,8 +8,8 @@ use Rattle.ag_scan.specs.declared.fault.ScanFault.{ScanFault}
 use Rattle.ag_scan.specs.declared.fault.ScanFault.TheVariants as scan
 use Rattle.agoutput.specs.declared.fault.ListingFault.{ListingFault}
 use Rattle.agoutput.specs.declared.fault.ListingFault.TheVariants as listing
-use Rattle.llparse.specs.declared.parse_fault.ParseFault.{ParseFault}
-use Rattle.llparse.specs.declared.parse_fault.ParseFault.TheVariants as parse
+use Rattle.llparse.specs.declared.sentence.parse_fault.ParseFault.{ParseFault}
+use Rattle.llparse.specs.declared.sentence.parse_fault.ParseFault.TheVariants as parse
 use Rattle.passrun.specs.declared.run_fault.RunFault.{RunFault}
 use Rattle.passrun.specs.declared.run_fault.RunFault.TheVariants as run
 use Rattle.roottext.specs.declared.fault.OutFault.{OutFault}

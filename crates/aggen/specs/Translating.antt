@@ -8,7 +8,7 @@ use Rattle.ag_grammar.specs.grammars.Tree.{Tree}
 use Rattle.passassign.specs.Rows.{IsGreatest, passes_of}
 use Rattle.passcode.specs.Rows.{Lists}
 use Rattle.passrun.specs.Rounds.{last_content, other_content}
-use Rattle.treefile.specs.Device.{WhenHonest}
+use Rattle.treefile.specs.devices.Device.{WhenHonest}
 use Rattle.aggen.specs.Building.{IsLeastPlan}
 use Rattle.aggen.specs.Sentences.{IsParseFaultOf, IsScanFaultOf, IsTreeOfSentence}
 use Rattle.aggen.specs.Translation.{BeginsTranslation, HasNoText, IsOneTree, IsReport, LeavesSolution, Translates}

@@ -9,14 +9,14 @@ use Rattle.ag_grammar.specs.grammars.Passes.{Passes}
 use Rattle.ag_grammar.specs.grammars.Running.{IsTheSolution}
 use Rattle.ag_grammar.specs.grammars.Solution.{AnyRule, IsTranslation, Solves, Valuation}
 use Rattle.ag_grammar.specs.grammars.Tree.{Tree, IsTreeOf, IsWithinLimits, most_depth, most_nodes, node_count}
-use Rattle.treefile.specs.FirstFile.{IsFirstFile}
+use Rattle.treefile.specs.records.FirstFile.{IsFirstFile}
 use Rattle.agoutput.specs.Writing.{AppendsBeginning}
 use Rattle.passrun.specs.declared.last.Last.{Last}
 use Rattle.passrun.specs.Rounds.{last_content, other_content}
 use Rattle.roottext.specs.Roots.{IsNoText}
-use Rattle.treefile.specs.Device.{WhenHonest}
-use Rattle.treefile.specs.Records.{IsFileOfTree}
-use Rattle.treefile.specs.TreeFile.{version_two}
+use Rattle.treefile.specs.devices.Device.{WhenHonest}
+use Rattle.treefile.specs.records.Records.{IsFileOfTree}
+use Rattle.treefile.specs.records.TreeFile.{version_two}
 use Rattle.aggen.specs.declared.report.Report.{Report}
 
 -- Of trees of a kind there is exactly one, and it is within the limits.

@@ -2,7 +2,7 @@
 use Rattle.std.specs.Prelude.{ℕ, Bool, List}
 use Rattle.ag_grammar.specs.grammars.AttributeGrammar.{Grammar}
 use Rattle.passrun.specs.Upgrading.{IsUpgradeFault}
-use Rattle.treefile.specs.Device.{WhenHonest}
+use Rattle.treefile.specs.devices.Device.{WhenHonest}
 use Rattle.aggen.specs.declared.fault.Fault.{Fault}
 use Rattle.aggen.specs.declared.fault.Fault.TheVariants as fault
 

@@ -4,7 +4,7 @@ ghost use Rattle.std.specs.Prelude.{◌≡◌, ◌⊎◌, IfErr, IfOk, IsErrOf};
 ghost use Rattle.aggen.specs.Building.{IsLeastPlan};
 ghost use Rattle.aggen.specs.Evaluating.{IsPassesFault, LeavesFilesOfTree};
 ghost use Rattle.passrun.specs.Rounds.{other_last};
-ghost use Rattle.treefile.specs.Device.{HasRisen, LeavesContent, Persists};
+ghost use Rattle.treefile.specs.devices.Device.{HasRisen, LeavesContent, Persists};
 
 use crate::fault::Fault;
 use crate::report::Report;

@@ -3,7 +3,7 @@
 ghost use Rattle.std.specs.Prelude.{◌≡◌, ◌≢◌, ◌⊎◌, IfErr, IfOk, IsErrOf};
 ghost use Rattle.aggen.specs.Jobs.{IsBeforePasses, IsBeforeTrees, IsJobRefusal, TranslatesJob};
 ghost use Rattle.aggen.specs.Translation.{BeginsText};
-ghost use Rattle.treefile.specs.Device.{HasRisen, Persists};
+ghost use Rattle.treefile.specs.devices.Device.{HasRisen, Persists};
 
 use crate::fault::Fault;
 use crate::report::Report;

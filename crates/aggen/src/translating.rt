@@ -8,7 +8,7 @@ ghost use Rattle.aggen.specs.Translating.{IsFilesFault, IsRefusedSentence, Leave
 ghost use Rattle.passrun.specs.Rounds.{last_content};
 ghost use Rattle.planchecker.specs.Plans.{IsPlan};
 ghost use Rattle.roottext.specs.Roots.{TellsRoot};
-ghost use Rattle.treefile.specs.Device.{HasRisen, LeavesContent, Persists, WhenHonest};
+ghost use Rattle.treefile.specs.devices.Device.{HasRisen, LeavesContent, Persists, WhenHonest};
 
 use crate::fault::Fault;
 use crate::report::Report;

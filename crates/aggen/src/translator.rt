@@ -6,11 +6,11 @@ ghost use Rattle.ag_grammar.specs.grammars.Accepted.{IsAccepted as IsAcceptedGra
 ghost use Rattle.ag_grammar.specs.grammars.Tree.{node_count, IsWithinLimits, Tree};
 ghost use Rattle.ag_grammar.specs.grammars.Tree.{most_depth, most_nodes};
 ghost use Rattle.llparse.specs.Ahead.{HasNoConflict};
-ghost use Rattle.llparse.specs.Tables.{FitsGrammar};
-ghost use Rattle.treefile.specs.Beginning.{LeavesBeginning};
-ghost use Rattle.treefile.specs.Device.{HasRisen, LeavesContent, Persists, WhenHonest};
-ghost use Rattle.treefile.specs.FirstFile.{IsFirstFile};
-ghost use Rattle.treefile.specs.TreeFile.{version_two};
+ghost use Rattle.llparse.specs.table.Tables.{FitsGrammar};
+ghost use Rattle.treefile.specs.ways.Beginning.{LeavesBeginning};
+ghost use Rattle.treefile.specs.devices.Device.{HasRisen, LeavesContent, Persists, WhenHonest};
+ghost use Rattle.treefile.specs.records.FirstFile.{IsFirstFile};
+ghost use Rattle.treefile.specs.records.TreeFile.{version_two};
 ghost use Rattle.passassign.specs.Least.{IsAlternating, IsLeast};
 ghost use Rattle.passassign.specs.Rows.{passes_of, AreFew};
 ghost use Rattle.aggen.specs.Building.{IsBuildFault, IsLeastPlan};
@@ -56,10 +56,10 @@ pub struct Translator {
 
 impl Model for Translator {
     ghost use Rattle.std.specs.Coded.{codes};
-    ghost use Rattle.ag_grammar.specs.contracts.node.Node as node_row;
+    ghost use Rattle.ag_grammar.specs.contracts.syntax.node.Node as node_row;
     ghost use Rattle.ag_grammar.specs.grammars.Accepted.{IsAccepted};
     ghost use Rattle.ag_grammar.specs.grammars.AttributeGrammar.{Grammar as Plain};
-    ghost use Rattle.llparse.specs.Tables.{FitsGrammar};
+    ghost use Rattle.llparse.specs.table.Tables.{FitsGrammar};
     ghost use Rattle.aggen.specs.Building.{IsLeastPlan};
 
     ghost Value = { Plain };

@@ -4,9 +4,9 @@ ghost use Rattle.std.specs.Prelude.{◌≡◌, ◌+◌, ◌∷◌, ℕ, [], true
 ghost use Rattle.std.specs.Prelude.{IfOk, IsErrOf, MatchResult, OnOk};
 ghost use Rattle.ag_value.specs.Well.{IsWell};
 ghost use Rattle.ag_value.specs.declared.value.Value.{Value as AttributeValue};
-ghost use Rattle.treefile.specs.Device.{LeavesContent, Persists, WhenHonest};
-ghost use Rattle.treefile.specs.Ending.{last_body_of};
-ghost use Rattle.treefile.specs.TreeFile.{body_of, version_two};
+ghost use Rattle.treefile.specs.devices.Device.{LeavesContent, Persists, WhenHonest};
+ghost use Rattle.treefile.specs.ways.Ending.{last_body_of};
+ghost use Rattle.treefile.specs.records.TreeFile.{body_of, version_two};
 ghost use Rattle.aggen.specs.Showing.{IsFileFault, IsWant, file_of};
 
 use crate::fault::Fault;

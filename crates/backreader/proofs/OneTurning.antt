@@ -5,15 +5,15 @@ use Rattle.ag_grammar.specs.grammars.Passes.{other}
 use Rattle.backreader.specs.Turning.{IsFileOf, IsTurned, IsWithinLimits, TreeTurned, TurnTold}
 use Rattle.backreader.specs.declared.turning.TurnFault.{TurnFault}
 use Rattle.backreader.specs.declared.turning.TurnFault.TheVariants as turn_fault
-use Rattle.treefile.specs.Backward.{ReadsBack, next_before}
-use Rattle.treefile.specs.Ending.{is_tree_file, version_two_usable}
-use Rattle.treefile.specs.Orders.{BodyTree, node_count, postfix, prefix}
-use Rattle.treefile.specs.TreeFile.{file, frame, version_two}
+use Rattle.treefile.specs.ways.Backward.{ReadsBack, next_before}
+use Rattle.treefile.specs.ways.Ending.{is_tree_file, version_two_usable}
+use Rattle.treefile.specs.records.Orders.{BodyTree, node_count, postfix, prefix}
+use Rattle.treefile.specs.records.TreeFile.{file, frame, version_two}
 use Rattle.treefile.specs.declared.reading.FrameFault.TheVariants as frame_fault
 use Rattle.std.specs.List.{flat_map}
-use Rattle.treefile.proofs.Backward.{reads_apart, reads_same}
-use Rattle.treefile.proofs.Files.{begins}
-use Rattle.treefile.proofs.Orders.{one_tree}
+use Rattle.treefile.proofs.ways.Backward.{reads_apart, reads_same}
+use Rattle.treefile.proofs.ways.Files.{begins}
+use Rattle.treefile.proofs.records.Orders.{one_tree}
 use Rattle.backreader.proofs.Whole.{tree_back}
 
 module _ (rank : List ℕ → Option ℕ) (pass : ℕ) (content : List ℕ) (honest : Bool) (turned : List ℕ) (direction : Direction) (tree : BodyTree) (is : IsFileOf rank direction tree content) where

@@ -5,13 +5,13 @@ use Rattle.std.proofs.lemmas.List.Folds.{drop_split}
 use lib.Seq.{take-add}
 use Rattle.backreader.specs.Place.{IsOver, Place, StandBefore, buffer_bytes}
 use Rattle.std.specs.Int.{w32, from_be_bytes}
-use Rattle.treefile.specs.Ending.{IsBytes, Told, body_before, greatest_body, header_bytes, least_body, length_bytes, number_before}
-use Rattle.treefile.specs.TreeFile.{Version, version_of}
+use Rattle.treefile.specs.ways.Ending.{IsBytes, Told, body_before, greatest_body, header_bytes, least_body, length_bytes, number_before}
+use Rattle.treefile.specs.records.TreeFile.{Version, version_of}
 use Rattle.treefile.specs.declared.layout.FileVersion.{FileVersion}
 use Rattle.treefile.specs.declared.layout.FileVersion.TheVariants.{One, Two}
 use Rattle.treefile.specs.declared.reading.FrameFault.{FrameFault}
 use Rattle.treefile.specs.declared.reading.FrameFault.TheVariants.{NotATreeFile, Damaged, Device, NoMemory}
-use Rattle.treefile.proofs.Frames.{bytes_part, fits, length_part, read_at}
+use Rattle.treefile.proofs.records.Frames.{bytes_part, fits, length_part, read_at}
 
 -- ---- parts of lists
 

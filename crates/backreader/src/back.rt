@@ -5,10 +5,10 @@ ghost use Rattle.std.specs.Prelude.{IfSome, IsErrOf, length};
 ghost use Rattle.std.specs.Option.{option_map};
 ghost use Rattle.backreader.specs.Place.{HasRead, IsLarge, IsOver, Progress, lent_body};
 ghost use Rattle.backreader.specs.Place.{progress_after};
-ghost use Rattle.treefile.specs.Backward.{next_before, pass_in};
-ghost use Rattle.treefile.specs.Device.{LeavesContent, Persists, WhenHonest};
-ghost use Rattle.treefile.specs.Ending.{IsBody, Told, length_bytes};
-ghost use Rattle.treefile.specs.TreeFile.{version_of, version_one, version_two};
+ghost use Rattle.treefile.specs.ways.Backward.{next_before, pass_in};
+ghost use Rattle.treefile.specs.devices.Device.{LeavesContent, Persists, WhenHonest};
+ghost use Rattle.treefile.specs.ways.Ending.{IsBody, Told, length_bytes};
+ghost use Rattle.treefile.specs.records.TreeFile.{version_of, version_one, version_two};
 
 use crate::window::Window;
 use std::alloc::Global;
@@ -30,7 +30,7 @@ impl Model for Back {
     ghost use Rattle.std.specs.Prelude.{◌<◌, ◌+◌, ◌^◌};
     ghost use Rattle.backreader.specs.Place.{Place};
     ghost use Rattle.backreader.specs.Windows.{unread};
-    ghost use Rattle.treefile.specs.TreeFile.{version_of};
+    ghost use Rattle.treefile.specs.records.TreeFile.{version_of};
 
     ghost Value = { Place };
 

@@ -4,11 +4,11 @@ ghost use Rattle.std.specs.Prelude.{◌≡◌, ◌≤◌, ◌<◌, ◌+◌, ◌-
 ghost use Rattle.std.specs.Prelude.{drop, slice_range, IfNone, IfOk, IfSome, IsErrOf, OnErr, OnOk};
 ghost use Rattle.std.specs.Option.{option_map};
 ghost use Rattle.backreader.specs.Place.{IsLarge, StandBefore, buffer_bytes};
-ghost use Rattle.treefile.specs.Backward.{next_before};
-ghost use Rattle.treefile.specs.Device.{LeavesContent, Persists, TakesNoMemory, WhenHonest};
-ghost use Rattle.treefile.specs.Ending.{IsBytes, Told, body_before, greatest_body, header_bytes};
-ghost use Rattle.treefile.specs.Ending.{least_body, length_bytes, number_before};
-ghost use Rattle.treefile.specs.TreeFile.{version_of};
+ghost use Rattle.treefile.specs.ways.Backward.{next_before};
+ghost use Rattle.treefile.specs.devices.Device.{LeavesContent, Persists, TakesNoMemory, WhenHonest};
+ghost use Rattle.treefile.specs.ways.Ending.{IsBytes, Told, body_before, greatest_body, header_bytes};
+ghost use Rattle.treefile.specs.ways.Ending.{least_body, length_bytes, number_before};
+ghost use Rattle.treefile.specs.records.TreeFile.{version_of};
 ghost use Rattle.treefile.specs.declared.reading.FrameFault.TheVariants.{Damaged};
 
 use std::alloc::{AllocError, Global};
@@ -77,7 +77,7 @@ impl Window {
     ///
     /// B2 Damaged where no frame ends there. D1 Device where a call of the device failed. Takes
     /// memory for a frame that has more bytes than the buffer, and for want of it is as before.
-    #[tactic(auto, unfolding(treefile::specs::Backward::next_before))]
+    #[tactic(auto, unfolding(treefile::specs::ways::Backward::next_before))]
     pub(crate) fn next<D: Device>(&mut self, device: &mut D) -> Result<Option<usize>, FrameFault>
         requires { WhenHonest (D.is_honest device.old)
             (StandBefore (D.content device.old) self.old.at (unread self.old)) }
@@ -159,7 +159,7 @@ impl Window {
     }
 
     /// The length of the body whose frame ends at the offset; `None` where none does.
-    #[tactic(auto, unfolding(treefile::specs::Ending::body_before))]
+    #[tactic(auto, unfolding(treefile::specs::ways::Ending::body_before))]
     fn length_before<D: Device>(&mut self, device: &mut D) -> Result<Option<usize>, DeviceFault>
         requires { WhenHonest (D.is_honest device.old)
             (StandBefore (D.content device.old) self.old.at (unread self.old)) }

@@ -1,7 +1,7 @@
 //! What is told of the text of a grammar.
 
 ghost use Rattle.std.specs.Prelude.{IfOk};
-ghost use Rattle.normalform.specs.Faults.{IsReadable};
+ghost use Rattle.normalform.specs.faults.Faults.{IsReadable};
 
 use ag_grammar::{
     Grammar, Named, Production, RawGrammar, RawItem, RawProduction, RawRule, RawSymbol, occurrences,

@@ -3,7 +3,7 @@
 ghost use Rattle.std.specs.Prelude.{IfOk};
 ghost use Rattle.ag_scan.specs.Tokens.{FitAll};
 ghost use Rattle.ag_scan.specs.Words.{vocabulary_of};
-ghost use Rattle.llparse.specs.Tables.{FitsGrammar};
+ghost use Rattle.llparse.specs.table.Tables.{FitsGrammar};
 
 use ag_grammar::{Grammar, Terminal};
 use ag_scan::{Sentence, Token, scan};

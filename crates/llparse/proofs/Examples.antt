@@ -7,7 +7,7 @@ use Rattle.ag_grammar.specs.grammars.AttributeGrammar.{IsProduction}
 use Rattle.ag_grammar.specs.grammars.Sample.{sample}
 use Rattle.llparse.specs.declared.ahead.Ahead.TheVariants as ahead
 use Rattle.llparse.specs.Ahead.{of_production, here, inside, HasNoConflict, IsConflict}
-use Rattle.llparse.specs.Tables.{IsChoice, IsLeastConflict}
+use Rattle.llparse.specs.table.Tables.{IsChoice, IsLeastConflict}
 use Rattle.llparse.specs.Worked.{left_recursive, production_more, production_one}
 
 pub left_recursion : IsConflict left_recursive 0 1 (ahead.Terminal (Literal 0))

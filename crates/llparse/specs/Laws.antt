@@ -5,8 +5,8 @@ use Rattle.ag_grammar.specs.grammars.Solution.{Valuation, NoRule, Solves}
 use Rattle.ag_grammar.specs.grammars.Tree.{Tree, IsTreeOf}
 use Rattle.ag_grammar.specs.grammars.Yield.{Lexeme, yield_of}
 use Rattle.llparse.specs.Ahead.{HasNoConflict}
-use Rattle.llparse.specs.Opened.{Open}
-use Rattle.llparse.specs.Sentences.{IsTreeWith, LeavesOnly}
+use Rattle.llparse.specs.sentence.Opened.{Open}
+use Rattle.llparse.specs.sentence.Sentences.{IsTreeWith, LeavesOnly}
 
 -- A grammar without a conflict has at most one tree of a yield (the textbook).
 abbrev pub OneTree : Type 0

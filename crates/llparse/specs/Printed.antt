@@ -1,9 +1,9 @@
 -- How faults are printed: this project's.
 use Rattle.std.specs.Prelude.{ℕ, List, ◌++◌, codes, decimal}
-use Rattle.llparse.specs.declared.fault.TableFault.{TableFault}
-use Rattle.llparse.specs.declared.fault.TableFault.TheVariants as table_fault
-use Rattle.llparse.specs.declared.parse_fault.ParseFault.{ParseFault}
-use Rattle.llparse.specs.declared.parse_fault.ParseFault.TheVariants as fault
+use Rattle.llparse.specs.declared.table.fault.TableFault.{TableFault}
+use Rattle.llparse.specs.declared.table.fault.TableFault.TheVariants as table_fault
+use Rattle.llparse.specs.declared.sentence.parse_fault.ParseFault.{ParseFault}
+use Rattle.llparse.specs.declared.sentence.parse_fault.ParseFault.TheVariants as fault
 
 -- how a fault of a grammar is printed: its number
 abbrev pub printed_table : TableFault → List ℕ

@@ -6,7 +6,7 @@ use Rattle.ag_grammar.specs.declared.grammar.Item.{Item}
 use Rattle.ag_grammar.specs.declared.grammar.Production.{Production}
 use Rattle.ag_grammar.specs.declared.grammar.Terminal.TheVariants.{Literal}
 use Rattle.ag_grammar.specs.grammars.AttributeGrammar.{Grammar}
-use Rattle.llparse.specs.Tables.{Choices}
+use Rattle.llparse.specs.table.Tables.{Choices}
 
 -- a production of symbol 0 with this right side
 abbrev pub production_of : List Item → Production

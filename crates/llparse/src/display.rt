@@ -1,7 +1,7 @@
 //! How refusals of grammars and of sentences are printed.
 
-use crate::fault::TableFault;
-use crate::parse_fault::ParseFault;
+use crate::sentence::parse_fault::ParseFault;
+use crate::table::fault::TableFault;
 use std::error::Error;
 use std::fmt;
 

@@ -6,8 +6,8 @@ ghost use Rattle.ag_grammar.specs.declared.grammar.Terminal.TheVariants.{Class, 
 ghost use Rattle.ag_grammar.specs.grammars.Sample.{sample};
 ghost use Rattle.llparse.specs.Ahead.{HasNoConflict, IsConflict};
 ghost use Rattle.llparse.specs.Laws.{OneTree, TextsAreGiven, WhatIsLeftIsSo};
-ghost use Rattle.llparse.specs.Nodes.{place_of};
-ghost use Rattle.llparse.specs.Tables.{choice_of, IsChoice, IsLeastConflict};
+ghost use Rattle.llparse.specs.table.Nodes.{place_of};
+ghost use Rattle.llparse.specs.table.Tables.{choice_of, IsChoice, IsLeastConflict};
 ghost use Rattle.llparse.specs.Worked.{left_recursive, small_tables};
 ghost use Rattle.llparse.specs.declared.ahead.Ahead.TheVariants as ahead;
 

@@ -4,32 +4,19 @@
 #![tactic(auto)]
 
 mod ahead;
-mod building;
-mod choosing;
 mod display;
-mod expected;
-mod fault;
-mod filling;
-mod first;
-mod follow;
 mod laws;
-mod lookup;
-mod nodes;
-mod nullable;
-mod parse_fault;
-mod parser;
-mod parsing;
-mod predict;
-mod tokens;
+mod sentence;
+mod table;
 
 pub use ahead::Ahead;
-pub use building::tables;
-pub use expected::{Stuck, expected_at};
-pub use fault::TableFault;
 pub use laws::{
     left_recursion_conflicts, left_recursion_is_a_choice, left_recursion_is_least, one_tree,
     places_are_in_order, sample_is_free, small_tables_are_read, texts_are_given,
 };
-pub use lookup::Tables;
-pub use parse_fault::ParseFault;
-pub use parsing::parse;
+pub use sentence::expected::{Stuck, expected_at};
+pub use sentence::parse_fault::ParseFault;
+pub use sentence::parsing::parse;
+pub use table::building::tables;
+pub use table::fault::TableFault;
+pub use table::lookup::Tables;

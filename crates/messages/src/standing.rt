@@ -1,6 +1,6 @@
 //! What stands at an offset of a tree file of pass 0, and what should.
 
-ghost use Rattle.treefile.specs.Device.{LeavesContent, Persists};
+ghost use Rattle.treefile.specs.devices.Device.{LeavesContent, Persists};
 
 use ag_grammar::limits::MOST_NODES;
 use ag_grammar::{Grammar, Item};

@@ -1,6 +1,6 @@
 //! Why a tree file is refused, in words.
 
-ghost use Rattle.treefile.specs.Device.{LeavesContent, Persists};
+ghost use Rattle.treefile.specs.devices.Device.{LeavesContent, Persists};
 
 use crate::standing::{Frame, awaited_at, frame_before};
 use crate::telling::{tell_number, tell_word};

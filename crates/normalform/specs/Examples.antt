@@ -1,8 +1,8 @@
 -- Small raw grammars, and the fault that is told of each: the symbols are S with the synthesized attribute `out`, from the
 -- offset 16 on, and A with the inherited attribute i, from 34 on.
 use Rattle.std.specs.Prelude.{ℕ, ◌≡◌, Option, Some, None, List, [], ◌∷◌}
-use Rattle.ag_grammar.specs.declared.node.Node.{Node}
-use Rattle.ag_grammar.specs.declared.occurrence.Occ.{Occ}
+use Rattle.ag_grammar.specs.declared.syntax.node.Node.{Node}
+use Rattle.ag_grammar.specs.declared.syntax.occurrence.Occ.{Occ}
 use Rattle.ag_grammar.specs.grammars.Accepted.{out_name}
 use Rattle.ag_grammar.specs.declared.raw.Named.{Named}
 use Rattle.ag_grammar.specs.declared.raw.RawGrammar.{RawGrammar}
@@ -12,7 +12,7 @@ use Rattle.ag_grammar.specs.declared.raw.RawRule.{RawRule}
 use Rattle.ag_grammar.specs.declared.raw.RawSymbol.{RawSymbol}
 use Rattle.normalform.specs.declared.fault.NormalFault.{NormalFault}
 use Rattle.normalform.specs.declared.fault.NormalFault.TheVariants as fault
-use Rattle.normalform.specs.Faults.{first_wrong, naming_places, further_places}
+use Rattle.normalform.specs.faults.Faults.{first_wrong, naming_places, further_places}
 
 abbrev name_at : ℕ → ℕ → Named
 name_at c at = record { name = c ∷ []; at = at }

@@ -9,8 +9,8 @@ use Rattle.ag_grammar.specs.declared.raw.RawItem.TheVariants as raw_item
 use Rattle.ag_grammar.specs.declared.raw.RawProduction.{RawProduction}
 use Rattle.ag_grammar.specs.declared.raw.RawSymbol.{RawSymbol}
 use Rattle.normalform.specs.declared.fault.NormalFault.{NormalFault}
-use Rattle.normalform.specs.Faults.{IsFirstFault, HasNoFault, IsReadable, AreListedIn}
-use Rattle.normalform.specs.Numbers.{numbered}
+use Rattle.normalform.specs.faults.Faults.{IsFirstFault, HasNoFault, IsReadable, AreListedIn}
+use Rattle.normalform.specs.numbers.Numbers.{numbered}
 
 abbrev pub AcceptedWithoutFault : Type 0
 AcceptedWithoutFault = (raw : RawGrammar) → IsReadable raw → All AreListedIn (numbered raw).productions → HasNoFault raw → IsAccepted (numbered raw)

@@ -1,11 +1,5 @@
-pub mod Clauses
 pub mod Examples
-pub mod Faults
-pub mod Found
-pub mod Lacking
+pub mod faults
 pub mod Laws
-pub mod Names
-pub mod Numbers
-pub mod Placed
+pub mod numbers
 pub mod Printed
-pub mod Readable

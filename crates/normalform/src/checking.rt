@@ -1,26 +1,26 @@
 //! The check of a raw grammar: the grammar that it is, or the first of its faults.
 ghost use Rattle.std.specs.Prelude.{◌≡◌, map, All, Some, None, IfOk, IfErr, IfSome};
 ghost use Rattle.ag_grammar.specs.grammars.Accepted.{IsAccepted};
-ghost use Rattle.normalform.specs.Faults.{first_wrong, start_places, naming_places, rule_kinds};
-ghost use Rattle.normalform.specs.Faults.{further_places, IsReadable, HasNoFault, IsTrueOf};
-ghost use Rattle.normalform.specs.Faults.{IsFirstFault};
+ghost use Rattle.normalform.specs.faults.Faults.{first_wrong, start_places, naming_places, rule_kinds};
+ghost use Rattle.normalform.specs.faults.Faults.{further_places, IsReadable, HasNoFault, IsTrueOf};
+ghost use Rattle.normalform.specs.faults.Faults.{IsFirstFault};
 ghost use Rattle.ag_grammar.specs.grammars.Accepted.{IsProductive, IsReached};
-ghost use Rattle.normalform.specs.Clauses as spec;
-ghost use Rattle.normalform.specs.Faults.{AreAll};
-ghost use Rattle.normalform.specs.Found.{IsFound, IsFoundAt};
-ghost use Rattle.normalform.specs.Faults.{IsSmall, AreListedIn};
-ghost use Rattle.normalform.specs.Numbers.{symbol_of, symbol_names, number_in, production_of};
-ghost use Rattle.normalform.specs.Numbers.{numbered};
+ghost use Rattle.normalform.specs.faults.Clauses as spec;
+ghost use Rattle.normalform.specs.faults.Faults.{AreAll};
+ghost use Rattle.normalform.specs.faults.Found.{IsFound, IsFoundAt};
+ghost use Rattle.normalform.specs.faults.Faults.{IsSmall, AreListedIn};
+ghost use Rattle.normalform.specs.numbers.Numbers.{symbol_of, symbol_names, number_in, production_of};
+ghost use Rattle.normalform.specs.numbers.Numbers.{numbered};
 
-use crate::clause::{clauses_of, reaching};
-use crate::declared::Declared;
 use crate::fault::NormalFault;
-use crate::lacking::first_left;
-use crate::limits::exceeded;
-use crate::moving::{move_symbols, name_at};
-use crate::naming::{doubled, unknown};
-use crate::numbering::{classes_of, literal_texts, names_of, productions_of, start_of};
-use crate::rules::{doubled_rules, missing, not_found, not_given};
+use crate::faults::clause::{clauses_of, reaching};
+use crate::faults::lacking::first_left;
+use crate::faults::limits::exceeded;
+use crate::faults::naming::{doubled, unknown};
+use crate::faults::rules::{doubled_rules, missing, not_found, not_given};
+use crate::numbers::declared::Declared;
+use crate::numbers::moving::{move_symbols, name_at};
+use crate::numbers::numbering::{classes_of, literal_texts, names_of, productions_of, start_of};
 use ag_grammar::{Grammar, Named, Production, RawGrammar, RawProduction, RawSymbol};
 use ag_value::{Items, NoMemory, Text};
 use closure::{Clause, Clauses, Edge};
@@ -242,7 +242,7 @@ fn refusal(found: Found, raw: RawGrammar) -> NormalFault
 /// and within a kind the first place in the order of the lists. Then the grammar by numbers is not
 /// accepted, and the raw grammar is given up. `NoMemory` comes only where a growth was refused.
 /// Takes memory.
-#[tactic(auto, using(crate::proofs::Accepting::refused))]
+#[tactic(auto, using(crate::proofs::numbered::Accepting::refused))]
 pub fn check(alloc: Global, raw: RawGrammar) -> Result<Grammar, NormalFault>
     requires { IsReadable raw }
     ensures numbered { IfOk result (λ g. g ≡ numbered raw) }

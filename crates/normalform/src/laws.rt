@@ -7,7 +7,7 @@ ghost use Rattle.normalform.specs.Laws.{OneFirstFault, NoFirstFaultWithoutFault}
 ghost use Rattle.normalform.specs.Laws.{WorkedNumbers};
 
 /// Where a raw grammar has no fault, the grammar by numbers is accepted.
-#[tactic(auto, using(crate::proofs::Accepting::accepted_without_fault))]
+#[tactic(auto, using(crate::proofs::numbered::Accepting::accepted_without_fault))]
 pub fn accepted_without_fault()
     ensures { AcceptedWithoutFault }
 {}
@@ -18,13 +18,13 @@ pub fn no_fault_where_accepted()
 {}
 
 /// A raw grammar has one first fault at most.
-#[tactic(auto, using(crate::proofs::First::one_first_fault))]
+#[tactic(auto, using(crate::proofs::found::First::one_first_fault))]
 pub fn one_first_fault()
     ensures { OneFirstFault }
 {}
 
 /// A raw grammar with a first fault is not without fault.
-#[tactic(auto, using(crate::proofs::Accepting::first_excludes))]
+#[tactic(auto, using(crate::proofs::numbered::Accepting::first_excludes))]
 pub fn no_first_fault_without_fault()
     ensures { NoFirstFaultWithoutFault }
 {}

@@ -3,22 +3,12 @@
 #![tactic(auto)]
 
 mod checking;
-mod clause;
-mod declared;
 mod display;
 mod fault;
-mod lacking;
+mod faults;
 pub mod laws;
-mod limits;
-mod moving;
-mod names;
-mod naming;
-mod numbering;
-mod placed;
-mod readable;
-mod rules;
-mod targets;
+mod numbers;
 
 pub use checking::check;
 pub use fault::{LimitKind, NormalFault};
-pub use readable::is_readable;
+pub use faults::readable::is_readable;

@@ -11,14 +11,14 @@ pub fn members_are_stuck()
 {}
 
 /// Where an attribute is stuck there is no legal assignment.
-#[tactic(auto, using(crate::proofs::Whole::stuck_refused))]
+#[tactic(auto, using(crate::proofs::making::Whole::stuck_refused))]
 pub fn stuck_is_refused()
     ensures { StuckIsRefused }
 {}
 
 /// Where there is a certificate, and each production is complete, there is no legal assignment,
 /// with any number of passes.
-#[tactic(auto, using(crate::proofs::Whole::certified_refused))]
+#[tactic(auto, using(crate::proofs::making::Whole::certified_refused))]
 pub fn certified_is_refused()
     ensures { CertifiedIsRefused }
 {}
@@ -34,7 +34,7 @@ pub fn left_is_later()
 {}
 
 /// What the passes make is legal, where each production is complete and normal.
-#[tactic(auto, using(crate::proofs::Legal::made_legal))]
+#[tactic(auto, using(crate::proofs::making::Legal::made_legal))]
 pub fn made_is_legal()
     ensures { MadeIsLegal }
 {}
@@ -66,13 +66,13 @@ pub fn rest_is_certified()
 {}
 
 /// A list of good strikes goes on by a good one of a candidate that it does not strike.
-#[tactic(auto, using(crate::proofs::Growing::strikes_grow))]
+#[tactic(auto, using(crate::proofs::strikes::Growing::strikes_grow))]
 pub fn strikes_grow()
     ensures { StrikesGrow }
 {}
 
 /// Good strikes to which no other can be added make a pass, where marks tell what they strike.
-#[tactic(auto, using(crate::proofs::Marked::pass_by_marks))]
+#[tactic(auto, using(crate::proofs::making::Marked::pass_by_marks))]
 pub fn marks_make_pass()
     ensures { MarksMakePass }
 {}

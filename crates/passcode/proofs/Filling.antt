@@ -14,7 +14,7 @@ use Rattle.ag_grammar.specs.grammars.AttributeGrammar.{places_of}
 use Rattle.passcode.specs.declared.table.Given.{Given}
 use Rattle.passcode.specs.Agreement.{IsRuleAt}
 use Rattle.passcode.specs.Tables.{slot_of, slot_at, given_at, HasPassAt, IsPlanned, IsTableBelow}
-use Rattle.passassign.proofs.Linked.{same_parts}
+use Rattle.passassign.proofs.slots.Linked.{same_parts}
 use Rattle.passcode.proofs.Passes.{passes_at, passes_from, place_is}
 
 pub given_in : (table : List (Option Given)) (j a : ℕ) → a < 16 → given_at table j a ≡ slot_at table (slot_of j a)

@@ -1,14 +1,7 @@
-pub mod Agreeing
-pub mod Collected
 pub mod Counting
 pub mod Directions
 pub mod Filling
-pub mod Members
-pub mod OneList
-pub mod Parts
+pub mod lists
 pub mod Passes
 pub mod Planned
-pub mod Rising
-pub mod SampleList
-pub mod Shaped
 pub mod Slices

@@ -9,7 +9,7 @@ use Rattle.ag_grammar.specs.declared.grammar.Terminal.TheVariants.{Literal, Clas
 use Rattle.ag_grammar.specs.grammars.Accepted.{IsAccepted}
 use Rattle.ag_grammar.specs.grammars.AttributeGrammar.{Grammar, Kind, Synthesized, Inherited, HasKind, item_at, item_kinds, symbol_kinds, given_kind, IsProduction}
 use Rattle.ag_grammar.specs.grammars.Passes.{Passes, IsLegal}
-use Rattle.passassign.proofs.Linked.{attribute_within}
+use Rattle.passassign.proofs.slots.Linked.{attribute_within}
 use Rattle.passcode.specs.Tables.{IsPlanned, IsPlannedRule}
 
 -- no class at a place has an attribute that a rule gives

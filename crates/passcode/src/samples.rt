@@ -12,7 +12,7 @@ ghost use Rattle.passcode.specs.Sample.{undefined_list};
 use ag_grammar::samples::sample_legal;
 
 /// A list for the first production of the first sample keeps the four rules,
-#[tactic(auto, using(crate::proofs::SampleList::agrees))]
+#[tactic(auto, using(crate::proofs::lists::SampleList::agrees))]
 pub fn sample_agrees()
     ensures { IsListFor sample_passes sample_production 1 sample_list }
 {
@@ -20,7 +20,7 @@ pub fn sample_agrees()
 }
 
 /// and the order of `generate`.
-#[tactic(auto, using(crate::proofs::SampleList::ordered))]
+#[tactic(auto, using(crate::proofs::lists::SampleList::ordered))]
 pub fn sample_in_order()
     ensures { IsInOrder sample_list }
 {
@@ -34,19 +34,19 @@ pub fn sample_counted()
 {}
 
 /// With its places from left to right it does not agree, since the first pass goes from right to left;
-#[tactic(auto, using(crate::proofs::SampleList::forward_refused))]
+#[tactic(auto, using(crate::proofs::lists::SampleList::forward_refused))]
 pub fn forward_refused()
     ensures { IsListFor sample_passes sample_production 1 forward_list → ⊥ }
 {}
 
 /// nor with an attribute of a child behind the child's `Go`,
-#[tactic(auto, using(crate::proofs::SampleList::late_refused))]
+#[tactic(auto, using(crate::proofs::lists::SampleList::late_refused))]
 pub fn late_refused()
     ensures { IsListFor sample_passes sample_production 1 late_list → ⊥ }
 {}
 
 /// nor without the rule for `out`.
-#[tactic(auto, using(crate::proofs::SampleList::undefined_refused))]
+#[tactic(auto, using(crate::proofs::lists::SampleList::undefined_refused))]
 pub fn undefined_refused()
     ensures { IsListFor sample_passes sample_production 1 undefined_list → ⊥ }
 {}

@@ -16,28 +16,28 @@ use Rattle.ag_grammar.specs.grammars.Accepted.{IsAccepted}
 use Rattle.ag_grammar.specs.grammars.AttributeGrammar.{Grammar, IsProduction, stored_items}
 use Rattle.ag_grammar.specs.grammars.Tree as tree
 use Rattle.ag_grammar.specs.grammars.Tree.{FitsAll, Forest, deepest, node_counts}
-use Rattle.treefile.specs.Awaited.{Breaks, Child, HasNoTree, HasNoTreeWithin, IsNoRecord, IsRecordOf, ToCome, before_others, root_to_come, told}
-use Rattle.treefile.specs.Backward.{ReadsTo, before_frame, next_before}
-use Rattle.treefile.specs.Ending.{Told, version_one_usable}
-use Rattle.treefile.specs.Device.{WhenHonest}
-use Rattle.treefile.specs.FirstFile.{HasNoFirstTree, HasNoFirstTreeWithin, first_bodies, first_bodies_all, leaf_texts, unassigned}
-use Rattle.treefile.specs.Orders.{postfix, postfix_all, prefix, prefix_all}
-use Rattle.treefile.specs.Records.{token_body}
-use Rattle.treefile.specs.TreeFile.{Version, body_of, frame, version_one, version_two}
+use Rattle.treefile.specs.ways.Awaited.{Breaks, Child, HasNoTree, HasNoTreeWithin, IsNoRecord, IsRecordOf, ToCome, before_others, root_to_come, told}
+use Rattle.treefile.specs.ways.Backward.{ReadsTo, before_frame, next_before}
+use Rattle.treefile.specs.ways.Ending.{Told, version_one_usable}
+use Rattle.treefile.specs.devices.Device.{WhenHonest}
+use Rattle.treefile.specs.records.FirstFile.{HasNoFirstTree, HasNoFirstTreeWithin, first_bodies, first_bodies_all, leaf_texts, unassigned}
+use Rattle.treefile.specs.records.Orders.{postfix, postfix_all, prefix, prefix_all}
+use Rattle.treefile.specs.records.Records.{token_body}
+use Rattle.treefile.specs.records.TreeFile.{Version, body_of, frame, version_one, version_two}
 use Rattle.treefile.specs.declared.body.Kind.TheVariants.{Node, Token}
 use Rattle.treefile.specs.declared.reading.FrameFault.{FrameFault}
 use Rattle.treefile.specs.declared.reading.FrameFault.TheVariants as frame_fault
-use Rattle.treefile.proofs.Backward.{damage_is_there, never_no_file, reads_on}
-use Rattle.treefile.proofs.FirstFile.{first_body, unassigned_from_one}
-use Rattle.treefile.proofs.Fitting.{numbered}
-use Rattle.treefile.proofs.Texts.{texts_are_given}
-use Rattle.treefile.proofs.Way.{way_is_too_long}
+use Rattle.treefile.proofs.ways.Backward.{damage_is_there, never_no_file, reads_on}
+use Rattle.treefile.proofs.records.FirstFile.{first_body, unassigned_from_one}
+use Rattle.treefile.proofs.records.Fitting.{numbered}
+use Rattle.treefile.proofs.records.Texts.{texts_are_given}
+use Rattle.treefile.proofs.ways.Way.{way_is_too_long}
 use Rattle.backreader.specs.Place.{Progress}
 use Rattle.backreader.specs.Turning.{most_levels, most_records}
 use Rattle.passrun.specs.Faults.{run_fault_of_frame}
 use Rattle.passrun.specs.Upgrading.{Brought, IsAt, IsOf, IsUnbrought, IsUpgradeFault, body_in, coming, old_file, text_list, to_come}
-use Rattle.passrun.specs.declared.old_record.OldRecord.{OldRecord}
-use Rattle.passrun.specs.declared.old_record.OldRecord.TheVariants as old
+use Rattle.passrun.specs.declared.reading.old_record.OldRecord.{OldRecord}
+use Rattle.passrun.specs.declared.reading.old_record.OldRecord.TheVariants as old
 use Rattle.passrun.specs.declared.run_fault.RunFault.{RunFault}
 use Rattle.passrun.specs.declared.run_fault.RunFault.TheVariants as fault
 use Rattle.passrun.proofs.Damage.{IsTellable, broken, leaves_on, way_to}

@@ -5,18 +5,18 @@ use Rattle.ag_grammar.specs.declared.direction.Direction.{Direction}
 use Rattle.ag_grammar.specs.grammars.Passes.{direction_of, other}
 use Rattle.treefile.specs.declared.reading.FrameFault.{FrameFault}
 use Rattle.treefile.specs.declared.reading.FrameFault.TheVariants as frame_fault
-use Rattle.treefile.specs.Awaited.{Breaks, Child, IsOnTheWay, IsRecordOf, ToCome, before_others, root_to_come}
-use Rattle.treefile.specs.Backward.{ReadsTo, before_frame, next_before, pass_in, pass_of}
-use Rattle.treefile.specs.Ending.{IsUsable, is_tree_file, version_two_usable}
-use Rattle.treefile.specs.OneTree.{IsNumbered}
-use Rattle.treefile.specs.Orders.{postfix}
-use Rattle.treefile.specs.Records.{FitsVersion, bodies_of}
-use Rattle.treefile.specs.TreeFile.{frame}
-use Rattle.treefile.proofs.Files.{begins}
-use Rattle.treefile.proofs.Fitting.{fits_version_two, numbered}
-use Rattle.treefile.proofs.Way.{no_file_has_no_tree, one_record, way_begins, way_breaks, way_goes_on}
-use Rattle.planchecker.specs.Settings.{Setting}
-use Rattle.planchecker.specs.Sound.{IsSound}
+use Rattle.treefile.specs.ways.Awaited.{Breaks, Child, IsOnTheWay, IsRecordOf, ToCome, before_others, root_to_come}
+use Rattle.treefile.specs.ways.Backward.{ReadsTo, before_frame, next_before, pass_in, pass_of}
+use Rattle.treefile.specs.ways.Ending.{IsUsable, is_tree_file, version_two_usable}
+use Rattle.treefile.specs.records.OneTree.{IsNumbered}
+use Rattle.treefile.specs.records.Orders.{postfix}
+use Rattle.treefile.specs.records.Records.{FitsVersion, bodies_of}
+use Rattle.treefile.specs.records.TreeFile.{frame}
+use Rattle.treefile.proofs.ways.Files.{begins}
+use Rattle.treefile.proofs.records.Fitting.{fits_version_two, numbered}
+use Rattle.treefile.proofs.ways.Way.{no_file_has_no_tree, one_record, way_begins, way_breaks, way_goes_on}
+use Rattle.planchecker.specs.courses.Settings.{Setting}
+use Rattle.planchecker.specs.courses.Sound.{IsSound}
 use Rattle.passrun.specs.Damage.{BreaksAt, ComesTo, IsDamaged, IsReadable, Leaves, Source, source}
 use Rattle.passrun.specs.Laws.{ShowsOnce}
 

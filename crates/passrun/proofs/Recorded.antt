@@ -18,14 +18,14 @@ use Rattle.ag_grammar.specs.declared.grammar.Terminal.TheVariants.{Literal, Clas
 use Rattle.ag_grammar.specs.grammars.AttributeGrammar.{IsProduction, stored_items}
 use Rattle.ag_grammar.specs.grammars.Solution.{left_passes}
 use Rattle.treefile.specs.declared.body.Kind.TheVariants.{Node}
-use Rattle.treefile.specs.Listed.{copied_count, copies_count, count_up_to}
-use Rattle.treefile.specs.Records.{values_up_to}
-use Rattle.treefile.proofs.Values.{count_of_values, values_well}
-use Rattle.treefile.specs.TreeFile.{body_from}
-use Rattle.planchecker.specs.Settings.{Setting}
-use Rattle.passrun.specs.declared.record.RecordFault.{RecordFault}
-use Rattle.passrun.specs.Places.{Table, copied_passes, copies, row_passes}
-use Rattle.passrun.specs.Reading.{AllWell, AreTaken, AreUntaken, IsNodeBody, IsNodeRead, IsNoNode, IsNoNodeBody, IsNoRow, IsTaken, IsUntaken, one_value}
+use Rattle.treefile.specs.records.Listed.{copied_count, copies_count, count_up_to}
+use Rattle.treefile.specs.records.Records.{values_up_to}
+use Rattle.treefile.proofs.records.Values.{count_of_values, values_well}
+use Rattle.treefile.specs.records.TreeFile.{body_from}
+use Rattle.planchecker.specs.courses.Settings.{Setting}
+use Rattle.passrun.specs.declared.reading.record.RecordFault.{RecordFault}
+use Rattle.passrun.specs.passing.Places.{Table, copied_passes, copies, row_passes}
+use Rattle.passrun.specs.reading.Reading.{AllWell, AreTaken, AreUntaken, IsNodeBody, IsNodeRead, IsNoNode, IsNoNodeBody, IsNoRow, IsTaken, IsUntaken, one_value}
 
 -- 0 is well
 pub zero_well : IsWell (Num (pos 0))

@@ -10,33 +10,33 @@ use Rattle.ag_grammar.specs.grammars.AttributeGrammar.{stored_items}
 use Rattle.ag_value.specs.declared.value.Value.{Value, Text}
 use Rattle.treefile.specs.declared.reading.FrameFault.{FrameFault}
 use Rattle.treefile.specs.declared.reading.FrameFault.TheVariants as frame_fault
-use Rattle.treefile.specs.Backward.{next_before, pass_in}
-use Rattle.treefile.specs.Device.{WhenHonest}
-use Rattle.treefile.specs.Ending.{Told}
-use Rattle.treefile.specs.TreeFile.{version_two}
-use Rattle.treefile.specs.Awaited.{Breaks, ToCome}
-use Rattle.treefile.specs.Records.{values_up_to}
-use Rattle.treefile.proofs.Backward.{damage_is_there, never_no_file}
+use Rattle.treefile.specs.ways.Backward.{next_before, pass_in}
+use Rattle.treefile.specs.devices.Device.{WhenHonest}
+use Rattle.treefile.specs.ways.Ending.{Told}
+use Rattle.treefile.specs.records.TreeFile.{version_two}
+use Rattle.treefile.specs.ways.Awaited.{Breaks, ToCome}
+use Rattle.treefile.specs.records.Records.{values_up_to}
+use Rattle.treefile.proofs.ways.Backward.{damage_is_there, never_no_file}
 use Rattle.backreader.specs.Place.{Place}
 use Rattle.passcode.specs.declared.instr.Instr.TheVariants as instr
-use Rattle.planchecker.specs.Settings.{Setting, list_at}
-use Rattle.planchecker.specs.Sound.{IsSound}
-use Rattle.passrun.specs.declared.laying.PlaceRow.{PlaceRow}
-use Rattle.passrun.specs.declared.machine.Machine.{Machine}
-use Rattle.passrun.specs.declared.open_node.OpenNode.{OpenNode}
+use Rattle.planchecker.specs.courses.Settings.{Setting, list_at}
+use Rattle.planchecker.specs.courses.Sound.{IsSound}
+use Rattle.passrun.specs.declared.laid.laying.PlaceRow.{PlaceRow}
+use Rattle.passrun.specs.declared.passing.machine.Machine.{Machine}
+use Rattle.passrun.specs.declared.passing.open_node.OpenNode.{OpenNode}
 use Rattle.passrun.specs.declared.run_fault.RunFault.{RunFault}
-use Rattle.passrun.specs.Ahead.{IsRunFault}
+use Rattle.passrun.specs.passing.Ahead.{IsRunFault}
 use Rattle.passrun.specs.Damage.{AreRecords, ComesTo, IsDamaged, IsReadable, source}
-use Rattle.passrun.specs.Ends.{RunsBetween}
+use Rattle.passrun.specs.passing.Ends.{RunsBetween}
 use Rattle.passrun.specs.Faults.{run_fault_of_frame}
-use Rattle.passrun.specs.Fetching.{HasFetched, IsUnfetched}
-use Rattle.passrun.specs.Places.{copied_passes, copies}
-use Rattle.passrun.specs.Reading.{Agrees, IsRead, read_values}
-use Rattle.passrun.specs.Running.{RunsFrom}
-use Rattle.passrun.proofs.Ahead.{disagreed, unfetched}
+use Rattle.passrun.specs.reading.Fetching.{HasFetched, IsUnfetched}
+use Rattle.passrun.specs.passing.Places.{copied_passes, copies}
+use Rattle.passrun.specs.reading.Reading.{Agrees, IsRead, read_values}
+use Rattle.passrun.specs.passing.Running.{RunsFrom}
+use Rattle.passrun.proofs.course.Ahead.{disagreed, unfetched}
 use Rattle.passrun.proofs.Damage.{broken, tellable, unstarted}
-use Rattle.passrun.proofs.Steps.{get_first}
-use Rattle.passrun.proofs.Turning.{Answers, begins_so, got_place}
+use Rattle.passrun.proofs.steps.Steps.{get_first}
+use Rattle.passrun.proofs.steps.Turning.{Answers, begins_so, got_place}
 
 -- a body was lent
 pub some_lent : (found : Option (Bor (List ℕ))) → is_some found ≡ true → (body : List ℕ) × (option_map (λ (b : Bor (List ℕ)). b.now) found ≡ Some body)

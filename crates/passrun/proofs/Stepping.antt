@@ -9,16 +9,16 @@ use Rattle.ag_grammar.specs.grammars.Passes.{IsLegal, Passes}
 use Rattle.ag_grammar.specs.grammars.Tree.{node_count}
 use Rattle.passassign.specs.Rows.{IsGreatest, passes_of}
 use Rattle.passcode.specs.Rows.{Lists}
-use Rattle.planchecker.specs.Settings.{Setting, setting_of}
-use Rattle.treefile.specs.Device.{HasRisen, Persists, WhenHonest}
+use Rattle.planchecker.specs.courses.Settings.{Setting, setting_of}
+use Rattle.treefile.specs.devices.Device.{HasRisen, Persists, WhenHonest}
 use Rattle.treefile.specs.Runs.{RunsPass, RunsPasses}
-use Rattle.treefile.specs.TreeFile.{version_two}
+use Rattle.treefile.specs.records.TreeFile.{version_two}
 use Rattle.treefile.proofs.Run.{goes_on_run, starts_run}
-use Rattle.passrun.specs.declared.ends.Passed.{Passed}
+use Rattle.passrun.specs.declared.passing.ends.Passed.{Passed}
 use Rattle.passrun.specs.declared.last.Last.{Last}
 use Rattle.passrun.specs.declared.last.Last.TheVariants.{A, B}
 use Rattle.passrun.specs.declared.run_fault.RunFault.{RunFault}
-use Rattle.passrun.specs.Ahead.{IsRunFault}
+use Rattle.passrun.specs.passing.Ahead.{IsRunFault}
 use Rattle.passrun.specs.Passed.{IsPassed}
 use Rattle.passrun.specs.Laws.{CountsPass}
 use Rattle.passrun.specs.Rounds.{CountsPasses, HasRunAll, HoldsTree, IsPassedOn, last_content, one_more, other_content, other_last}

@@ -10,17 +10,17 @@ use Rattle.ag_grammar.specs.grammars.Tree.{Tree, IsTreeOf, node_count, most_dept
 use Rattle.ag_grammar.proofs.grammars.EachNode.{same_weaker}
 use Rattle.passassign.specs.Rows.{passes_of}
 use Rattle.passcode.specs.Rows.{Lists}
-use Rattle.planchecker.specs.Settings.{Setting, setting_of}
-use Rattle.treefile.specs.Ending.{version_two_usable}
-use Rattle.treefile.specs.Records.{IsFileOfTree}
+use Rattle.planchecker.specs.courses.Settings.{Setting, setting_of}
+use Rattle.treefile.specs.ways.Ending.{version_two_usable}
+use Rattle.treefile.specs.records.Records.{IsFileOfTree}
 use Rattle.treefile.specs.Runs.{RanPass, RunsPass, RunsPasses}
-use Rattle.treefile.specs.TreeFile.{version_two}
-use Rattle.treefile.proofs.Fitting.{fits_version_two}
-use Rattle.treefile.proofs.OneTree.{one_file}
+use Rattle.treefile.specs.records.TreeFile.{version_two}
+use Rattle.treefile.proofs.records.Fitting.{fits_version_two}
+use Rattle.treefile.proofs.records.OneTree.{one_file}
 use Rattle.treefile.proofs.Run.{refusal_goes_back, refusal_within_goes_back}
 use Rattle.passrun.specs.declared.run_fault.RunFault.{RunFault}
 use Rattle.passrun.specs.declared.run_fault.RunFault.TheVariants as fault
-use Rattle.passrun.specs.Ahead.{IsRunFault}
+use Rattle.passrun.specs.passing.Ahead.{IsRunFault}
 use Rattle.passrun.specs.Laws.{PassesAreTold}
 use Rattle.passrun.specs.Passed.{IsPassed}
 use Rattle.passrun.specs.Rounds.{HoldsTree}

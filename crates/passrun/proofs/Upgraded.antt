@@ -14,24 +14,24 @@ use Rattle.ag_grammar.specs.grammars.Accepted.{IsAccepted}
 use Rattle.ag_grammar.specs.grammars.AttributeGrammar.{Grammar, stored_items}
 use Rattle.ag_grammar.specs.grammars.Tree as tree
 use Rattle.ag_grammar.specs.grammars.Tree.{Fits, FitsAll, Forest, IsTreeOf, Tree}
-use Rattle.treefile.specs.Awaited.{Breaks}
-use Rattle.treefile.specs.Backward.{ReadsTo, next_before, pass_in}
-use Rattle.treefile.specs.Device.{WhenHonest}
-use Rattle.treefile.specs.Ending.{IsBody, IsBytes, Told, version_one_usable}
-use Rattle.treefile.specs.FirstFile.{IsFirstFile, first_bodies, first_bodies_all, first_file, unassigned}
-use Rattle.treefile.specs.Orders as orders
-use Rattle.treefile.specs.Orders.{AreRanked, IsRanked, postfix, prefix}
-use Rattle.treefile.specs.Records.{FitsVersion, most_copied, most_copies, synthesized_count}
-use Rattle.treefile.specs.TreeFile.{file, frame, header, version_one, version_two}
+use Rattle.treefile.specs.ways.Awaited.{Breaks}
+use Rattle.treefile.specs.ways.Backward.{ReadsTo, next_before, pass_in}
+use Rattle.treefile.specs.devices.Device.{WhenHonest}
+use Rattle.treefile.specs.ways.Ending.{IsBody, IsBytes, Told, version_one_usable}
+use Rattle.treefile.specs.records.FirstFile.{IsFirstFile, first_bodies, first_bodies_all, first_file, unassigned}
+use Rattle.treefile.specs.records.Orders as orders
+use Rattle.treefile.specs.records.Orders.{AreRanked, IsRanked, postfix, prefix}
+use Rattle.treefile.specs.records.Records.{FitsVersion, most_copied, most_copies, synthesized_count}
+use Rattle.treefile.specs.records.TreeFile.{file, frame, header, version_one, version_two}
 use Rattle.treefile.specs.declared.body.Kind.TheVariants.{Node}
 use Rattle.treefile.specs.declared.reading.FrameFault.{FrameFault}
 use Rattle.treefile.specs.declared.reading.FrameFault.TheVariants as frame_fault
-use Rattle.treefile.proofs.Backward.{back_is_file, damage_is_there, never_no_file, none_at_header, reads_whole}
-use Rattle.treefile.proofs.FirstFile.{bodies_are, is_first_file, same_count, same_depth, unassigned_from_one}
-use Rattle.treefile.proofs.Fitting.{numbered}
-use Rattle.treefile.proofs.OneTree.{one_file}
-use Rattle.treefile.proofs.Records.{bodies_fit}
-use Rattle.treefile.proofs.Texts.{texts_are_given}
+use Rattle.treefile.proofs.ways.Backward.{back_is_file, damage_is_there, never_no_file, none_at_header, reads_whole}
+use Rattle.treefile.proofs.records.FirstFile.{bodies_are, is_first_file, same_count, same_depth, unassigned_from_one}
+use Rattle.treefile.proofs.records.Fitting.{numbered}
+use Rattle.treefile.proofs.records.OneTree.{one_file}
+use Rattle.treefile.proofs.records.Records.{bodies_fit}
+use Rattle.treefile.proofs.records.Texts.{texts_are_given}
 use Rattle.backreader.specs.Place.{IsOver, Place, Progress}
 use Rattle.backreader.specs.Ranks.{rank_of}
 use Rattle.backreader.specs.Turning.{IsFileOf, IsWithinLimits, TreeTurned, TurnTold, most_records}

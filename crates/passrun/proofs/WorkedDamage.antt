@@ -6,12 +6,12 @@ use Rattle.ag_value.specs.declared.value.Value.{Value, Num}
 use Rattle.ag_value.specs.Well.{IsWell}
 use Rattle.ag_grammar.specs.declared.grammar.Item.TheVariants as item
 use Rattle.ag_grammar.specs.declared.grammar.Production.{Production}
-use Rattle.treefile.specs.Awaited.{Breaks, IsNoRecord, IsNodeRecord, root_to_come}
-use Rattle.treefile.specs.Backward.{next_before}
-use Rattle.treefile.specs.Ending.{body_before, fits_before, is_tree_file}
-use Rattle.treefile.specs.TreeFile.{file, header, version_two}
+use Rattle.treefile.specs.ways.Awaited.{Breaks, IsNoRecord, IsNodeRecord, root_to_come}
+use Rattle.treefile.specs.ways.Backward.{next_before}
+use Rattle.treefile.specs.ways.Ending.{body_before, fits_before, is_tree_file}
+use Rattle.treefile.specs.records.TreeFile.{file, header, version_two}
 use Rattle.treefile.specs.Worked.{binary, binary_passes, copies_1_of_one, production_of}
-use Rattle.treefile.proofs.Spelled.{same_node}
+use Rattle.treefile.proofs.records.Spelled.{same_node}
 use Rattle.treefile.proofs.WorkedRecords.{binary_numbered, well_number}
 use Rattle.passrun.specs.Damage.{ShowsAt, fractions}
 

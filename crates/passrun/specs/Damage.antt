@@ -4,12 +4,12 @@ use Rattle.std.specs.Prelude.{ℕ, suc, ◌≡◌, ◌≢◌, ◌⊎◌, List, [
 use Rattle.ag_grammar.specs.declared.direction.Direction.{Direction}
 use Rattle.ag_grammar.specs.grammars.AttributeGrammar.{Grammar}
 use Rattle.ag_grammar.specs.grammars.Passes.{Passes, direction_of, other}
-use Rattle.treefile.specs.Awaited.{Breaks, Child, HasNoTree, IsRecordOf, ToCome, before_others, root_to_come}
-use Rattle.treefile.specs.Backward.{ReadsTo, next_before, pass_of}
-use Rattle.treefile.specs.Ending.{is_tree_file}
-use Rattle.treefile.specs.TreeFile.{Version, version_two}
+use Rattle.treefile.specs.ways.Awaited.{Breaks, Child, HasNoTree, IsRecordOf, ToCome, before_others, root_to_come}
+use Rattle.treefile.specs.ways.Backward.{ReadsTo, next_before, pass_of}
+use Rattle.treefile.specs.ways.Ending.{is_tree_file}
+use Rattle.treefile.specs.records.TreeFile.{Version, version_two}
 use Rattle.treefile.specs.Worked.{binary, binary_passes}
-use Rattle.planchecker.specs.Settings.{Setting}
+use Rattle.planchecker.specs.courses.Settings.{Setting}
 
 -- What a file is read as: one of a version, which a pass leaves of a tree of a grammar.
 pub record Source : Type 0 where

@@ -7,8 +7,8 @@ use Rattle.treefile.specs.declared.reading.FrameFault.{FrameFault}
 use Rattle.treefile.specs.declared.reading.FrameFault.TheVariants as frame_fault
 use Rattle.treefile.specs.declared.writing.WriteFault.{WriteFault}
 use Rattle.treefile.specs.declared.writing.WriteFault.TheVariants as write_fault
-use Rattle.passrun.specs.declared.record.RecordFault.{RecordFault}
-use Rattle.passrun.specs.declared.record.RecordFault.TheVariants as record_fault
+use Rattle.passrun.specs.declared.reading.record.RecordFault.{RecordFault}
+use Rattle.passrun.specs.declared.reading.record.RecordFault.TheVariants as record_fault
 use Rattle.passrun.specs.declared.run_fault.RunFault.{RunFault}
 use Rattle.passrun.specs.declared.run_fault.RunFault.TheVariants as run_fault
 

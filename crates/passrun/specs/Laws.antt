@@ -10,16 +10,16 @@ use Rattle.ag_grammar.specs.grammars.Tree.{Tree, IsTreeOf, node_count}
 use Rattle.passassign.specs.Rows.{IsGreatest, passes_of}
 use Rattle.passcode.specs.Rows.{Lists}
 use Rattle.planchecker.specs.Plans.{IsPlan}
-use Rattle.planchecker.specs.Settings.{setting_of}
-use Rattle.treefile.specs.Records.{IsFileOfTree}
+use Rattle.planchecker.specs.courses.Settings.{setting_of}
+use Rattle.treefile.specs.records.Records.{IsFileOfTree}
 use Rattle.treefile.specs.Runs.{RunsPass}
-use Rattle.treefile.specs.TreeFile.{version_two}
-use Rattle.passrun.specs.declared.ends.Passed.{Passed}
-use Rattle.passrun.specs.declared.job.Job.{Job}
+use Rattle.treefile.specs.records.TreeFile.{version_two}
+use Rattle.passrun.specs.declared.passing.ends.Passed.{Passed}
+use Rattle.passrun.specs.declared.laid.job.Job.{Job}
 use Rattle.passrun.specs.declared.last.Last.{Last}
 use Rattle.passrun.specs.Damage.{ShowsAt, Source}
-use Rattle.passrun.specs.Jobs.{CanRun}
-use Rattle.passrun.specs.Layouts.{IsLayout}
+use Rattle.passrun.specs.laid.Jobs.{CanRun}
+use Rattle.passrun.specs.laid.Layouts.{IsLayout}
 use Rattle.passrun.specs.Passed.{IsPassed}
 use Rattle.passrun.specs.Rounds.{HasRunAll}
 

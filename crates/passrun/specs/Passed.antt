@@ -7,17 +7,17 @@ use Rattle.ag_value.specs.Well.{IsWell}
 use Rattle.ag_grammar.specs.grammars.Solution.{Valuation, Solves, OfPass}
 use Rattle.ag_grammar.specs.grammars.Tree.{Tree, IsTreeOf, IsWithinLimits, node_count, most_depth, most_nodes}
 use Rattle.ag_grammar.specs.grammars.Counts.{rules_of_pass}
-use Rattle.treefile.specs.Awaited.{ToCome}
-use Rattle.treefile.specs.Backward.{ReadsTo}
-use Rattle.treefile.specs.Device.{WhenHonest}
-use Rattle.treefile.specs.Records.{IsFileOfTree}
-use Rattle.treefile.specs.TreeFile.{frame, header, version_two}
-use Rattle.treefile.specs.Writing as writing
+use Rattle.treefile.specs.ways.Awaited.{ToCome}
+use Rattle.treefile.specs.ways.Backward.{ReadsTo}
+use Rattle.treefile.specs.devices.Device.{WhenHonest}
+use Rattle.treefile.specs.records.Records.{IsFileOfTree}
+use Rattle.treefile.specs.records.TreeFile.{frame, header, version_two}
+use Rattle.treefile.specs.ways.Writing as writing
 use Rattle.backreader.specs.Place.{IsOver, Place}
-use Rattle.planchecker.specs.Settings.{Setting}
-use Rattle.passrun.specs.declared.open_node.OpenNode.{OpenNode}
+use Rattle.planchecker.specs.courses.Settings.{Setting}
+use Rattle.passrun.specs.declared.passing.open_node.OpenNode.{OpenNode}
 use Rattle.passrun.specs.Damage.{AreRecords, IsReadable, source}
-use Rattle.passrun.specs.Passing.{Passing, Tapes}
+use Rattle.passrun.specs.passing.Passing.{Passing, Tapes}
 
 -- A pass ran from one content to another: there are a tree and values such that the one is the file of the pass before, the other
 -- that of the pass, and the values meet each equation whose target is of the pass (Knuth 1968). The tree is within the limits; it

@@ -6,12 +6,12 @@ use Rattle.ag_grammar.specs.grammars.Counts.{rules_of_pass, sum_of_passes}
 use Rattle.ag_grammar.specs.grammars.Passes.{Passes}
 use Rattle.ag_grammar.specs.grammars.Solution.{Valuation}
 use Rattle.ag_grammar.specs.grammars.Tree.{Tree, IsTreeOf, IsWithinLimits, most_depth, most_nodes, node_count}
-use Rattle.treefile.specs.Beginning.{LeavesBeginning}
-use Rattle.treefile.specs.Records.{IsFileOfTree}
+use Rattle.treefile.specs.ways.Beginning.{LeavesBeginning}
+use Rattle.treefile.specs.records.Records.{IsFileOfTree}
 use Rattle.treefile.specs.Runs.{RunsPasses}
-use Rattle.treefile.specs.TreeFile.{version_two}
-use Rattle.planchecker.specs.Settings.{Setting}
-use Rattle.passrun.specs.declared.ends.Passed.{Passed}
+use Rattle.treefile.specs.records.TreeFile.{version_two}
+use Rattle.planchecker.specs.courses.Settings.{Setting}
+use Rattle.passrun.specs.declared.passing.ends.Passed.{Passed}
 use Rattle.passrun.specs.declared.last.Last.{Last}
 use Rattle.passrun.specs.declared.last.Last.TheVariants.{A, B}
 use Rattle.passrun.specs.Passed.{IsPassed}

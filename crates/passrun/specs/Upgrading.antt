@@ -10,20 +10,20 @@ use Rattle.ag_grammar.specs.declared.grammar.Production.{Production}
 use Rattle.ag_grammar.specs.declared.grammar.Terminal.TheVariants.{Class}
 use Rattle.ag_grammar.specs.grammars.AttributeGrammar.{Grammar, IsProduction, stored_items}
 use Rattle.ag_grammar.specs.grammars.Tree.{FitsAll, Forest, IsTokenText, IsTreeOf, IsWithinLimits, Tree, deepest, node_count, node_counts}
-use Rattle.treefile.specs.Awaited.{Child, ToCome, before_others, told}
-use Rattle.treefile.specs.Backward.{ReadsTo, before_frame, next_before}
-use Rattle.treefile.specs.Device.{WhenHonest}
-use Rattle.treefile.specs.FirstFile.{HasNoFirstTree, HasNoFirstTreeWithin, IsFirstFile, first_bodies, first_bodies_all, leaf_texts, unassigned}
-use Rattle.treefile.specs.Orders.{postfix, postfix_all, prefix_all}
-use Rattle.treefile.specs.TreeFile.{body_of, file, frame, version_one, version_two}
-use Rattle.treefile.specs.Writing as writing
+use Rattle.treefile.specs.ways.Awaited.{Child, ToCome, before_others, told}
+use Rattle.treefile.specs.ways.Backward.{ReadsTo, before_frame, next_before}
+use Rattle.treefile.specs.devices.Device.{WhenHonest}
+use Rattle.treefile.specs.records.FirstFile.{HasNoFirstTree, HasNoFirstTreeWithin, IsFirstFile, first_bodies, first_bodies_all, leaf_texts, unassigned}
+use Rattle.treefile.specs.records.Orders.{postfix, postfix_all, prefix_all}
+use Rattle.treefile.specs.records.TreeFile.{body_of, file, frame, version_one, version_two}
+use Rattle.treefile.specs.ways.Writing as writing
 use Rattle.treefile.specs.declared.body.Kind.{Kind}
 use Rattle.treefile.specs.declared.body.Kind.TheVariants.{Node, Token}
 use Rattle.backreader.specs.Place.{IsOver, Place, Progress}
 use Rattle.backreader.specs.Turning.{most_levels, most_records}
 use Rattle.passrun.specs.Damage.{ComesTo, IsReadable, ShowsAt, Source}
-use Rattle.passrun.specs.declared.old_record.OldRecord.{OldRecord}
-use Rattle.passrun.specs.declared.old_record.OldRecord.TheVariants as old
+use Rattle.passrun.specs.declared.reading.old_record.OldRecord.{OldRecord}
+use Rattle.passrun.specs.declared.reading.old_record.OldRecord.TheVariants as old
 use Rattle.passrun.specs.declared.run_fault.RunFault.{RunFault}
 use Rattle.passrun.specs.declared.run_fault.RunFault.TheVariants as fault
 

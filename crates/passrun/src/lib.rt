@@ -5,31 +5,20 @@
 //! the one in which the pass is, and of their children that were read.
 #![tactic(auto)]
 
-mod copying;
 mod display;
-mod ends;
-mod evaluating;
-mod fetching;
-mod job;
+mod laid;
 mod last;
 pub mod laws;
-mod laying;
-mod machine;
-mod old_record;
-mod open_node;
-mod pass;
 mod passes;
-mod putting;
-mod record;
-mod rows;
-mod run;
+mod passing;
+mod reading;
 mod run_fault;
 mod upgrading;
 
-pub use ends::Passed;
 pub use last::Last;
-pub use pass::run_pass;
 pub use passes::run_all;
-pub use record::{RecordFault, read_node};
+pub use passing::ends::Passed;
+pub use passing::pass::run_pass;
+pub use reading::record::{RecordFault, read_node};
 pub use run_fault::RunFault;
 pub use upgrading::upgrade;

@@ -4,18 +4,18 @@ ghost use Rattle.std.specs.Prelude.{◌≡◌, ◌⊎◌, ◌+◌, ◌-◌, ◌^
 ghost use Rattle.std.specs.Prelude.{OnErr, OnOk};
 ghost use Rattle.ag_grammar.specs.grammars.Tree.{most_nodes};
 ghost use Rattle.passassign.specs.Rows.{IsGreatest, passes_of};
-ghost use Rattle.passrun.specs.Ahead.{IsRunFault};
+ghost use Rattle.passrun.specs.passing.Ahead.{IsRunFault};
 ghost use Rattle.passrun.specs.Rounds.{HasRunAll, IsPassedOn, LeavesRound, last_content};
 ghost use Rattle.passrun.specs.Rounds.{other_content, other_last};
 ghost use Rattle.passrun.specs.Rounds.{one_more as added};
 ghost use Rattle.planchecker.specs.Plans.{IsPlan};
-ghost use Rattle.planchecker.specs.Settings.{setting_of};
-ghost use Rattle.treefile.specs.Beginning.{LeavesBeginning};
-ghost use Rattle.treefile.specs.Device.{HasRisen, Persists, WhenHonest};
+ghost use Rattle.planchecker.specs.courses.Settings.{setting_of};
+ghost use Rattle.treefile.specs.ways.Beginning.{LeavesBeginning};
+ghost use Rattle.treefile.specs.devices.Device.{HasRisen, Persists, WhenHonest};
 
-use crate::ends::Passed;
 use crate::last::Last;
-use crate::pass::run_pass;
+use crate::passing::ends::Passed;
+use crate::passing::pass::run_pass;
 use crate::run_fault::RunFault;
 use ag_eval::Meter;
 use ag_grammar::Grammar;

@@ -9,12 +9,12 @@ ghost use Rattle.backreader.specs.Turning.{most_records};
 ghost use Rattle.passrun.specs.Faults.{run_fault_of_turn};
 ghost use Rattle.passrun.specs.Upgrading.{Brought, HasTaken, IsBrought, IsReady, IsUnbrought};
 ghost use Rattle.passrun.specs.Upgrading.{IsUpgradeFault, IsUpgraded, stored_count, text_list};
-ghost use Rattle.treefile.specs.Beginning.{LeavesBeginning};
-ghost use Rattle.treefile.specs.Device.{HasRisen, LeavesContent, Persists, WhenHonest};
+ghost use Rattle.treefile.specs.ways.Beginning.{LeavesBeginning};
+ghost use Rattle.treefile.specs.devices.Device.{HasRisen, LeavesContent, Persists, WhenHonest};
 
-use crate::old_record::{OldRecord, old_record};
-use crate::putting::put_record;
-use crate::record::RecordFault;
+use crate::passing::putting::put_record;
+use crate::reading::old_record::{OldRecord, old_record};
+use crate::reading::record::RecordFault;
 use crate::run_fault::RunFault;
 use ag_grammar::{Grammar, Item};
 use ag_value::Value;

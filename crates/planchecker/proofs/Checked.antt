@@ -17,16 +17,16 @@ use Rattle.passcode.specs.Agreement.{Agrees, IsListFor, StandsBefore}
 use Rattle.passcode.specs.Rows.{Lists, lists_of, row_of, rows_of}
 use Rattle.passcode.specs.Shape.{HasNumbers, HasShape}
 use Rattle.passcode.specs.Tables.{IsPlanned}
-use Rattle.passcode.proofs.Shaped.{greatest_most}
+use Rattle.passcode.proofs.lists.Shaped.{greatest_most}
 use Rattle.planchecker.specs.Agreeing.{AreListsFor, BeginsAs, CanBegin, IsFirstDisagreement, IsFirstList, IsFirstWrong}
 use Rattle.planchecker.specs.First.{EachAt, IsFirstNot}
-use Rattle.planchecker.specs.Following.{IsDue}
+use Rattle.planchecker.specs.courses.Following.{IsDue}
 use Rattle.planchecker.specs.Legality.{AreAllowed}
 use Rattle.planchecker.specs.Shapes.{AreLists, AreRows, IsRow}
-use Rattle.planchecker.proofs.Completing.{completed, get_left}
-use Rattle.planchecker.proofs.Due.{SameFront, agrees, due_same, is_due}
+use Rattle.planchecker.proofs.courses.Completing.{completed, get_left}
+use Rattle.planchecker.proofs.courses.Due.{SameFront, agrees, due_same, is_due}
 use Rattle.planchecker.proofs.Loops.{Front}
-use Rattle.planchecker.proofs.Sorting.{nothing, has_or_not}
+use Rattle.planchecker.proofs.courses.Sorting.{nothing, has_or_not}
 use Rattle.planchecker.proofs.Strikes.{get_take}
 
 pub legal_of : (g : Grammar) (rows : List (List ℕ)) → HasNumbers g rows → EachAt (λ i. AreAllowed (passes_of rows)) g.productions → IsLegal g (passes_of rows)

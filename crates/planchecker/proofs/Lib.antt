@@ -1,13 +1,6 @@
 pub mod Checked
-pub mod Completing
-pub mod Due
-pub mod Followed
-pub mod Fronts
+pub mod courses
 pub mod Loops
 pub mod Sampled
-pub mod Sorting
-pub mod Sounding
-pub mod Stepwise
 pub mod Strikes
 pub mod Taken
-pub mod Turns

@@ -6,16 +6,16 @@ use Rattle.ag_grammar.specs.declared.grammar.Target.{Target}
 use Rattle.ag_grammar.specs.grammars.AttributeGrammar.{IsArgument}
 use Rattle.ag_grammar.specs.grammars.Passes.{HasPass, IsLegal}
 use Rattle.ag_grammar.specs.grammars.Sample.{attribute, sample, sample_passes}
-use Rattle.ag_grammar.proofs.grammars.NumberSample.{accepted}
+use Rattle.ag_grammar.proofs.grammars.samples.NumberSample.{accepted}
 use Rattle.passcode.specs.declared.instr.Instr.{Instr}
 use Rattle.passcode.specs.declared.instr.Instr.TheVariants as instr
 use Rattle.passcode.specs.Agreement.{GivesTargets, HasArguments, HasPlace, IsChild, IsGiving, IsListFor, IsRuleAt, Precedes, StandsOnceIf, VisitsPlaces, instruction_of}
 use Rattle.passcode.specs.Sample.{sample_list, sample_production}
-use Rattle.passcode.proofs.SampleList.{agrees}
-use Rattle.planchecker.specs.Course.{Between, Follows}
+use Rattle.passcode.proofs.lists.SampleList.{agrees}
+use Rattle.planchecker.specs.courses.Course.{Between, Follows}
 use Rattle.planchecker.specs.Sample.{hasty_list, hasty_passes, hasty_production, hasty_rule, hasty_setting, sample_setting}
-use Rattle.planchecker.specs.Settings.{IsSeen, arity, way}
-use Rattle.planchecker.proofs.Sounding.{lists_are_followed}
+use Rattle.planchecker.specs.courses.Settings.{IsSeen, arity, way}
+use Rattle.planchecker.proofs.courses.Sounding.{lists_are_followed}
 
 pub sample_seen : IsSeen (way sample_setting) (arity sample_production) 1 2
 sample_seen = (0, omega arith, refl)

@@ -12,12 +12,12 @@ use Rattle.passcode.specs.Agreement.{Agrees, IsListFor}
 use Rattle.passcode.specs.Rows.{Lists}
 use Rattle.passcode.specs.Shape.{HasLists}
 use Rattle.planchecker.specs.declared.plan.PlanFault.{PlanFault}
-use Rattle.planchecker.specs.Course.{Between, Follows}
+use Rattle.planchecker.specs.courses.Course.{Between, Follows}
 use Rattle.planchecker.specs.First.{EachAt}
-use Rattle.planchecker.specs.Following.{IsDue}
+use Rattle.planchecker.specs.courses.Following.{IsDue}
 use Rattle.planchecker.specs.Plans.{IsPlan, IsPlanFault}
-use Rattle.planchecker.specs.Settings.{Setting, setting_of}
-use Rattle.planchecker.specs.Sound.{IsSound}
+use Rattle.planchecker.specs.courses.Settings.{Setting, setting_of}
+use Rattle.planchecker.specs.courses.Sound.{IsSound}
 
 -- An assignment as `assign` makes it, and code as `generate` makes it for that, are refused for no reason.
 abbrev pub MadeIsTaken : Type 0

@@ -1,12 +1,9 @@
 pub mod Agreeing
-pub mod Course
+pub mod courses
 pub mod First
-pub mod Following
 pub mod Laws
 pub mod Legality
 pub mod Plans
 pub mod Sample
-pub mod Settings
 pub mod Shapes
-pub mod Sound
 pub mod Striking

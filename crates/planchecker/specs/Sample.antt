@@ -5,7 +5,7 @@ use Rattle.ag_grammar.specs.declared.grammar.Rule.{Rule}
 use Rattle.ag_grammar.specs.grammars.Sample.{attribute, copy_rule, i_name, sample, sample_passes}
 use Rattle.passcode.specs.declared.instr.Instr.{Instr}
 use Rattle.passcode.specs.declared.instr.Instr.TheVariants as instr
-use Rattle.planchecker.specs.Settings.{Setting}
+use Rattle.planchecker.specs.courses.Settings.{Setting}
 
 -- its first pass, from right to left
 abbrev pub sample_setting : Setting

@@ -12,8 +12,8 @@ ghost use Rattle.passcode.specs.Rows.{row_of};
 ghost use Rattle.passcode.specs.Tables.{IsPlanned};
 ghost use Rattle.passcode.specs.declared.instr.Instr.TheVariants as instr;
 ghost use Rattle.planchecker.specs.Agreeing.{IsListWrongOrNone, IsWrongOrNone};
-ghost use Rattle.planchecker.specs.Following.{AreGiven, ArePut, ArePutBefore, IsDue, IsOwnRule};
-ghost use Rattle.planchecker.specs.Following.{IsReady, IsWithin};
+ghost use Rattle.planchecker.specs.courses.Following.{AreGiven, ArePut, ArePutBefore, IsDue, IsOwnRule};
+ghost use Rattle.planchecker.specs.courses.Following.{IsReady, IsWithin};
 
 use crate::legality::pass_of;
 use crate::listed::stands_before;

@@ -3,10 +3,10 @@
 ghost use Rattle.std.specs.Prelude.{◌≡◌, []};
 ghost use Rattle.passcode.specs.Agreement.{IsListFor};
 ghost use Rattle.passcode.specs.Sample.{sample_list, sample_production};
-ghost use Rattle.planchecker.specs.Course.{Between, Follows};
+ghost use Rattle.planchecker.specs.courses.Course.{Between, Follows};
 ghost use Rattle.planchecker.specs.Sample.{hasty_list, hasty_passes, hasty_production};
 ghost use Rattle.planchecker.specs.Sample.{hasty_setting, sample_setting};
-ghost use Rattle.planchecker.specs.Settings.{IsSeen, arity, place, way};
+ghost use Rattle.planchecker.specs.courses.Settings.{IsSeen, arity, place, way};
 
 use ag_grammar::samples::sample_legal;
 

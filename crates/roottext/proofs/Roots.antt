@@ -13,25 +13,25 @@ use Rattle.ag_grammar.specs.grammars.Solution.{IsTranslation, Valuation, WellAt,
 use Rattle.ag_grammar.specs.grammars.Tree.{IsTreeOf, Tree, leaf, node}
 use Rattle.passassign.specs.Rows.{AreAtMost, IsGreatest, passes_of}
 use Rattle.passcode.specs.Rows.{Lists}
-use Rattle.passcode.proofs.Shaped.{greatest_most}
+use Rattle.passcode.proofs.lists.Shaped.{greatest_most}
 use Rattle.planchecker.specs.Plans.{IsPlan}
-use Rattle.planchecker.specs.Settings.{Setting, setting_of}
-use Rattle.passrun.specs.Reading.{IsNoNode, IsNodeRead}
-use Rattle.passrun.specs.Places.{copies}
-use Rattle.passrun.proofs.Ahead.{no_record}
+use Rattle.planchecker.specs.courses.Settings.{Setting, setting_of}
+use Rattle.passrun.specs.reading.Reading.{IsNoNode, IsNodeRead}
+use Rattle.passrun.specs.passing.Places.{copies}
+use Rattle.passrun.proofs.course.Ahead.{no_record}
 use Rattle.passrun.proofs.Recorded.{copies_counted, copies_well}
-use Rattle.passrun.proofs.Slots.{get_left}
-use Rattle.treefile.specs.Awaited.{IsNodeRecord}
-use Rattle.treefile.specs.Ending.{Told, last_body_of, version_two_usable}
-use Rattle.treefile.specs.Records.{IsFileOfTree, copies_of, node_body, values_up_to}
-use Rattle.treefile.proofs.Copies.{are_copies}
-use Rattle.treefile.specs.TreeFile.{version_two}
+use Rattle.passrun.proofs.places.Slots.{get_left}
+use Rattle.treefile.specs.ways.Awaited.{IsNodeRecord}
+use Rattle.treefile.specs.ways.Ending.{Told, last_body_of, version_two_usable}
+use Rattle.treefile.specs.records.Records.{IsFileOfTree, copies_of, node_body, values_up_to}
+use Rattle.treefile.proofs.records.Copies.{are_copies}
+use Rattle.treefile.specs.records.TreeFile.{version_two}
 use Rattle.treefile.specs.declared.reading.FrameFault.{FrameFault}
 use Rattle.treefile.specs.declared.reading.FrameFault.TheVariants as frame_fault
-use Rattle.treefile.proofs.Files.{damaged_at_end}
-use Rattle.treefile.proofs.Fitting.{fits_version_two}
-use Rattle.treefile.proofs.Root.{root_is_last, values_are_whole}
-use Rattle.treefile.proofs.Spelled.{same_node}
+use Rattle.treefile.proofs.ways.Files.{damaged_at_end}
+use Rattle.treefile.proofs.records.Fitting.{fits_version_two}
+use Rattle.treefile.proofs.ways.Root.{root_is_last, values_are_whole}
+use Rattle.treefile.proofs.records.Spelled.{same_node}
 use Rattle.roottext.specs.declared.fault.OutFault.{OutFault}
 use Rattle.roottext.specs.declared.fault.OutFault.TheVariants as out_fault
 use Rattle.roottext.specs.Faults.{out_fault_of}

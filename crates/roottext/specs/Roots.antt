@@ -7,10 +7,10 @@ use Rattle.ag_grammar.specs.grammars.AttributeGrammar.{Grammar}
 use Rattle.ag_grammar.specs.grammars.Solution.{IsTranslation, Valuation}
 use Rattle.ag_grammar.specs.grammars.Tree.{IsTreeOf, Tree}
 use Rattle.passassign.specs.Rows.{IsGreatest, passes_of}
-use Rattle.treefile.specs.Awaited.{IsNodeRecord}
-use Rattle.treefile.specs.Ending.{last_body_of}
-use Rattle.treefile.specs.Records.{IsFileOfTree}
-use Rattle.treefile.specs.TreeFile.{version_two}
+use Rattle.treefile.specs.ways.Awaited.{IsNodeRecord}
+use Rattle.treefile.specs.ways.Ending.{last_body_of}
+use Rattle.treefile.specs.records.Records.{IsFileOfTree}
+use Rattle.treefile.specs.records.TreeFile.{version_two}
 use Rattle.treefile.specs.declared.reading.FrameFault.{FrameFault}
 use Rattle.treefile.specs.declared.reading.FrameFault.TheVariants as frame_fault
 use Rattle.roottext.specs.declared.fault.OutFault.{OutFault}

@@ -5,7 +5,7 @@ ghost use Rattle.ag_value.specs.declared.value.Value.{Value as TheValue};
 ghost use Rattle.ag_grammar.specs.Lists.{Has};
 ghost use Rattle.ag_grammar.specs.grammars.Accepted.{IsAccepted, IsOut, out_name};
 ghost use Rattle.planchecker.specs.Plans.{IsPlan};
-ghost use Rattle.treefile.specs.Device.{LeavesContent, Persists, WhenHonest};
+ghost use Rattle.treefile.specs.devices.Device.{LeavesContent, Persists, WhenHonest};
 ghost use Rattle.roottext.specs.Roots.{FindsText, FindsValue, IsRootRecord, TellsRoot};
 
 use crate::fault::OutFault;

@@ -1,9 +1,9 @@
 //! What no clause says: files read back by hand, and devices that fail or lie.
 
 ghost use Rattle.std.specs.Prelude.{◌≡◌, [], false, IfOk, length, map};
-ghost use Rattle.treefile.specs.Backward.{ReadsBack};
-ghost use Rattle.treefile.specs.Device.{WhenHonest};
-ghost use Rattle.treefile.specs.TreeFile.{version_two};
+ghost use Rattle.treefile.specs.ways.Backward.{ReadsBack};
+ghost use Rattle.treefile.specs.devices.Device.{WhenHonest};
+ghost use Rattle.treefile.specs.records.TreeFile.{version_two};
 
 use backreader::Back;
 use std::alloc::{AllocError, Global};

@@ -5,7 +5,7 @@ use Rattle.ag_grammar.specs.grammars.Solution.{Same}
 use Rattle.ag_grammar.proofs.grammars.EachNode.{same_weaker}
 use Rattle.ag_grammar.proofs.grammars.Running.{run_begins, run_goes_on}
 use Rattle.treefile.specs.Laws.{GoesOnRun, RefusalGoesBack, RefusalWithinGoesBack, StartsRun}
-use Rattle.treefile.specs.Records.{IsFileOfTree}
+use Rattle.treefile.specs.records.Records.{IsFileOfTree}
 use Rattle.treefile.proofs.SameFile.{same_file}
 
 pub starts_run : StartsRun

@@ -9,12 +9,12 @@ use Rattle.ag_grammar.specs.grammars.Solution.{AtEachNodeOf, Same, SameAt, Valua
 use Rattle.ag_grammar.specs.grammars.Tree.{Tree, Forest, leaf, node, none, more}
 use Rattle.ag_grammar.proofs.grammars.EachNode.{each_well, same_texts}
 use Rattle.treefile.specs.Laws.{SameFile as SameFileLaw}
-use Rattle.treefile.specs.Orders as orders
-use Rattle.treefile.specs.Orders.{branch, postfix}
-use Rattle.treefile.specs.Records.{bodies_of, bodies_of_all, copies_of, copy_of, left_synthesized, node_body, values_up_to, with_copies}
-use Rattle.treefile.specs.TreeFile.{Version, body_of, file}
+use Rattle.treefile.specs.records.Orders as orders
+use Rattle.treefile.specs.records.Orders.{branch, postfix}
+use Rattle.treefile.specs.records.Records.{bodies_of, bodies_of_all, copies_of, copy_of, left_synthesized, node_body, values_up_to, with_copies}
+use Rattle.treefile.specs.records.TreeFile.{Version, body_of, file}
 use Rattle.treefile.specs.declared.body.Kind.TheVariants.{Node}
-use Rattle.treefile.proofs.Copies.{synthesized_is}
+use Rattle.treefile.proofs.records.Copies.{synthesized_is}
 
 -- values of a record
 same_values : (k : ℕ) (ps : List ℕ) (e f : ℕ → Value) → SameAt (λ p. p ≤ k) ps e f → values_up_to k ps e ≡ values_up_to k ps f

@@ -13,20 +13,20 @@ use Rattle.ag_grammar.specs.declared.grammar.Terminal.TheVariants.{Literal}
 use Rattle.ag_grammar.specs.grammars.Sample.{iffy, sample, sample_passes, sample_tree, sample_values, token_sample, token_tree, token_values, values_of_a}
 use Rattle.ag_grammar.specs.grammars.Solution.{IsWellOn, NoRule, Same, Solves, Valuation}
 use Rattle.ag_grammar.specs.grammars.Tree.{IsTreeOf, Tree}
-use Rattle.ag_grammar.proofs.grammars.NumberSample.{fits as sample_fits}
+use Rattle.ag_grammar.proofs.grammars.samples.NumberSample.{fits as sample_fits}
 use Rattle.ag_grammar.proofs.grammars.Running.{sample_ran}
-use Rattle.ag_grammar.proofs.grammars.TokenSample.{fits as token_fits, text as token_text}
+use Rattle.ag_grammar.proofs.grammars.samples.TokenSample.{fits as token_fits, text as token_text}
 use Rattle.ag_grammar.proofs.values.Wells.{formed, well_text}
-use Rattle.treefile.specs.Ending.{last_body_of, version_one_usable}
-use Rattle.treefile.specs.Listed.{AreSpelled, BeginsNoValue, HasRead, IsListedRecord}
-use Rattle.treefile.specs.OneTree.{IsNumbered, IsRecorded}
-use Rattle.treefile.specs.Records.{FitsVersion, IsFileOfTree, node_body}
+use Rattle.treefile.specs.ways.Ending.{last_body_of, version_one_usable}
+use Rattle.treefile.specs.records.Listed.{AreSpelled, BeginsNoValue, HasRead, IsListedRecord}
+use Rattle.treefile.specs.records.OneTree.{IsNumbered, IsRecorded}
+use Rattle.treefile.specs.records.Records.{FitsVersion, IsFileOfTree, node_body}
 use Rattle.treefile.specs.Runs.{HasRun, RanPass, RunsPass, RunsPasses}
-use Rattle.treefile.specs.TreeFile.{version_one}
+use Rattle.treefile.specs.records.TreeFile.{version_one}
 use Rattle.treefile.specs.Worked.{binary, binary_passes, file_of_x_x, iffy_passes, pass_2_of_one, production_of, record_of_n, record_of_t, spelled_number, tree_of_one, values_of_one, values_of_t}
-use Rattle.treefile.proofs.Listing.{value_is_missing}
-use Rattle.treefile.proofs.OneTree.{one_file, text_same}
-use Rattle.treefile.proofs.Root.{root_is_last}
+use Rattle.treefile.proofs.records.Listing.{value_is_missing}
+use Rattle.treefile.proofs.records.OneTree.{one_file, text_same}
+use Rattle.treefile.proofs.ways.Root.{root_is_last}
 use Rattle.treefile.proofs.WorkedFiles.{worked_2}
 
 -- a number below 2^63 is well

@@ -10,17 +10,17 @@ use Rattle.ag_grammar.specs.declared.grammar.Terminal.TheVariants.{Class}
 use Rattle.ag_grammar.specs.grammars.AttributeGrammar.{IsProduction, stored_items}
 use Rattle.ag_grammar.specs.grammars.Sample.{iffy, token_sample}
 use Rattle.ag_grammar.specs.grammars.Tree.{depth_of, most_depth, most_nodes}
-use Rattle.ag_grammar.proofs.grammars.TokenSample.{text as token_text}
-use Rattle.treefile.specs.Awaited.{AreThere, Awaits, Breaks, HasNoTree, HasNoTreeWithin, IsNoRecord, IsNodeRecord, IsOnTheWay, IsRecordOf, root_to_come, told}
-use Rattle.treefile.specs.Backward.{next_before}
-use Rattle.treefile.specs.Ending.{body_before, fits_before, version_one_usable}
-use Rattle.treefile.specs.Records.{node_body}
-use Rattle.treefile.specs.TreeFile.{file, header, version_one}
+use Rattle.ag_grammar.proofs.grammars.samples.TokenSample.{text as token_text}
+use Rattle.treefile.specs.ways.Awaited.{AreThere, Awaits, Breaks, HasNoTree, HasNoTreeWithin, IsNoRecord, IsNodeRecord, IsOnTheWay, IsRecordOf, root_to_come, told}
+use Rattle.treefile.specs.ways.Backward.{next_before}
+use Rattle.treefile.specs.ways.Ending.{body_before, fits_before, version_one_usable}
+use Rattle.treefile.specs.records.Records.{node_body}
+use Rattle.treefile.specs.records.TreeFile.{file, header, version_one}
 use Rattle.treefile.specs.Worked.{binary, binary_passes, bodies_of_one, iffy_passes, pass_0_of_one, production_of, record_of_iffy, record_of_t, tree_of_one, values_of_one}
-use Rattle.treefile.proofs.Coming.{awaited_are_there}
-use Rattle.treefile.proofs.OneTree.{tree_in_front}
-use Rattle.treefile.proofs.Spelled.{same_node}
-use Rattle.treefile.proofs.Way.{no_file_has_no_tree, tree_awaited, way_begins, way_breaks, way_goes_on, way_is_too_long}
+use Rattle.treefile.proofs.ways.Coming.{awaited_are_there}
+use Rattle.treefile.proofs.records.OneTree.{tree_in_front}
+use Rattle.treefile.proofs.records.Spelled.{same_node}
+use Rattle.treefile.proofs.ways.Way.{no_file_has_no_tree, tree_awaited, way_begins, way_breaks, way_goes_on, way_is_too_long}
 use Rattle.treefile.proofs.WorkedRecords.{binary_fits, binary_numbered, one_recorded, well_number}
 
 -- 65536 for each attribute of a node

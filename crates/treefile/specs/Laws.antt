@@ -11,15 +11,15 @@ use Rattle.ag_grammar.specs.grammars.AttributeGrammar.{Grammar, stored_items}
 use Rattle.ag_grammar.specs.grammars.Passes.{Passes, IsLegal, direction_of, nth, other}
 use Rattle.ag_grammar.specs.grammars.Solution.{Same, SameAt, Valuation, children}
 use Rattle.ag_grammar.specs.grammars.Tree.{Forest, Tree, IsTreeOf, node}
-use Rattle.treefile.specs.Awaited.{AreThere, Awaits, Breaks, Child, HasNoTree, HasNoTreeWithin, IsNodeRecord, IsOnTheWay, IsRecordOf, IsTooLarge, ToCome, before_others, root_to_come, told, unvisited}
-use Rattle.treefile.specs.Backward.{before_frame, next_before, pass_of}
-use Rattle.treefile.specs.Ending.{IsUsable, is_tree_file, last_body_of}
-use Rattle.treefile.specs.Listed.{AreSpelled, BeginsNoValue, HasRead, IsListedRecord, count_up_to}
-use Rattle.treefile.specs.OneTree.{IsNumbered, IsRecorded}
-use Rattle.treefile.specs.Orders.{postfix, prefix}
-use Rattle.treefile.specs.Records.{FitsVersion, IsFileOfTree, bodies_of, copies_of, node_body, values_up_to}
+use Rattle.treefile.specs.ways.Awaited.{AreThere, Awaits, Breaks, Child, HasNoTree, HasNoTreeWithin, IsNodeRecord, IsOnTheWay, IsRecordOf, IsTooLarge, ToCome, before_others, root_to_come, told, unvisited}
+use Rattle.treefile.specs.ways.Backward.{before_frame, next_before, pass_of}
+use Rattle.treefile.specs.ways.Ending.{IsUsable, is_tree_file, last_body_of}
+use Rattle.treefile.specs.records.Listed.{AreSpelled, BeginsNoValue, HasRead, IsListedRecord, count_up_to}
+use Rattle.treefile.specs.records.OneTree.{IsNumbered, IsRecorded}
+use Rattle.treefile.specs.records.Orders.{postfix, prefix}
+use Rattle.treefile.specs.records.Records.{FitsVersion, IsFileOfTree, bodies_of, copies_of, node_body, values_up_to}
 use Rattle.treefile.specs.Runs.{RunsPass, RunsPasses}
-use Rattle.treefile.specs.TreeFile.{Version}
+use Rattle.treefile.specs.records.TreeFile.{Version}
 
 -- A body is the record of a node of one production at most, with one value of each attribute up to the pass, and with one list of
 -- copies.

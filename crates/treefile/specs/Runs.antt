@@ -6,8 +6,8 @@ use Rattle.ag_grammar.specs.grammars.Passes.{Passes}
 use Rattle.ag_grammar.specs.grammars.Running.{RanThrough}
 use Rattle.ag_grammar.specs.grammars.Solution.{OfPass, Same, Solves, Valuation}
 use Rattle.ag_grammar.specs.grammars.Tree.{IsTreeOf, Tree}
-use Rattle.treefile.specs.Records.{IsFileOfTree}
-use Rattle.treefile.specs.TreeFile.{Version}
+use Rattle.treefile.specs.records.Records.{IsFileOfTree}
+use Rattle.treefile.specs.records.TreeFile.{Version}
 
 -- What pass k + 1 does to a tree with values u, whose file of pass k was read: the content is then the file of pass k + 1, with
 -- values that keep all that u has of the passes before, and meet each equation whose target is of the pass (after Jazayeri and

@@ -14,8 +14,8 @@ use Rattle.ag_grammar.specs.grammars.Passes.{Passes}
 use Rattle.ag_grammar.specs.grammars.Sample.{sample, sample_passes, sample_tree, sample_values}
 use Rattle.ag_grammar.specs.grammars.Solution.{Valuation, graft}
 use Rattle.ag_grammar.specs.grammars.Tree.{Tree, node, none, more}
-use Rattle.treefile.specs.Records.{file_of_tree}
-use Rattle.treefile.specs.TreeFile.{version_one}
+use Rattle.treefile.specs.records.Records.{file_of_tree}
+use Rattle.treefile.specs.records.TreeFile.{version_one}
 
 -- a symbol of these names
 abbrev pub symbol_of : List ℕ → List (List ℕ) → List (List ℕ) → Symbol

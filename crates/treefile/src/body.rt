@@ -2,7 +2,7 @@
 
 ghost use Rattle.std.specs.Prelude.{◌≡◌, ◌<◌, ◌^◌, ◌⊎◌, ℕ, List, length, IfNone, IfSome, IsSomeAnd};
 ghost use Rattle.std.specs.Prelude.{slice_index};
-ghost use Rattle.treefile.specs.TreeFile.{body_from};
+ghost use Rattle.treefile.specs.records.TreeFile.{body_from};
 ghost use Rattle.treefile.specs.declared.body.Kind.{Kind};
 
 /// What a record of a tree file stands for.
@@ -15,7 +15,7 @@ pub enum Kind {
 }
 
 impl Kind {
-    ghost use Rattle.treefile.specs.TreeFile.{kind_byte};
+    ghost use Rattle.treefile.specs.records.TreeFile.{kind_byte};
 
     /// The first byte of a body of this kind.
     pub(crate) fn byte(self) -> u8

@@ -14,8 +14,8 @@ pub enum DeviceFault {
 
 /// Bytes that grow at their end: a file, or memory that stands for one.
 pub trait Device {
-    ghost use Rattle.treefile.specs.Device.{Appends, Clears, LeavesContent, Persists};
-    ghost use Rattle.treefile.specs.Device.{TakesNoMemory, WhenHonest};
+    ghost use Rattle.treefile.specs.devices.Device.{Appends, Clears, LeavesContent, Persists};
+    ghost use Rattle.treefile.specs.devices.Device.{TakesNoMemory, WhenHonest};
 
     /// The bytes that it has.
     ghost content: { Self → List ℕ };

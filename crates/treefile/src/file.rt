@@ -3,9 +3,9 @@
 ghost use Rattle.std.specs.Prelude.{◌≡◌, ◌≤◌, ◌+◌, ◌++◌, ◌⊎◌, [], length, slice_range};
 ghost use Rattle.std.specs.Prelude.{Ok, Err, IfErr, IfOk, IsErrOf, OnErr, OnOk};
 ghost use Rattle.std.specs.Io.KnownBytes.{Appends, Keeps};
-ghost use Rattle.treefile.specs.Device.{Appends as DeviceAppends, Clears, HasRisen, LeavesContent};
-ghost use Rattle.treefile.specs.Device.{Persists, TakesNoMemory, WhenHonest, most_failures};
-ghost use Rattle.treefile.specs.Files.{FilePersists, IsNew, StaysBroken, content_of, taken};
+ghost use Rattle.treefile.specs.devices.Device.{Appends as DeviceAppends, Clears, HasRisen, LeavesContent};
+ghost use Rattle.treefile.specs.devices.Device.{Persists, TakesNoMemory, WhenHonest, most_failures};
+ghost use Rattle.treefile.specs.devices.Files.{FilePersists, IsNew, StaysBroken, content_of, taken};
 
 use crate::device::{Device, DeviceFault};
 use std::alloc::Global;
@@ -50,7 +50,7 @@ pub struct FileDevice<F> {
 
 impl<F> Model for FileDevice<F> {
     ghost use Rattle.std.specs.Prelude.{[], false};
-    ghost use Rattle.treefile.specs.Files.{Gathering};
+    ghost use Rattle.treefile.specs.devices.Files.{Gathering};
 
     ghost Value = { Gathering F };
 

@@ -2,9 +2,9 @@
 
 ghost use Rattle.std.specs.Prelude.{◌≡◌, ◌≤◌, ◌+◌, ◌-◌, ◌↔◌, length, slice_range, IfOk, IsErrOf};
 ghost use Rattle.std.specs.Prelude.{IsTrue, IsFalse, OnOk};
-ghost use Rattle.treefile.specs.Device.{Appends, Clears, HasRisen, LeavesContent, TakesNoMemory};
-ghost use Rattle.treefile.specs.Device.{WhenHonest, most_failures};
-ghost use Rattle.treefile.specs.Fuse.{Burns, Fuse, FusePersists, failures_of};
+ghost use Rattle.treefile.specs.devices.Device.{Appends, Clears, HasRisen, LeavesContent, TakesNoMemory};
+ghost use Rattle.treefile.specs.devices.Device.{WhenHonest, most_failures};
+ghost use Rattle.treefile.specs.devices.Fuse.{Burns, Fuse, FusePersists, failures_of};
 
 use crate::device::{Device, DeviceFault};
 use std::marker::Model;
@@ -19,7 +19,7 @@ pub struct FuseDevice<D> {
 }
 
 impl<D> Model for FuseDevice<D> {
-    ghost use Rattle.treefile.specs.Fuse.{Fuse};
+    ghost use Rattle.treefile.specs.devices.Fuse.{Fuse};
 
     ghost Value = { Fuse D };
 
@@ -68,7 +68,7 @@ impl<D: Device> FuseDevice<D> {
 }
 
 impl<D: Device> Device for FuseDevice<D> {
-    ghost use Rattle.treefile.specs.Fuse.{failures_of};
+    ghost use Rattle.treefile.specs.devices.Fuse.{failures_of};
 
     ghost content = { λ d. D.content d.inner };
 

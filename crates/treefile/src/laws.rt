@@ -4,11 +4,11 @@ ghost use Rattle.std.specs.Prelude.{◌≡◌, ◌≤◌, ◌<◌, ◌^◌, ◌+
 ghost use Rattle.std.specs.Prelude.{Ok, Err, length, reverse, take, true};
 ghost use Rattle.ag_value.specs.Well.{IsWell};
 ghost use Rattle.ag_value.specs.declared.value.Value.{Value};
-ghost use Rattle.treefile.specs.Backward.{ReadsBack, pass_of};
-ghost use Rattle.treefile.specs.Ending.{IsBody, IsBodyBefore, IsBytes, IsUsable, body_before};
-ghost use Rattle.treefile.specs.Ending.{greatest_body, header_bytes, is_tree_file, last_body_of};
-ghost use Rattle.treefile.specs.Ending.{least_body};
-ghost use Rattle.treefile.specs.TreeFile.{Version, body_of, file, frame};
+ghost use Rattle.treefile.specs.ways.Backward.{ReadsBack, pass_of};
+ghost use Rattle.treefile.specs.ways.Ending.{IsBody, IsBodyBefore, IsBytes, IsUsable, body_before};
+ghost use Rattle.treefile.specs.ways.Ending.{greatest_body, header_bytes, is_tree_file, last_body_of};
+ghost use Rattle.treefile.specs.ways.Ending.{least_body};
+ghost use Rattle.treefile.specs.records.TreeFile.{Version, body_of, file, frame};
 ghost use Rattle.treefile.specs.declared.body.Kind.{Kind};
 ghost use Rattle.treefile.specs.declared.reading.FrameFault.TheVariants.{Damaged};
 

@@ -1,8 +1,8 @@
 //! The versions of tree files, their numbers and their first bytes.
 
 ghost use Rattle.std.specs.Prelude.{◌≡◌};
-ghost use Rattle.treefile.specs.Ending.{greatest_body};
-ghost use Rattle.treefile.specs.TreeFile.{header, version_of, version_two};
+ghost use Rattle.treefile.specs.ways.Ending.{greatest_body};
+ghost use Rattle.treefile.specs.records.TreeFile.{header, version_of, version_two};
 
 use ag_grammar::limits::{MOST_ATTRIBUTES, MOST_STORED};
 use ag_value::MAX_WEIGHT;

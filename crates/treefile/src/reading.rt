@@ -3,13 +3,13 @@
 ghost use Rattle.std.specs.Prelude.{◌≡◌, ◌+◌, ◌<◌, ◌≤◌, ◌⊎◌, ◌^◌, length, take, IfErr, IfOk};
 ghost use Rattle.std.specs.Prelude.{IsErrOf, IsTrue, OnOk, nat_eq, slice_range};
 ghost use Rattle.std.specs.List.{starts_with};
-ghost use Rattle.treefile.specs.Backward.{pass_in};
-ghost use Rattle.treefile.specs.Device.{LeavesContent, Persists, WhenHonest};
-ghost use Rattle.treefile.specs.Ending.{IsBytes, Told, body_before, fits_before, greatest_body};
-ghost use Rattle.treefile.specs.Ending.{header_bytes, last_body_of, least_body};
-ghost use Rattle.treefile.specs.Ending.{length_bytes, number_before};
-ghost use Rattle.treefile.specs.Faults.{frame_fault_of};
-ghost use Rattle.treefile.specs.TreeFile.{version_of, version_two};
+ghost use Rattle.treefile.specs.ways.Backward.{pass_in};
+ghost use Rattle.treefile.specs.devices.Device.{LeavesContent, Persists, WhenHonest};
+ghost use Rattle.treefile.specs.ways.Ending.{IsBytes, Told, body_before, fits_before, greatest_body};
+ghost use Rattle.treefile.specs.ways.Ending.{header_bytes, last_body_of, least_body};
+ghost use Rattle.treefile.specs.ways.Ending.{length_bytes, number_before};
+ghost use Rattle.treefile.specs.devices.Faults.{frame_fault_of};
+ghost use Rattle.treefile.specs.records.TreeFile.{version_of, version_two};
 ghost use Rattle.treefile.specs.declared.reading.FrameFault.TheVariants as frame_fault;
 
 use crate::device::{Device, DeviceFault};
@@ -54,7 +54,7 @@ impl From<AllocError> for FrameFault {
 ///
 /// B1 NotATreeFile where there are fewer than 6 bytes or the first four are not the version's. D1
 /// Device where the call of the device failed.
-#[tactic(auto, unfolding(crate::specs::Ending::is_tree_file))]
+#[tactic(auto, unfolding(crate::specs::ways::Ending::is_tree_file))]
 pub fn pass_in<D: Device>(version: FileVersion, device: &mut D, end: u64) -> Result<u16, FrameFault>
     requires { WhenHonest (D.is_honest device.old) (end ≡ length (D.content device.old)) }
     // The number, and B1, exactly as the content has them
@@ -107,7 +107,7 @@ fn number_before<D: Device>(device: &mut D, at: u64) -> Result<u32, DeviceFault>
 
 /// Whether a frame with a body of so many bytes may end at an offset in a file of a version. Takes no
 /// memory.
-#[tactic(auto, unfolding(crate::specs::Ending::fits_before))]
+#[tactic(auto, unfolding(crate::specs::ways::Ending::fits_before))]
 pub fn fits_before(version: FileVersion, at: u64, length: u64) -> bool
     requires { length < 2 ^ 32 }
     ensures exact { result ≡ fits_before (version_of version) at length }
@@ -146,7 +146,7 @@ fn bytes_at<D: Device>(
 }
 
 /// The body of the frame that ends at an offset.
-#[tactic(auto, unfolding(crate::specs::Ending::body_before))]
+#[tactic(auto, unfolding(crate::specs::ways::Ending::body_before))]
 fn body_before<D: Device>(alloc: Global, device: &mut D, at: u64) -> Result<Vec<u8>, FrameFault>
     requires { WhenHonest (D.is_honest device.old) (at ≤ length (D.content device.old)) }
     ensures told { WhenHonest (D.is_honest device.old)
@@ -174,7 +174,7 @@ fn body_before<D: Device>(alloc: Global, device: &mut D, at: u64) -> Result<Vec<
 /// header, or where the number in the last four is below 3, above 285,212,675 or more than what
 /// stands between the header and those four. D1 Device where a call of the device failed. Takes
 /// memory for the body.
-#[tactic(auto, unfolding(crate::specs::Ending::last_body_of))]
+#[tactic(auto, unfolding(crate::specs::ways::Ending::last_body_of))]
 pub fn last_body<D: Device>(alloc: Global, device: &mut D) -> Result<Vec<u8>, FrameFault>
     // The body, B1 and B2, exactly as the content has it
     ensures told { WhenHonest (D.is_honest device.old)

@@ -5,10 +5,10 @@ ghost use Rattle.std.specs.Prelude.{true, false, All, IfOk, IfSome, IsErrOf, Ok,
 ghost use Rattle.std.specs.List.{flat_map};
 ghost use Rattle.ag_value.specs.Spelling.{spelling_of};
 ghost use Rattle.ag_value.specs.Well.{IsWell};
-ghost use Rattle.treefile.specs.Device.{AppendsFront, LeavesContent, Persists, WhenHonest};
-ghost use Rattle.treefile.specs.Ending.{IsBody};
-ghost use Rattle.treefile.specs.Faults.{write_fault_of};
-ghost use Rattle.treefile.specs.TreeFile.{body_of, frame, header, version_two};
+ghost use Rattle.treefile.specs.devices.Device.{AppendsFront, LeavesContent, Persists, WhenHonest};
+ghost use Rattle.treefile.specs.ways.Ending.{IsBody};
+ghost use Rattle.treefile.specs.devices.Faults.{write_fault_of};
+ghost use Rattle.treefile.specs.records.TreeFile.{body_of, frame, header, version_two};
 ghost use Rattle.treefile.specs.declared.writing.WriteFault.TheVariants as write_fault;
 
 use crate::body::Kind;
@@ -65,7 +65,7 @@ pub struct Writer {
 }
 
 impl Model for Writer {
-    ghost use Rattle.treefile.specs.Writing.{Progress};
+    ghost use Rattle.treefile.specs.ways.Writing.{Progress};
 
     ghost Value = { Progress };
 

@@ -7,10 +7,10 @@ use Rattle.ag_expr.specs.declared.parser.Precedence.{Precedence}
 use Rattle.ag_expr.specs.declared.names.Call.{Call}
 use Rattle.ag_expr.specs.declared.names.Call.TheVariants as call
 use Rattle.ag_tokens.specs.declared.token.Punctuation.TheVariants as punctuation
-use Rattle.ag_grammar.specs.declared.node.Operator.{Operator}
-use Rattle.ag_grammar.specs.declared.node.Node.{Node}
-use Rattle.ag_grammar.specs.declared.node.Node.TheVariants as node
-use Rattle.ag_grammar.specs.declared.occurrence.Occ.{Occ}
+use Rattle.ag_grammar.specs.declared.syntax.node.Operator.{Operator}
+use Rattle.ag_grammar.specs.declared.syntax.node.Node.{Node}
+use Rattle.ag_grammar.specs.declared.syntax.node.Node.TheVariants as node
+use Rattle.ag_grammar.specs.declared.syntax.occurrence.Occ.{Occ}
 use Rattle.ag_tokens.specs.Ending.{Ending}
 use Rattle.ag_tokens.specs.Ending as ending
 use Rattle.ag_expr.specs.language.Names.{Names}

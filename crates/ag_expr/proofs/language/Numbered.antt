@@ -8,7 +8,7 @@ use Rattle.std.proofs.lemmas.List.Folds.{list_any-append, list_any_at}
 use Rattle.std.proofs.lemmas.List.Quantifiers.{all_pairs_push}
 use Rattle.std.specs.HashMap.{HashMap, Updates}
 use Rattle.std.specs.List.{list_any, position_from, position_or_len}
-use Rattle.ag_grammar.specs.declared.occurrence.Occ.{Occ}
+use Rattle.ag_grammar.specs.declared.syntax.occurrence.Occ.{Occ}
 use Rattle.ag_grammar.specs.expressions.Occurrences.{AreApart, AreDifferent}
 use Rattle.ag_expr.specs.language.Occurrences.{is_of, position_of, listed_with, listed_with_all}
 use Rattle.ag_expr.specs.language.Numbers.{Key, same_key, Follows}

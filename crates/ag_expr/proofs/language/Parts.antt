@@ -8,8 +8,8 @@ use Rattle.ag_expr.proofs.reading.Turns.{Going, none_further}
 use Rattle.std.specs.Result.{IsErrAnd}
 use Rattle.ag_expr.specs.declared.fault.ExprFault.{ExprFault}
 use Rattle.ag_expr.specs.declared.fault.ExprFault.TheVariants as fault
-use Rattle.ag_grammar.specs.declared.node.Node.{Node}
-use Rattle.ag_grammar.specs.declared.occurrence.Occ.{Occ}
+use Rattle.ag_grammar.specs.declared.syntax.node.Node.{Node}
+use Rattle.ag_grammar.specs.declared.syntax.occurrence.Occ.{Occ}
 use Rattle.ag_expr.specs.declared.parser.Precedence.{Precedence}
 use Rattle.ag_expr.specs.language.Names.{Names}
 use Rattle.ag_expr.specs.language.Reading.{Outcome, Parser, whole_from, expr_in, chain_from, is_operator_of, other_from}

@@ -11,7 +11,7 @@ use Rattle.ag_tokens.specs.Token.{Token, mark}
 use Rattle.ag_tokens.specs.Token as token
 use Rattle.ag_expr.specs.declared.fault.ExprFault.{ExprFault}
 use Rattle.ag_expr.specs.declared.fault.ExprFault.TheVariants as fault
-use Rattle.ag_grammar.specs.declared.occurrence.Occ.{Occ}
+use Rattle.ag_grammar.specs.declared.syntax.occurrence.Occ.{Occ}
 use Rattle.ag_expr.specs.language.Occurrences.{occurrence_in, all_occurrences, listed_with, listed_with_all, position_of}
 use Rattle.ag_expr.specs.language.Reading.{begins, no_level_of, refusal}
 use Rattle.ag_expr.specs.language.State.{State, Keeps, PassesOther, begins_here, everything, from_end, input, is_occurrence, kept, no_level, passed}

@@ -11,8 +11,8 @@ use Rattle.ag_tokens.specs.Tokens.{Lexes}
 use Rattle.ag_tokens.proofs.Lexes.{same_input}
 use Rattle.ag_expr.specs.declared.fault.ExprFault.{ExprFault}
 use Rattle.ag_expr.specs.declared.fault.ExprFault.TheVariants as fault
-use Rattle.ag_grammar.specs.declared.node.Node.{Node}
-use Rattle.ag_grammar.specs.declared.occurrence.Occ.{Occ}
+use Rattle.ag_grammar.specs.declared.syntax.node.Node.{Node}
+use Rattle.ag_grammar.specs.declared.syntax.occurrence.Occ.{Occ}
 use Rattle.ag_expr.specs.language.Expression.{max_levels, Says}
 use Rattle.ag_expr.specs.language.Occurrences.{all_occurrences}
 use Rattle.ag_expr.specs.language.Places.{answer_of, read_from}

@@ -6,8 +6,8 @@ use Rattle.ag_tokens.specs.declared.token.Punctuation.TheVariants as punctuation
 use Rattle.ag_tokens.specs.Token.{Token}
 use Rattle.ag_tokens.specs.Token as token
 use Rattle.ag_grammar.specs.declared.limits.TheConstants.{MOST_LEVELS}
-use Rattle.ag_grammar.specs.declared.node.Node.{Node}
-use Rattle.ag_grammar.specs.declared.occurrence.Occ.{Occ}
+use Rattle.ag_grammar.specs.declared.syntax.node.Node.{Node}
+use Rattle.ag_grammar.specs.declared.syntax.occurrence.Occ.{Occ}
 use Rattle.ag_tokens.specs.Ending as ending
 use Rattle.ag_tokens.specs.Placed.{Placed, tokens}
 use Rattle.ag_tokens.specs.Tokens.{Lexes, NoTokenAt, TooLargeAt, TokenAt, EndsAt}

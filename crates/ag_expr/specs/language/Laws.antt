@@ -1,7 +1,7 @@
 -- What the laws of the expression language state.
 use Rattle.std.specs.Prelude.{◌≡◌, ◌↔◌, List, [], ℕ, Ok, Err}
-use Rattle.ag_grammar.specs.declared.node.Node.{Node}
-use Rattle.ag_grammar.specs.declared.occurrence.Occ.{Occ}
+use Rattle.ag_grammar.specs.declared.syntax.node.Node.{Node}
+use Rattle.ag_grammar.specs.declared.syntax.occurrence.Occ.{Occ}
 use Rattle.ag_expr.specs.language.Expression.{ReadsAsExpr}
 use Rattle.ag_expr.specs.declared.fault.ExprFault.{ExprFault}
 use Rattle.ag_tokens.specs.Ending as ending

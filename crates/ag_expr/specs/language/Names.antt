@@ -2,10 +2,10 @@
 use Rattle.std.specs.Prelude.{ℕ, Bool, ◌||◌, ◌+◌, List, [], ◌∷◌, Option, Some, None, cond, bytes_eq, codes, is_some}
 use Rattle.ag_expr.specs.declared.names.Call.{Call}
 use Rattle.ag_expr.specs.declared.names.Call.TheVariants as call
-use Rattle.ag_grammar.specs.declared.node.UnaryCall.{UnaryCall}
-use Rattle.ag_grammar.specs.declared.node.UnaryCall.TheVariants as unary
-use Rattle.ag_grammar.specs.declared.node.BinaryCall.{BinaryCall}
-use Rattle.ag_grammar.specs.declared.node.BinaryCall.TheVariants as binary
+use Rattle.ag_grammar.specs.declared.syntax.node.UnaryCall.{UnaryCall}
+use Rattle.ag_grammar.specs.declared.syntax.node.UnaryCall.TheVariants as unary
+use Rattle.ag_grammar.specs.declared.syntax.node.BinaryCall.{BinaryCall}
+use Rattle.ag_grammar.specs.declared.syntax.node.BinaryCall.TheVariants as binary
 
 -- ---- the table of calls
 

@@ -2,7 +2,7 @@
 use Rattle.std.specs.Prelude.{ℕ, ◌≡◌, ◌&&◌, ◌==◌, Bool, List, bytes_eq}
 use Rattle.std.specs.HashMap.{HashMap, get}
 use Rattle.std.specs.Borrow.{Bor}
-use Rattle.ag_grammar.specs.declared.occurrence.Occ.{Occ}
+use Rattle.ag_grammar.specs.declared.syntax.occurrence.Occ.{Occ}
 use Rattle.ag_expr.specs.language.Occurrences.{position_of}
 
 -- a place and a lent name

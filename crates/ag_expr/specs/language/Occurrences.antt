@@ -4,7 +4,7 @@ use Rattle.std.specs.List.{list_any}
 use Rattle.ag_tokens.specs.Placed.{Placed}
 use Rattle.ag_tokens.specs.Token.{Token}
 use Rattle.ag_tokens.specs.Token as token
-use Rattle.ag_grammar.specs.declared.occurrence.Occ.{Occ}
+use Rattle.ag_grammar.specs.declared.syntax.occurrence.Occ.{Occ}
 
 -- an occurrence has this place and this name
 abbrev pub is_of : ℕ → List ℕ → Occ → Bool

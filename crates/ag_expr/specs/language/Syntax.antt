@@ -8,16 +8,16 @@ use Rattle.ag_tokens.specs.declared.token.Punctuation.{Punctuation}
 use Rattle.ag_tokens.specs.declared.token.Punctuation.TheVariants as punctuation
 use Rattle.ag_tokens.specs.Token.{Token, Sign, mark, word, sign_token}
 use Rattle.ag_tokens.specs.Token as token
-use Rattle.ag_grammar.specs.declared.node.Operator.{Operator}
-use Rattle.ag_grammar.specs.declared.node.Operator.TheVariants as operator
-use Rattle.ag_grammar.specs.declared.node.Node.{Node}
-use Rattle.ag_grammar.specs.declared.node.Node.TheVariants as node
+use Rattle.ag_grammar.specs.declared.syntax.node.Operator.{Operator}
+use Rattle.ag_grammar.specs.declared.syntax.node.Operator.TheVariants as operator
+use Rattle.ag_grammar.specs.declared.syntax.node.Node.{Node}
+use Rattle.ag_grammar.specs.declared.syntax.node.Node.TheVariants as node
 use Rattle.ag_value.specs.declared.value.Value.TheVariants as value
-use Rattle.ag_grammar.specs.declared.occurrence.Occ.{Occ}
+use Rattle.ag_grammar.specs.declared.syntax.occurrence.Occ.{Occ}
 use Rattle.ag_expr.specs.declared.names.Call.{Call}
 use Rattle.ag_expr.specs.declared.names.Call.TheVariants as call
-use Rattle.ag_grammar.specs.declared.node.UnaryCall.{UnaryCall}
-use Rattle.ag_grammar.specs.declared.node.BinaryCall.{BinaryCall}
+use Rattle.ag_grammar.specs.declared.syntax.node.UnaryCall.{UnaryCall}
+use Rattle.ag_grammar.specs.declared.syntax.node.BinaryCall.{BinaryCall}
 use Rattle.ag_expr.specs.language.Names.{Names, call_of, is_reserved, place_in}
 use Rattle.ag_expr.specs.language.Occurrences.{position_of}
 use Rattle.ag_tokens.specs.Words.{◌>>=◌, ◌>>◌, gives, one, ◌or◌, further}

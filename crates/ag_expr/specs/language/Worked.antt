@@ -4,9 +4,9 @@ use Rattle.ag_tokens.specs.declared.token.Punctuation.TheVariants as punctuation
 use Rattle.ag_tokens.specs.Placed.{Placed}
 use Rattle.ag_tokens.specs.Token.{Token}
 use Rattle.ag_tokens.specs.Token as token
-use Rattle.ag_grammar.specs.declared.node.Operator.TheVariants as operator
-use Rattle.ag_grammar.specs.declared.node.Node.{Node}
-use Rattle.ag_grammar.specs.declared.node.Node.TheVariants as node
+use Rattle.ag_grammar.specs.declared.syntax.node.Operator.TheVariants as operator
+use Rattle.ag_grammar.specs.declared.syntax.node.Node.{Node}
+use Rattle.ag_grammar.specs.declared.syntax.node.Node.TheVariants as node
 use Rattle.ag_value.specs.declared.value.Value.TheVariants as value
 
 -- the least number

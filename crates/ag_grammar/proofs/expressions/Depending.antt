@@ -4,10 +4,10 @@ use Rattle.std.proofs.lemmas.Bool.{eq-eqb, ne_eqb, or_left, or_right}
 use Rattle.std.proofs.lemmas.Option.{slice_get-get_or}
 use Rattle.ag_value.specs.declared.value.Value.{Value}
 use Rattle.ag_grammar.specs.declared.grammar.Target.{Target}
-use Rattle.ag_grammar.specs.declared.node.Operator.{Operator}
-use Rattle.ag_grammar.specs.declared.node.Node.{Node, roll-Node}
-use Rattle.ag_grammar.specs.declared.node.Node.TheFolds.{ind-Node, map-Node}
-use Rattle.ag_grammar.specs.declared.node.Node.TheOpen.{Node-F}
+use Rattle.ag_grammar.specs.declared.syntax.node.Operator.{Operator}
+use Rattle.ag_grammar.specs.declared.syntax.node.Node.{Node, roll-Node}
+use Rattle.ag_grammar.specs.declared.syntax.node.Node.TheFolds.{ind-Node, map-Node}
+use Rattle.ag_grammar.specs.declared.syntax.node.Node.TheOpen.{Node-F}
 use Rattle.ag_grammar.specs.expressions.Evaluation.{Meaning, chain_value, item_values, value_in, value_of, value_step}
 use Rattle.ag_grammar.specs.expressions.Laws.{RuleHasOneValue, RuleHoldsByOne, ValueOfOccurrences}
 use Rattle.ag_grammar.specs.expressions.Occurring.{AgreeOn, has_occurrence, has_step, some_item, some_operand}

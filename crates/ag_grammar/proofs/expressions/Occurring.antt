@@ -2,12 +2,12 @@
 use Rattle.std.proofs.Common.{ℕ, suc, ◌≡◌, ◌<◌, Bool, true, false, ◌||◌, ◌&&◌, nat_eq, List, [], ◌∷◌, map, inl, inr, ap, ◌∙◌, sym, subst, pos, arith}
 use Rattle.std.proofs.lemmas.Bool.{and_parts, eqb-true, ltb-true, or_cases}
 use Rattle.ag_value.specs.declared.value.Value.{Value, Num}
-use Rattle.ag_grammar.specs.declared.node.Operator.{Operator}
-use Rattle.ag_grammar.specs.declared.node.Operator.TheVariants.{Add}
-use Rattle.ag_grammar.specs.declared.node.Node.{Node, roll-Node}
-use Rattle.ag_grammar.specs.declared.node.Node.TheFolds.{fold-roll-Node, ind-Node, map-Node}
-use Rattle.ag_grammar.specs.declared.node.Node.TheOpen.{Node-F}
-use Rattle.ag_grammar.specs.declared.node.Node.TheVariants as node_of
+use Rattle.ag_grammar.specs.declared.syntax.node.Operator.{Operator}
+use Rattle.ag_grammar.specs.declared.syntax.node.Operator.TheVariants.{Add}
+use Rattle.ag_grammar.specs.declared.syntax.node.Node.{Node, roll-Node}
+use Rattle.ag_grammar.specs.declared.syntax.node.Node.TheFolds.{fold-roll-Node, ind-Node, map-Node}
+use Rattle.ag_grammar.specs.declared.syntax.node.Node.TheOpen.{Node-F}
+use Rattle.ag_grammar.specs.declared.syntax.node.Node.TheVariants as node_of
 use Rattle.ag_grammar.specs.expressions.Laws.{OccurrencesAreListed}
 use Rattle.ag_grammar.specs.expressions.Occurring.{has_occurrence, has_step, some_item, some_operand}
 use Rattle.ag_grammar.specs.expressions.Trees.{all_pass, below_step, each_passes, is_within}

@@ -1,11 +1,11 @@
 -- The numbers in a tree are within what they number, a level at a time.
 use Rattle.std.proofs.Common.{◌≡◌, ℕ, nat_lt, List, [], ◌∷◌, ◌++◌, Bool, true, ◌&&◌, map, refl, ap, sym, ◌∙◌}
 use Rattle.ag_value.specs.declared.value.Value.{Value}
-use Rattle.ag_grammar.specs.declared.node.Operator.{Operator}
-use Rattle.ag_grammar.specs.declared.node.Node.{Node, roll-Node}
-use Rattle.ag_grammar.specs.declared.node.Node.TheVariants as node
-use Rattle.ag_grammar.specs.declared.node.Node.TheOpen.{Node-F}
-use Rattle.ag_grammar.specs.declared.node.Node.TheFolds.{fold-roll-Node, map-Node}
+use Rattle.ag_grammar.specs.declared.syntax.node.Operator.{Operator}
+use Rattle.ag_grammar.specs.declared.syntax.node.Node.{Node, roll-Node}
+use Rattle.ag_grammar.specs.declared.syntax.node.Node.TheVariants as node
+use Rattle.ag_grammar.specs.declared.syntax.node.Node.TheOpen.{Node-F}
+use Rattle.ag_grammar.specs.declared.syntax.node.Node.TheFolds.{fold-roll-Node, map-Node}
 use Rattle.ag_grammar.specs.expressions.Trees.{is_within, below_step, all_pass, each_passes}
 
 -- of each of a list

@@ -2,11 +2,11 @@
 use Rattle.std.proofs.Common.{ℕ, ℤ, ◌≡◌, List, [], ◌∷◌, refl, ap, ap₂, ◌∙◌, ◌+ℤ◌, sym, pos}
 use Rattle.ag_value.specs.declared.value.Value.{Value, Num}
 use Rattle.ag_value.specs.declared.value.Value.TheVariants.{outs-Num}
-use Rattle.ag_grammar.specs.declared.node.Node.{Node, roll-Node}
-use Rattle.ag_grammar.specs.declared.node.Node.TheFolds.{fold-roll-Node, map-Node}
-use Rattle.ag_grammar.specs.declared.node.Node.TheOpen.{Node-F}
-use Rattle.ag_grammar.specs.declared.node.Node.TheVariants as node_of
-use Rattle.ag_grammar.specs.declared.node.Operator.TheVariants.{Add}
+use Rattle.ag_grammar.specs.declared.syntax.node.Node.{Node, roll-Node}
+use Rattle.ag_grammar.specs.declared.syntax.node.Node.TheFolds.{fold-roll-Node, map-Node}
+use Rattle.ag_grammar.specs.declared.syntax.node.Node.TheOpen.{Node-F}
+use Rattle.ag_grammar.specs.declared.syntax.node.Node.TheVariants as node_of
+use Rattle.ag_grammar.specs.declared.syntax.node.Operator.TheVariants.{Add}
 use Rattle.ag_grammar.specs.expressions.Evaluation.{Meaning, value_step, value_in, value_of}
 use Rattle.ag_grammar.specs.values.Arguments.{leftmost}
 use Rattle.ag_grammar.specs.values.Fitting.{fit}

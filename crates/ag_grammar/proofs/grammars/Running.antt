@@ -17,7 +17,7 @@ use Rattle.ag_grammar.specs.grammars.Sample.{sample, sample_passes, sample_tree,
 use Rattle.ag_grammar.specs.grammars.Solution.{AnyRule, NoRule, OfPass, SameAt, Solves, Valuation}
 use Rattle.ag_grammar.proofs.grammars.EachNode.{OfPasses, same_itself, same_on, same_weaker, solves_each, solves_wider}
 use Rattle.ag_grammar.proofs.grammars.Kept.{equations_kept}
-use Rattle.ag_grammar.proofs.grammars.NumberSample.{accepted as sample_accepted, fits as sample_fits, solved as sample_solved}
+use Rattle.ag_grammar.proofs.grammars.samples.NumberSample.{accepted as sample_accepted, fits as sample_fits, solved as sample_solved}
 use Rattle.ag_grammar.proofs.grammars.OneSolution.{counterpart, one_solution}
 
 -- an attribute's pass is none behind the last one

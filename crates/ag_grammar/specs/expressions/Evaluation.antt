@@ -4,10 +4,10 @@ use Rattle.ag_value.specs.declared.value.ErrorCode.TheVariants.{Kind}
 use Rattle.ag_value.specs.declared.value.Value.{Value}
 use Rattle.ag_value.specs.declared.value.Value.TheVariants as value
 use Rattle.ag_value.specs.Well.{IsWell}
-use Rattle.ag_grammar.specs.declared.node.Operator.{Operator}
-use Rattle.ag_grammar.specs.declared.node.Node.{Node}
-use Rattle.ag_grammar.specs.declared.node.Node.TheFolds.{fold-Node}
-use Rattle.ag_grammar.specs.declared.node.Node.TheOpen.{Node-F}
+use Rattle.ag_grammar.specs.declared.syntax.node.Operator.{Operator}
+use Rattle.ag_grammar.specs.declared.syntax.node.Node.{Node}
+use Rattle.ag_grammar.specs.declared.syntax.node.Node.TheFolds.{fold-Node}
+use Rattle.ag_grammar.specs.declared.syntax.node.Node.TheOpen.{Node-F}
 use Rattle.ag_grammar.specs.values.Calls.{called, called_with, chosen, put}
 use Rattle.ag_grammar.specs.values.Fitting.{fit}
 use Rattle.ag_grammar.specs.values.Lists.{listed}

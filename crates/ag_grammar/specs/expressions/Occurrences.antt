@@ -1,7 +1,7 @@
 -- The occurrences of attributes in an expression. All of this is this project's.
 use Rattle.std.specs.Prelude.{◌≡◌, List}
 use Rattle.std.specs.List.{AllPairs}
-use Rattle.ag_grammar.specs.declared.occurrence.Occ.{Occ}
+use Rattle.ag_grammar.specs.declared.syntax.occurrence.Occ.{Occ}
 
 -- two occurrences have another place or another name
 abbrev pub AreApart : Occ → Occ → Type 0

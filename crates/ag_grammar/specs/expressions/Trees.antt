@@ -1,9 +1,9 @@
 -- Which trees are those of expressions: the numbers of occurrences and bound names stand for something. All of this is this project's.
 use Rattle.std.specs.Prelude.{ℕ, suc, Bool, true, ◌&&◌, nat_lt, List, [], ◌∷◌, map}
-use Rattle.ag_grammar.specs.declared.node.Operator.{Operator}
-use Rattle.ag_grammar.specs.declared.node.Node.{Node}
-use Rattle.ag_grammar.specs.declared.node.Node.TheFolds.{fold-Node}
-use Rattle.ag_grammar.specs.declared.node.Node.TheOpen.{Node-F}
+use Rattle.ag_grammar.specs.declared.syntax.node.Operator.{Operator}
+use Rattle.ag_grammar.specs.declared.syntax.node.Node.{Node}
+use Rattle.ag_grammar.specs.declared.syntax.node.Node.TheFolds.{fold-Node}
+use Rattle.ag_grammar.specs.declared.syntax.node.Node.TheOpen.{Node-F}
 
 -- every operand of a chain passes, and every item of a list, with so many names bound around them
 abbrev pub all_pass : ℕ → List (Operator × (ℕ → Bool)) → Bool

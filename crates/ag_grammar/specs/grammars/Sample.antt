@@ -8,9 +8,9 @@
 --   S = NAME "if" { $0.out = $1.lex; }
 use Rattle.std.specs.Prelude.{ℕ, zero, suc, List, [], ◌∷◌, ◌++◌, pos}
 use Rattle.ag_value.specs.declared.value.Value.{Value, Num, Text}
-use Rattle.ag_grammar.specs.declared.node.Node.TheVariants as node_of
-use Rattle.ag_grammar.specs.declared.node.Operator.TheVariants.{Add}
-use Rattle.ag_grammar.specs.declared.occurrence.Occ.{Occ}
+use Rattle.ag_grammar.specs.declared.syntax.node.Node.TheVariants as node_of
+use Rattle.ag_grammar.specs.declared.syntax.node.Operator.TheVariants.{Add}
+use Rattle.ag_grammar.specs.declared.syntax.occurrence.Occ.{Occ}
 use Rattle.ag_grammar.specs.declared.grammar.Item.TheVariants as item
 use Rattle.ag_grammar.specs.declared.grammar.Production.{Production}
 use Rattle.ag_grammar.specs.declared.grammar.Rule.{Rule}

@@ -4,10 +4,10 @@ use Rattle.ag_value.specs.declared.value.ErrorCode.TheVariants.{Kind}
 use Rattle.ag_value.specs.declared.value.Value.{Value, out-Value}
 use Rattle.ag_value.specs.declared.value.Value.TheOpen.{Value-F}
 use Rattle.ag_value.specs.declared.value.Value.TheVariants as value
-use Rattle.ag_grammar.specs.declared.node.BinaryCall.{BinaryCall}
-use Rattle.ag_grammar.specs.declared.node.BinaryCall.TheVariants as binary
-use Rattle.ag_grammar.specs.declared.node.UnaryCall.{UnaryCall}
-use Rattle.ag_grammar.specs.declared.node.UnaryCall.TheVariants as unary
+use Rattle.ag_grammar.specs.declared.syntax.node.BinaryCall.{BinaryCall}
+use Rattle.ag_grammar.specs.declared.syntax.node.BinaryCall.TheVariants as binary
+use Rattle.ag_grammar.specs.declared.syntax.node.UnaryCall.{UnaryCall}
+use Rattle.ag_grammar.specs.declared.syntax.node.UnaryCall.TheVariants as unary
 use Rattle.ag_grammar.specs.values.Arguments.{or_else, strict, tested}
 use Rattle.ag_grammar.specs.values.Lists.{appended, length_of, nth_of}
 use Rattle.ag_grammar.specs.values.Numbers.{decimal_of, number_of}

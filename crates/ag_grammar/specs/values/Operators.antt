@@ -6,8 +6,8 @@ use Rattle.ag_value.specs.declared.value.Value.TheOpen.{Value-F}
 use Rattle.ag_value.specs.declared.value.Value.TheVariants as value
 use Rattle.ag_value.specs.Spelling.{spelling_of}
 use Rattle.ag_value.specs.Well.{is_before}
-use Rattle.ag_grammar.specs.declared.node.Operator.{Operator}
-use Rattle.ag_grammar.specs.declared.node.Operator.TheVariants as operator
+use Rattle.ag_grammar.specs.declared.syntax.node.Operator.{Operator}
+use Rattle.ag_grammar.specs.declared.syntax.node.Operator.TheVariants as operator
 use Rattle.ag_grammar.specs.values.Arguments.{strict, truth}
 use Rattle.ag_grammar.specs.values.Lists.{concatenated}
 use Rattle.ag_grammar.specs.values.Numbers.{number_value, of_numbers, quotient, remainder}

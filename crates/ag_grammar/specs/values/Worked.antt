@@ -2,10 +2,10 @@
 use Rattle.std.specs.Prelude.{ℕ, ℤ, pos, negsuc, List, [], ◌∷◌, codes}
 use Rattle.ag_value.specs.declared.value.Value.{Value}
 use Rattle.ag_value.specs.declared.value.Value.TheVariants as value
-use Rattle.ag_grammar.specs.declared.node.Node.{Node}
-use Rattle.ag_grammar.specs.declared.node.Node.TheVariants as node
-use Rattle.ag_grammar.specs.declared.node.Operator.TheVariants as operator
-use Rattle.ag_grammar.specs.declared.node.UnaryCall.TheVariants as unary
+use Rattle.ag_grammar.specs.declared.syntax.node.Node.{Node}
+use Rattle.ag_grammar.specs.declared.syntax.node.Node.TheVariants as node
+use Rattle.ag_grammar.specs.declared.syntax.node.Operator.TheVariants as operator
+use Rattle.ag_grammar.specs.declared.syntax.node.UnaryCall.TheVariants as unary
 
 abbrev pub number : ℕ → Value
 number n = value.Num (pos n)

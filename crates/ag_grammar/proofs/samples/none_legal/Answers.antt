@@ -1,4 +1,4 @@
-use Rattle.ag_grammar.proofs.grammars.Refused.{none_legal}
+use Rattle.ag_grammar.proofs.grammars.samples.Refused.{none_legal}
 use Rattle.ag_grammar.proofs.samples.none_legal.Goals as goal
 
 pub returns : goal.returns

@@ -1,4 +1,4 @@
-use Rattle.ag_scan.proofs.LiteralWords.{literal_none, literal_cut}
+use Rattle.ag_scan.proofs.words.LiteralWords.{literal_none, literal_cut}
 use Rattle.ag_scan.proofs.cutting.literal_in_front.Goals as goal
 
 pub returns-in_default : goal.returns-in_default

@@ -1,5 +1,5 @@
 use Rattle.std.proofs.lemmas.Str.{encodes-chars}
-use Rattle.ag_scan.proofs.LiteralWords.{boundary, split_characters}
+use Rattle.ag_scan.proofs.words.LiteralWords.{boundary, split_characters}
 use Rattle.ag_scan.proofs.cutting.split_word.Goals as goal
 
 pub split_at-requires : goal.split_at-requires

@@ -1,7 +1,7 @@
 use Rattle.std.proofs.Common.{Some, None, option_map, sym, chars}
 use Rattle.ag_scan.specs.Cutting.{front_of}
 use Rattle.ag_scan.specs.Words.{over}
-use Rattle.ag_scan.proofs.Choosing.{chosen, lent_word}
+use Rattle.ag_scan.proofs.words.Choosing.{chosen, lent_word}
 use Rattle.ag_scan.proofs.cutting.word_in_front.Goals as goal
 
 pub returns-in_default : goal.returns-in_default

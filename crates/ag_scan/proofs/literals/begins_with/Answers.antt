@@ -1,5 +1,5 @@
 use Rattle.std.proofs.Common.{rules}
-use Rattle.ag_scan.proofs.Orders.{told_front}
+use Rattle.ag_scan.proofs.words.Orders.{told_front}
 use Rattle.ag_scan.proofs.literals.begins_with.Goals as goal
 
 pub returns : goal.returns

@@ -1,6 +1,6 @@
 use Rattle.std.proofs.Common.{rules}
 use Rattle.std.proofs.lemmas.List.Sorted.{IsPartitionPoint-from_clause}
-use Rattle.ag_scan.proofs.Tables.{stands_up, parted, up_to_point, none_past_point}
+use Rattle.ag_scan.proofs.words.Tables.{stands_up, parted, up_to_point, none_past_point}
 use Rattle.ag_scan.proofs.literals.count_up_to.Goals as goal
 
 pub returns-clause-up_to : goal.returns-clause-up_to

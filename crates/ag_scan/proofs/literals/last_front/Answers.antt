@@ -1,7 +1,7 @@
 use Rattle.std.proofs.Common.{◌<◌, ◌≤◌, ◌-◌, length, arith, subst, sym}
 use Rattle.std.proofs.lemmas.Option.{slice_get-get_or}
 use Rattle.ag_scan.specs.Table.{NoFront}
-use Rattle.ag_scan.proofs.Tables.{goes_on, links_below}
+use Rattle.ag_scan.proofs.words.Tables.{goes_on, links_below}
 use Rattle.ag_scan.proofs.literals.last_front.Goals as goal
 
 pub loop-limit-smaller : goal.loop-limit-smaller

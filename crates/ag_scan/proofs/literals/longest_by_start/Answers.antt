@@ -1,4 +1,4 @@
-use Rattle.ag_scan.proofs.Beginnings.{sole_told}
+use Rattle.ag_scan.proofs.words.Beginnings.{sole_told}
 use Rattle.ag_scan.proofs.literals.longest_by_start.Goals as goal
 
 pub returns-in-Sole : goal.returns-in-Sole

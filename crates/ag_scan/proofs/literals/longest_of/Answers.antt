@@ -1,6 +1,6 @@
 use Rattle.std.proofs.Common.{◌<◌, length, arith}
 use Rattle.std.proofs.lemmas.Option.{slice_get-get_or}
-use Rattle.ag_scan.proofs.Tables.{last_is_longest}
+use Rattle.ag_scan.proofs.words.Tables.{last_is_longest}
 use Rattle.ag_scan.proofs.literals.longest_of.Goals as goal
 
 pub returns : goal.returns

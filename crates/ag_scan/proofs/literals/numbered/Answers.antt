@@ -1,5 +1,5 @@
 use Rattle.std.proofs.Common.{◌≡◌, length, arith, subst}
-use Rattle.ag_scan.proofs.Tables.{AreFirst, all_first}
+use Rattle.ag_scan.proofs.words.Tables.{AreFirst, all_first}
 use Rattle.ag_scan.proofs.literals.numbered.Goals as goal
 
 pub returns-clause-literals : goal.returns-clause-literals

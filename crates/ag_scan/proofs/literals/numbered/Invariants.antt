@@ -1,4 +1,4 @@
-use Rattle.ag_scan.proofs.Tables.{AreFirst}
+use Rattle.ag_scan.proofs.words.Tables.{AreFirst}
 use Rattle.ag_scan.proofs.literals.numbered.Given as goal
 
 abbrev pub invariant-loop-number : goal.invariant-loop-number

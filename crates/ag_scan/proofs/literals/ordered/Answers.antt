@@ -1,6 +1,6 @@
 use Rattle.std.proofs.Common.{rules}
 use Rattle.std.proofs.lemmas.List.Sorted.{answers_always}
-use Rattle.ag_scan.proofs.Tables.{moved, sorted_is_ordered}
+use Rattle.ag_scan.proofs.words.Tables.{moved, sorted_is_ordered}
 use Rattle.ag_scan.proofs.literals.ordered.Goals as goal
 
 pub returns-clause-literals : goal.returns-clause-literals

@@ -1,6 +1,6 @@
 use Rattle.std.proofs.Common.{◌<◌, sym, arith}
 use Rattle.std.proofs.lemmas.Option.{slice_get-get_or}
-use Rattle.ag_scan.proofs.Beginnings.{one_told}
+use Rattle.ag_scan.proofs.words.Beginnings.{one_told}
 use Rattle.ag_scan.proofs.starts.starts_of.Goals as goal
 
 pub loop-index-preserved : goal.loop-index-preserved

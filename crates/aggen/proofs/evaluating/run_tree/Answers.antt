@@ -2,8 +2,8 @@ use Rattle.std.proofs.Common.{◌≡◌, ◌+◌, ◌-◌, ◌∙◌, refl, subs
 use Rattle.std.proofs.lemmas.Result.{err_from_is_err_and}
 use Rattle.ag_grammar.specs.grammars.AttributeGrammar.{Grammar}
 use Rattle.passassign.specs.Rows.{IsGreatest, passes_of}
-use Rattle.planchecker.specs.Settings.{setting_of}
-use Rattle.passrun.specs.Ahead.{IsRunFault}
+use Rattle.planchecker.specs.courses.Settings.{setting_of}
+use Rattle.passrun.specs.passing.Ahead.{IsRunFault}
 use Rattle.passrun.specs.Passed.{IsPassed}
 use Rattle.passrun.specs.Rounds.{HasRunAll}
 use Rattle.passrun.proofs.Totals.{greatest_is_last}

@@ -1,7 +1,7 @@
 use Rattle.std.proofs.Common.{ap, ◌∙◌}
 use Rattle.std.proofs.lemmas.Result.{err_from_is_err_and}
-use Rattle.treefile.specs.Ending.{last_body_of}
-use Rattle.treefile.specs.TreeFile.{version_two}
+use Rattle.treefile.specs.ways.Ending.{last_body_of}
+use Rattle.treefile.specs.records.TreeFile.{version_two}
 use Rattle.aggen.proofs.Reading.{body_told, last_of, place_told, value_told, want_told}
 use Rattle.aggen.proofs.value_file.read_file.Goals as goal
 

@@ -1,6 +1,6 @@
 use Rattle.std.proofs.Common.{◌<◌, length, sym, arith}
 use Rattle.ag_scan.specs.Handed.{token_of}
-use Rattle.llparse.proofs.Nexts.{is_left}
+use Rattle.llparse.proofs.answers.Nexts.{is_left}
 use Rattle.cases.proofs.sentences.shown.Goals as goal
 
 pub advance-requires : goal.advance-requires

@@ -1,4 +1,4 @@
-use Rattle.treefile.proofs.Texts.{texts_are_given}
+use Rattle.treefile.proofs.records.Texts.{texts_are_given}
 use Rattle.llparse.proofs.laws.texts_are_given.Goals as goal
 
 pub returns : goal.returns

@@ -1,5 +1,5 @@
 use Rattle.std.proofs.Common.{drop, refl}
-use Rattle.llparse.proofs.Shown.{whole}
+use Rattle.llparse.proofs.steps.Shown.{whole}
 use Rattle.llparse.proofs.laws.what_is_left_is_so.Goals as goal
 
 pub returns : goal.returns

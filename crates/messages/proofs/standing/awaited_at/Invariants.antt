@@ -1,4 +1,4 @@
-use Rattle.treefile.specs.Device.{LeavesContent, Persists}
+use Rattle.treefile.specs.devices.Device.{LeavesContent, Persists}
 use Rattle.messages.proofs.standing.awaited_at.Given as goal
 
 abbrev pub invariant-loop : goal.invariant-loop

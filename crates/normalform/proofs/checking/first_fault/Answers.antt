@@ -1,6 +1,6 @@
 -- The goals of `first_fault` that are left.
 use Rattle.std.proofs.Common.{sym, ◌∙◌}
-use Rattle.normalform.specs.Faults.{in_names}
+use Rattle.normalform.specs.faults.Faults.{in_names}
 use Rattle.normalform.proofs.checking.first_fault.Goals as goal
 
 pub returns-in-Some : goal.returns-in-Some

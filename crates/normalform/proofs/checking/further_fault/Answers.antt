@@ -1,8 +1,8 @@
 -- The goals of `further_fault` that are left.
 use Rattle.std.proofs.Common.{◌≡◌, Some, None, map, sym, ◌∙◌}
-use Rattle.normalform.specs.Faults.{first_wrong, rule_kinds, limit_places, further_places}
-use Rattle.normalform.specs.Numbers.{symbol_of}
-use Rattle.normalform.proofs.Wrong.{first_of, rest_of}
+use Rattle.normalform.specs.faults.Faults.{first_wrong, rule_kinds, limit_places, further_places}
+use Rattle.normalform.specs.numbers.Numbers.{symbol_of}
+use Rattle.normalform.proofs.found.Wrong.{first_of, rest_of}
 use Rattle.normalform.proofs.checking.further_fault.Goals as goal
 
 pub returns-in-Some : goal.returns-in-Some

@@ -1,8 +1,8 @@
 -- The goals of `naming_fault` that are left.
 use Rattle.std.proofs.Common.{◌≡◌, ◌++◌, Some, None, map, sym, ◌∙◌}
-use Rattle.normalform.specs.Faults.{first_wrong, unknown, doubled, start_places}
-use Rattle.normalform.specs.Numbers.{symbol_of}
-use Rattle.normalform.proofs.Wrong.{first_of, rest_of}
+use Rattle.normalform.specs.faults.Faults.{first_wrong, unknown, doubled, start_places}
+use Rattle.normalform.specs.numbers.Numbers.{symbol_of}
+use Rattle.normalform.proofs.found.Wrong.{first_of, rest_of}
 use Rattle.normalform.proofs.checking.naming_fault.Goals as goal
 
 pub returns-in-Some : goal.returns-in-Some

@@ -1,8 +1,8 @@
 -- The goals of `number` that are left.
 use Rattle.std.proofs.Common.{◌≡◌, map, ap, ◌∙◌}
-use Rattle.normalform.specs.Numbers.{symbol_of, symbol_names, number_in, production_of, literals_of, classes_of}
-use Rattle.normalform.proofs.Accepting.{small, made}
-use Rattle.normalform.proofs.Reduced.{symbols}
+use Rattle.normalform.specs.numbers.Numbers.{symbol_of, symbol_names, number_in, production_of, literals_of, classes_of}
+use Rattle.normalform.proofs.numbered.Accepting.{small, made}
+use Rattle.normalform.proofs.found.Reduced.{symbols}
 use Rattle.normalform.proofs.checking.number.Goals as goal
 
 pub number_productions-requires : goal.number_productions-requires

@@ -1,7 +1,7 @@
 -- The goals of `rule_fault` that are left.
 use Rattle.std.proofs.Common.{◌≡◌, ◌++◌, Some, None, sym, ◌∙◌}
-use Rattle.normalform.specs.Faults.{first_wrong, missing, doubled_rules, not_given, not_found, rule_kinds}
-use Rattle.normalform.proofs.Wrong.{first_of, rest_of}
+use Rattle.normalform.specs.faults.Faults.{first_wrong, missing, doubled_rules, not_given, not_found, rule_kinds}
+use Rattle.normalform.proofs.found.Wrong.{first_of, rest_of}
 use Rattle.normalform.proofs.checking.rule_fault.Goals as goal
 
 pub returns-in-Some : goal.returns-in-Some

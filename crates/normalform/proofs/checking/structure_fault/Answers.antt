@@ -1,6 +1,6 @@
 -- The goals of `structure_fault` that are left.
 use Rattle.std.proofs.Common.{sym, ◌∙◌}
-use Rattle.normalform.specs.Faults.{in_rules}
+use Rattle.normalform.specs.faults.Faults.{in_rules}
 use Rattle.normalform.proofs.checking.structure_fault.Goals as goal
 
 pub unreachable-requires-clause-productive : goal.unreachable-requires-clause-productive

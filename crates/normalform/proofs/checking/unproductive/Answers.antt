@@ -2,12 +2,12 @@
 use Rattle.std.proofs.Common.{◌≡◌, [], length, ap, sym, ◌∙◌}
 use Rattle.std.proofs.lemmas.List.{length-map}
 use Rattle.closure.specs.Clauses.{Clauses}
-use Rattle.normalform.specs.Found.{IsFoundAt}
-use Rattle.normalform.specs.Lacking.{IsFirstLeft}
-use Rattle.normalform.specs.Numbers.{symbol_of}
+use Rattle.normalform.specs.faults.Found.{IsFoundAt}
+use Rattle.normalform.specs.faults.Lacking.{IsFirstLeft}
+use Rattle.normalform.specs.numbers.Numbers.{symbol_of}
 use Rattle.normalform.specs.declared.fault.NormalFault.TheVariants as fault
-use Rattle.normalform.proofs.Founds.{bounded, unproductive_found, all_productive, found_map, none_map}
-use Rattle.normalform.proofs.Reduced.{symbols, clauses}
+use Rattle.normalform.proofs.found.Founds.{bounded, unproductive_found, all_productive, found_map, none_map}
+use Rattle.normalform.proofs.found.Reduced.{symbols, clauses}
 use Rattle.normalform.proofs.checking.unproductive.Goals as goal
 
 pub new-requires : goal.new-requires

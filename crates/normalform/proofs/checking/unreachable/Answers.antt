@@ -3,12 +3,12 @@ use Rattle.std.proofs.Common.{◌≡◌, ◌<◌, [], ◌∷◌, All, length, ma
 use Rattle.std.proofs.lemmas.List.{length-map}
 use Rattle.closure.specs.Clauses.{Clauses}
 use Rattle.closure.specs.Edges.{along}
-use Rattle.normalform.specs.Found.{IsFoundAt}
-use Rattle.normalform.specs.Lacking.{IsFirstLeft}
-use Rattle.normalform.specs.Numbers.{symbol_of}
+use Rattle.normalform.specs.faults.Found.{IsFoundAt}
+use Rattle.normalform.specs.faults.Lacking.{IsFirstLeft}
+use Rattle.normalform.specs.numbers.Numbers.{symbol_of}
 use Rattle.normalform.specs.declared.fault.NormalFault.TheVariants as fault
-use Rattle.normalform.proofs.Founds.{edges_bounded, unreached_found, all_reached, found_map, none_map, start_bounded}
-use Rattle.normalform.proofs.Reduced.{symbols, start, edges}
+use Rattle.normalform.proofs.found.Founds.{edges_bounded, unreached_found, all_reached, found_map, none_map, start_bounded}
+use Rattle.normalform.proofs.found.Reduced.{symbols, start, edges}
 use Rattle.normalform.proofs.checking.unreachable.Goals as goal
 
 pub of_edges-requires : goal.of_edges-requires

@@ -1,5 +1,5 @@
 -- The goals of `no_fault_where_accepted` that are left.
-use Rattle.normalform.proofs.Accepting.{no_fault}
+use Rattle.normalform.proofs.numbered.Accepting.{no_fault}
 use Rattle.normalform.proofs.laws.no_fault_where_accepted.Goals as goal
 
 pub returns : goal.returns

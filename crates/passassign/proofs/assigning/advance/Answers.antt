@@ -1,6 +1,6 @@
 use Rattle.std.proofs.Common.{◌≡◌, ◌≤◌, ◌<◌, ap, ◌∙◌, arith}
 use Rattle.passassign.specs.Progress.{open_count}
-use Rattle.passassign.proofs.Refusing.{refused}
+use Rattle.passassign.proofs.making.Refusing.{refused}
 use Rattle.passassign.proofs.assigning.advance.Goals as goal
 
 pub returns-clause-refused : goal.returns-clause-refused

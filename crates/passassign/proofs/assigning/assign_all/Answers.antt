@@ -4,7 +4,7 @@ use Rattle.passassign.specs.Progress.{open_count}
 use Rattle.passassign.specs.Rows.{numbers_of, passes_of, AreFew}
 use Rattle.passassign.specs.Least.{IsLeast}
 use Rattle.passassign.specs.Tables.{is_open, AreRowsOfTable}
-use Rattle.passassign.proofs.Finally.{with_of, first_made, least, few}
+use Rattle.passassign.proofs.making.Finally.{with_of, first_made, least, few}
 use Rattle.passassign.proofs.assigning.assign_all.Goals as goal
 
 pub loop-open_now-init : goal.loop-open_now-init

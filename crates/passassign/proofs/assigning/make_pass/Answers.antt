@@ -1,7 +1,7 @@
 use Rattle.std.proofs.Common.{◌+◌, subst, ap, ◌∙◌, refl}
 use Rattle.passassign.specs.Searching.{IsSearch, IsFinished}
 use Rattle.passassign.specs.Tables.{is_marked, after_pass, state_at}
-use Rattle.passassign.proofs.PassMade.{next_made}
+use Rattle.passassign.proofs.making.PassMade.{next_made}
 use Rattle.passassign.proofs.assigning.make_pass.Goals as goal
 
 pub returns-clause-made : goal.returns-clause-made

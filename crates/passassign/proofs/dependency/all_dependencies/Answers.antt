@@ -1,7 +1,7 @@
 use Rattle.std.proofs.Common.{◌≡◌, Some, slice_get, length, refl, ap, subst, sym, [], arith}
 use Rattle.std.proofs.lemmas.Option.{slice_get_read}
 use Rattle.passassign.specs.Dependencies.{IsByProduction, IsDependency}
-use Rattle.passassign.proofs.Adding.{adds_all, adds_more, adds_only}
+use Rattle.passassign.proofs.strikes.Adding.{adds_all, adds_more, adds_only}
 use Rattle.passassign.proofs.dependency.all_dependencies.Goals as goal
 
 pub loop-index-preserved : goal.loop-index-preserved

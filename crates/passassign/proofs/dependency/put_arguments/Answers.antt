@@ -2,7 +2,7 @@ use Rattle.std.proofs.Common.{◌≡◌, get_or, subst, sym}
 use Rattle.std.proofs.lemmas.Option.{slice_get-get_or}
 use Rattle.ag_grammar.specs.declared.grammar.Target.{Target}
 use Rattle.passassign.specs.Dependencies.{IsByArgument, Adds}
-use Rattle.passassign.proofs.Adding.{adds_all, adds_more, adds_push}
+use Rattle.passassign.proofs.strikes.Adding.{adds_all, adds_more, adds_push}
 use Rattle.passassign.proofs.dependency.put_arguments.Goals as goal
 
 pub loop-index-preserved : goal.loop-index-preserved

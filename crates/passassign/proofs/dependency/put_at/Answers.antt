@@ -1,5 +1,5 @@
 use Rattle.std.proofs.Common.{arith}
-use Rattle.passassign.proofs.DependentRows.{pushed}
+use Rattle.passassign.proofs.slots.DependentRows.{pushed}
 use Rattle.passassign.proofs.dependency.put_at.Goals as goal
 
 pub returns-in_ok-push-clause-put : goal.returns-in_ok-push-clause-put

@@ -1,4 +1,4 @@
-use Rattle.passassign.proofs.DependentRows.{put_there}
+use Rattle.passassign.proofs.slots.DependentRows.{put_there}
 use Rattle.passassign.proofs.dependency.put_dependent.Goals as goal
 
 pub returns-in_ok-put_at-in-Some-clause-put : goal.returns-in_ok-put_at-in-Some-clause-put

@@ -4,8 +4,8 @@ use Rattle.ag_grammar.specs.declared.grammar.Item.{Item}
 use Rattle.std.specs.List.{slice_get}
 use Rattle.passassign.specs.declared.dependency.Dependency.{Dependency}
 use Rattle.passassign.specs.Dependencies.{OfEach, IsByArgument, IsByRule, Adds, head_of, symbol_of}
-use Rattle.passassign.proofs.Adding.{adds_same}
-use Rattle.passassign.proofs.Few.{few_arguments}
+use Rattle.passassign.proofs.strikes.Adding.{adds_same}
+use Rattle.passassign.proofs.slots.Few.{few_arguments}
 use Rattle.passassign.proofs.dependency.put_rule.Goals as goal
 
 by_symbol : (places : List Item) (p r : ℕ) (rule : Rule) (s : ℕ) → symbol_of (slice_get places rule.target.place) ≡ Some s → (u : Dependency) → OfEach (IsByArgument places (head_of p r rule s) rule.target.place) rule.args u ↔ IsByRule places p r rule u

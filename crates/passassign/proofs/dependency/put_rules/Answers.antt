@@ -1,8 +1,8 @@
 use Rattle.std.proofs.Common.{◌≡◌, Some, slice_get, length, refl, ap, subst, sym, arith}
 use Rattle.std.proofs.lemmas.Option.{slice_get_read}
 use Rattle.passassign.specs.Dependencies.{IsByRule}
-use Rattle.passassign.proofs.Adding.{adds_all, adds_more}
-use Rattle.passassign.proofs.Few.{few_rules}
+use Rattle.passassign.proofs.strikes.Adding.{adds_all, adds_more}
+use Rattle.passassign.proofs.slots.Few.{few_rules}
 use Rattle.passassign.proofs.dependency.put_rules.Goals as goal
 
 pub loop-index-preserved : goal.loop-index-preserved

@@ -1,6 +1,6 @@
 use Rattle.std.proofs.Common.{◌∙◌}
 use Rattle.std.proofs.lemmas.Option.{slice_get-get_or}
-use Rattle.passassign.proofs.DependentRows.{rows_more, rows_all}
+use Rattle.passassign.proofs.slots.DependentRows.{rows_more, rows_all}
 use Rattle.passassign.proofs.dependency.rows_of.Goals as goal
 
 pub loop-one-preserved : goal.loop-one-preserved

@@ -1,4 +1,4 @@
-use Rattle.passassign.proofs.Fewest.{least_fewest}
+use Rattle.passassign.proofs.making.Fewest.{least_fewest}
 use Rattle.passassign.proofs.laws.least_has_fewest.Goals as goal
 
 pub returns : goal.returns

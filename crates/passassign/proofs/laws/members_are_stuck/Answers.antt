@@ -1,4 +1,4 @@
-use Rattle.passassign.proofs.Rest.{members_stuck}
+use Rattle.passassign.proofs.making.Rest.{members_stuck}
 use Rattle.passassign.proofs.laws.members_are_stuck.Goals as goal
 
 pub returns : goal.returns

@@ -1,4 +1,4 @@
-use Rattle.passassign.proofs.Rest.{rest_stuck}
+use Rattle.passassign.proofs.making.Rest.{rest_stuck}
 use Rattle.passassign.proofs.laws.rest_is_stuck.Goals as goal
 
 pub returns : goal.returns

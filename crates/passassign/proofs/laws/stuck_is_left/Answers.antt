@@ -1,4 +1,4 @@
-use Rattle.passassign.proofs.Whole.{stuck_left}
+use Rattle.passassign.proofs.making.Whole.{stuck_left}
 use Rattle.passassign.proofs.laws.stuck_is_left.Goals as goal
 
 pub returns : goal.returns

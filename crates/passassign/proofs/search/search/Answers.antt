@@ -3,7 +3,7 @@ use Rattle.std.proofs.lemmas.Option.{slice_get_read}
 use Rattle.ag_grammar.specs.Lists.{Has}
 use Rattle.passassign.specs.Dependencies.{row_at}
 use Rattle.passassign.specs.Searching.{IsBarred, Follows, struck_slot}
-use Rattle.passassign.proofs.Finishing.{search_none, looked_start, looked_more, finished}
+use Rattle.passassign.proofs.strikes.Finishing.{search_none, looked_start, looked_more, finished}
 use Rattle.passassign.proofs.search.search.Goals as goal
 
 pub loop-at-init : goal.loop-at-init

@@ -1,5 +1,5 @@
 use Rattle.std.proofs.Common.{◌-◌, length}
-use Rattle.passassign.proofs.Finishing.{IsLookedAt}
+use Rattle.passassign.proofs.strikes.Finishing.{IsLookedAt}
 use Rattle.passassign.proofs.search.search.Given as goal
 
 abbrev pub invariant-loop-at : goal.invariant-loop-at

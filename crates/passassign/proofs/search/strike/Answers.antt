@@ -1,6 +1,6 @@
 use Rattle.std.proofs.Common.{◌≡◌, true, set, subst, sym, ◌∙◌, ap}
 use Rattle.passassign.specs.Searching.{is_due, Follows}
-use Rattle.passassign.proofs.Following.{follows_one}
+use Rattle.passassign.proofs.strikes.Following.{follows_one}
 use Rattle.passassign.proofs.search.strike.Goals as goal
 
 pub returns-in_ok-push : goal.returns-in_ok-push

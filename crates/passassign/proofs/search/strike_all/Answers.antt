@@ -1,5 +1,5 @@
 use Rattle.std.proofs.Common.{◌≡◌, get_or, ◌∙◌, ◌+◌}
-use Rattle.passassign.proofs.Following.{Front, Any, front_follows, follows_same, front_has}
+use Rattle.passassign.proofs.strikes.Following.{Front, Any, front_follows, follows_same, front_has}
 use Rattle.passassign.proofs.search.strike_all.Goals as goal
 
 pub loop-one-preserved : goal.loop-one-preserved

@@ -1,7 +1,7 @@
 use Rattle.std.proofs.Common.{◌∙◌}
 use Rattle.ag_grammar.specs.Lists.{Has}
 use Rattle.passassign.specs.Searching.{IsBarred}
-use Rattle.passassign.proofs.Following.{Front, front_follows, follows_same, front_has}
+use Rattle.passassign.proofs.strikes.Following.{Front, front_follows, follows_same, front_has}
 use Rattle.passassign.proofs.search.strike_all_barred.Goals as goal
 
 pub loop-one-preserved : goal.loop-one-preserved

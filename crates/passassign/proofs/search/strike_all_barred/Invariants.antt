@@ -1,6 +1,6 @@
 use Rattle.std.proofs.Common.{◌≡◌, length}
 use Rattle.passassign.specs.Searching.{IsBarred, Follows}
-use Rattle.passassign.proofs.Following.{Front}
+use Rattle.passassign.proofs.strikes.Following.{Front}
 use Rattle.passassign.proofs.search.strike_all_barred.Given as goal
 
 abbrev pub invariant-loop-one : goal.invariant-loop-one

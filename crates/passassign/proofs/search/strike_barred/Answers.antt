@@ -1,6 +1,6 @@
 use Rattle.std.proofs.Common.{◌≡◌, subst, sym, refl}
 use Rattle.passassign.specs.Searching.{IsBarred}
-use Rattle.passassign.proofs.Following.{follows_same}
+use Rattle.passassign.proofs.strikes.Following.{follows_same}
 use Rattle.passassign.proofs.search.strike_barred.Goals as goal
 
 pub returns-in_ok-strike : goal.returns-in_ok-strike

@@ -1,6 +1,6 @@
 use Rattle.std.proofs.Common.{refl, arith}
 use Rattle.passassign.specs.Tables.{slot_of}
-use Rattle.passassign.proofs.OpenOnes.{open_more, open_within}
+use Rattle.passassign.proofs.slots.OpenOnes.{open_more, open_within}
 use Rattle.passassign.proofs.table.open_ones.Goals as goal
 
 pub loop-index-preserved : goal.loop-index-preserved

@@ -1,4 +1,4 @@
-use Rattle.passassign.proofs.OpenOnes.{AreOpenOnes}
+use Rattle.passassign.proofs.slots.OpenOnes.{AreOpenOnes}
 use Rattle.passassign.proofs.table.open_ones.Given as goal
 
 abbrev pub invariant-loop-index : goal.invariant-loop-index

@@ -1,7 +1,7 @@
 use Rattle.std.proofs.Common.{◌∙◌, ◌<◌, refl, subst, sym}
 use Rattle.std.proofs.lemmas.Option.{slice_get_read}
 use Rattle.passassign.specs.Rows.{numbers_of}
-use Rattle.passassign.proofs.TableRows.{rows_more, rows_end}
+use Rattle.passassign.proofs.slots.TableRows.{rows_more, rows_end}
 use Rattle.passassign.proofs.table.rows.Goals as goal
 
 pub loop-index-preserved : goal.loop-index-preserved

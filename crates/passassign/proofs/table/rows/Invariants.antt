@@ -1,5 +1,5 @@
 use Rattle.passassign.specs.Rows.{numbers_of}
-use Rattle.passassign.proofs.TableRows.{AreRowsBelow}
+use Rattle.passassign.proofs.slots.TableRows.{AreRowsBelow}
 use Rattle.passassign.proofs.table.rows.Given as goal
 
 abbrev pub invariant-loop-index : goal.invariant-loop-index

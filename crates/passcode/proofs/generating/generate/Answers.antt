@@ -1,7 +1,7 @@
 use Rattle.std.proofs.Common.{◌≡◌, length, sym, subst, arith}
 use Rattle.passassign.specs.Rows.{passes_of}
 use Rattle.passcode.specs.Shape.{HasLists}
-use Rattle.passcode.proofs.Collected.{AreCollected, all_rows, collected_agrees, collected_order, rows_more}
+use Rattle.passcode.proofs.lists.Collected.{AreCollected, all_rows, collected_agrees, collected_order, rows_more}
 use Rattle.passcode.proofs.Planned.{planned}
 use Rattle.passcode.proofs.Slices.{read_at, length_pushed}
 use Rattle.passcode.proofs.generating.generate.Goals as goal

@@ -1,6 +1,6 @@
 use Rattle.std.proofs.Common.{◌+◌, arith}
 use Rattle.passassign.specs.Rows.{passes_of}
-use Rattle.passcode.proofs.Collected.{lists_more, list_generated}
+use Rattle.passcode.proofs.lists.Collected.{lists_more, list_generated}
 use Rattle.passcode.proofs.Slices.{length_pushed}
 use Rattle.passcode.proofs.generating.lists_of.Goals as goal
 

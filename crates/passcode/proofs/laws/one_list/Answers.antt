@@ -1,4 +1,4 @@
-use Rattle.passcode.proofs.OneList.{one_list}
+use Rattle.passcode.proofs.lists.OneList.{one_list}
 use Rattle.passcode.proofs.laws.one_list.Goals as goal
 
 pub returns : goal.returns

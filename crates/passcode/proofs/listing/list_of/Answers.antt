@@ -1,5 +1,5 @@
 use Rattle.ag_grammar.specs.grammars.Passes.{direction_of}
-use Rattle.passcode.proofs.Parts.{list_made}
+use Rattle.passcode.proofs.lists.Parts.{list_made}
 use Rattle.passcode.proofs.listing.list_of.Goals as goal
 
 pub returns : goal.returns

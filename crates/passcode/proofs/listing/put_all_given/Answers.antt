@@ -1,7 +1,7 @@
 use Rattle.std.proofs.Common.{◌+◌}
 use Rattle.ag_grammar.specs.grammars.Passes.{direction_of}
 use Rattle.passcode.specs.Listing.{IsGivenBy, giving_key}
-use Rattle.passcode.proofs.Rising.{extends_more}
+use Rattle.passcode.proofs.lists.Rising.{extends_more}
 use Rattle.passcode.proofs.listing.put_all_given.Goals as goal
 
 pub loop-attr-preserved : goal.loop-attr-preserved

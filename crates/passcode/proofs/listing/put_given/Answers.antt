@@ -1,6 +1,6 @@
 use Rattle.std.proofs.Common.{sym}
 use Rattle.ag_grammar.specs.grammars.Passes.{direction_of}
-use Rattle.passcode.proofs.Parts.{given_pushed}
+use Rattle.passcode.proofs.lists.Parts.{given_pushed}
 use Rattle.passcode.proofs.listing.put_given.Goals as goal
 
 pub returns-in_ok-push-in-Some : goal.returns-in_ok-push-in-Some

@@ -1,4 +1,4 @@
-use Rattle.passcode.proofs.Parts.{go_pushed}
+use Rattle.passcode.proofs.lists.Parts.{go_pushed}
 use Rattle.passcode.proofs.listing.put_go.Goals as goal
 
 pub returns-in_ok-push-in-Symbol : goal.returns-in_ok-push-in-Symbol

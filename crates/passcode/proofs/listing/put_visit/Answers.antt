@@ -1,5 +1,5 @@
 use Rattle.ag_grammar.specs.grammars.Passes.{direction_of}
-use Rattle.passcode.proofs.Parts.{visit_made}
+use Rattle.passcode.proofs.lists.Parts.{visit_made}
 use Rattle.passcode.proofs.listing.put_visit.Goals as goal
 
 pub returns : goal.returns

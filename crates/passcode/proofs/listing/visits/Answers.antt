@@ -3,7 +3,7 @@ use Rattle.std.proofs.lemmas.Option.{slice_get-get_or}
 use Rattle.ag_grammar.specs.declared.grammar.Item.TheVariants as item
 use Rattle.ag_grammar.specs.declared.grammar.Item.{Item}
 use Rattle.ag_grammar.specs.grammars.Passes.{direction_of, nth}
-use Rattle.passcode.proofs.Parts.{visits_more_at, visits_end}
+use Rattle.passcode.proofs.lists.Parts.{visits_more_at, visits_end}
 use Rattle.passcode.proofs.listing.visits.Goals as goal
 
 pub loop-turn-preserved : goal.loop-turn-preserved

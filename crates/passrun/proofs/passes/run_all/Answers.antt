@@ -2,7 +2,7 @@ use Rattle.std.proofs.Common.{ℕ, List, sym, suc, ◌≡◌, ◌+◌, ◌-◌, 
 use Rattle.std.proofs.lemmas.Result.{err_from_is_err_and}
 use Rattle.passassign.specs.Rows.{passes_of}
 use Rattle.treefile.specs.Runs.{RunsPasses}
-use Rattle.treefile.specs.TreeFile.{version_two}
+use Rattle.treefile.specs.records.TreeFile.{version_two}
 use Rattle.passrun.specs.Rounds.{HasRunAll, other_content}
 use Rattle.passrun.proofs.Stepping.{all_goes_on, all_refused, all_starts, greatest_most, persists_on, persists_still}
 use Rattle.passrun.proofs.passes.run_all.Goals as goal

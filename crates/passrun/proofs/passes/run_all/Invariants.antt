@@ -1,7 +1,7 @@
 use Rattle.std.proofs.Common.{◌+◌, ◌-◌, ◌*◌, ◌≤◌}
 use Rattle.ag_grammar.specs.grammars.Tree.{most_nodes}
 use Rattle.passassign.specs.Rows.{passes_of}
-use Rattle.treefile.specs.Device.{Persists, WhenHonest}
+use Rattle.treefile.specs.devices.Device.{Persists, WhenHonest}
 use Rattle.passrun.specs.Rounds.{HasRunAll}
 use Rattle.passrun.proofs.passes.run_all.Given as goal
 

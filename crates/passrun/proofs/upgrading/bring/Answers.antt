@@ -2,12 +2,12 @@ use Rattle.std.proofs.Common.{◌≡◌, ℕ, Bool, List, [], ◌∷◌, Option,
 use Rattle.std.specs.Option.{option_map}
 use Rattle.std.proofs.lemmas.Result.{err_from_is_err_and}
 use Rattle.ag_grammar.specs.declared.grammar.Item.TheVariants as item
-use Rattle.treefile.specs.Backward.{next_before}
-use Rattle.treefile.specs.Ending.{Told}
-use Rattle.treefile.specs.TreeFile.{version_one}
+use Rattle.treefile.specs.ways.Backward.{next_before}
+use Rattle.treefile.specs.ways.Ending.{Told}
+use Rattle.treefile.specs.records.TreeFile.{version_one}
 use Rattle.backreader.specs.Place.{IsOver, Place}
 use Rattle.passrun.specs.Upgrading.{Brought, IsUnbrought, text_list}
-use Rattle.passrun.proofs.Ending.{none_lent}
+use Rattle.passrun.proofs.course.Ending.{none_lent}
 use Rattle.passrun.proofs.Refusing.{some_lent}
 use Rattle.passrun.proofs.Upgraded.{begins_at, fault_behind, left_over, not_begun, of_other_pass, whole_brought}
 use Rattle.passrun.proofs.upgrading.bring.Goals as goal

@@ -1,6 +1,6 @@
 use Rattle.std.proofs.lemmas.Option.{slice_get-get_or}
 use Rattle.passassign.specs.Rows.{passes_of}
-use Rattle.planchecker.specs.Following.{IsDue}
+use Rattle.planchecker.specs.courses.Following.{IsDue}
 use Rattle.planchecker.proofs.Checked.{too_short, whole, wrong_at}
 use Rattle.planchecker.proofs.Loops.{front_more, is_no, is_yes}
 use Rattle.planchecker.proofs.following.first_wrong.Goals as goal

@@ -1,5 +1,5 @@
 use Rattle.passassign.specs.Rows.{passes_of}
-use Rattle.planchecker.specs.Following.{IsDue}
+use Rattle.planchecker.specs.courses.Following.{IsDue}
 use Rattle.planchecker.proofs.Loops.{Front}
 use Rattle.planchecker.proofs.following.first_wrong.Given as goal
 

@@ -1,4 +1,4 @@
-use Rattle.planchecker.proofs.Stepwise.{agrees_by_steps}
+use Rattle.planchecker.proofs.courses.Stepwise.{agrees_by_steps}
 use Rattle.planchecker.proofs.laws.agrees_by_steps.Goals as goal
 
 pub returns : goal.returns

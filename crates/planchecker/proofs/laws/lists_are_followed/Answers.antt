@@ -1,4 +1,4 @@
-use Rattle.planchecker.proofs.Sounding.{lists_are_followed}
+use Rattle.planchecker.proofs.courses.Sounding.{lists_are_followed}
 use Rattle.planchecker.proofs.laws.lists_are_followed.Goals as goal
 
 pub returns : goal.returns

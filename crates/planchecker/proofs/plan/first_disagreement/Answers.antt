@@ -5,7 +5,7 @@ use Rattle.passcode.proofs.Planned.{planned}
 use Rattle.passcode.proofs.Slices.{read_at}
 use Rattle.planchecker.specs.Agreeing.{AreListsFor, IsFirstList}
 use Rattle.planchecker.proofs.Checked.{few_lists, first_production_of, lists_is, row_within}
-use Rattle.passassign.proofs.Few.{few_rules}
+use Rattle.passassign.proofs.slots.Few.{few_rules}
 use Rattle.planchecker.proofs.Loops.{front_more, front_whole}
 use Rattle.planchecker.proofs.plan.first_disagreement.Goals as goal
 

@@ -1,8 +1,8 @@
 use Rattle.std.proofs.Common.{◌+◌, arith, subst}
 use Rattle.std.proofs.lemmas.Result.{err_from_is_err_and}
 use Rattle.passassign.specs.Rows.{IsGreatest}
-use Rattle.planchecker.specs.Settings.{setting_of}
-use Rattle.passrun.specs.Reading.{IsNoNode}
+use Rattle.planchecker.specs.courses.Settings.{setting_of}
+use Rattle.passrun.specs.reading.Reading.{IsNoNode}
 use Rattle.roottext.proofs.Roots.{no_root, out_within, root_read, same_fault, started}
 use Rattle.roottext.proofs.root.out_value.Goals as goal
 

@@ -1,5 +1,5 @@
 use Rattle.backreader.specs.Place.{IsOver}
-use Rattle.treefile.specs.Device.{WhenHonest}
+use Rattle.treefile.specs.devices.Device.{WhenHonest}
 use Rattle.rows.proofs.contents.bodies_told.Given as goal
 
 abbrev pub invariant-loop-turn : goal.invariant-loop-turn

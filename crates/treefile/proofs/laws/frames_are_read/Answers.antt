@@ -1,4 +1,4 @@
-use Rattle.treefile.proofs.Frames.{frame_is_read, read_is_frame, told_as_damaged}
+use Rattle.treefile.proofs.records.Frames.{frame_is_read, read_is_frame, told_as_damaged}
 use Rattle.treefile.proofs.laws.frames_are_read.Goals as goal
 
 pub returns-clause-read : goal.returns-clause-read

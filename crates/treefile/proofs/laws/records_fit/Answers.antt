@@ -1,4 +1,4 @@
-use Rattle.treefile.proofs.Sizes.{body_size}
+use Rattle.treefile.proofs.records.Sizes.{body_size}
 use Rattle.treefile.proofs.laws.records_fit.Goals as goal
 
 pub returns-clause-greatest : goal.returns-clause-greatest

@@ -1,6 +1,6 @@
 use Rattle.std.proofs.Common.{refl, sym, ◌∙◌}
-use Rattle.treefile.specs.FirstFile.{first_file}
-use Rattle.treefile.proofs.FirstFile.{first_file_is, is_first_file}
+use Rattle.treefile.specs.records.FirstFile.{first_file}
+use Rattle.treefile.proofs.records.FirstFile.{first_file_is, is_first_file}
 use Rattle.treefile.proofs.tree_laws.first_files_are_one.Goals as goal
 
 pub returns-clause-there : goal.returns-clause-there

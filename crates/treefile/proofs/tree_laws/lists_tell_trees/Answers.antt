@@ -1,4 +1,4 @@
-use Rattle.treefile.proofs.Orders.{one_tree, one_tree_at_end}
+use Rattle.treefile.proofs.records.Orders.{one_tree, one_tree_at_end}
 use Rattle.treefile.proofs.tree_laws.lists_tell_trees.Goals as goal
 
 pub returns-clause-begins : goal.returns-clause-begins

@@ -1,4 +1,4 @@
-use Rattle.treefile.proofs.Listing.{bytes_are_left, listed_record, value_is_missing}
+use Rattle.treefile.proofs.records.Listing.{bytes_are_left, listed_record, value_is_missing}
 use Rattle.treefile.proofs.tree_laws.records_are_read.Goals as goal
 
 pub returns : goal.returns

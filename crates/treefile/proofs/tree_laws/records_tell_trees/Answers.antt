@@ -1,5 +1,5 @@
-use Rattle.treefile.proofs.OneTree.{tree_at_end, tree_in_front}
-use Rattle.treefile.proofs.Spelled.{same_node}
+use Rattle.treefile.proofs.records.OneTree.{tree_at_end, tree_in_front}
+use Rattle.treefile.proofs.records.Spelled.{same_node}
 use Rattle.treefile.proofs.tree_laws.records_tell_trees.Goals as goal
 
 pub returns : goal.returns

@@ -1,5 +1,5 @@
-use Rattle.treefile.proofs.Coming.{all_to_come, awaited_are_there, next_to_come}
-use Rattle.treefile.proofs.Way.{no_file_has_no_tree, one_record, way_begins, way_breaks, way_ends, way_goes_on, way_is_too_long}
+use Rattle.treefile.proofs.ways.Coming.{all_to_come, awaited_are_there, next_to_come}
+use Rattle.treefile.proofs.ways.Way.{no_file_has_no_tree, one_record, way_begins, way_breaks, way_ends, way_goes_on, way_is_too_long}
 use Rattle.treefile.proofs.tree_laws.refusals_are_true.Goals as goal
 
 pub returns : goal.returns

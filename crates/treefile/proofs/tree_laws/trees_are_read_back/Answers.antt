@@ -1,4 +1,4 @@
-use Rattle.treefile.proofs.Records.{file_back, file_fits}
+use Rattle.treefile.proofs.records.Records.{file_back, file_fits}
 use Rattle.treefile.proofs.tree_laws.trees_are_read_back.Goals as goal
 
 pub returns-clause-bodies : goal.returns-clause-bodies

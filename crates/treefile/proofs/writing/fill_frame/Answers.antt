@@ -1,7 +1,7 @@
 use Rattle.std.proofs.Common.{subst, sym}
-use Rattle.treefile.proofs.Records.{is_body}
-use Rattle.treefile.specs.Ending.{IsBody}
-use Rattle.treefile.specs.TreeFile.{version_two}
+use Rattle.treefile.proofs.records.Records.{is_body}
+use Rattle.treefile.specs.ways.Ending.{IsBody}
+use Rattle.treefile.specs.records.TreeFile.{version_two}
 use Rattle.treefile.proofs.writing.fill_frame.Goals as goal
 
 -- the record of few well values is a body

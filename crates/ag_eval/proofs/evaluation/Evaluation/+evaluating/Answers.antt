@@ -1,8 +1,8 @@
 use Rattle.std.proofs.Common.{◌≡◌, ◌∙◌, ◌++◌, ◌∷◌, [], List, ap, length, map, refl, rules, subst, sym, true}
 use Rattle.std.specs.Result.{IfOk, OnOk}
 use Rattle.ag_value.specs.declared.value.Value.{Value}
-use Rattle.ag_grammar.specs.declared.node.Node.{Node, the_lemmas}
-use Rattle.ag_grammar.specs.declared.node.Operator.{Operator}
+use Rattle.ag_grammar.specs.declared.syntax.node.Node.{Node, the_lemmas}
+use Rattle.ag_grammar.specs.declared.syntax.node.Operator.{Operator}
 use Rattle.ag_grammar.specs.expressions.Evaluation.{Meaning, chain_value, value_in}
 use Rattle.ag_eval.specs.Operands.{operand_value}
 use Rattle.ag_grammar.specs.expressions.Trees.{all_below, is_within}

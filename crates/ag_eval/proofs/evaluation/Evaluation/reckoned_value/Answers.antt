@@ -1,8 +1,8 @@
 use Rattle.std.proofs.Common.{◌≡◌, ◌∙◌, List, [], ap, map, subst, sym}
 use Rattle.std.specs.Option.{IfSome}
 use Rattle.ag_value.specs.declared.value.Value.{Value}
-use Rattle.ag_grammar.specs.declared.node.Node.{Node}
-use Rattle.ag_grammar.specs.declared.node.Operator.{Operator}
+use Rattle.ag_grammar.specs.declared.syntax.node.Node.{Node}
+use Rattle.ag_grammar.specs.declared.syntax.node.Operator.{Operator}
 use Rattle.ag_grammar.specs.expressions.Evaluation.{Meaning, chain_value, value_in}
 use Rattle.ag_grammar.proofs.expressions.Trees.{chain_is}
 use Rattle.ag_eval.proofs.evaluation.Evaluation.reckoned_value.Goals as goal

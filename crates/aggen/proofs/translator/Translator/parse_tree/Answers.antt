@@ -1,6 +1,6 @@
 use Rattle.std.proofs.Common.{Err, ap, inr, refl, sym, ◌∙◌}
 use Rattle.std.proofs.lemmas.Result.{err_from_is_err_and}
-use Rattle.treefile.proofs.Beginning.{not_begun}
+use Rattle.treefile.proofs.ways.Beginning.{not_begun}
 use Rattle.aggen.specs.Sentences.{IsTreeOfSentence}
 use Rattle.aggen.proofs.Sentences.{one_of, parse_told, scan_told, with_tokens}
 use Rattle.aggen.proofs.translator.Translator.parse_tree.Goals as goal

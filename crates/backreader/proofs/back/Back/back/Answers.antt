@@ -3,10 +3,10 @@ use Rattle.std.specs.Option.{option_map}
 use Rattle.backreader.specs.Place.{IsLarge, Place, Progress, progress_after}
 use Rattle.backreader.specs.Windows.{taken, unread}
 use Rattle.backreader.proofs.Standing.{told_as_well}
-use Rattle.treefile.proofs.Frames.{length_part}
-use Rattle.treefile.specs.Backward.{before_frame, next_before}
-use Rattle.treefile.specs.Ending.{Told, greatest_body}
-use Rattle.treefile.specs.TreeFile.{version_of}
+use Rattle.treefile.proofs.records.Frames.{length_part}
+use Rattle.treefile.specs.ways.Backward.{before_frame, next_before}
+use Rattle.treefile.specs.ways.Ending.{Told, greatest_body}
+use Rattle.treefile.specs.records.TreeFile.{version_of}
 use Rattle.treefile.specs.declared.reading.FrameFault.{FrameFault}
 use Rattle.treefile.specs.declared.reading.FrameFault.TheVariants.{NoMemory}
 use Rattle.backreader.proofs.back.Back.back.Goals as goal

@@ -1,6 +1,6 @@
 use Rattle.std.proofs.Common.{subst}
 use Rattle.passassign.specs.Dependencies.{AreRows}
-use Rattle.passassign.proofs.Linked.{placed}
+use Rattle.passassign.proofs.slots.Linked.{placed}
 use Rattle.passassign.proofs.search.Dependencies.of.Goals as goal
 
 pub returns-clause-rows : goal.returns-clause-rows

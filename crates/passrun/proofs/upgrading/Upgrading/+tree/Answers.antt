@@ -11,10 +11,10 @@ use Rattle.ag_grammar.specs.declared.grammar.Production.{Production}
 use Rattle.ag_grammar.specs.grammars.AttributeGrammar.{Grammar, IsProduction, stored_items}
 use Rattle.backreader.specs.Place.{Progress}
 use Rattle.passrun.specs.Upgrading.{Brought, HasTaken, IsOf, IsUnbrought, text_list}
-use Rattle.treefile.specs.TreeFile.{body_of, frame}
+use Rattle.treefile.specs.records.TreeFile.{body_of, frame}
 use Rattle.treefile.specs.declared.body.Kind.TheVariants.{Node, Token}
 use Rattle.passrun.proofs.Brought.{next_brought, next_refused, node_brought, node_of, none_brought, one_text, text_is_well, token_brought}
-use Rattle.treefile.proofs.Backward.{All-reverse}
+use Rattle.treefile.proofs.ways.Backward.{All-reverse}
 use Rattle.passrun.proofs.Recorded.{production_is}
 use Rattle.passrun.proofs.upgrading.Upgrading.+tree.Goals as goal
 

@@ -1,7 +1,7 @@
 use Rattle.std.proofs.Common.{◌≡◌, ◌+◌, ◌-◌, ◌≤◌, suc, All, drop, take, length}
 use Rattle.ag_value.specs.Well.{IsWell}
 use Rattle.passrun.specs.Upgrading.{Brought, IsReady}
-use Rattle.treefile.specs.Device.{LeavesContent, Persists, WhenHonest}
+use Rattle.treefile.specs.devices.Device.{LeavesContent, Persists, WhenHonest}
 use Rattle.passrun.proofs.upgrading.Upgrading.+tree.Given as goal
 
 abbrev pub decreases-tree : goal.decreases-tree

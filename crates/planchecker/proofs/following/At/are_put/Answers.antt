@@ -2,7 +2,7 @@ use Rattle.std.proofs.Common.{inl, inr, sym, subst, arith}
 use Rattle.std.proofs.lemmas.Bool.{cases_eq}
 use Rattle.passcode.specs.declared.instr.Instr.TheVariants as instr
 use Rattle.passcode.specs.Agreement.{HasPlace, StandsBefore}
-use Rattle.planchecker.proofs.Completing.{place_small}
+use Rattle.planchecker.proofs.courses.Completing.{place_small}
 use Rattle.planchecker.proofs.Loops.{is_yes, says_yes}
 use Rattle.planchecker.proofs.following.At.are_put.Goals as goal
 

@@ -8,9 +8,9 @@ use Rattle.ag_grammar.specs.grammars.Passes.{Passes}
 use Rattle.passassign.specs.Rows.{passes_of}
 use Rattle.passcode.specs.declared.instr.Instr.{Instr}
 use Rattle.passcode.specs.Agreement.{IsAtHand}
-use Rattle.passassign.proofs.Linked.{same_parts}
+use Rattle.passassign.proofs.slots.Linked.{same_parts}
 use Rattle.passcode.proofs.Slices.{read_at}
-use Rattle.planchecker.specs.Following.{IsOwnRule}
+use Rattle.planchecker.specs.courses.Following.{IsOwnRule}
 use Rattle.planchecker.proofs.Loops.{is_yes}
 use Rattle.planchecker.proofs.following.At.is_own_rule.Goals as goal
 

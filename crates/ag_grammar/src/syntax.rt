@@ -1,0 +1,6 @@
+//! Expressions of rules as data.
+
+pub mod expression;
+pub mod literal;
+pub mod node;
+pub mod occurrence;

@@ -1,0 +1,67 @@
+//! Expressions as values of the program.
+
+ghost use Rattle.std.specs.Prelude.{◌≡◌, length, true};
+ghost use Rattle.ag_grammar.specs.expressions.Occurrences.{AreDifferent};
+ghost use Rattle.ag_grammar.specs.expressions.Trees.{is_below};
+
+use crate::syntax::node::Node;
+use crate::syntax::occurrence::Occ;
+use smallvec::SmallVec;
+use std::marker::Model;
+
+/// An expression: its tree, and the different occurrences in it in the order of their first
+/// appearance.
+#[derive(Debug, Drop)]
+pub struct Expr {
+    node: Node,
+    occurrences: SmallVec<Occ, 4>,
+}
+
+impl Model for Expr {
+    ghost use Rattle.std.specs.Prelude.{◌≡◌, List, length, true};
+    ghost use Rattle.ag_grammar.specs.expressions.Occurrences.{AreDifferent};
+    ghost use Rattle.ag_grammar.specs.expressions.Trees.{is_below};
+    ghost use Rattle.std.specs.Coded.{codes};
+    ghost use Rattle.ag_grammar.specs.declared.syntax.node.Node.{Node};
+    ghost use Rattle.ag_grammar.specs.declared.syntax.occurrence.Occ.{Occ};
+    ghost use Rattle.ag_grammar.specs.contracts.syntax.node.Node as node_row;
+
+    ghost Value = { Node × List Occ };
+
+    ghost coded = { Prim.hlevel (codes, node_row.the_row.coded) };
+
+    ghost view = { λ e. (e.node, e.occurrences.items) };
+
+    ghost invariant = { λ e. (is_below (length e.occurrences.items) e.node ≡ true)
+        × AreDifferent e.occurrences.items };
+}
+
+impl Expr {
+    /// The expression of a tree, and of the different occurrences that the tree knows by their
+    /// numbers. Takes no memory.
+    pub fn new(node: Node, occurrences: SmallVec<Occ, 4>) -> Expr
+        requires below { is_below (length occurrences.items) node ≡ true }
+        requires different { AreDifferent occurrences.items }
+        ensures { result ≡ (node, occurrences.items) }
+    {
+        Expr { node, occurrences }
+    }
+
+    /// Lends the tree. Takes no memory.
+    pub fn tree(&self) -> &Node
+        ensures value { result.now ≡ self.now.0 }
+        ensures below { is_below (length self.now.1) result.now ≡ true }
+    {
+        &self.node
+    }
+}
+
+/// Lends the different occurrences of an expression, in the order of their first appearance in its
+/// text. Takes no memory.
+pub fn occurrences(expr: &Expr) -> &[Occ]
+    ensures lent { result.now ≡ expr.now.1 }
+    ensures listed { is_below (length result.now) expr.now.0 ≡ true }
+    ensures different { AreDifferent result.now }
+{
+    expr.occurrences.as_slice()
+}

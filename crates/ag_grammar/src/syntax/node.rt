@@ -1,0 +1,84 @@
+//! The tree of an expression.
+
+use crate::syntax::literal::Literal;
+use ag_value::{Boxed, Items};
+
+/// What a chain does with the value so far and an operand's.
+#[derive(Clone, Copy, Debug, PartialEq, Eq)]
+pub enum Operator {
+    /// `==`
+    Equal,
+    /// `<`
+    Less,
+    /// `++`
+    Join,
+    /// `+`
+    Add,
+    /// `-`
+    Subtract,
+    /// `*`
+    Multiply,
+    /// `div`
+    Divide,
+    /// `mod`
+    Remainder,
+}
+
+/// A call of one argument.
+#[derive(Clone, Copy, Debug, PartialEq, Eq)]
+pub enum UnaryCall {
+    /// `len(a)`
+    Len,
+    /// `text(n)`
+    Text,
+    /// `number(t)`
+    Number,
+    /// `keys(t)`
+    Keys,
+    /// `iserr(v)`
+    IsError,
+}
+
+/// A call of two arguments.
+#[derive(Clone, Copy, Debug, PartialEq, Eq)]
+pub enum BinaryCall {
+    /// `nth(l, i)`
+    Nth,
+    /// `append(l, v)`
+    Append,
+    /// `join(l, s)`
+    Join,
+    /// `get(t, k)`
+    Get,
+    /// `has(t, k)`
+    Has,
+    /// `orelse(v, w)`
+    OrElse,
+}
+
+/// The tree of an expression.
+#[derive(Debug, Drop)]
+pub enum Node {
+    /// A number or text literal.
+    Literal(Literal),
+    /// An occurrence, by its number in the list of the expression's occurrences, from 0.
+    Occurrence(usize),
+    /// A bound name, by its number among the names that are bound around it, the outermost 0.
+    Bound(usize),
+    /// A first operand, and then one operator and operand or more, which group from the left.
+    Chain(Boxed<Node>, Items<(Operator, Node)>),
+    /// `let x = e in f`: the definition of the name, and the body in which it is bound.
+    Let(Boxed<Node>, Boxed<Node>),
+    /// `if c then e else f`
+    If(Boxed<Node>, Boxed<Node>, Boxed<Node>),
+    /// A call of one argument.
+    Unary(UnaryCall, Boxed<Node>),
+    /// A call of two arguments.
+    Binary(BinaryCall, Boxed<Node>, Boxed<Node>),
+    /// `put(t, k, v)`
+    Put(Boxed<Node>, Boxed<Node>, Boxed<Node>),
+    /// `[a, ..]`
+    List(Items<Node>),
+    /// `{}`
+    EmptyTable,
+}

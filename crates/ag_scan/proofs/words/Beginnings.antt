@@ -1,0 +1,60 @@
+-- Looking up a literal by the byte that a text begins with.
+use Rattle.std.proofs.Common.{◌≡◌, ℕ, ◌+◌, ◌<◌, List, ◌∷◌, ◌++◌, length, get_or, Option, Some, None, IfSome, IfNone, MatchOption, slice_get, refl, ap, sym, ◌∙◌, subst, arith}
+use Rattle.std.proofs.Math.ListN.{set}
+use Rattle.std.proofs.lemmas.List.{length-set, get_or-set_other}
+use Rattle.std.proofs.lemmas.Grind.{get_or-set_at}
+use Rattle.std.proofs.lemmas.Option.{slice_get_within}
+use Rattle.ag_scan.specs.declared.literals.Word.{Word}
+use Rattle.ag_scan.specs.declared.starts.Start.{Start}
+use Rattle.ag_scan.specs.declared.starts.Start.TheVariants.{Sole}
+use Rattle.ag_scan.specs.Table.{IsFront, IsTable, IsLongestFront, HasNoFront, AreTold, Tells, with_one}
+use Rattle.ag_scan.proofs.words.Tables.{compared, same_there}
+
+-- what is told of a word stays so when a word more begins with its byte
+still_told : (k : ℕ) (s : Start) (index : ℕ) → Tells k s → Tells k (with_one s index)
+still_told k s index h = grind arith
+
+newly_told : (s : Start) (index : ℕ) → Tells index (with_one s index)
+newly_told s index = grind arith
+
+-- one word more is told of
+module _ (words : List Word) (starts : List Start) (index b : ℕ) (rest : List ℕ) (w : Word) (s : Start) (told : AreTold words starts index) (there : slice_get words index ≡ Some w) (text : w.text.now ≡ b ∷ rest) (byte : b < 256) (is : get_or starts b s ≡ s) where
+  within : b < length starts
+  within = omega (arith, told.whole)
+
+  kept : (k c : ℕ) → ((d : Start) → Tells k (get_or starts c d)) → (d : Start) → Tells k (get_or (set starts b (with_one s index)) c d)
+  kept k c old d = let at_d = old d in let at_s = old s in let still = still_told k s index in grind (arith, get_or-set_other, get_or-set_at)
+
+  by : (k : ℕ) (u : Word) → k < index + 1 → slice_get words k ≡ Some u → (c : ℕ) × (more : List ℕ) × (u.text.now ≡ c ∷ more) × ((d : Start) → Tells k (get_or (set starts b (with_one s index)) c d))
+  by k u below at =
+      compared k index
+      (λ less. let old = told.each k u less at in (old.0, old.1, old.2, kept k old.0 old.3))
+      (λ same. (b, rest, ap (λ (v : Word). v.text.now) (same_there words k index u w at there same) ∙ text, λ d. (let new = newly_told s index in grind (arith, get_or-set_at))))
+      (λ more. let bad : ⊥ = omega arith in absurd bad)
+
+  pub one_told : AreTold words (set starts b (with_one s index)) (index + 1)
+  one_told = record { whole = length-set starts b (with_one s index) ∙ told.whole; each = by }
+
+-- What the table tells of a text that begins with a byte with which one word alone begins.
+module _ (literals : List (List ℕ)) (words : List Word) (shorter : List (Option ℕ)) (table : IsTable literals words shorter) (starts : List Start) (told : AreTold words starts (length words)) (text : List ℕ) (b : ℕ) (rest : List ℕ) (e : text ≡ b ∷ rest) (d : Start) (i : ℕ) (sole : get_or starts b d ≡ Sole i) where
+  -- a literal in front is that word
+  sole_front : (n : ℕ) (x : List ℕ) → slice_get literals n ≡ Some x → IsFront x text → (w : Word) × (slice_get words i ≡ Some w) × (w.text.now ≡ x)
+  sole_front n x at front =
+      let found = table.literals_all.whole n x at in
+      let of = told.each found.0 found.1 (slice_get_within words found.0 found.1 found.2) found.2 in
+      let both : of.0 ∷ (of.1 ++ front.0) ≡ b ∷ rest = ap (λ y. y ++ front.0) (sym of.2 ∙ found.3) ∙ sym front.1 ∙ e in
+      let first : of.0 ≡ b = cc in
+      let same : i ≡ found.0 = subst (Tells found.0) sole (rw first at (of.3 d)) in
+      (found.1, rw same found.2, found.3)
+
+  pub sole_told : (r : Option Word) → IfSome r (λ w. slice_get words i ≡ Some w) → IfSome r (λ w. IsFront w.text.now text) → IfNone r ((w : Word) → slice_get words i ≡ Some w → IsFront w.text.now text → ⊥)
+      → MatchOption r (HasNoFront literals text) (λ w. IsLongestFront literals text w)
+  sole_told None there front not_here = λ n x at is. (let (w, here, same) = sole_front n x at is in not_here w here (rw same is))
+  sole_told (Some w) there front not_here = record {
+    numbered = table.literals_all.numbered i w there;
+    front = front;
+    longest = λ n x at is.
+        let (u, here, same) = sole_front n x at is in
+        let one = same_there words i i w u there here refl in
+        omega (arith, ap (λ (v : Word). length v.text.now) one, ap length same);
+  }

@@ -1,0 +1,152 @@
+-- Looking up the longest literal in front of a text in a table of literals.
+use Rattle.std.proofs.Common.{Bor, Bool, true, false, get_or, ◌≡◌, ℕ, zero, suc, ◌+◌, ◌<◌, ◌≤◌, ◌⊎◌, inl, inr, List, [], ◌∷◌, ◌++◌, length, Option, Some, slice_get, refl, ap, sym, ◌∙◌, subst, arith}
+use Rattle.std.proofs.lemmas.List.{length-append}
+use Rattle.std.specs.Cmp.{ranks}
+use Rattle.std.specs.Cmp.Lexicographic.{slice_cmp, on_texts}
+use Rattle.std.specs.List.Sorted.{IsPermutation, IsSortedByKey, IsPartitionedBy, IsPartitionPoint}
+use Rattle.std.proofs.lemmas.List.Sorted.{All-permutation, Contains-permutation, sorted_far, ranks_by}
+use Rattle.std.proofs.lemmas.Option.{get_or_from_slice_get, slice_get-get_or, slice_get_within, same_Some}
+use Rattle.std.specs.Ordering.{nat_cmp, is_le, MatchOrdering}
+use Rattle.std.specs.declared.cmp.Ordering.{Ordering}
+use Rattle.std.specs.declared.cmp.Ordering.TheVariants.{Less, Equal, Greater}
+use Rattle.ag_scan.specs.declared.literals.Word.{Word}
+use Rattle.ag_scan.specs.Table.{IsFront, IsUpTo, AreUpTo, NoFront, IsLastFront, GivesLast, behind_last, AreLinked, AreOrdered, AreLiterals, IsTable, IsLongestFront}
+use Rattle.ag_scan.proofs.words.Orders.{front_between, front_is_up, up_up, not_less}
+
+-- an element stands at each index of a list
+pub some_there : {A : Type 0} (xs : List A) (i : ℕ) → i < length xs → (x : A) × (slice_get xs i ≡ Some x)
+some_there [] i h = absurd (omega arith)
+some_there (x ∷ xs) zero h = (x, refl)
+some_there (x ∷ xs) (suc i) h = some_there xs i (omega arith)
+
+pub same_there : {A : Type 0} (xs : List A) (i j : ℕ) (x y : A) → slice_get xs i ≡ Some x → slice_get xs j ≡ Some y → i ≡ j → x ≡ y
+same_there xs i j x y ex ey e = grind arith
+
+-- a front is no longer than what it is in front of
+pub front_fits : (p text : List ℕ) → IsFront p text → length p ≤ length text
+front_fits p text (rest, e) = omega (arith, ap length e, length-append p rest)
+
+-- behind the last word before a word that is in front of its text, none is
+pub last_behind : (words : List Word) (bound : ℕ) (text : List ℕ) (o : Option ℕ) → GivesLast words bound text o → NoFront words (behind_last o) bound text
+last_behind words bound text o h = grind arith
+
+pub last_below : (words : List Word) (bound : ℕ) (text : List ℕ) (o : Option ℕ) → GivesLast words bound text o → behind_last o ≤ bound
+last_below words bound text o h = grind arith
+
+-- where a number stands beside another
+pub compared : {A : Type 0} (i k : ℕ) → (i < k → A) → (i ≡ k → A) → (k < i → A) → A
+compared {A = A} i k less same more = go (nat_cmp i k) (ranks i k)
+  where
+    go : (o : Ordering) → MatchOrdering o (i < k) (i ≡ k) (k < i) → A
+    go Less h = less h
+    go Equal h = same h
+    go Greater h = more h
+
+pub split : {A : Type 0} (i k : ℕ) → (i < k → A) → (k ≤ i → A) → A
+split i k less others = compared i k less (λ same. others (omega arith)) (λ more. others (omega arith))
+
+module _ (words : List Word) (shorter : List (Option ℕ)) (bound : ℕ) (text : List ℕ) (ordered : AreOrdered words) (linked : AreLinked words shorter) (up : AreUpTo words bound text) where
+  -- the word at `last` is not in front: the next that may be is the one that it is linked to
+  pub goes_on : (limit last : ℕ) (w : Word) (o : Option ℕ) → limit ≤ bound → limit ≡ last + 1 → NoFront words limit bound text → slice_get words last ≡ Some w → slice_get shorter last ≡ Some o → (IsFront w.text.now text → ⊥)
+      → NoFront words (behind_last o) bound text
+  goes_on limit last w o within is none there link not_here =
+      let lower = last_behind words last w.text.now o (linked.each last w o there link) in
+      record {
+        none = λ i u low high at front.
+            compared i last
+            (λ less. lower.none i u low less at (front_between u.text.now w.text.now text (ordered.each i last u w (omega arith) at there) (up.each last w (omega arith) there) front))
+            (λ same. not_here (subst (λ (u : Word). IsFront u.text.now text) (same_there words i last u w at there same) front))
+            (λ more. none.none i u (omega arith) high at front);
+      }
+
+-- the last of the words up to the text that is in front of it is the longest literal that is
+module _ (literals : List (List ℕ)) (words : List Word) (shorter : List (Option ℕ)) (table : IsTable literals words shorter) (bound : ℕ) (text : List ℕ) (up : AreUpTo words bound text) (others : NoFront words bound (length words) text) where
+  pub last_is_longest : (k : ℕ) (w : Word) → IsLastFront words bound text k → slice_get words k ≡ Some w → IsLongestFront literals text w
+  last_is_longest k w last there = record { numbered = table.literals_all.numbered k w there; front = front; longest = longest }
+    where
+      front : IsFront w.text.now text
+      front = subst (λ (u : Word). IsFront u.text.now text) (same_there words k k last.word w last.there there refl) last.front
+
+      fits : (j : ℕ) (u : Word) → slice_get words j ≡ Some u → IsFront u.text.now text → length u.text.now ≤ length w.text.now
+      fits j u at is =
+          split k j
+          (λ more. absurd (split j bound (λ less. last.last.none j u (omega arith) less at is) (λ far. others.none j u far (slice_get_within words j u at) at is)))
+          (λ le. front_fits u.text.now w.text.now (front_between u.text.now w.text.now text (table.ordered.each j k u w le at there) (up.each k w last.below there) is))
+
+      longest : (n : ℕ) (x : List ℕ) → slice_get literals n ≡ Some x → IsFront x text → length x ≤ length w.text.now
+      longest n x at is = let found = table.literals_all.whole n x at in rw (← found.3) (fits found.0 found.1 found.2 (rw (← found.3) at is))
+
+-- ---- how the table is made
+
+-- an element of a list with one more at its end
+pub pushed : {A : Type 0} (xs : List A) (x : A) (i : ℕ) (y : A) → slice_get (xs ++ x ∷ []) i ≡ Some y → (slice_get xs i ≡ Some y) ⊎ ((i ≡ length xs) × (x ≡ y))
+pushed [] x i y e = inr (grind arith, grind arith)
+pushed (z ∷ xs) x zero y e = inl e
+pushed (z ∷ xs) x (suc i) y e = let more = pushed xs x i y e in grind arith
+
+-- the words so far are the first literals, each with its number
+pub record AreFirst (literals : List (List ℕ)) (words : List Word) (count : ℕ) : Type 0 where
+  pub many : length words ≡ count
+  pub each : (k : ℕ) (w : Word) → slice_get words k ≡ Some w → (w.number ≡ k) × (slice_get literals k ≡ Some w.text.now)
+
+pub all_first : (literals : List (List ℕ)) (words : List Word) → AreFirst literals words (length literals) → AreLiterals literals words
+all_first literals words first = record {
+  numbered = λ k w e. ap (slice_get literals) (first.each k w e).0 ∙ (first.each k w e).1;
+  whole = λ n x e.
+      let within : n < length literals = slice_get_within literals n x e in
+      let there = some_there words n (omega (arith, first.many)) in
+      let same : Some there.0.text.now ≡ Some x = sym (first.each n there.0 there.1).1 ∙ e in
+      (n, there.0, there.1, same_Some _ _ same);
+}
+
+-- the same words in another order
+pub moved : (literals : List (List ℕ)) (xs ys : List Word) → IsPermutation xs ys → AreLiterals literals xs → AreLiterals literals ys
+moved literals xs ys perm are = record {
+  numbered = λ k w e. subst (λ (w : Word). slice_get literals w.number ≡ Some w.text.now) (get_or_from_slice_get ys k w w e)
+      (All-permutation (λ w. slice_get literals w.number ≡ Some w.text.now) xs ys perm (λ i d lt. are.numbered i (get_or xs i d) (slice_get-get_or xs i d lt)) k w (slice_get_within ys k w e));
+  whole = λ n x e.
+      let old = are.whole n x e in
+      let new = Contains-permutation xs ys old.1 perm (old.0, slice_get_within xs old.0 old.1 old.2, get_or_from_slice_get xs old.0 old.1 old.1 old.2) in
+      (new.0, old.1, slice_get-get_or ys new.0 old.1 new.1 ∙ ap Some new.2, old.3);
+}
+
+pub sorted_is_ordered : (words : List Word) → IsSortedByKey (λ (w : Word). w.text) (λ x y. slice_cmp nat_cmp x.now y.now) words → AreOrdered words
+sorted_is_ordered words up = record {
+  each = λ i j a b le at there.
+      let far = sorted_far _ (ranks_by (on_texts (λ (x : Bor (List ℕ)). x.now)) (λ (w : Word). w.text)) words up i j a le (slice_get_within words j b there) in
+      not_less a.text.now b.text.now (rw (get_or_from_slice_get words j b a there, get_or_from_slice_get words i a a at) at far);
+}
+
+-- ---- where the text stands among the words
+
+-- whether a word stands no later than the text
+abbrev pub stands_up : List ℕ → Word → Bool
+stands_up text w = is_le (slice_cmp nat_cmp w.text.now text)
+
+up_of_test : (a b : List ℕ) → is_le (slice_cmp nat_cmp a b) ≡ true → IsUpTo a b
+up_of_test a b h = record { up = grind arith }
+
+test_of_up : (a b : List ℕ) → IsUpTo a b → is_le (slice_cmp nat_cmp a b) ≡ true
+test_of_up a b h = let up = h.up in grind arith
+
+pub parted : (words : List Word) (text : List ℕ) → AreOrdered words → IsPartitionedBy (stands_up text) words
+parted words text ordered i j d le within passes =
+    let first = slice_get-get_or words i d (omega arith) in
+    let second = slice_get-get_or words j d within in
+    test_of_up (get_or words i d).text.now text (up_up (get_or words i d).text.now (get_or words j d).text.now text (ordered.each i j (get_or words i d) (get_or words j d) le first second) (up_of_test (get_or words j d).text.now text passes))
+
+pub up_to_point : (words : List Word) (text : List ℕ) (n : ℕ) → IsPartitionPoint (λ w. stands_up text w ≡ true) (λ w. stands_up text w ≡ false) words n → AreUpTo words n text
+up_to_point words text n point = record { each = λ i w less at. up_of_test w.text.now text (subst (λ (u : Word). stands_up text u ≡ true) (get_or_from_slice_get words i w w at) (point.0 i w (omega arith) less)) }
+
+pub none_past_point : (words : List Word) (text : List ℕ) (n : ℕ) → IsPartitionPoint (λ w. stands_up text w ≡ true) (λ w. stands_up text w ≡ false) words n → NoFront words n (length words) text
+none_past_point words text n point = record {
+  none = λ i w low high at front.
+      let fails = point.1 i w low high in
+      let passes = test_of_up w.text.now text (front_is_up w.text.now text front) in
+      let same = get_or_from_slice_get words i w w at in
+      grind arith;
+}
+
+-- a link leads to a word before
+pub links_below : (words : List Word) (shorter : List (Option ℕ)) (last : ℕ) (o : Option ℕ) → AreLinked words shorter → last < length words → slice_get shorter last ≡ Some o → behind_last o ≤ last
+links_below words shorter last o linked within link = let word = some_there words last within in last_below words last word.0.text.now o (linked.each last word.0 o word.1 link)

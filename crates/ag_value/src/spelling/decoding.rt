@@ -1,0 +1,228 @@
+//! Reading a value from the bytes of its spelling.
+ghost use Rattle.std.specs.Prelude.{◌≡◌, ◌++◌, ◌≤◌, ℕ, List, [], true, false, length, take};
+ghost use Rattle.std.specs.Prelude.{IfOk, IfSome, IfNone, MatchResult};
+ghost use Rattle.std.specs.Int.{w32, w64};
+ghost use Rattle.std.specs.Str.{is_utf8};
+ghost use Rattle.ag_value.specs.Reading.{Gives, all_at, code_at, fault_at, number_at, pair_at};
+ghost use Rattle.ag_value.specs.Reading.{text_at, value_at};
+ghost use Rattle.ag_value.specs.Spelling.{spelling_of};
+ghost use Rattle.ag_value.specs.Well.{IsWell};
+ghost use Rattle.ag_value.specs.declared.value.Value.{Value};
+
+use crate::fault::ValueFault;
+use crate::items::Items;
+use crate::limits::MAX_DEPTH;
+use crate::text::Text;
+use crate::value::{ErrorCode, Value};
+use crate::walks::wellness::is_well;
+use std::alloc::Global;
+use std::str::from_utf8;
+
+/// The value whose spelling is a front of the input, and that front's length in bytes. Bytes may
+/// follow it.
+///
+/// `Malformed` (V1) is answered exactly where no front of the input is the spelling of a well
+/// value: what is answered is well and spelled so, and what begins with a spelling is read as that
+/// value.
+#[inline(always)]
+pub fn decode(alloc: Global, input: &[u8]) -> Result<(Value, usize), ValueFault>
+    ensures well { IfOk result (λ found. IsWell found.0) }
+    ensures within { IfOk result (λ found. found.1 ≤ length input.now) }
+    ensures spelled { IfOk result (λ found. take found.1 input.now ≡ spelling_of found.0) }
+    ensures read { (value : Value) (rest : List ℕ) → IsWell value
+        → input.now ≡ spelling_of value ++ rest
+        → MatchResult result
+        (λ found. found ≡ (value, length (spelling_of value)))
+        (λ e. e ≡ ValueFault.NoMemory) }
+{
+    let (value, rest) = front_of(alloc, MAX_DEPTH as usize, input)?;
+    if !is_well(&value) {
+        return Err(ValueFault::Malformed);
+    }
+    Ok((value, input.len() - rest.len()))
+}
+
+/// The value at the front, of at most so many levels of lists and tables: a number at once.
+#[inline(always)]
+#[tactic(auto, unfolding(crate::specs::Reading::value_at))]
+fn front_of(alloc: Global, levels: usize, bytes: &[u8]) -> Result<(Value, &[u8]), ValueFault>
+    ensures { Gives (λ x. (x.0, x.1.now)) result (value_at levels bytes.now) }
+{
+    match bytes {
+        [0, rest @ ..] => {
+            let (n, rest) = u64_of(rest)?;
+            Ok((Value::Num(n.cast_signed()), rest))
+        }
+        _ => value_of(alloc, levels, bytes),
+    }
+}
+
+/// The value at the front, of at most so many levels of lists and tables.
+#[cycle(reading)]
+#[tactic(auto, unfolding(crate::specs::Reading::value_at))]
+fn value_of(alloc: Global, levels: usize, bytes: &[u8]) -> Result<(Value, &[u8]), ValueFault>
+    ensures { Gives (λ x. (x.0, x.1.now)) result (value_at levels bytes.now) }
+{
+    match bytes {
+        [] => Err(ValueFault::Malformed),
+        [0, rest @ ..] => {
+            let (n, rest) = u64_of(rest)?;
+            Ok((Value::Num(n.cast_signed()), rest))
+        }
+        [1, rest @ ..] => {
+            let (text, rest) = text_of(alloc, rest)?;
+            Ok((Value::Text(text), rest))
+        }
+        [2, rest @ ..] => {
+            if levels == 0 {
+                return Err(ValueFault::Malformed);
+            }
+            let (count, rest) = u32_of(rest)?;
+            let (items, rest) = items_of(alloc, levels - 1, count, rest)?;
+            Ok((Value::List(items), rest))
+        }
+        [3, rest @ ..] => {
+            if levels == 0 {
+                return Err(ValueFault::Malformed);
+            }
+            let (count, rest) = u32_of(rest)?;
+            let (pairs, rest) = pairs_of(alloc, levels - 1, count, rest)?;
+            Ok((Value::Table(pairs), rest))
+        }
+        [4, rest @ ..] => fault_of(rest),
+        [_, ..] => Err(ValueFault::Malformed),
+    }
+}
+
+#[cycle(reading)]
+#[tactic(auto, using(crate::proofs::Turns::goes_on), unfolding(crate::specs::Reading::all_at))]
+fn items_of(
+    alloc: Global,
+    levels: usize,
+    count: u32,
+    bytes: &[u8],
+) -> Result<(Items<Value>, &[u8]), ValueFault>
+    ensures { Gives (λ x. (x.0, x.1.now)) result (all_at (value_at levels) count [] bytes.now) }
+{
+    let mut items = Vec::new(alloc);
+    let mut rest = bytes;
+    for _ in 0..count {
+        let (item, after) = value_of(alloc, levels, rest)?;
+        items.push(item)?;
+        rest = after;
+    }
+    Ok((Items::from_vec(items), rest))
+}
+
+#[cycle(reading)]
+#[tactic(auto, using(crate::proofs::Turns::goes_on), unfolding(crate::specs::Reading::all_at))]
+fn pairs_of(
+    alloc: Global,
+    levels: usize,
+    count: u32,
+    bytes: &[u8],
+) -> Result<(Items<(Text, Value)>, &[u8]), ValueFault>
+    ensures { Gives (λ x. (x.0, x.1.now)) result
+        (all_at (pair_at (value_at levels)) count [] bytes.now) }
+{
+    let mut pairs = Vec::new(alloc);
+    let mut rest = bytes;
+    for _ in 0..count {
+        let (pair, after) = pair_of(alloc, levels, rest)?;
+        pairs.push(pair)?;
+        rest = after;
+    }
+    Ok((Items::from_vec(pairs), rest))
+}
+
+#[cycle(reading)]
+#[tactic(auto, unfolding(crate::specs::Reading::pair_at))]
+fn pair_of(alloc: Global, levels: usize, bytes: &[u8]) -> Result<((Text, Value), &[u8]), ValueFault>
+    ensures { Gives (λ x. (x.0, x.1.now)) result (pair_at (value_at levels) bytes.now) }
+{
+    let (key, rest) = text_of(alloc, bytes)?;
+    let (value, rest) = value_of(alloc, levels, rest)?;
+    Ok(((key, value), rest))
+}
+
+#[tactic(auto, unfolding(crate::specs::Reading::fault_at))]
+fn fault_of(bytes: &[u8]) -> Result<(Value, &[u8]), ValueFault>
+    ensures { Gives (λ x. (x.0, x.1.now)) result (fault_at bytes.now) }
+{
+    match bytes {
+        [] => Err(ValueFault::Malformed),
+        [number, rest @ ..] => match code_of(*number) {
+            Some(code) => Ok((Value::Fault(code), rest)),
+            None => Err(ValueFault::Malformed),
+        },
+    }
+}
+
+fn code_of(number: u8) -> Option<ErrorCode>
+    ensures { result ≡ code_at number }
+{
+    match number {
+        1 => Some(ErrorCode::Overflow),
+        2 => Some(ErrorCode::Divide),
+        3 => Some(ErrorCode::Kind),
+        4 => Some(ErrorCode::Index),
+        5 => Some(ErrorCode::Key),
+        6 => Some(ErrorCode::Number),
+        7 => Some(ErrorCode::Big),
+        8 => Some(ErrorCode::Deep),
+        _ => None,
+    }
+}
+
+#[tactic(auto, unfolding(crate::specs::Reading::text_at))]
+fn text_of(alloc: Global, bytes: &[u8]) -> Result<(Text, &[u8]), ValueFault>
+    ensures { Gives (λ x. (x.0, x.1.now)) result (text_at bytes.now) }
+{
+    let (len, rest) = u32_of(bytes)?;
+    let len = len as usize;
+    if rest.len() < len {
+        return Err(ValueFault::Malformed);
+    }
+    let (front, rest) = rest.split_at(len);
+    let Some(text) = utf8_of(front) else {
+        return Err(ValueFault::Malformed);
+    };
+    Ok((Text::from_str(alloc, text)?, rest))
+}
+
+#[tactic(auto, using(crate::proofs::Utf8::utf8))]
+fn utf8_of(bytes: &[u8]) -> Option<&str>
+    ensures text { IfSome result (λ text. text.now ≡ bytes.now) }
+    ensures utf8 { IfSome result (λ _. is_utf8 bytes.now ≡ true) }
+    ensures none { IfNone result (is_utf8 bytes.now ≡ false) }
+{
+    match from_utf8(bytes) {
+        Ok(text) => Some(text),
+        Err(_) => None,
+    }
+}
+
+fn u32_of(bytes: &[u8]) -> Result<(u32, &[u8]), ValueFault>
+    ensures { Gives (λ x. (x.0, x.1.now)) result (number_at w32 bytes.now) }
+{
+    if bytes.len() < 4 {
+        return Err(ValueFault::Malformed);
+    }
+    let (front, rest) = bytes.split_at(4);
+    let number = u32::from_be_bytes([front[0], front[1], front[2], front[3]]);
+    Ok((number, rest))
+}
+
+#[inline(always)]
+fn u64_of(bytes: &[u8]) -> Result<(u64, &[u8]), ValueFault>
+    ensures { Gives (λ x. (x.0, x.1.now)) result (number_at w64 bytes.now) }
+{
+    if bytes.len() < 8 {
+        return Err(ValueFault::Malformed);
+    }
+    let (front, rest) = bytes.split_at(8);
+    let number = u64::from_be_bytes([
+        front[0], front[1], front[2], front[3], front[4], front[5], front[6], front[7],
+    ]);
+    Ok((number, rest))
+}

@@ -1,0 +1,90 @@
+//! Which values are well: those that the product makes, stores and takes.
+ghost use Rattle.std.specs.Prelude.{◌≡◌, ◌↔◌, ◌&&◌, ◌∷◌, IsTrue, map};
+ghost use Rattle.ag_value.specs.Well.{IsWell, all_true, are_keys, is_item, is_item_pair, key_of};
+
+use crate::limits::{MAX_DEPTH, MAX_WEIGHT};
+use crate::text::Text;
+use crate::value::Value;
+use crate::walks::measuring::{depth, weight};
+
+/// Whether a value is well: at most [`MAX_DEPTH`] deep and [`MAX_WEIGHT`] heavy, with keys that
+/// rise strictly by their bytes in every table, and with no error inside a list or table. Takes no
+/// memory.
+#[inline(always)]
+pub fn is_well(value: &Value) -> bool
+    ensures { IsTrue result ↔ IsWell value.now }
+{
+    // a number is, and most values are numbers; a read of it tells the prover that it is in range
+    if let Value::Num(n) = value {
+        let _in_range = *n;
+        return true;
+    }
+    let is_formed = matches!(value, Value::Fault(_)) || is_item(value);
+    is_formed && depth(value) <= MAX_DEPTH && weight(value) <= MAX_WEIGHT
+}
+
+/// Whether a value may stand in a list or table.
+#[cycle(items)]
+#[tactic(auto, using(crate::proofs::Layers::items, crate::proofs::Utf8::utf8))]
+fn is_item(value: &Value) -> bool
+    ensures { result ≡ is_item value.now }
+{
+    match value {
+        // each i64 is in range, which a read of it tells the prover
+        Value::Num(n) => {
+            let _in_range = *n;
+            true
+        }
+        // and each text is UTF-8
+        Value::Text(text) => {
+            let _utf8 = text.as_str();
+            true
+        }
+        Value::List(items) => are_items(items.as_slice()),
+        Value::Table(pairs) => is_keyed(pairs.as_slice()) && are_item_pairs(pairs.as_slice()),
+        Value::Fault(_) => false,
+    }
+}
+
+#[cycle(items)]
+fn are_items(items: &[Value]) -> bool
+    ensures { result ≡ all_true (map is_item items.now) }
+{
+    for item in items {
+        if !is_item(item) {
+            return false;
+        }
+    }
+    true
+}
+
+#[cycle(items)]
+fn are_item_pairs(pairs: &[(Text, Value)]) -> bool
+    ensures { result ≡ all_true (map is_item_pair pairs.now) }
+{
+    for pair in pairs {
+        if !is_item(&pair.1) {
+            return false;
+        }
+    }
+    true
+}
+
+/// Whether each key comes before the next by its bytes.
+#[tactic(auto, using(crate::proofs::Keys::keys))]
+fn is_keyed(pairs: &[(Text, Value)]) -> bool
+    ensures { result ≡ are_keys (map key_of pairs.now) }
+{
+    if pairs.is_empty() {
+        return true;
+    }
+    let mut before = pairs[0].0.as_str();
+    for pair in &pairs[1..] {
+        let key = pair.0.as_str();
+        if before >= key {
+            return false;
+        }
+        before = key;
+    }
+    true
+}

@@ -1,0 +1,82 @@
+-- The texts that a parser keeps: at the end of a node its own are few, and each is well.
+use Rattle.std.proofs.Common.{◌≡◌, ℕ, ◌≤◌, List, [], ◌∷◌, ◌++◌, length, take, drop, All, refl, ap, sym, ◌∙◌, subst, arith}
+use Rattle.std.proofs.lemmas.List.{drop_at, length-append, take_at}
+use Rattle.std.proofs.lemmas.List.Elements.{All-cons, All-nil}
+use Rattle.ag_value.specs.declared.value.Value.{Value, Text}
+use Rattle.ag_value.specs.Well.{IsWell}
+use Rattle.ag_grammar.specs.declared.grammar.Item.TheVariants as item
+use Rattle.ag_grammar.specs.declared.grammar.Item.{Item}
+use Rattle.ag_grammar.specs.declared.grammar.Production.{Production}
+use Rattle.ag_grammar.specs.declared.grammar.Terminal.TheVariants.{Literal, Class}
+use Rattle.ag_grammar.specs.grammars.Accepted.{IsAccepted, most_stored}
+use Rattle.ag_grammar.specs.grammars.AttributeGrammar.{Grammar, stored_items, IsProduction}
+use Rattle.ag_grammar.specs.grammars.Tree.{Tree, leaf, node, Forest, none, more, Fits, FitsAll, IsTreeOf}
+use Rattle.ag_grammar.specs.grammars.Yield.{Lexeme}
+use Rattle.llparse.specs.sentence.Opened.{joined, Open, Continues}
+use Rattle.treefile.specs.records.FirstFile.{leaf_texts}
+use Rattle.llparse.specs.sentence.Parsing.{Task, Made, Reading, kept}
+use Rattle.llparse.specs.declared.sentence.parser.OpenNode.{OpenNode}
+use Rattle.llparse.proofs.steps.Begins.{finish}
+use Rattle.treefile.proofs.records.FirstFile.{text_well}
+use Rattle.llparse.proofs.steps.Steps as step
+
+pub texts-joined : (a b : Forest) → leaf_texts (joined a b) ≡ leaf_texts a ++ leaf_texts b
+texts-joined none b = refl
+texts-joined (more (leaf c x) a) b = ap (λ z. Text x ∷ z) (texts-joined a b)
+texts-joined (more (node p us) a) b = texts-joined a b
+
+-- texts are parted where those of a node begin
+pub parted : (texts others own : List Value) (base : ℕ) → texts ≡ others ++ own → base ≡ length others → (take base texts ≡ others) × (drop base texts ≡ own)
+parted texts others own base is at = (ap (take base) is ∙ take_at others own base (sym at), ap (drop base) is ∙ drop_at others own base (sym at))
+
+module _ (g : Grammar) where
+  -- trees of some items have no more texts, and each is well
+  texts_fit : (xs : List Item) (ts : Forest) → FitsAll g xs ts → (length (leaf_texts ts) ≤ length xs) × All IsWell (leaf_texts ts)
+  texts_fit [] none f = (omega arith, All-nil IsWell)
+  texts_fit [] (more t ts) f = absurd f
+  texts_fit (x ∷ xs) none f = absurd f
+  texts_fit (item.Symbol s ∷ xs) (more (leaf c x) ts) f = absurd f.0
+  texts_fit (item.Terminal (Literal l) ∷ xs) (more (leaf c x) ts) f = absurd f.0
+  texts_fit (item.Terminal (Class d) ∷ xs) (more (leaf c x) ts) f =
+      let others = texts_fit xs ts f.1 in
+      (omega (arith, others.0), All-cons IsWell (Text x) (leaf_texts ts) (text_well x f.0.1) others.1)
+  texts_fit (x ∷ xs) (more (node p us) ts) f =
+      let others = texts_fit xs ts f.1 in
+      (omega (arith, others.0), others.1)
+
+  -- one of the trees of some items is a tree of one of these
+  among : (done : Forest) (xs : List Item) (c : Tree) (fs : Forest) → FitsAll g xs (joined done (more c fs)) → (x : Item) × Fits g x c
+  among none [] c fs f = absurd f
+  among none (x ∷ xs) c fs f = (x, f.0)
+  among (more t ts) [] c fs f = absurd f
+  among (more t ts) (x ∷ xs) c fs f = among ts xs c fs f.1
+
+  has_items : (x : Item) (p : ℕ) (ts : Forest) → Fits g x (node p ts) → (q : Production) × IsProduction g p q × FitsAll g (stored_items q.items) ts
+  has_items (item.Symbol s) p ts f = (f.0, f.1, f.3)
+  has_items (item.Terminal a) p ts f = absurd f
+
+  -- so is a child of what is open in a tree of the grammar
+  child_fits : (os : List Open) (c : Tree) (ws : List Lexeme) (t : Tree) → Continues g os c ws t → IsTreeOf g t → (x : Item) × Fits g x c
+  child_fits [] c ws t k is = (item.Symbol g.start, subst (Fits g (item.Symbol g.start)) k.1 is)
+  child_fits (o ∷ os) c ws t k is =
+      let outer = child_fits os (node o.production (joined o.done (more c k.0))) k.1 t k.4 is in
+      let items = has_items outer.0 o.production (joined o.done (more c k.0)) outer.1 in
+      among o.done (stored_items items.0.items) c k.0 items.2
+
+module _ (k : Task) (accepted : IsAccepted k.grammar) where
+  pub own_texts : (p base : ℕ) (fs : List OpenNode) (i n : ℕ) (made : Made) → Reading k p base [] fs i n made
+      → (base ≤ length made.texts) × (length (drop base made.texts) ≤ most_stored) × All IsWell (drop base made.texts)
+  own_texts p base fs i n made r =
+      let s = r.stands in
+      let outer = finish k.grammar accepted r.under s.0.left s.4 (node p r.done) in
+      let whole = r.sound outer.0 outer.1 ((step.close k.grammar p r.done r.under outer.0 outer.1).1 outer.2) in
+      let child = child_fits k.grammar r.under (node p r.done) outer.0 outer.1 outer.2 whole.tree in
+      let items = has_items k.grammar child.0 p r.done child.1 in
+      let fit = texts_fit k.grammar (stored_items items.0.items) r.done items.2 in
+      let few = accepted.limits.stored_count p items.0 items.1 in
+      let own : drop base made.texts ≡ leaf_texts r.done = (parted made.texts (kept r.under) (leaf_texts r.done) base r.held.texts r.begins).1 in
+      let all : length made.texts ≡ length (kept r.under ++ leaf_texts r.done) = ap length r.held.texts in (
+        omega (arith, r.begins, all, length-append (kept r.under) (leaf_texts r.done)),
+        subst (λ (texts : List Value). length texts ≤ most_stored) (sym own) (omega (arith, fit.0, few)),
+        subst (λ (texts : List Value). All IsWell texts) (sym own) fit.1,
+      )

@@ -1,0 +1,47 @@
+-- The words that are left, as the tokens have them.
+use Rattle.std.proofs.Common.{◌≡◌, ℕ, zero, suc, ◌+◌, ◌<◌, ◌≤◌, true, false, List, [], ◌∷◌, drop, length, slice_get, Option, Some, None, is_some, option_map, refl, ap, sym, ◌∙◌, add-one, arith}
+use Rattle.ag_scan.specs.Handed.{token_of}
+use Rattle.ag_scan.specs.Tokens.{Token}
+use Rattle.ag_scan.specs.declared.token.Token as lent
+use Rattle.ag_scan.proofs.Lefts.{behind, rest_at, rest_none, ended}
+use Rattle.ag_grammar.specs.declared.grammar.Terminal.{Terminal}
+use Rattle.llparse.specs.Ahead.{ahead_of}
+use Rattle.llparse.specs.declared.ahead.Ahead.TheVariants as ahead
+use Rattle.llparse.specs.sentence.Sentences.{words_of}
+
+pub next_is : (xs : List Token) (i : ℕ) (x : Token) → slice_get xs i ≡ Some x → drop i (words_of xs) ≡ (x.kind, x.lex) ∷ drop (i + 1) (words_of xs)
+next_is [] i x e = absurd (cc)
+next_is (y ∷ ys) zero x e = let same : y ≡ x = cc in ap (λ (z : Token). (z.kind, z.lex) ∷ words_of ys) same
+next_is (y ∷ ys) (suc i) x e =
+    next_is ys i x e ∙ ap (λ j. (x.kind, x.lex) ∷ drop j (words_of ys)) (add-one i) ∙ ap (λ j. (x.kind, x.lex) ∷ drop j (words_of (y ∷ ys))) (sym (add-one (suc i)))
+
+pub no_next : (xs : List Token) (i : ℕ) → slice_get xs i ≡ None → drop i (words_of xs) ≡ []
+no_next [] zero e = refl
+no_next [] (suc i) e = refl
+no_next (y ∷ ys) zero e = absurd (cc)
+no_next (y ∷ ys) (suc i) e = no_next ys i e
+
+-- what comes next is of another terminal
+pub other_next : (xs : List Token) (i : ℕ) (x : Token) (a : Terminal) → slice_get xs i ≡ Some x → (x.kind ≡ a → ⊥) → ahead_of (drop i (words_of xs)) ≡ ahead.Terminal a → ⊥
+other_next xs i x a there other e =
+    let same : ahead.Terminal x.kind ≡ ahead.Terminal a = sym (ap ahead_of (next_is xs i x there)) ∙ e in
+    other (cc)
+
+-- and of none at the end
+pub none_is : (xs : List Token) (i : ℕ) (a : Terminal) → slice_get xs i ≡ None → ahead_of (drop i (words_of xs)) ≡ ahead.Terminal a → ⊥
+none_is xs i a none e = let bad : ahead.End ≡ ahead.Terminal a = sym (ap ahead_of (no_next xs i none)) ∙ e in cc
+
+-- whether tokens are left
+pub is_left : (xs : List Token) (i : ℕ) (x : Token) → slice_get xs i ≡ Some x → i < length xs
+is_left xs i x e = let more = (behind xs i x (drop (i + 1) xs) (rest_at xs i x e)).1 in omega arith
+
+pub none_left : (xs : List Token) (i : ℕ) → slice_get xs i ≡ None → length xs ≤ i
+none_left xs i e = (ended xs i (rest_none xs i e)).1
+
+pub some_left : (xs : List Token) (i : ℕ) (o : Option lent.Token) → option_map (λ t. token_of t) o ≡ slice_get xs i → is_some o ≡ true → i < length xs
+some_left xs i None e is = absurd (cc)
+some_left xs i (Some t) e is = is_left xs i (token_of t) (sym e)
+
+pub all_taken : (xs : List Token) (i : ℕ) (o : Option lent.Token) → option_map (λ t. token_of t) o ≡ slice_get xs i → is_some o ≡ false → length xs ≤ i
+all_taken xs i None e is = none_left xs i (sym e)
+all_taken xs i (Some t) e is = absurd (cc)

@@ -1,6 +1,0 @@
--- The edge is there, and what was there.
-use Rattle.llparse.proofs.Edges.{adds_edge}
-use Rattle.llparse.proofs.first.note.Goals as goal
-
-pub returns : goal.returns
-returns c = rw c.in_ok-push.ensures.items (adds_edge c.args.edges.now.items c.args.from c.args.to)

@@ -1,0 +1,7 @@
+use Rattle.std.proofs.Common.{◌≡◌, true, length}
+use Rattle.std.specs.Prelude.{All}
+use Rattle.llparse.specs.table.Tables.{is_known}
+use Rattle.llparse.proofs.sentence.expected.all_that_could.Given as goal
+
+abbrev pub invariant-loop-place : goal.invariant-loop-place
+invariant-loop-place l = All (λ ahead. is_known (length l.grammar.literals) ahead ≡ true) l.expected.items

@@ -1,0 +1,39 @@
+use Rattle.std.proofs.Common.{◌≡◌, Err, ap, subst, sym}
+use Rattle.std.proofs.lemmas.Result.{err_from_is_err_and}
+use Rattle.ag_grammar.specs.grammars.Tree.{IsTokenText}
+use Rattle.treefile.specs.records.Records.{token_body}
+use Rattle.treefile.proofs.ways.Beginning.{none_added, one_added, one_refused}
+use Rattle.llparse.specs.declared.sentence.parse_fault.ParseFault.{ParseFault}
+use Rattle.treefile.proofs.records.FirstFile.{text_well}
+use Rattle.llparse.proofs.answers.Putting.{of_leaf, stopped}
+use Rattle.llparse.proofs.sentence.parser.put_leaf.Goals as goal
+
+pub returns-in_err-from_str-clause-adds : goal.returns-in_err-from_str-clause-adds
+returns-in_err-from_str-clause-adds g c h = none_added ParseFault (g.D.Device.content c.args.device.now) c.from_residual.result
+
+pub returns-in_err-put-clause-adds : goal.returns-in_err-put-clause-adds
+returns-in_err-put-clause-adds g c h =
+    let p = err_from_is_err_and c.from_residual-in_err-put.result c.from_residual-in_err-put.ensures.1 in
+    let fault = c.in_err-put.field-0.0 in
+    let x = c.in_ok-from_str.field-0 in
+    let same : x ≡ c.args.lex.now = cc c.in_ok-from_str.ensures in
+    let well = text_well x (subst IsTokenText (sym same) c.requires.text) in
+    rw p.1 (one_refused ParseFault (g.D.Device.content c.args.device.now) (g.D.Device.content c.put.new.device) (token_body c.args.class x) fault p.0 (of_leaf c.args.class x well)
+    (λ failed. c.in_err-put.ensures.device (ap Err failed) h)
+    (λ want. c.in_err-put.ensures.memory (ap Err want) h))
+
+pub returns-in_err-push-clause-adds : goal.returns-in_err-push-clause-adds
+returns-in_err-push-clause-adds g c h =
+    let p = err_from_is_err_and c.from_residual-in_err-push.result c.from_residual-in_err-push.ensures.1 in
+    let x = c.in_ok-from_str.field-0 in
+    let same : x ≡ c.args.lex.now = cc c.in_ok-from_str.ensures in
+    let well = text_well x (subst IsTokenText (sym same) c.requires.text) in
+    rw p.1 (stopped (g.D.Device.content c.args.device.now) (g.D.Device.content c.put.new.device) p.0
+    (one_added ParseFault (g.D.Device.content c.args.device.now) (g.D.Device.content c.put.new.device) (token_body c.args.class x) (of_leaf c.args.class x well) (c.in_ok-put.ensures.frame h)))
+
+pub returns-clause-adds : goal.returns-clause-adds
+returns-clause-adds g c h =
+    let x = c.in_ok-from_str.field-0 in
+    let same : x ≡ c.args.lex.now = cc c.in_ok-from_str.ensures in
+    let well = text_well x (subst IsTokenText (sym same) c.requires.text) in
+    one_added ParseFault (g.D.Device.content c.args.device.now) (g.D.Device.content c.put.new.device) (token_body c.args.class x) (of_leaf c.args.class x well) (c.in_ok-put.ensures.frame h)

@@ -1,0 +1,28 @@
+use Rattle.std.proofs.Common.{◌≡◌, ℕ, List, Bool, Result, Ok, Err}
+use Rattle.std.specs.Prelude.{IfErr}
+use Rattle.treefile.specs.ways.Beginning.{AddsFrames, BeginsFile}
+use Rattle.treefile.specs.devices.Device.{WhenHonest}
+use Rattle.treefile.specs.records.TreeFile.{header, version_two}
+use Rattle.treefile.proofs.ways.Beginning.{frames_begin}
+use Rattle.llparse.specs.sentence.Sentences.{words_of}
+use Rattle.llparse.specs.declared.sentence.parse_fault.ParseFault.{ParseFault}
+use Rattle.llparse.proofs.answers.Answered.{file_of, none_of}
+use Rattle.llparse.proofs.steps.Steps.{one_parse}
+use Rattle.llparse.proofs.sentence.parsing.parse.Goals as goal
+
+-- what a refusal leaves behind the header
+left_of : (honest : Bool) (old new : List ℕ) (r : Result ℕ ParseFault) → WhenHonest honest (old ≡ header version_two 0) → IfErr r (λ fault. WhenHonest honest (AddsFrames old new (Err fault))) → IfErr r (λ fault. WhenHonest honest (BeginsFile 0 new))
+left_of honest old new (Ok count) begun adds = tt
+left_of honest old new (Err fault) begun adds = λ h. frames_begin ParseFault 0 old new (Err fault) (begun h) (adds h)
+
+pub returns-clause-one : goal.returns-clause-one
+returns-clause-one g c = one_parse c.args.grammar.now c.args.tables.now c.requires.tables (words_of c.args.sentence.now)
+
+pub returns-clause-file : goal.returns-clause-file
+returns-clause-file g c = file_of c.args.grammar.now c.args.sentence.now (g.D.Device.is_honest c.args.device.now) (g.D.Device.content c.args.device.now) (g.D.Device.content c.run.new.device) c.run.result c.run.ensures.parsed c.requires.header
+
+pub returns-clause-none : goal.returns-clause-none
+returns-clause-none g c = none_of c.args.grammar.now c.args.sentence.now (g.D.Device.is_honest c.args.device.now) (g.D.Device.content c.args.device.now) (g.D.Device.content c.run.new.device) c.run.result c.run.ensures.refused
+
+pub returns-clause-left : goal.returns-clause-left
+returns-clause-left g c = left_of (g.D.Device.is_honest c.args.device.now) (g.D.Device.content c.args.device.now) (g.D.Device.content c.run.new.device) c.run.result c.requires.header c.run.ensures.left

@@ -1,0 +1,104 @@
+-- What is open can be completed, where each symbol has a tree.
+use Rattle.std.proofs.Common.{◌≡◌, ℕ, zero, suc, ◌<◌, List, [], ◌∷◌, ◌++◌, length, Some, slice_get, refl, ap, sym, ◌∙◌, subst, append_assoc, arith}
+use Rattle.std.proofs.lemmas.Str.{is_utf8-from_IsUtf8}
+use Rattle.ag_grammar.specs.declared.grammar.Item.TheVariants as item
+use Rattle.ag_grammar.specs.declared.grammar.Item.{Item}
+use Rattle.ag_grammar.specs.declared.grammar.Production.{Production}
+use Rattle.ag_grammar.specs.declared.grammar.Terminal.TheVariants.{Literal, Class}
+use Rattle.ag_grammar.specs.grammars.Accepted.{IsAccepted}
+use Rattle.ag_grammar.specs.grammars.AttributeGrammar.{Grammar, stored_items, IsProduction}
+use Rattle.ag_grammar.specs.grammars.Tree.{IsTokenText, Tree, leaf, node, Forest, none, more, Fits, FitsAll}
+use Rattle.ag_grammar.specs.grammars.Yield.{Lexeme, yield_along, yield_of}
+use Rattle.ag_grammar.proofs.grammars.Productive.{by_trees}
+use Rattle.llparse.specs.sentence.Opened.{joined, Open, open_at, Continues, IsCutAt, IsNext, IsStack}
+use Rattle.llparse.specs.sentence.Parsing.{Task, Made, After, Reading, Asked}
+use Rattle.llparse.specs.declared.sentence.parser.OpenNode.{OpenNode}
+use Rattle.llparse.proofs.steps.Steps as step
+
+here : {A : Type 0} (xs : List A) (x : A) (ys : List A) → slice_get (xs ++ x ∷ ys) (length xs) ≡ Some x
+here [] x ys = refl
+here (z ∷ xs) x ys = here xs x ys
+
+bound : {A : Type 0} (xs : List A) (i : ℕ) (x : A) → slice_get xs i ≡ Some x → i < length xs
+bound [] i x e = absurd (cc)
+bound (y ∷ ys) zero x e = omega arith
+bound (y ∷ ys) (suc i) x e = omega (arith, bound ys i x e)
+
+-- a token's text may be empty
+no_text : IsTokenText []
+no_text = record { utf8 = is_utf8-from_IsUtf8 [] ([], (refl, refl)); short = omega arith }
+
+is_next : (g : Grammar) (os : List Open) (s : ℕ) → IsStack g os s → IsNext g os (item.Symbol s)
+is_next g [] s is = ap item.Symbol is
+is_next g (o ∷ os) s is = is
+
+module _ (g : Grammar) (accepted : IsAccepted g) where
+  tree_of : (s : ℕ) → s < length g.symbols → (t : Tree) × Fits g (item.Symbol s) t
+  tree_of s lt = (by_trees g s).0 (accepted.productive s lt)
+
+  -- the symbols of a production have trees
+  symbol_tree : (p : ℕ) (q : Production) → IsProduction g p q → (before ys : List Item) (s : ℕ) → q.items ≡ before ++ item.Symbol s ∷ ys → (t : Tree) × Fits g (item.Symbol s) t
+  symbol_tree p q get before ys s e =
+      let there : slice_get q.items (length before) ≡ Some (item.Symbol s) = subst (λ zs. slice_get zs (length before) ≡ Some (item.Symbol s)) (sym e) (here before (item.Symbol s) ys) in
+      tree_of s (accepted.named.items_named p q get (length before) (item.Symbol s) there)
+
+  -- trees of what is left of a right side
+  fill : (p : ℕ) (q : Production) → IsProduction g p q → (before ys : List Item) → q.items ≡ before ++ ys → (fs : Forest) × FitsAll g (stored_items ys) fs
+  fill p q get before [] e = (none, tt)
+  fill p q get before (item.Symbol s ∷ ys) e =
+      let one = symbol_tree p q get before ys s e in
+      let others = fill p q get (before ++ item.Symbol s ∷ []) ys (e ∙ sym (append_assoc before (item.Symbol s ∷ []) ys)) in
+      (more one.0 others.0, (one.1, others.1))
+  fill p q get before (item.Terminal (Class c) ∷ ys) e =
+      let others = fill p q get (before ++ item.Terminal (Class c) ∷ []) ys (e ∙ sym (append_assoc before (item.Terminal (Class c) ∷ []) ys)) in
+      (more (leaf c []) others.0, ((refl, no_text), others.1))
+  fill p q get before (item.Terminal (Literal l) ∷ ys) e =
+      let others = fill p q get (before ++ item.Terminal (Literal l) ∷ []) ys (e ∙ sym (append_assoc before (item.Terminal (Literal l) ∷ []) ys)) in
+      (others.0, step.before g others.0 l ys others.1)
+
+  -- a whole tree round a child of what is open
+  pub finish : (os : List Open) (s : ℕ) → IsStack g os s → (c : Tree) → (ws : List Lexeme) × (t : Tree) × Continues g os c ws t
+  finish [] s is c = ([], c, (refl, refl))
+  finish (o ∷ os) s (q, before, get, items, is) c =
+      let fs = fill o.production q get (before ++ item.Symbol s ∷ []) o.rest (items ∙ sym (append_assoc before (item.Symbol s ∷ []) o.rest)) in
+      let outer = finish os q.left is (node o.production (joined o.done (more c fs.0))) in
+      (yield_along g o.rest fs.0 ++ outer.0, outer.1, (fs.0, outer.0, fs.1, refl, outer.2))
+
+  -- a tree of the symbol that is asked
+  some_tree : (os : List Open) (s : ℕ) → IsStack g os s → (t : Tree) × Fits g (item.Symbol s) t
+  some_tree [] s is = subst (λ z. (t : Tree) × Fits g (item.Symbol z) t) (sym is) (tree_of g.start (bound g.symbols g.start accepted.start.symbol accepted.start.declared))
+  some_tree (o ∷ os) s (q, before, get, items, is) = symbol_tree o.production q get before o.rest s items
+
+module _ (k : Task) (accepted : IsAccepted k.grammar) where
+  pub begins_reading : (p base : ℕ) (ys : List Item) (fs : List OpenNode) (i n : ℕ) (rs : Made) → Reading k p base ys fs i n rs → (rest : List Lexeme) × (t : Tree) × After k i rest t
+  begins_reading p base ys fs i n rs r =
+      let s = r.stands in
+      let own = fill k.grammar accepted p s.0 s.2 s.1 ys s.3 in
+      let outer = finish k.grammar accepted r.under s.0.left s.4 (node p (joined r.done own.0)) in
+      (yield_along k.grammar ys own.0 ++ outer.0, outer.1, r.sound (yield_along k.grammar ys own.0 ++ outer.0) outer.1 (own.0, outer.0, own.1, refl, outer.2))
+
+  pub begins_asked : (s : ℕ) (fs : List OpenNode) (i n : ℕ) (rs : Made) (a : Asked k s fs i n rs) → (rest : List Lexeme) × (t : Tree) × After k i rest t × IsCutAt k.grammar a.under rest t
+  begins_asked s fs i n rs a =
+      let c = some_tree k.grammar accepted a.under s a.stands in
+      let outer = finish k.grammar accepted a.under s a.stands c.0 in
+      let rest = yield_of k.grammar c.0 ++ outer.0 in (
+        rest,
+        outer.1,
+        a.sound rest outer.1 (c.0, outer.0, c.1, refl, outer.2),
+        record { next = item.Symbol s; child = c.0; behind = outer.0; stands = is_next k.grammar a.under s a.stands; fits = c.1; splits = refl; continues = outer.2 },
+      )
+
+  -- where a leaf comes next
+  pub begins_leaf : (p base c : ℕ) (ys : List Item) (fs : List OpenNode) (i n : ℕ) (rs : Made) (r : Reading k p base (item.Terminal (Class c) ∷ ys) fs i n rs)
+      → (rest : List Lexeme) × (t : Tree) × After k i rest t × IsCutAt k.grammar (open_at p r.done ys ∷ r.under) rest t
+  begins_leaf p base c ys fs i n rs r =
+      let s = r.stands in
+      let own = fill k.grammar accepted p s.0 s.2 (s.1 ++ item.Terminal (Class c) ∷ []) ys (s.3 ∙ sym (append_assoc s.1 (item.Terminal (Class c) ∷ []) ys)) in
+      let outer = finish k.grammar accepted r.under s.0.left s.4 (node p (joined r.done (more (leaf c []) own.0))) in
+      let behind = yield_along k.grammar ys own.0 ++ outer.0 in
+      let rest = yield_of k.grammar (leaf c []) ++ behind in (
+        rest,
+        outer.1,
+        r.sound rest outer.1 (more (leaf c []) own.0, outer.0, ((refl, no_text), own.1), refl, outer.2),
+        record { next = item.Terminal (Class c); child = leaf c []; behind = behind; stands = s; fits = (refl, no_text); splits = refl; continues = (own.0, outer.0, own.1, refl, outer.2) },
+      )

@@ -1,0 +1,125 @@
+-- What closing a node keeps true, and what is known at the end.
+use Rattle.std.proofs.Common.{◌≡◌, ℕ, zero, suc, ◌<◌, ◌≤◌, List, [], ◌∷◌, ◌++◌, length, take, drop, refl, ap, sym, ◌∙◌, subst, append_assoc, append-nil, arith}
+use Rattle.std.proofs.lemmas.List.{length-drop, take_all}
+use Rattle.ag_value.specs.declared.value.Value.{Value}
+use Rattle.ag_grammar.specs.declared.grammar.Item.TheVariants as item
+use Rattle.ag_grammar.specs.grammars.AttributeGrammar.{Grammar}
+use Rattle.ag_grammar.specs.grammars.Tree.{Tree, node, Forest, none, more}
+use Rattle.ag_grammar.specs.grammars.Yield.{Lexeme}
+use Rattle.treefile.specs.devices.Device.{WhenHonest}
+use Rattle.llparse.specs.Ahead.{ahead_of}
+use Rattle.llparse.specs.sentence.Opened.{joined, Open, open_at, Completes, Stands}
+use Rattle.treefile.specs.records.FirstFile.{leaf_texts}
+use Rattle.llparse.specs.sentence.Parsing.{Task, Made, After, Shows, kept, written, Held, Reading, Between, Whole, IsParsed, node_frame, post, posts}
+use Rattle.llparse.specs.sentence.Sentences.{IsTreeWith, IsStuckAt}
+use Rattle.llparse.specs.declared.ahead.Ahead.TheVariants as ahead
+use Rattle.llparse.specs.declared.sentence.parser.OpenNode.{OpenNode}
+use Rattle.llparse.proofs.answers.Kept.{parted, texts-joined}
+use Rattle.llparse.proofs.steps.Sizes as size
+use Rattle.llparse.proofs.steps.Steps as step
+
+-- nothing comes next where there are no words
+ends : (ws : List Lexeme) → ahead_of ws ≡ ahead.End → ws ≡ []
+ends [] e = refl
+ends (w ∷ ws) e = absurd (cc)
+
+drop_all : {A : Type 0} (i : ℕ) (xs : List A) → length xs ≤ i → drop i xs ≡ []
+drop_all zero [] le = refl
+drop_all (suc i) [] le = refl
+drop_all zero (x ∷ xs) le = absurd (omega arith)
+drop_all (suc i) (x ∷ xs) le = drop_all i xs (omega arith)
+
+module _ (k : Task) where
+  abbrev g : Grammar
+  g = k.grammar
+
+  -- the node around it goes on
+  pub on_close : (p base : ℕ) (f : OpenNode) (fs : List OpenNode) (i n : ℕ) (rs out : Made) → WhenHonest k.honest (out.bytes ≡ rs.bytes ++ node_frame p (drop base rs.texts)) → out.texts ≡ take base rs.texts
+      → Reading k p base [] (f ∷ fs) i n rs → Between k (f ∷ fs) i n out
+  on_close p base f fs i n rs out put cut r = go r.under r.shows r.begins r.held r.stands r.sound r.complete
+    where
+      go : (os : List Open) → Shows g os (f ∷ fs) → base ≡ length (kept os) → Held k (open_at p r.done [] ∷ os) i n rs → Stands k.grammar (open_at p r.done []) os
+          → ((rest : List Lexeme) (t : Tree) → Completes k.grammar (open_at p r.done []) os rest t → After k i rest t)
+          → ((rest : List Lexeme) (t : Tree) → ahead_of rest ≡ ahead_of (drop i k.words) → After k i rest t → Completes k.grammar (open_at p r.done []) os rest t)
+          → Between k (f ∷ fs) i n out
+      go [] shows begins held stands sound complete = absurd shows
+      go (o ∷ os) shows begins held stands sound complete =
+          let d : Forest = joined o.done (more (node p r.done) none) in
+          let asked = stands.4 in
+          let counts = size.node_counts-joined o.done (more (node p r.done) none) in
+          let levels = size.deepest-joined o.done (more (node p r.done) none) in
+          let counted = held.counted in
+          let inner = held.shallow.0 in
+          let outer = held.shallow.1.0 in
+          let parts = parted rs.texts (kept (o ∷ os)) (leaf_texts r.done) base held.texts begins in
+          let own : List ℕ = node_frame p (leaf_texts r.done) in
+          let content : WhenHonest k.honest (out.bytes ≡ k.front ++ (written os ++ posts d)) = λ h.
+          put h ∙ ap (λ (z : List Value). rs.bytes ++ node_frame p z) parts.1 ∙ ap (λ z. z ++ own) (held.content h) ∙ append_assoc k.front ((written os ++ posts o.done) ++ posts r.done) own
+          ∙ ap (λ z. k.front ++ z) (append_assoc (written os ++ posts o.done) (posts r.done) own ∙ append_assoc (written os) (posts o.done) (post (node p r.done))
+          ∙ ap (λ z. written os ++ (posts o.done ++ z)) (sym (append-nil (post (node p r.done)))) ∙ ap (λ z. written os ++ z) (sym (size.posts-joined o.done (more (node p r.done) none)))) in
+          let texts : out.texts ≡ kept os ++ leaf_texts d = cut ∙ parts.0 ∙ ap (λ z. kept os ++ z) (sym (texts-joined o.done (more (node p r.done) none) ∙ append-nil (leaf_texts o.done))) in
+          let whole : Reading k o.production f.base o.rest fs i n out = record {
+            done = d;
+            under = os;
+            shows = shows.3;
+            begins = shows.2;
+            held = record { within = held.within; content = content; texts = texts; counted = omega arith; few = held.few; shallow = (omega arith, held.shallow.1.1) };
+            stands = (asked.0, asked.1 ++ item.Symbol stands.0.left ∷ [], asked.2, asked.3 ∙ sym (append_assoc asked.1 (item.Symbol stands.0.left ∷ []) o.rest), asked.4);
+            sound = λ rest t w. sound rest t ((step.close k.grammar p r.done (o ∷ os) rest t).1 ((step.child k.grammar o.production o.done o.rest os (node p r.done) rest t).1 w));
+            complete = λ rest t e w. (step.child k.grammar o.production o.done o.rest os (node p r.done) rest t).0 ((step.close k.grammar p r.done (o ∷ os) rest t).0 (complete rest t e w));
+          } in
+          subst (λ x. Reading k f.production f.base x fs i n out) shows.1 (subst (λ x. Reading k x f.base o.rest fs i n out) shows.0 whole)
+
+  -- the last node was closed
+  pub on_root : (p base i n : ℕ) (rs out : Made) → WhenHonest k.honest (out.bytes ≡ rs.bytes ++ node_frame p (drop base rs.texts)) → Reading k p base [] [] i n rs → Whole k i n out.bytes
+  on_root p base i n rs out put r = go r.under r.shows r.begins r.held r.sound r.complete
+    where
+      go : (os : List Open) → Shows g os [] → base ≡ length (kept os) → Held k (open_at p r.done [] ∷ os) i n rs
+          → ((rest : List Lexeme) (t : Tree) → Completes k.grammar (open_at p r.done []) os rest t → After k i rest t)
+          → ((rest : List Lexeme) (t : Tree) → ahead_of rest ≡ ahead_of (drop i k.words) → After k i rest t → Completes k.grammar (open_at p r.done []) os rest t)
+          → Whole k i n out.bytes
+      go [] shows begins held sound complete =
+          let counted = held.counted in
+          let shallow = held.shallow.0 in
+          let own = (parted rs.texts [] (leaf_texts r.done) base held.texts begins).1 in
+          record {
+            tree = node p r.done;
+            within = held.within;
+            content = λ h. put h ∙ ap (λ (z : List Value). rs.bytes ++ node_frame p z) own ∙ ap (λ z. z ++ node_frame p (leaf_texts r.done)) (held.content h) ∙ append_assoc k.front (posts r.done) (node_frame p (leaf_texts r.done));
+            counted = omega arith;
+            few = held.few;
+            shallow = omega arith;
+            sound = sound [] (node p r.done) ((step.close k.grammar p r.done [] [] (node p r.done)).1 (refl, refl));
+            complete = λ rest t e h. (step.close k.grammar p r.done [] rest t).0 (complete rest t e h);
+          }
+      go (o ∷ os) shows begins held sound complete = absurd shows
+
+  -- all words are taken
+  pub on_end : (i n : ℕ) (rs : List ℕ) → length k.words ≤ i → Whole k i n rs → IsParsed k n rs
+  on_end i n rs all w =
+      let within = w.within in
+      let every : take i k.words ≡ k.words = take_all i k.words (omega arith) in
+      let none_left : drop i k.words ≡ [] = drop_all i k.words (omega arith) in
+      let counted = w.counted in
+      let few = w.few in
+      record {
+        tree = w.tree;
+        has_words = subst (λ ws. IsTreeWith k.grammar ws w.tree) (append-nil (take i k.words) ∙ every) w.sound;
+        only = λ t h. (w.complete [] t (sym (ap ahead_of none_left)) (subst (λ ws. IsTreeWith k.grammar ws t) (sym (append-nil (take i k.words) ∙ every)) h)).1;
+        content = w.content;
+        counted = counted;
+        few = omega arith;
+        shallow = w.shallow;
+      }
+
+  -- words are left
+  pub no_end : (i n : ℕ) (rs : List ℕ) → i < length k.words → Whole k i n rs → IsStuckAt k.grammar k.words i
+  no_end i n rs short w = record {
+    within = w.within;
+    begins = ([], w.tree, w.sound);
+    ends = λ rest t e h.
+        let nil : rest ≡ [] = (w.complete rest t e h).0 in
+        let none_left = ends (drop i k.words) (sym e ∙ ap ahead_of nil) in
+        let zero_left : length (drop i k.words) ≡ 0 = ap length none_left in
+        omega (arith, length-drop i k.words);
+  }

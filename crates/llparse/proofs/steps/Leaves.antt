@@ -1,0 +1,110 @@
+-- What taking a token of a class keeps true.
+use Rattle.std.proofs.Common.{◌≡◌, ℕ, suc, ◌+◌, ◌<◌, ◌≤◌, List, [], ◌∷◌, ◌++◌, length, drop, ap, sym, ◌∙◌, subst, append_assoc, append-nil, arith}
+use Rattle.ag_value.specs.declared.value.Value.{Text}
+use Rattle.ag_grammar.specs.declared.grammar.Item.TheVariants as item
+use Rattle.ag_grammar.specs.declared.grammar.Item.{Item}
+use Rattle.ag_grammar.specs.declared.grammar.Terminal.TheVariants.{Class}
+use Rattle.ag_grammar.specs.grammars.Accepted.{IsAccepted}
+use Rattle.ag_grammar.specs.grammars.AttributeGrammar.{Grammar}
+use Rattle.ag_grammar.specs.grammars.Tree.{IsTokenText, leaf, none, more}
+use Rattle.ag_grammar.specs.grammars.Yield.{Lexeme}
+use Rattle.treefile.specs.devices.Device.{WhenHonest}
+use Rattle.llparse.specs.Ahead.{ahead_of}
+use Rattle.llparse.specs.sentence.Opened.{joined, open_at}
+use Rattle.treefile.specs.records.FirstFile.{leaf_texts}
+use Rattle.llparse.specs.sentence.Parsing.{Task, Made, kept, written, Reading, IsTooDeep, IsTooLarge, leaf_frame, posts}
+use Rattle.llparse.specs.sentence.Sentences.{IsTreeWith, IsStuckAt}
+use Rattle.llparse.specs.declared.ahead.Ahead.TheVariants as ahead
+use Rattle.llparse.specs.declared.sentence.parser.OpenNode.{OpenNode}
+use Rattle.llparse.proofs.steps.Begins.{begins_leaf, begins_reading}
+use Rattle.ag_scan.proofs.Lefts.{behind}
+use Rattle.llparse.proofs.steps.Fronts.{one_more}
+use Rattle.llparse.proofs.answers.Kept.{texts-joined}
+use Rattle.llparse.proofs.steps.Shown.{length-shows}
+use Rattle.llparse.proofs.steps.Sizes as size
+use Rattle.llparse.proofs.steps.Steps as step
+
+module _ (k : Task) where
+  abbrev g : Grammar
+  g = k.grammar
+
+  pub on_class : (p base c : ℕ) (x : List ℕ) (ys : List Item) (fs : List OpenNode) (i n : ℕ) (rs out : Made) (rest : List Lexeme) → drop i k.words ≡ (Class c, x) ∷ rest → IsTokenText x
+      → WhenHonest k.honest (out.bytes ≡ rs.bytes ++ leaf_frame c x) → out.texts ≡ rs.texts ++ Text x ∷ [] → n < k.nodes → suc (length fs) < k.depth
+      → Reading k p base (item.Terminal (Class c) ∷ ys) fs i n rs → Reading k p base ys fs (i + 1) (n + 1) out
+  on_class p base c x ys fs i n rs out rest next text put grown more_nodes more_levels r =
+      let after = behind k.words i (Class c, x) rest next in
+      let s = r.stands in
+      let same = length-shows g r.under fs r.shows in
+      let counted = r.held.counted in
+      let shallow = r.held.shallow.0 in
+      let counts = size.node_counts-joined r.done (more (leaf c x) none) in
+      let levels = size.deepest-joined r.done (more (leaf c x) none) in
+      let content : WhenHonest k.honest (out.bytes ≡ k.front ++ (written r.under ++ posts (joined r.done (more (leaf c x) none)))) = λ h.
+      put h ∙ ap (λ z. z ++ leaf_frame c x) (r.held.content h) ∙ append_assoc k.front (written r.under ++ posts r.done) (leaf_frame c x)
+      ∙ ap (λ z. k.front ++ z) (append_assoc (written r.under) (posts r.done) (leaf_frame c x) ∙ ap (λ z. written r.under ++ (posts r.done ++ z)) (sym (append-nil (leaf_frame c x)))
+      ∙ ap (λ z. written r.under ++ z) (sym (size.posts-joined r.done (more (leaf c x) none)))) in
+      let texts : out.texts ≡ kept r.under ++ leaf_texts (joined r.done (more (leaf c x) none)) =
+      grown ∙ ap (λ z. z ++ Text x ∷ []) r.held.texts ∙ append_assoc (kept r.under) (leaf_texts r.done) (Text x ∷ []) ∙ ap (λ z. kept r.under ++ z) (sym (texts-joined r.done (more (leaf c x) none))) in
+      record {
+        done = joined r.done (more (leaf c x) none);
+        under = r.under;
+        shows = r.shows;
+        begins = r.begins;
+        held = record { within = after.1; content = content; texts = texts; counted = omega arith; few = omega arith; shallow = (omega arith, r.held.shallow.1) };
+        stands = (s.0, s.1 ++ item.Terminal (Class c) ∷ [], s.2, s.3 ∙ sym (append_assoc s.1 (item.Terminal (Class c) ∷ []) ys), s.4);
+        sound = λ others t w. subst (λ ws. IsTreeWith k.grammar ws t) (sym (one_more k.words i (Class c, x) rest others next))
+            (r.sound ((Class c, x) ∷ others) t ((step.class k.grammar p r.done c x ys r.under others t text).1 w));
+        complete = λ others t e w. (step.class k.grammar p r.done c x ys r.under others t text).0
+            (r.complete ((Class c, x) ∷ others) t (sym (ap ahead_of next))
+            (subst (λ ws. IsTreeWith k.grammar ws t) (one_more k.words i (Class c, x) rest others next) w));
+      }
+
+  pub no_class : IsAccepted k.grammar → (p base c : ℕ) (ys : List Item) (fs : List OpenNode) (i n : ℕ) (rs : Made) → (ahead_of (drop i k.words) ≡ ahead.Terminal (Class c) → ⊥)
+      → Reading k p base (item.Terminal (Class c) ∷ ys) fs i n rs → IsStuckAt k.grammar k.words i
+  no_class accepted p base c ys fs i n rs other r = record {
+    within = r.held.within;
+    begins = begins_reading k accepted p base (item.Terminal (Class c) ∷ ys) fs i n rs r;
+    ends = λ rest t e h.
+        let w = step.class_next k.grammar p r.done c ys r.under rest t (r.complete rest t e h) in
+        other (sym e ∙ ap ahead_of w.2);
+  }
+
+  pub deep_leaf : IsAccepted k.grammar → (p base c : ℕ) (ys : List Item) (fs : List OpenNode) (i n : ℕ) (rs : Made) → k.depth ≤ suc (length fs) → Reading k p base (item.Terminal (Class c) ∷ ys) fs i n rs → IsTooDeep k
+  deep_leaf accepted p base c ys fs i n rs full r =
+      let b = begins_leaf k accepted p base c ys fs i n rs r in
+      let same = length-shows g r.under fs r.shows in
+      record {
+        index = i;
+        within = r.held.within;
+        rest = b.0;
+        tree = b.1;
+        begins = b.2;
+        above = open_at p r.done ys ∷ r.under;
+        cut = b.3;
+        full = omega arith;
+        only = λ others t e h.
+            let w = step.class_next k.grammar p r.done c ys r.under others t (r.complete others t e h) in
+            let d = size.depth_open k.grammar (open_at p (joined r.done (more (leaf c w.0) none)) ys) r.under w.1 t w.3 in
+            let levels = size.deepest-joined r.done (more (leaf c w.0) none) in
+            omega arith;
+      }
+
+  pub large_leaf : IsAccepted k.grammar → (p base c : ℕ) (ys : List Item) (fs : List OpenNode) (i n : ℕ) (rs : Made) → k.nodes ≤ n → Reading k p base (item.Terminal (Class c) ∷ ys) fs i n rs → IsTooLarge k
+  large_leaf accepted p base c ys fs i n rs full r =
+      let b = begins_leaf k accepted p base c ys fs i n rs r in
+      let counted = r.held.counted in
+      record {
+        index = i;
+        within = r.held.within;
+        rest = b.0;
+        tree = b.1;
+        begins = b.2;
+        above = open_at p r.done ys ∷ r.under;
+        cut = b.3;
+        full = omega arith;
+        only = λ others t e h.
+            let w = step.class_next k.grammar p r.done c ys r.under others t (r.complete others t e h) in
+            let d = size.count_open k.grammar (open_at p (joined r.done (more (leaf c w.0) none)) ys) r.under w.1 t w.3 in
+            let counts = size.node_counts-joined r.done (more (leaf c w.0) none) in
+            omega arith;
+      }

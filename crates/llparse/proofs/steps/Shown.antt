@@ -1,0 +1,20 @@
+-- What a stack shows, and what is known of all words from those so far.
+use Rattle.std.proofs.Common.{◌≡◌, ℕ, suc, List, [], ◌∷◌, ◌++◌, length, take, drop, refl, ap, sym, subst}
+use Rattle.std.proofs.lemmas.List.{take-append-drop}
+use Rattle.ag_grammar.specs.grammars.AttributeGrammar.{Grammar}
+use Rattle.ag_grammar.specs.grammars.Tree.{Tree}
+use Rattle.ag_grammar.specs.grammars.Yield.{Lexeme}
+use Rattle.llparse.specs.sentence.Opened.{Open}
+use Rattle.llparse.specs.sentence.Parsing.{Shows}
+use Rattle.llparse.specs.sentence.Sentences.{IsTreeWith}
+use Rattle.llparse.specs.declared.sentence.parser.OpenNode.{OpenNode}
+
+pub length-shows : (g : Grammar) (os : List Open) (fs : List OpenNode) → Shows g os fs → length os ≡ length fs
+length-shows g [] [] h = refl
+length-shows g [] (f ∷ fs) h = absurd h
+length-shows g (o ∷ os) [] h = absurd h
+length-shows g (o ∷ os) (f ∷ fs) h = ap suc (length-shows g os fs h.3)
+
+-- the words so far and those left are all words
+pub whole : (g : Grammar) (words : List Lexeme) (i : ℕ) (t : Tree) → IsTreeWith g words t → IsTreeWith g (take i words ++ drop i words) t
+whole g words i t is = subst (λ ws. IsTreeWith g ws t) (sym (take-append-drop i words)) is

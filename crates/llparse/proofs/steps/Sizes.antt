@@ -1,0 +1,54 @@
+-- What is open and done is a part of each tree that completes it.
+use Rattle.std.proofs.Common.{◌≡◌, suc, ◌+◌, ◌≤◌, max, List, [], ◌∷◌, ◌++◌, length, refl, ap, sym, ◌∙◌, append_assoc, arith}
+use Rattle.ag_grammar.specs.grammars.AttributeGrammar.{Grammar}
+use Rattle.ag_grammar.specs.grammars.Tree.{Tree, leaf, node, Forest, none, more, depth_of, deepest, node_count, node_counts}
+use Rattle.ag_grammar.specs.grammars.Yield.{Lexeme}
+use Rattle.llparse.specs.sentence.Opened.{joined, Open, opened, Continues, Completes}
+use Rattle.llparse.specs.sentence.Parsing.{post, posts}
+
+pub node_counts-joined : (a b : Forest) → node_counts (joined a b) ≡ node_counts a + node_counts b
+node_counts-joined none b = omega arith
+node_counts-joined (more t a) b = let e = node_counts-joined a b in omega arith
+
+pub deepest-joined : (a b : Forest) → deepest (joined a b) ≡ max (deepest a) (deepest b)
+deepest-joined none b = omega arith
+deepest-joined (more t a) b = let e = deepest-joined a b in omega arith
+
+pub posts-joined : (a b : Forest) → posts (joined a b) ≡ posts a ++ posts b
+posts-joined none b = refl
+posts-joined (more t a) b = ap (λ x. post t ++ x) (posts-joined a b) ∙ sym (append_assoc (post t) (posts a) (posts b))
+
+pub depth_some : (t : Tree) → 1 ≤ depth_of t
+depth_some (leaf c x) = omega arith
+depth_some (node p ts) = omega arith
+
+pub count_some : (t : Tree) → 1 ≤ node_count t
+count_some (leaf c x) = omega arith
+count_some (node p ts) = omega arith
+
+module _ (g : Grammar) where
+  pub count_under : (os : List Open) (c : Tree) (ws : List Lexeme) (t : Tree) → Continues g os c ws t → node_count c + opened os ≤ node_count t
+  count_under [] c ws t (nil, same) = let e : node_count t ≡ node_count c = ap node_count same in omega arith
+  count_under (o ∷ os) c ws t (fs, vs, fit, e, k) =
+      let outer = count_under os (node o.production (joined o.done (more c fs))) vs t k in
+      let parts = node_counts-joined o.done (more c fs) in
+      omega arith
+
+  pub count_open : (o : Open) (os : List Open) (ws : List Lexeme) (t : Tree) → Completes g o os ws t → opened (o ∷ os) ≤ node_count t
+  count_open o os ws t (fs, vs, fit, e, k) =
+      let outer = count_under os (node o.production (joined o.done fs)) vs t k in
+      let parts = node_counts-joined o.done fs in
+      omega arith
+
+  pub depth_under : (os : List Open) (c : Tree) (ws : List Lexeme) (t : Tree) → Continues g os c ws t → depth_of c + length os ≤ depth_of t
+  depth_under [] c ws t (nil, same) = let e : depth_of t ≡ depth_of c = ap depth_of same in omega arith
+  depth_under (o ∷ os) c ws t (fs, vs, fit, e, k) =
+      let outer = depth_under os (node o.production (joined o.done (more c fs))) vs t k in
+      let parts = deepest-joined o.done (more c fs) in
+      omega arith
+
+  pub depth_open : (o : Open) (os : List Open) (ws : List Lexeme) (t : Tree) → Completes g o os ws t → suc (deepest o.done) + length os ≤ depth_of t
+  depth_open o os ws t (fs, vs, fit, e, k) =
+      let outer = depth_under os (node o.production (joined o.done fs)) vs t k in
+      let parts = deepest-joined o.done fs in
+      omega arith

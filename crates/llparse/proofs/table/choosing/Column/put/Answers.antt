@@ -1,0 +1,14 @@
+use Rattle.std.proofs.Common.{◌≡◌, ◌<◌, Some, None, ap, sym, ◌∙◌, subst, length, set}
+use Rattle.llparse.specs.table.Predicted.{choice_at, AreFirstFrom}
+use Rattle.std.proofs.lemmas.List.{get_or_default}
+use Rattle.llparse.proofs.look_ahead.Choices.{clashes, put_chosen}
+use Rattle.llparse.proofs.table.choosing.Column.put.Goals as goal
+
+pub returns-clause-first : goal.returns-clause-first
+returns-clause-first c = λ qs marks q is same marked old. subst (λ z. AreFirstFrom qs marks c.args.production (set c.args.self.now.choices.items z (Some c.args.production))) same (put_chosen qs marks c.args.production q is marked c.args.self.now.choices.items (subst (λ z. z < length c.args.self.now.choices.items) (sym same) c.requires.symbol) old)
+
+pub returns-clause-least : goal.returns-clause-least
+returns-clause-least c = λ qs marks q is same marked old least.
+    let choices = c.args.self.now.choices.items in
+    let read : c.index.result.now ≡ choice_at choices q.left = c.index.ensures ∙ get_or_default choices c.args.symbol c.index.result.now None c.requires.symbol ∙ ap (choice_at choices) (sym same) in
+    clashes qs marks c.args.production q is marked choices c.index.result.now c.args.self.now.conflict c.clash-self.result read c.clash-self.ensures.some c.clash-self.ensures.none old least

@@ -1,0 +1,7 @@
+-- What the loop of `clause_of` keeps.
+use Rattle.std.proofs.Common.{◌≡◌, map, take}
+use Rattle.llparse.specs.table.Nodes.{node_of}
+use Rattle.llparse.proofs.table.nullable.clause_of.Given as goal
+
+abbrev pub invariant-loop-item : goal.invariant-loop-item
+invariant-loop-item l = l.body.items ≡ map (node_of l.sizes.symbols l.sizes.literals) (take l.item-index l.item-items)

@@ -1,0 +1,178 @@
+-- What a parser keeps true while it runs (this project's).
+use Rattle.std.specs.Prelude.{◌≡◌, ℕ, Bool, suc, ◌+◌, ◌-◌, ◌*◌, ◌≤◌, List, [], ◌∷◌, ◌++◌, length, take, drop, slice_get}
+use Rattle.ag_value.specs.declared.value.Value.{Value}
+use Rattle.ag_grammar.specs.declared.grammar.Item.{Item}
+use Rattle.ag_grammar.specs.declared.grammar.Production.{Production}
+use Rattle.ag_grammar.specs.grammars.AttributeGrammar.{Grammar}
+use Rattle.ag_grammar.specs.grammars.Tree.{Tree, leaf, node, Forest, none, more, depth_of, deepest, node_count, most_depth, most_nodes}
+use Rattle.ag_grammar.specs.grammars.Yield.{Lexeme}
+use Rattle.ag_grammar.specs.grammars.Yield as yields
+use Rattle.ag_scan.specs.Tokens.{Token}
+use Rattle.treefile.specs.devices.Device.{WhenHonest}
+use Rattle.treefile.specs.records.FirstFile.{leaf_texts}
+use Rattle.treefile.specs.records.Records.{token_body}
+use Rattle.treefile.specs.records.TreeFile.{body_of, frame}
+use Rattle.treefile.specs.declared.body.Kind.TheVariants.{Node}
+use Rattle.llparse.specs.Ahead.{ahead_of}
+use Rattle.llparse.specs.sentence.Opened.{Open, open_at, opened, Completes, Wants, IsStack, Stands}
+use Rattle.llparse.specs.sentence.Sentences.{IsTreeWith, IsStuckAt, LeavesOnlyDeeper, LeavesOnlyLarger, words_of}
+use Rattle.llparse.specs.declared.sentence.parse_fault.ParseFault.{ParseFault}
+use Rattle.llparse.specs.declared.sentence.parse_fault.ParseFault.TheVariants as fault
+use Rattle.llparse.specs.declared.sentence.parser.OpenNode.{OpenNode}
+
+-- what is parsed, within which limits, whether the device is honest, and what it had before
+pub record Task : Type 0 where
+  pub grammar : Grammar
+  pub words : List Lexeme
+  pub depth : ℕ
+  pub nodes : ℕ
+  pub honest : Bool
+  pub front : List ℕ
+
+-- the task of parsing tokens
+abbrev pub task_of : Grammar → List Token → Bool → List ℕ → Task
+task_of g tokens honest front =
+    record { grammar = g; words = words_of tokens; depth = most_depth; nodes = most_nodes; honest = honest; front = front }
+
+-- the right side of a production's number, empty where there is none
+abbrev pub right_side : Grammar → ℕ → List Item
+right_side g p = yields.right_side (slice_get g.productions p)
+
+-- what is written of a leaf, and of a node, which has no value of its own yet, but copies of its leaves' texts
+abbrev pub leaf_frame : ℕ → List ℕ → List ℕ
+leaf_frame c x = frame (token_body c x)
+
+abbrev pub node_frame : ℕ → List Value → List ℕ
+node_frame p texts = frame (body_of Node p texts)
+
+-- the frames of a tree from left to right, each node behind its children
+abbrev mutual
+  pub post : Tree → List ℕ
+  post (leaf c x) = leaf_frame c x
+  post (node p ts) = posts ts ++ node_frame p (leaf_texts ts)
+
+  pub posts : Forest → List ℕ
+  posts none = []
+  posts (more t ts) = post t ++ posts ts
+
+-- the trees whose words are those before an index, and then others
+abbrev pub After : Task → ℕ → List Lexeme → Tree → Type 0
+After k i rest = IsTreeWith k.grammar (take i k.words ++ rest)
+
+-- the texts of the leaves among the trees that are done, those of the outermost node first
+abbrev pub kept : List Open → List Value
+kept [] = []
+kept (o ∷ os) = kept os ++ leaf_texts o.done
+
+-- the stack has the productions of what is open, how far each is read, and where its texts begin
+abbrev pub Shows : Grammar → List Open → List OpenNode → Type 0
+Shows g [] [] = Unit {0}
+Shows g [] (f ∷ fs) = ⊥
+Shows g (o ∷ os) [] = ⊥
+Shows g (o ∷ os) (f ∷ fs) = (o.production ≡ f.production) × (o.rest ≡ drop f.place (right_side g f.production)) × (f.base ≡ length (kept os)) × Shows g os fs
+
+-- the records of the trees that are done, those of the outermost node first
+abbrev pub written : List Open → List ℕ
+written [] = []
+written (o ∷ os) = written os ++ posts o.done
+
+-- what a parser has made: the bytes that the device has, and the texts that it keeps
+pub record Made : Type 0 where
+  pub bytes : List ℕ
+  pub texts : List Value
+
+-- each tree that is done is shallow enough where it stands
+abbrev pub IsShallow : ℕ → List Open → Type 0
+IsShallow depth [] = Unit {0}
+IsShallow depth (o ∷ os) = (deepest o.done + suc (length os) ≤ depth) × IsShallow depth os
+
+-- what the counters, the records and the texts say of what is open
+pub record Held (k : Task) (os : List Open) (at count : ℕ) (made : Made) : Type 0 where
+  pub within : at ≤ length k.words
+  pub content : WhenHonest k.honest (made.bytes ≡ k.front ++ written os)
+  pub texts : made.texts ≡ kept os
+  pub counted : count ≡ opened os
+  pub few : count ≤ k.nodes
+  pub shallow : IsShallow k.depth os
+
+-- A node of production p is open at ys, within the nodes of the stack fs, and its texts are behind so many; the trees that
+-- complete it have the words read so far before those that they are still to have, and these are all such trees, where what comes
+-- next is as it is.
+pub record Reading (k : Task) (p base : ℕ) (ys : List Item) (fs : List OpenNode) (at count : ℕ) (made : Made) : Type 0 where
+  pub done : Forest
+  pub under : List Open
+  pub shows : Shows k.grammar under fs
+  pub begins : base ≡ length (kept under)
+  pub held : Held k (open_at p done ys ∷ under) at count made
+  pub stands : Stands k.grammar (open_at p done ys) under
+  pub sound : (rest : List Lexeme) (t : Tree) → Completes k.grammar (open_at p done ys) under rest t → After k at rest t
+  pub complete : (rest : List Lexeme) (t : Tree) → ahead_of rest ≡ ahead_of (drop at k.words) → After k at rest t → Completes k.grammar (open_at p done ys) under rest t
+
+-- A tree of symbol s comes next, within the nodes of the stack fs.
+pub record Asked (k : Task) (s : ℕ) (fs : List OpenNode) (at count : ℕ) (made : Made) : Type 0 where
+  pub under : List Open
+  pub shows : Shows k.grammar under fs
+  pub held : Held k under at count made
+  pub stands : IsStack k.grammar under s
+  pub sound : (rest : List Lexeme) (t : Tree) → Wants k.grammar under s rest t → After k at rest t
+  pub complete : (rest : List Lexeme) (t : Tree) → ahead_of rest ≡ ahead_of (drop at k.words) → After k at rest t → Wants k.grammar under s rest t
+
+-- A tree is done, and nothing is open; it is the one tree of the words read so far, and no tree has more words.
+pub record Whole (k : Task) (at count : ℕ) (bytes : List ℕ) : Type 0 where
+  pub tree : Tree
+  pub within : at ≤ length k.words
+  pub content : WhenHonest k.honest (bytes ≡ k.front ++ post tree)
+  pub counted : count ≡ node_count tree
+  pub few : count ≤ k.nodes
+  pub shallow : depth_of tree ≤ k.depth
+  pub sound : After k at [] tree
+  pub complete : (rest : List Lexeme) (t : Tree) → ahead_of rest ≡ ahead_of (drop at k.words) → After k at rest t → (rest ≡ []) × (t ≡ tree)
+
+-- Where a parser is between two steps: the first node of its stack is open where the stack says, or the tree is done.
+abbrev pub Between : Task → List OpenNode → ℕ → ℕ → Made → Type 0
+Between k [] at count made = Whole k at count made.bytes
+Between k (f ∷ fs) at count made = Reading k f.production f.base (drop f.place (right_side k.grammar f.production)) fs at count made
+
+-- The first node of the stack has an item before it, which the stack has passed.
+abbrev pub Before : Task → Item → List OpenNode → ℕ → ℕ → Made → Type 0
+Before k x [] at count made = ⊥
+Before k x (f ∷ fs) at count made = Reading k f.production f.base (x ∷ drop f.place (right_side k.grammar f.production)) fs at count made
+
+-- the tree of a task's words, within its limits, whose records are written
+pub record IsParsed (k : Task) (count : ℕ) (bytes : List ℕ) : Type 0 where
+  pub tree : Tree
+  pub has_words : IsTreeWith k.grammar k.words tree
+  pub only : (t : Tree) → IsTreeWith k.grammar k.words t → t ≡ tree
+  pub content : WhenHonest k.honest (bytes ≡ k.front ++ post tree)
+  pub counted : count ≡ node_count tree
+  pub few : node_count tree ≤ k.nodes
+  pub shallow : depth_of tree ≤ k.depth
+
+-- a task's words leave only trees that are too deep, or that have too many nodes
+abbrev pub IsTooDeep : Task → Type 0
+IsTooDeep k = LeavesOnlyDeeper k.depth k.grammar k.words
+
+abbrev pub IsTooLarge : Task → Type 0
+IsTooLarge k = LeavesOnlyLarger k.nodes k.grammar k.words
+
+-- what a refusal says, where each token has this offset
+abbrev pub IsRefused : Task → (ℕ → ℕ) → ParseFault → Type 0
+IsRefused k offset (fault.Unexpected at) = (i : ℕ) × IsStuckAt k.grammar k.words i × (at ≡ offset i)
+IsRefused k offset fault.TooDeep = IsTooDeep k
+IsRefused k offset fault.TooManyNodes = IsTooLarge k
+IsRefused k offset fault.Device = Unit {0}
+IsRefused k offset fault.NoMemory = Unit {0}
+
+-- at least the length of each right side
+abbrev pub most : List Production → ℕ
+most [] = 0
+most (q ∷ qs) = length q.items + most qs
+
+-- how many steps the open nodes take at most before the next one is opened
+abbrev pub weight : Grammar → List OpenNode → ℕ
+weight g [] = 0
+weight g (f ∷ fs) = suc (length (drop f.place (right_side g f.production))) + weight g fs
+
+-- how many steps are left at most
+abbrev pub steps_left : Grammar → ℕ → List OpenNode → ℕ → ℕ
+steps_left g nodes fs count = (most g.productions + 2) * (nodes - count) + weight g fs

@@ -1,0 +1,70 @@
+-- What each step of a parser does (this project's).
+use Rattle.std.specs.Prelude.{◌≡◌, ℕ, ◌+◌, ◌≤◌, Bool, List, ◌∷◌, length, reverse, slice_get, Option, Some, None}
+use Rattle.ag_grammar.specs.declared.grammar.Item.{Item}
+use Rattle.ag_grammar.specs.grammars.Accepted.{IsAccepted}
+use Rattle.ag_grammar.specs.grammars.AttributeGrammar.{Grammar}
+use Rattle.ag_grammar.specs.grammars.Tree.{most_depth, most_nodes}
+use Rattle.ag_scan.specs.Handed.{offset_at}
+use Rattle.ag_scan.specs.Tokens.{Token, FitAll}
+use Rattle.ag_scan.specs.Words.{vocabulary_of}
+use Rattle.llparse.specs.sentence.Parsing.{Task, task_of, Made, Asked, Between, Before, IsRefused, steps_left}
+use Rattle.llparse.specs.table.Tables.{Choices, FitsGrammar}
+use Rattle.llparse.specs.declared.sentence.parse_fault.ParseFault.{ParseFault}
+use Rattle.llparse.specs.declared.sentence.parse_fault.ParseFault.TheVariants as fault
+use Rattle.llparse.specs.declared.sentence.parser.OpenNode.{OpenNode}
+use Rattle.llparse.specs.declared.sentence.parser.Parser.{Parser}
+
+-- what a parser has made, where the device has these bytes
+abbrev pub made_by : Parser → List ℕ → Made
+made_by p bytes = record { bytes = bytes; texts = p.texts.items }
+
+-- a parser is between two steps, with this innermost open node
+abbrev pub IsBetween : Task → OpenNode → Parser → List ℕ → Type 0
+IsBetween k node p bytes = Between k (node ∷ reverse p.waiting.items) p.tokens.taken p.count (made_by p bytes)
+
+-- a tree of a symbol comes next in the innermost open node
+abbrev pub Asks : Task → ℕ → OpenNode → Parser → List ℕ → Type 0
+Asks k s node p bytes = Asked k s (node ∷ reverse p.waiting.items) p.tokens.taken p.count (made_by p bytes)
+
+-- the innermost open node has an item next, which its place is behind
+abbrev pub Faces : Task → Item → OpenNode → Parser → List ℕ → Type 0
+Faces k x node p bytes = Before k x (node ∷ reverse p.waiting.items) p.tokens.taken p.count (made_by p bytes)
+
+-- an accepted grammar that tables fit
+abbrev pub HasTables : Choices → Grammar → Type 0
+HasTables tables g = IsAccepted g × FitsGrammar g tables
+
+-- an accepted grammar that tokens fit
+abbrev pub HasTokens : List Token → Grammar → Type 0
+HasTokens tokens g = IsAccepted g × FitAll (vocabulary_of g) tokens
+
+-- For each grammar that is so and has these tokens, what holds before leads to what holds then.
+abbrev pub Leads : (Grammar → Type 0) → List Token → (Task → List ℕ → Type 0) → (Task → List ℕ → Type 0) → Type 0
+Leads P tokens A B = (g : Grammar) (honest : Bool) (front bytes : List ℕ) → P g → A (task_of g tokens honest front) bytes → B (task_of g tokens honest front) bytes
+
+-- the same where a device's content changes
+abbrev pub Writes : (Grammar → Type 0) → List Token → Bool → List ℕ → List ℕ → (Task → List ℕ → Type 0) → (Task → List ℕ → Type 0) → Type 0
+Writes P tokens honest old new A B = (g : Grammar) (front : List ℕ) → P g → A (task_of g tokens honest front) old → B (task_of g tokens honest front) new
+
+-- where what holds before leads to a refusal that is true
+abbrev pub Refuses : (Grammar → Type 0) → List Token → (Task → List ℕ → Type 0) → ParseFault → Type 0
+Refuses P tokens A e = Leads P tokens A (λ k bytes. IsRefused k (offset_at tokens) e)
+
+-- which limit a parser has reached
+abbrev pub IsFull : Parser → ParseFault → Type 0
+IsFull p fault.TooDeep = most_depth ≤ length p.waiting.items + 1
+IsFull p fault.TooManyNodes = most_nodes ≤ p.count
+IsFull p fault = ⊥
+
+-- how many steps are left at most
+abbrev pub left_of : Grammar → OpenNode → Parser → ℕ
+left_of g node p = steps_left g most_nodes (node ∷ reverse p.waiting.items) p.count
+
+-- an open node behind its item
+abbrev pub advanced : OpenNode → OpenNode
+advanced node = record node { place = node.place + 1 }
+
+-- An open node of a right side has this item next, and goes behind it; or it is at its end.
+abbrev pub Advances : List Item → OpenNode → Option Item → OpenNode → Type 0
+Advances items old None new = (slice_get items old.place ≡ None) × (new ≡ old)
+Advances items old (Some x) new = (slice_get items old.place ≡ Some x) × (new ≡ advanced old)

@@ -1,0 +1,45 @@
+-- What is kept while tables are filled, a look-ahead at a time (this project's).
+use Rattle.std.specs.Prelude.{ℕ, ◌≡◌, ◌<◌, ◌≤◌, ◌⊎◌, List, [], Option, Some, None, length, slice_index_or}
+use Rattle.ag_grammar.specs.grammars.AttributeGrammar.{Grammar}
+use Rattle.llparse.specs.Ahead.{IsConflict}
+use Rattle.llparse.specs.table.Edges.{IsKnownAhead}
+use Rattle.llparse.specs.table.Nodes.{place_of}
+use Rattle.llparse.specs.table.Predicted.{choice_at, IsNoLater}
+use Rattle.llparse.specs.table.Tables.{ComesNoLater, IsChoice}
+use Rattle.llparse.specs.declared.ahead.Ahead.{Ahead}
+use Rattle.llparse.specs.declared.table.choosing.Pair.{Pair}
+use Rattle.llparse.specs.declared.table.filling.Conflict.{Conflict}
+
+-- for each symbol the first production that predicts the look-ahead
+pub record IsColumn (g : Grammar) (x : Ahead) (choices : List (Option ℕ)) : Type 0 where
+  pub chosen : (s k : ℕ) → choice_at choices s ≡ Some k → IsChoice g s x k × ((j : ℕ) → IsChoice g s x j → k ≤ j)
+  pub none : (s k : ℕ) → choice_at choices s ≡ None → IsChoice g s x k → ⊥
+
+-- the least conflict at one look-ahead, or none where there is none
+abbrev pub IsLeastAt : Grammar → Ahead → Option Pair → Type 0
+IsLeastAt g x None = (a b : ℕ) → IsConflict g a b x → ⊥
+IsLeastAt g x (Some p) = IsConflict g p.first p.second x × ((a b : ℕ) → IsConflict g a b x → IsNoLater p a b)
+
+-- the least conflict at the look-aheads before a place, or none where there is none
+abbrev pub IsLeastBelow : Grammar → ℕ → Option Conflict → Type 0
+IsLeastBelow g n None = (a b : ℕ) (y : Ahead) → IsKnownAhead g y → place_of (length g.literals) y < n → IsConflict g a b y → ⊥
+IsLeastBelow g n (Some c) =
+    IsConflict g c.first c.second c.ahead × (place_of (length g.literals) c.ahead < n)
+    × ((a b : ℕ) (y : Ahead) → IsKnownAhead g y → place_of (length g.literals) y < n → IsConflict g a b y → ComesNoLater g c.first c.second c.ahead a b y)
+
+-- the columns of the look-aheads before a place
+abbrev pub AreColumns : Grammar → ℕ → List (List (Option ℕ)) → Type 0
+AreColumns g n columns = (y : Ahead) → IsKnownAhead g y → place_of (length g.literals) y < n → IsColumn g y (slice_index_or columns (place_of (length g.literals) y) [])
+
+-- a conflict where a pair conflicts
+abbrev pub at_ahead : Pair → Ahead → Conflict
+at_ahead p x = record { first = p.first; second = p.second; ahead = x }
+
+-- of a conflict and a pair at a later look-ahead the lesser, where both are
+abbrev pub IsSooner : Option Conflict → Option Pair → Ahead → Option Conflict → Type 0
+IsSooner None None x result = result ≡ None
+IsSooner None (Some p) x result = result ≡ Some (at_ahead p x)
+IsSooner (Some c) None x result = result ≡ Some c
+IsSooner (Some c) (Some p) x result =
+    ((result ≡ Some c) × ((c.first < p.first) ⊎ ((c.first ≡ p.first) × (c.second ≤ p.second))))
+    ⊎ ((result ≡ Some (at_ahead p x)) × ((p.first < c.first) ⊎ ((p.first ≡ c.first) × (p.second < c.second))))

@@ -1,0 +1,77 @@
+-- What is noted as edges between nodes, and where that leads.
+use Rattle.std.specs.Prelude.{ℕ, ◌+◌, ◌≡◌, ◌<◌, ◌⊎◌, ◌↔◌, Bool, true, List, [], ◌∷◌, length, Contains, if◌then◌else◌}
+use Rattle.ag_grammar.specs.declared.grammar.Item.TheVariants as item
+use Rattle.ag_grammar.specs.declared.grammar.Item.{Item}
+use Rattle.ag_grammar.specs.declared.grammar.Production.{Production}
+use Rattle.ag_grammar.specs.declared.grammar.Terminal.TheVariants.{Literal, Class}
+use Rattle.ag_grammar.specs.grammars.AttributeGrammar.{Grammar}
+use Rattle.ag_grammar.specs.grammars.Accepted.{IsNamedItem, class_count}
+use Rattle.llparse.specs.Ahead.{InFirst}
+use Rattle.llparse.specs.table.Nodes.{node_of}
+use Rattle.llparse.specs.table.Nullable.{is_empty}
+use Rattle.closure.specs.Clauses.{Clauses}
+use Rattle.closure.specs.Edges.{over}
+use Rattle.closure.specs.Following.{is_marked}
+use Rattle.closure.specs.declared.edges.Edge.{Edge}
+use Rattle.llparse.specs.declared.ahead.Ahead.{Ahead}
+use Rattle.llparse.specs.declared.ahead.Ahead.TheVariants as ahead
+
+-- what has a property B had A, or it has P
+pub record Adds {X : Type 0} (P A B : X → Type 0) : Type 0 where
+  pub kept : (x : X) → A x → B x
+  pub all : (x : X) → P x → B x
+  pub only : (x : X) → B x → A x ⊎ P x
+
+-- it stands in the relation with some element
+abbrev pub OfSome : {X Y : Type 0} → (X → Y → Type 0) → List X → Y → Type 0
+OfSome {X} R xs y = (x : X) × Contains xs x × R x y
+
+-- an edge goes from here to there
+pub record IsEdge (from to : ℕ) (e : Edge) : Type 0 where
+  pub tail : e.from ≡ from
+  pub head : e.to ≡ to
+
+-- an item's node among those of a grammar
+abbrev pub node_in : Grammar → Item → ℕ
+node_in g x = node_of (length g.symbols) (length g.literals) x
+
+-- the items up to the first that is no symbol of the set, and that one
+abbrev pub front : (ℕ → Bool) → List Item → List Item
+front n [] = []
+front n (x ∷ xs) = x ∷ (if is_empty n x then front n xs else [])
+
+-- an edge goes from an item in front of a right side to the left side
+abbrev pub IsFirstEdge : Grammar → (ℕ → Bool) → Production → Edge → Type 0
+IsFirstEdge g n q e = OfSome (λ x e. IsEdge (node_in g x) q.left e) (front n q.items) e
+
+-- how many nodes a grammar has: its symbols, its literals, the classes and the end
+abbrev pub node_count : Grammar → ℕ
+node_count g = length g.symbols + (length g.literals + 4)
+
+-- what is noted in a list of edges
+abbrev pub AddsEdges : (Edge → Type 0) → List Edge → List Edge → Type 0
+AddsEdges P before after = Adds P (Contains before) (Contains after)
+
+-- clauses are those of such edges, over the nodes of a grammar
+abbrev pub IsOver : Grammar → (List Edge → Type 0) → Clauses → Type 0
+IsOver g P clauses = (edges : List Edge) × (clauses ≡ over edges (node_count g)) × P edges
+
+-- a list has exactly the edges by which FIRST is reached
+abbrev pub AreFirstEdges : Grammar → List Bool → List Edge → Type 0
+AreFirstEdges g nullable edges = (e : Edge) → Contains edges e ↔ OfSome (IsFirstEdge g (is_marked nullable)) g.productions e
+
+-- a look-ahead is one of a grammar's
+abbrev pub IsKnownAhead : Grammar → Ahead → Type 0
+IsKnownAhead g (ahead.Terminal (Literal l)) = l < length g.literals
+IsKnownAhead g (ahead.Terminal (Class c)) = c < class_count
+IsKnownAhead g ahead.End = Unit {0}
+
+-- an item is a terminal, or a symbol that may stand for what it comes first in
+abbrev pub Begins : Grammar → Item → Ahead → Type 0
+Begins g (item.Symbol s) (ahead.Terminal a) = InFirst g s a
+Begins g (item.Symbol s) ahead.End = ⊥
+Begins g (item.Terminal b) x = ahead.Terminal b ≡ x
+
+-- the marks are those of the items that may begin with a look-ahead
+abbrev pub AreFirst : Grammar → Ahead → List Bool → Type 0
+AreFirst g x marks = (y : Item) → IsNamedItem g y → is_marked marks (node_in g y) ≡ true ↔ Begins g y x

@@ -1,0 +1,25 @@
+-- How look-aheads and items are numbered (this project's).
+use Rattle.std.specs.Prelude.{ℕ, ◌+◌}
+use Rattle.ag_grammar.specs.declared.grammar.Item.TheVariants as item
+use Rattle.ag_grammar.specs.declared.grammar.Item.{Item}
+use Rattle.ag_grammar.specs.declared.grammar.Terminal.TheVariants.{Literal, Class}
+use Rattle.ag_grammar.specs.grammars.Accepted.{class_count}
+use Rattle.llparse.specs.declared.ahead.Ahead.{Ahead}
+use Rattle.llparse.specs.declared.ahead.Ahead.TheVariants as ahead
+use Rattle.llparse.specs.declared.table.nodes.Sizes.{Sizes}
+
+-- A look-ahead's place in their order, where a grammar has so many literals: the literals by their numbers, then the classes
+-- by theirs, then the end.
+abbrev pub place_of : ℕ → Ahead → ℕ
+place_of literals (ahead.Terminal (Literal l)) = l
+place_of literals (ahead.Terminal (Class c)) = literals + c
+place_of literals ahead.End = literals + class_count
+
+-- Symbols are nodes by their numbers, and the look-aheads stand behind them.
+abbrev pub node_of : ℕ → ℕ → Item → ℕ
+node_of symbols literals (item.Symbol s) = s
+node_of symbols literals (item.Terminal a) = symbols + place_of literals (ahead.Terminal a)
+
+-- an item's node by the sizes of a grammar
+abbrev pub node_by : Sizes → Item → ℕ
+node_by sizes x = node_of sizes.symbols sizes.literals x

@@ -1,0 +1,61 @@
+-- What the sets of a grammar are, and which productions one look-ahead chooses.
+use Rattle.std.specs.Prelude.{ℕ, ◌≡◌, ◌+◌, ◌<◌, ◌≤◌, ◌⊎◌, ◌↔◌, Bool, true, List, Option, Some, None, slice_get, slice_index_or}
+use Rattle.ag_grammar.specs.declared.grammar.Production.{Production}
+use Rattle.ag_grammar.specs.grammars.AttributeGrammar.{Grammar, IsProduction}
+use Rattle.llparse.specs.Ahead.{Predicts}
+use Rattle.llparse.specs.table.Comes.{AreFollowEdges}
+use Rattle.llparse.specs.table.Edges.{AreFirstEdges, IsOver}
+use Rattle.llparse.specs.table.Nullable.{AreNullableMarks}
+use Rattle.closure.specs.Following.{is_marked}
+use Rattle.llparse.specs.declared.ahead.Ahead.{Ahead}
+use Rattle.llparse.specs.declared.table.choosing.Pair.{Pair}
+use Rattle.llparse.specs.declared.table.predict.Sets.{Sets}
+
+-- the marks are those of the nullable symbols, and the clauses are of the edges by which FIRST and FOLLOW are reached
+pub record AreSets (g : Grammar) (sets : Sets) : Type 0 where
+  pub nullable_exact : AreNullableMarks g sets.nullable.items
+  pub first_exact : IsOver g (AreFirstEdges g sets.nullable.items) sets.first
+  pub follow_exact : IsOver g (AreFollowEdges g sets.nullable.items) sets.follow
+
+-- the marks are those of the productions that predict a look-ahead
+abbrev pub ArePredicted : Grammar → Ahead → List Bool → Type 0
+ArePredicted g x marks = (p : ℕ) (q : Production) → IsProduction g p q → is_marked marks p ≡ true ↔ Predicts g q x
+
+-- the production k is marked and of symbol s
+abbrev pub IsMarkedOf : List Production → List Bool → ℕ → ℕ → Type 0
+IsMarkedOf qs marks s k = (q : Production) × (slice_get qs k ≡ Some q) × (q.left ≡ s) × (is_marked marks k ≡ true)
+
+-- what is chosen for a symbol
+abbrev pub choice_at : List (Option ℕ) → ℕ → Option ℕ
+choice_at choices s = slice_index_or choices s None
+
+-- For each symbol the first of its marked productions is chosen, among those from a number on.
+pub record AreFirstFrom (qs : List Production) (marks : List Bool) (from : ℕ) (choices : List (Option ℕ)) : Type 0 where
+  pub chosen : (s k : ℕ) → choice_at choices s ≡ Some k → (from ≤ k) × IsMarkedOf qs marks s k × ((j : ℕ) → from ≤ j → IsMarkedOf qs marks s j → k ≤ j)
+  pub none : (s k : ℕ) → choice_at choices s ≡ None → from ≤ k → IsMarkedOf qs marks s k → ⊥
+
+-- two marked productions of one symbol, the first one first
+abbrev pub IsClash : List Production → List Bool → ℕ → ℕ → Type 0
+IsClash qs marks a b = (a < b) × ((s : ℕ) × IsMarkedOf qs marks s a × IsMarkedOf qs marks s b)
+
+-- a pair comes no later than another: its first is less, or that is the same and its second is no greater
+abbrev pub IsNoLater : Pair → ℕ → ℕ → Type 0
+IsNoLater p a b = (p.first < a) ⊎ ((p.first ≡ a) × (p.second ≤ b))
+
+-- The least pair of such productions, among those whose first is from a number on, or none where there is none.
+abbrev pub IsLeastFrom : List Production → List Bool → ℕ → Option Pair → Type 0
+IsLeastFrom qs marks from None = (a b : ℕ) → from ≤ a → IsClash qs marks a b → ⊥
+IsLeastFrom qs marks from (Some p) = (from ≤ p.first) × IsClash qs marks p.first p.second × ((a b : ℕ) → from ≤ a → IsClash qs marks a b → IsNoLater p a b)
+
+-- A production is put before those behind it: where it has this mark and this symbol, what was chosen from the next one on is
+-- from it on.
+abbrev pub PutsFirst : ℕ → ℕ → Bool → List (Option ℕ) → List (Option ℕ) → Type 0
+PutsFirst symbol production mark before after =
+    (qs : List Production) (marks : List Bool) (q : Production) → slice_get qs production ≡ Some q → q.left ≡ symbol → is_marked marks production ≡ mark
+    → AreFirstFrom qs marks (production + 1) before → AreFirstFrom qs marks production after
+
+-- the same of the least pair
+abbrev pub PutsLeast : ℕ → ℕ → Bool → List (Option ℕ) → Option Pair → Option Pair → Type 0
+PutsLeast symbol production mark before pair after =
+    (qs : List Production) (marks : List Bool) (q : Production) → slice_get qs production ≡ Some q → q.left ≡ symbol → is_marked marks production ≡ mark
+    → AreFirstFrom qs marks (production + 1) before → IsLeastFrom qs marks (production + 1) pair → IsLeastFrom qs marks production after

@@ -1,0 +1,59 @@
+//! Why a sentence was not parsed.
+ghost use Rattle.std.specs.Prelude.{◌≡◌};
+ghost use Rattle.llparse.specs.sentence.Refusals.{parse_fault_of};
+ghost use Rattle.llparse.specs.declared.sentence.parse_fault.ParseFault.TheVariants as parse_fault;
+
+use ag_value::NoMemory;
+use std::alloc::{AllocError, AllocFailed};
+use treefile::WriteFault;
+
+/// Why a sentence was not parsed.
+#[derive(Clone, Copy, Debug, PartialEq, Eq)]
+pub enum ParseFault {
+    /// P1: no tree has these tokens. Carries the offset of the token that can't be taken, at the
+    /// end that of the last token, and 0 where there is none.
+    Unexpected(u32),
+    /// P2: each tree with these tokens is deeper than the limit.
+    TooDeep,
+    /// P3: each tree with these tokens has more stored nodes than the limit.
+    TooManyNodes,
+    /// D1: a call of the device failed.
+    Device,
+    /// A growth was refused.
+    NoMemory,
+}
+
+impl From<NoMemory> for ParseFault {
+    ghost from_gives = { λ _ e. e ≡ parse_fault.NoMemory };
+
+    fn from(_error: NoMemory) -> ParseFault {
+        ParseFault::NoMemory
+    }
+}
+
+impl From<AllocError> for ParseFault {
+    ghost from_gives = { λ _ e. e ≡ parse_fault.NoMemory };
+
+    fn from(_error: AllocError) -> ParseFault {
+        ParseFault::NoMemory
+    }
+}
+
+impl<T: Drop> From<AllocFailed<T>> for ParseFault {
+    ghost from_gives = { λ _ e. e ≡ parse_fault.NoMemory };
+
+    fn from(_error: AllocFailed<T>) -> ParseFault {
+        ParseFault::NoMemory
+    }
+}
+
+impl From<WriteFault> for ParseFault {
+    ghost from_gives = { λ fault e. e ≡ parse_fault_of fault };
+
+    fn from(fault: WriteFault) -> ParseFault {
+        match fault {
+            WriteFault::Device => ParseFault::Device,
+            WriteFault::NoMemory => ParseFault::NoMemory,
+        }
+    }
+}

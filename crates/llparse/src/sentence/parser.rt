@@ -1,0 +1,341 @@
+//! How far a sentence is parsed, and the steps that go on with it.
+ghost use Rattle.std.specs.Prelude.{◌≡◌, ◌≤◌, ◌<◌, ◌+◌, ◌++◌, ◌∷◌, [], ℕ, true, false, All};
+ghost use Rattle.std.specs.Prelude.{drop, length, Some, None};
+ghost use Rattle.std.specs.Prelude.{option_map, IfErr, IfOk, IfSome, IsErrOf, OnErr, OnOk};
+ghost use Rattle.ag_value.specs.Well.{IsWell};
+ghost use Rattle.ag_grammar.specs.declared.grammar.Item.TheVariants as item;
+ghost use Rattle.ag_grammar.specs.declared.grammar.Terminal.TheVariants as terminal;
+ghost use Rattle.ag_grammar.specs.grammars.AttributeGrammar.{Grammar as AGrammar};
+ghost use Rattle.ag_grammar.specs.grammars.Tree.{IsTokenText, most_depth, most_nodes};
+ghost use Rattle.ag_scan.specs.Handed.{handed, offset_at};
+ghost use Rattle.treefile.specs.ways.Beginning.{AddsFrames};
+ghost use Rattle.treefile.specs.devices.Device.{Persists, WhenHonest};
+ghost use Rattle.treefile.specs.records.TreeFile.{version_two};
+ghost use Rattle.llparse.specs.Ahead.{ahead_of};
+ghost use Rattle.llparse.specs.sentence.Parsing.{leaf_frame, node_frame, right_side};
+ghost use Rattle.llparse.specs.sentence.Refusals.{IsWant};
+ghost use Rattle.llparse.specs.sentence.Sentences.{words_of};
+ghost use Rattle.llparse.specs.table.Tables.{choice_of};
+ghost use Rattle.llparse.specs.sentence.Turns.{left_of, Asks, Faces, IsFull, Leads, Advances, IsBetween};
+ghost use Rattle.llparse.specs.sentence.Turns.{HasTables, HasTokens, Refuses, Writes};
+
+use crate::ahead::Ahead;
+use crate::sentence::parse_fault::ParseFault;
+use crate::sentence::tokens::{expect, next_of, unexpected};
+use crate::table::lookup::Tables;
+use ag_grammar::limits::{MOST_DEPTH, MOST_NODES};
+use ag_grammar::{Grammar, Item, Terminal};
+use ag_scan::{Sentence, Tokens};
+use ag_value::{Text, Value};
+use std::alloc::Global;
+use treefile::{Device, Kind, Writer};
+
+/// An open node: its production, how many items of its right side it is behind, and how many texts
+/// of tokens a parser kept when it was opened. Those of its own tokens are behind them.
+#[derive(Clone, Copy, Debug, PartialEq, Eq)]
+pub(crate) struct OpenNode {
+    pub(crate) production: u16,
+    pub(crate) place: u16,
+    pub(crate) base: usize,
+}
+
+/// The item that an open node has next, which the node goes behind; none where it is at its end.
+#[inline(always)]
+pub(crate) fn next_item(grammar: &Grammar, node: &mut OpenNode) -> Option<Item>
+    requires { node.old.production < length grammar.now.productions }
+    ensures { Advances (right_side grammar.now node.old.production) node.old result node.new }
+{
+    let production = &grammar.productions()[node.production as usize];
+    let item = production
+        .items
+        .as_slice()
+        .get(node.place as usize)
+        .copied()?;
+    node.place += 1;
+    Some(item)
+}
+
+/// A node of a symbol at a look-ahead, open at its beginning, whose texts are to come behind so many.
+#[inline(always)]
+pub(crate) fn node_at(tables: &Tables, symbol: u16, ahead: Ahead, base: usize) -> Option<OpenNode>
+    ensures begins { IfSome result (λ node. node.place ≡ 0) }
+    ensures base { IfSome result (λ node. node.base ≡ base) }
+    ensures chosen { choice_of tables.now symbol ahead
+        ≡ option_map (λ node. node.production) result }
+{
+    match tables.choice(symbol, ahead) {
+        Some(production) => Some(OpenNode {
+            production,
+            place: 0,
+            base,
+        }),
+        None => None,
+    }
+}
+
+/// A node of the symbol that comes next, open at its beginning, whose texts are to come behind so
+/// many.
+#[inline(always)]
+pub(crate) fn new_node(
+    tables: &Tables,
+    tokens: &Tokens<'_>,
+    symbol: u16,
+    base: usize,
+) -> Result<OpenNode, ParseFault>
+    ensures begins { IfOk result (λ node. node.place ≡ 0) }
+    ensures base { IfOk result (λ node. node.base ≡ base) }
+    ensures chosen { IfOk result (λ node. choice_of tables.now symbol
+        (ahead_of (drop tokens.now.taken (words_of tokens.now.list))) ≡ Some node.production) }
+    ensures none { OnErr result (choice_of tables.now symbol
+        (ahead_of (drop tokens.now.taken (words_of tokens.now.list))) ≡ None) }
+    ensures place { IfErr result (λ e.
+        e ≡ ParseFault.Unexpected (offset_at tokens.now.list tokens.now.taken)) }
+{
+    match node_at(tables, symbol, next_of(tokens), base) {
+        Some(node) => Ok(node),
+        None => Err(unexpected(tokens)),
+    }
+}
+
+/// Appends the record of a leaf, and keeps its text behind others.
+#[inline(always)]
+fn put_leaf<D: Device>(
+    alloc: Global,
+    class: u16,
+    lex: &str,
+    texts: &mut Vec<Value>,
+    device: &mut D,
+    writer: &mut Writer,
+) -> Result<(), ParseFault>
+    requires text { IsTokenText lex.now }
+    requires room { writer.old.written < most_nodes }
+    requires fine { writer.old.is_broken ≡ false }
+    ensures frame { OnOk result (WhenHonest (D.is_honest device.old)
+        (D.content device.new ≡ D.content device.old ++ leaf_frame class lex.now)) }
+    ensures kept { OnOk result
+        (texts.new.items ≡ texts.old.items ++ Value.Text lex.now ∷ []) }
+    ensures counted { OnOk result
+        (writer.new ≡ record writer.old { written = writer.old.written + 1 }) }
+    ensures adds { WhenHonest (D.is_honest device.old)
+        (AddsFrames (D.content device.old) (D.content device.new) result) }
+    ensures refuses { IfErr result IsWant }
+    ensures breaks { IsErrOf result ParseFault.Device → writer.new.is_broken ≡ true }
+    ensures broken { writer.new.is_broken ≡ true → IsErrOf result ParseFault.Device }
+    ensures persists { Persists (D.is_honest device.old) (D.is_honest device.new)
+        (D.failures device.old) (D.failures device.new) (IsErrOf result ParseFault.Device) }
+{
+    let values = [Value::Text(Text::from_str(alloc, lex)?)];
+    writer.put(device, Kind::Token, class, &values)?;
+    let [text] = values;
+    texts.push(text)?;
+    Ok(())
+}
+
+/// Appends the record of a node, with the texts of the tokens among its children.
+#[inline(always)]
+pub(crate) fn put_node<D: Device>(
+    production: u16,
+    texts: &[Value],
+    device: &mut D,
+    writer: &mut Writer,
+) -> Result<(), ParseFault>
+    requires few { length texts.now ≤ version_two.most_values }
+    requires well { All IsWell texts.now }
+    requires room { writer.old.written < most_nodes }
+    requires fine { writer.old.is_broken ≡ false }
+    ensures frame { OnOk result (WhenHonest (D.is_honest device.old)
+        (D.content device.new ≡ D.content device.old ++ node_frame production texts.now)) }
+    ensures counted { OnOk result
+        (writer.new ≡ record writer.old { written = writer.old.written + 1 }) }
+    ensures adds { WhenHonest (D.is_honest device.old)
+        (AddsFrames (D.content device.old) (D.content device.new) result) }
+    ensures refuses { IfErr result IsWant }
+    ensures breaks { IsErrOf result ParseFault.Device → writer.new.is_broken ≡ true }
+    ensures broken { writer.new.is_broken ≡ true → IsErrOf result ParseFault.Device }
+    ensures persists { Persists (D.is_honest device.old) (D.is_honest device.new)
+        (D.failures device.old) (D.failures device.new) (IsErrOf result ParseFault.Device) }
+{
+    writer.put(device, Kind::Node, production, texts)?;
+    Ok(())
+}
+
+/// How far a sentence is parsed: the nodes that wait for the innermost open one, the outermost
+/// first, the texts of the tokens among the children of open nodes, those of the innermost one
+/// last, the place in the tokens, and how many nodes are opened, leaves among them. It takes
+/// sixteen bytes for a node that waits, and memory for the texts.
+#[derive(Drop)]
+pub(crate) struct Parser<'t> {
+    pub(crate) waiting: Vec<OpenNode>,
+    pub(crate) texts: Vec<Value>,
+    pub(crate) tokens: Tokens<'t>,
+    pub(crate) count: u32,
+}
+
+impl<'t> Parser<'t> {
+    /// A parser whose root alone is open, and which has taken no token.
+    pub(crate) fn new(alloc: Global, sentence: &'t Sentence<'_>) -> Parser<'t>
+        ensures waiting { result.waiting.items ≡ [] }
+        ensures texts { result.texts.items ≡ [] }
+        ensures tokens { result.tokens ≡ handed sentence.now 0 }
+        ensures count { result.count ≡ 1 }
+    {
+        Parser {
+            waiting: Vec::new(alloc),
+            texts: Vec::new(alloc),
+            tokens: sentence.tokens(),
+            count: 1,
+        }
+    }
+
+    /// Whether one node more is within the limits, below those that wait and the innermost one.
+    #[inline(always)]
+    pub(crate) fn has_room(&self) -> Result<(), ParseFault>
+        ensures room { OnOk result ((length self.now.waiting.items + 1 < most_depth)
+            × (self.now.count < most_nodes)) }
+        ensures full { IfErr result (IsFull self.now) }
+    {
+        if self.waiting.len() + 1 >= MOST_DEPTH {
+            return Err(ParseFault::TooDeep);
+        }
+        if self.count >= MOST_NODES {
+            return Err(ParseFault::TooManyNodes);
+        }
+        Ok(())
+    }
+
+    /// The texts that are kept behind so many.
+    #[inline(always)]
+    pub(crate) fn texts_from(&self, base: usize) -> &[Value]
+        requires { base ≤ length self.now.texts.items }
+        ensures { result.now ≡ drop base self.now.texts.items }
+    {
+        &self.texts[base..]
+    }
+
+    /// Opens a node of the symbol that comes next in a node, which waits for it.
+    #[inline(always)]
+    pub(crate) fn open(
+        &mut self,
+        tables: &Tables,
+        outer: OpenNode,
+        symbol: u16,
+    ) -> Result<OpenNode, ParseFault>
+        ensures opens { IfOk result (λ node. Leads (HasTables tables.now) self.old.tokens.list
+            (λ k. Asks k symbol outer self.old) (λ k. IsBetween k node self.new)) }
+        ensures refuses { IfErr result (Refuses (HasTables tables.now) self.old.tokens.list
+            (λ k. Asks k symbol outer self.old)) }
+        ensures tokens { self.new.tokens ≡ self.old.tokens }
+        ensures steps { IfOk result (λ node. (g : AGrammar)
+            → left_of g node self.new < left_of g outer self.old) }
+        ensures counted { OnOk result (length self.new.waiting.items + self.old.count
+            ≡ length self.old.waiting.items + self.new.count) }
+        ensures calm { IsErrOf result ParseFault.Device → ⊥ }
+    {
+        let node = new_node(tables, &self.tokens, symbol, self.texts.len())?;
+        self.has_room()?;
+        self.waiting.push(outer)?;
+        self.count += 1;
+        Ok(node)
+    }
+
+    /// Takes a token of a literal, which has no record.
+    #[inline(always)]
+    fn take_literal(&mut self, literal: u16) -> Result<(), ParseFault>
+        ensures takes { OnOk result ((node : OpenNode)
+            → Leads (HasTokens self.old.tokens.list) self.old.tokens.list
+            (λ k. Faces k (item.Terminal (terminal.Literal literal)) node self.old)
+            (λ k. IsBetween k node self.new)) }
+        ensures refuses { (node : OpenNode)
+            → IfErr result (Refuses (HasTokens self.old.tokens.list) self.old.tokens.list
+            (λ k. Faces k (item.Terminal (terminal.Literal literal)) node self.old)) }
+        ensures list { OnOk result (self.new.tokens.list ≡ self.old.tokens.list) }
+        ensures waiting { OnOk result (self.new.waiting.items ≡ self.old.waiting.items) }
+        ensures count { OnOk result (self.new.count ≡ self.old.count) }
+        ensures calm { IsErrOf result ParseFault.Device → ⊥ }
+    {
+        expect(&self.tokens, Terminal::Literal(literal))?;
+        self.tokens.advance();
+        Ok(())
+    }
+
+    /// Takes a token of a class, appends its record and keeps its text.
+    #[inline(always)]
+    fn take_class<D: Device>(
+        &mut self,
+        alloc: Global,
+        class: u16,
+        device: &mut D,
+        writer: &mut Writer,
+    ) -> Result<(), ParseFault>
+        requires fits { (g : AGrammar) × HasTokens self.old.tokens.list g }
+        requires written { writer.old.written + length self.old.waiting.items + 1
+            ≡ self.old.count }
+        requires fine { writer.old.is_broken ≡ false }
+        ensures takes { OnOk result ((node : OpenNode)
+            → Writes (HasTokens self.old.tokens.list) self.old.tokens.list
+            (D.is_honest device.old) (D.content device.old) (D.content device.new)
+            (λ k. Faces k (item.Terminal (terminal.Class class)) node self.old)
+            (λ k. IsBetween k node self.new)) }
+        ensures refuses { (node : OpenNode)
+            → IfErr result (Refuses (HasTokens self.old.tokens.list) self.old.tokens.list
+            (λ k. Faces k (item.Terminal (terminal.Class class)) node self.old)) }
+        ensures list { OnOk result (self.new.tokens.list ≡ self.old.tokens.list) }
+        ensures waiting { OnOk result (self.new.waiting.items ≡ self.old.waiting.items) }
+        ensures count { OnOk result (self.new.count ≡ self.old.count + 1) }
+        ensures written { OnOk result (writer.new
+            ≡ record writer.old { written = writer.old.written + 1 }) }
+        ensures adds { WhenHonest (D.is_honest device.old)
+            (AddsFrames (D.content device.old) (D.content device.new) result) }
+        ensures breaks { IsErrOf result ParseFault.Device → writer.new.is_broken ≡ true }
+        ensures broken { writer.new.is_broken ≡ true → IsErrOf result ParseFault.Device }
+        ensures persists { Persists (D.is_honest device.old) (D.is_honest device.new)
+            (D.failures device.old) (D.failures device.new) (IsErrOf result ParseFault.Device) }
+    {
+        let lex = expect(&self.tokens, Terminal::Class(class))?;
+        self.has_room()?;
+        put_leaf(alloc, class, lex, &mut self.texts, device, writer)?;
+        self.count += 1;
+        self.tokens.advance();
+        Ok(())
+    }
+
+    /// Takes a token of the terminal that comes next.
+    #[inline(always)]
+    pub(crate) fn take<D: Device>(
+        &mut self,
+        alloc: Global,
+        terminal: Terminal,
+        device: &mut D,
+        writer: &mut Writer,
+    ) -> Result<(), ParseFault>
+        requires fits { (g : AGrammar) × HasTokens self.old.tokens.list g }
+        requires written { writer.old.written + length self.old.waiting.items + 1
+            ≡ self.old.count }
+        requires fine { writer.old.is_broken ≡ false }
+        ensures takes { OnOk result ((node : OpenNode)
+            → Writes (HasTokens self.old.tokens.list) self.old.tokens.list
+            (D.is_honest device.old) (D.content device.old) (D.content device.new)
+            (λ k. Faces k (item.Terminal terminal) node self.old)
+            (λ k. IsBetween k node self.new)) }
+        ensures refuses { (node : OpenNode)
+            → IfErr result (Refuses (HasTokens self.old.tokens.list) self.old.tokens.list
+            (λ k. Faces k (item.Terminal terminal) node self.old)) }
+        ensures list { OnOk result (self.new.tokens.list ≡ self.old.tokens.list) }
+        ensures waiting { OnOk result (self.new.waiting.items ≡ self.old.waiting.items) }
+        ensures count { OnOk result (self.old.count ≤ self.new.count) }
+        ensures written { OnOk result
+            (writer.new.written + length self.new.waiting.items + 1 ≡ self.new.count) }
+        ensures fine { OnOk result (writer.new.is_broken ≡ false) }
+        ensures adds { WhenHonest (D.is_honest device.old)
+            (AddsFrames (D.content device.old) (D.content device.new) result) }
+        ensures breaks { IsErrOf result ParseFault.Device → writer.new.is_broken ≡ true }
+        ensures broken { writer.new.is_broken ≡ true → IsErrOf result ParseFault.Device }
+        ensures persists { Persists (D.is_honest device.old) (D.is_honest device.new)
+            (D.failures device.old) (D.failures device.new) (IsErrOf result ParseFault.Device) }
+    {
+        match terminal {
+            Terminal::Literal(literal) => self.take_literal(literal),
+            Terminal::Class(class) => self.take_class(alloc, class, device, writer),
+        }
+    }
+}

@@ -1,0 +1,143 @@
+//! Parsing a sentence: the records of the one tree of its tokens are written as it goes, by one
+//! token of look-ahead and with a stack of its own.
+ghost use Rattle.std.specs.Prelude.{◌≡◌, ◌+◌, ℕ, true, false, Err, IfErr, IfOk, IsErrOf, OnOk};
+ghost use Rattle.ag_grammar.specs.grammars.Tree.{node_count, IsWithinLimits, Tree};
+ghost use Rattle.ag_grammar.specs.grammars.Tree.{most_depth, most_nodes};
+ghost use Rattle.ag_scan.specs.Handed.{offset_at};
+ghost use Rattle.ag_scan.specs.Tokens.{FitAll};
+ghost use Rattle.ag_scan.specs.Words.{vocabulary_of};
+ghost use Rattle.treefile.specs.records.FirstFile.{IsFirstFile};
+ghost use Rattle.treefile.specs.ways.Beginning.{AddsFrames, BeginsFile};
+ghost use Rattle.treefile.specs.devices.Device.{Persists, WhenHonest};
+ghost use Rattle.treefile.specs.records.TreeFile.{header, version_two};
+ghost use Rattle.treefile.specs.ways.Writing.{Progress};
+ghost use Rattle.llparse.specs.sentence.Parsing.{task_of, IsParsed, IsRefused};
+ghost use Rattle.llparse.specs.sentence.Sentences.{words_of, IsTreeWith};
+ghost use Rattle.llparse.specs.sentence.Sentences.{IsUnexpectedAt, LeavesOnlyDeeper, LeavesOnlyLarger};
+ghost use Rattle.llparse.specs.table.Tables.{FitsGrammar};
+
+use crate::sentence::parse_fault::ParseFault;
+use crate::sentence::parser::{Parser, new_node, next_item, put_node};
+use crate::sentence::tokens::unexpected;
+use crate::table::lookup::Tables;
+use ag_grammar::{Grammar, Item};
+use ag_scan::Sentence;
+use std::alloc::Global;
+use treefile::{Device, Writer};
+
+/// Writes the records of the one tree of the tokens behind what the device has.
+#[inline(never)]
+fn run<D: Device>(
+    alloc: Global,
+    grammar: &Grammar,
+    tables: &Tables,
+    sentence: &Sentence<'_>,
+    device: &mut D,
+    writer: &mut Writer,
+) -> Result<u32, ParseFault>
+    requires tables { FitsGrammar grammar.now tables.now }
+    requires tokens { FitAll (vocabulary_of grammar.now) sentence.now }
+    requires begun { writer.old ≡ record { written = 0; is_broken = false } }
+    ensures parsed { IfOk result (λ count. IsParsed (task_of grammar.now sentence.now
+        (D.is_honest device.old) (D.content device.old)) count (D.content device.new)) }
+    ensures written { IfOk result (λ count. writer.new
+        ≡ record { written = count; is_broken = false }) }
+    ensures refused { IfErr result (IsRefused (task_of grammar.now sentence.now
+        (D.is_honest device.old) (D.content device.old)) (offset_at sentence.now)) }
+    ensures left { IfErr result (λ fault. WhenHonest (D.is_honest device.old)
+        (AddsFrames (D.content device.old) (D.content device.new) (Err fault))) }
+    ensures breaks { IsErrOf result ParseFault.Device → writer.new.is_broken ≡ true }
+    ensures broken { writer.new.is_broken ≡ true → IsErrOf result ParseFault.Device }
+    ensures persists { Persists (D.is_honest device.old) (D.is_honest device.new)
+        (D.failures device.old) (D.failures device.new) (IsErrOf result ParseFault.Device) }
+{
+    let mut parser = Parser::new(alloc, sentence);
+    let mut node = new_node(tables, &parser.tokens, grammar.start(), 0)?;
+    loop {
+        match next_item(grammar, &mut node) {
+            Some(Item::Terminal(terminal)) => {
+                parser.take(alloc, terminal, device, writer)?;
+            }
+            Some(Item::Symbol(symbol)) => node = parser.open(tables, node, symbol)?,
+            None => {
+                let texts = parser.texts_from(node.base);
+                put_node(node.production, texts, device, writer)?;
+                parser.texts.truncate(node.base);
+                let Some(outer) = parser.waiting.pop() else {
+                    break;
+                };
+                node = outer;
+            }
+        }
+    }
+    if parser.tokens.ahead().is_some() {
+        return Err(unexpected(&parser.tokens));
+    }
+    Ok(parser.count)
+}
+
+/// Writes the file of pass 0 of the one tree of a sentence's tokens, as it goes, and gives its
+/// number of stored nodes: one frame for each node, behind those of its children, which go from
+/// left to right, and for each token of a class; a literal has none. The record of a node has the
+/// texts of the tokens of a class among its children.
+///
+/// Asks for tables of the grammar, a sentence whose tokens fit it, and a writer that was just begun on
+/// the device with pass 0. The tokens are taken one by one, and none is kept but its text. Takes memory for a stack of sixteen bytes an open node but the innermost
+/// one, for the texts of the tokens of a class among the children of open nodes, and for one frame.
+///
+/// P1 Unexpected where no tree has these tokens; P2 TooDeep and P3 TooManyNodes where each that has
+/// them is beyond the limit, and each that begins with some of them and goes on with the look-ahead
+/// behind these, and where some tree that begins with these has reached the limit there; D1 Device
+/// where the device failed. After a refusal the device has a beginning of the file. D1 leaves the
+/// writer broken, and no other refusal does.
+pub fn parse<D: Device>(
+    alloc: Global,
+    grammar: &Grammar,
+    tables: &Tables,
+    sentence: &Sentence<'_>,
+    device: &mut D,
+    writer: &mut Writer,
+) -> Result<u32, ParseFault>
+    requires tables { FitsGrammar grammar.now tables.now }
+    requires tokens { FitAll (vocabulary_of grammar.now) sentence.now }
+    requires begun { writer.old ≡ record { written = 0; is_broken = false } }
+    requires header { WhenHonest (D.is_honest device.old)
+        (D.content device.old ≡ header version_two 0) }
+
+    // an answer: there is one tree, it is within the limits, and its file is written
+    ensures tree { IfOk result (λ _. (t : Tree)
+        × IsTreeWith grammar.now (words_of sentence.now) t) }
+    ensures one { (t u : Tree) → IsTreeWith grammar.now (words_of sentence.now) t
+        → IsTreeWith grammar.now (words_of sentence.now) u → t ≡ u }
+    ensures limits { (t : Tree) → IsTreeWith grammar.now (words_of sentence.now) t
+        → OnOk result (IsWithinLimits most_depth most_nodes t) }
+    ensures count { (t : Tree) → IsTreeWith grammar.now (words_of sentence.now) t
+        → IfOk result (λ count. count ≡ node_count t) }
+    ensures file { (t : Tree) → IsTreeWith grammar.now (words_of sentence.now) t
+        → OnOk result (WhenHonest (D.is_honest device.old)
+        (IsFirstFile version_two grammar.now t (D.content device.new))) }
+    ensures written { IfOk result (λ count. writer.new
+        ≡ record { written = count; is_broken = false }) }
+
+    // a refusal: no tree has the tokens, or each is beyond the limit, which was reached
+    ensures unexpected { (at : ℕ) → result ≡ Err (ParseFault.Unexpected at)
+        → IsUnexpectedAt grammar.now sentence.now at }
+    ensures none { (at : ℕ) (t : Tree) → result ≡ Err (ParseFault.Unexpected at)
+        → IsTreeWith grammar.now (words_of sentence.now) t → ⊥ }
+    ensures deep { IsErrOf result ParseFault.TooDeep
+        → LeavesOnlyDeeper most_depth grammar.now (words_of sentence.now) }
+    ensures large { IsErrOf result ParseFault.TooManyNodes
+        → LeavesOnlyLarger most_nodes grammar.now (words_of sentence.now) }
+
+    // a refusal leaves a beginning of a file of pass 0, maybe its header alone
+    ensures left { IfErr result (λ _. WhenHonest (D.is_honest device.old)
+        (BeginsFile 0 (D.content device.new))) }
+
+    // the writer is broken where the device failed, and for no other cause
+    ensures breaks { IsErrOf result ParseFault.Device → writer.new.is_broken ≡ true }
+    ensures broken { writer.new.is_broken ≡ true → IsErrOf result ParseFault.Device }
+    ensures persists { Persists (D.is_honest device.old) (D.is_honest device.new)
+        (D.failures device.old) (D.failures device.new) (IsErrOf result ParseFault.Device) }
+{
+    run(alloc, grammar, tables, sentence, device, writer)
+}

@@ -1,0 +1,12 @@
+//! The tables of a grammar: what may come first, what may follow, and which production each look-ahead chooses.
+
+pub mod building;
+pub mod choosing;
+pub mod fault;
+pub mod filling;
+pub mod first;
+pub mod follow;
+pub mod lookup;
+pub mod nodes;
+pub mod nullable;
+pub mod predict;

@@ -1,0 +1,39 @@
+//! The tables of a grammar, or its least conflict.
+ghost use Rattle.std.specs.Prelude.{◌≡◌, ℕ, Err, IfOk};
+ghost use Rattle.llparse.specs.Ahead.{HasNoConflict};
+ghost use Rattle.llparse.specs.table.Tables.{FitsGrammar, IsLeastConflict};
+ghost use Rattle.llparse.specs.declared.ahead.Ahead.{Ahead as AnAhead};
+
+use crate::table::fault::TableFault;
+use crate::table::filling::fill;
+use crate::table::lookup::Tables;
+use crate::table::nodes::Sizes;
+use ag_grammar::Grammar;
+use std::alloc::Global;
+
+/// The tables of a grammar: exactly what its productions predict.
+///
+/// Refused is a grammar with a conflict, and answered then is the least one, by the first
+/// production, then the second, then the look-ahead: literals by their numbers, then classes, then
+/// the end; a growth refused is `NoMemory`.
+pub fn tables(alloc: Global, grammar: &Grammar) -> Result<Tables, TableFault>
+    ensures fits { IfOk result (λ tables. FitsGrammar grammar.now tables) }
+    ensures free { IfOk result (λ tables. HasNoConflict grammar.now) }
+    ensures conflict { (symbol first second : ℕ) (x : AnAhead) → result
+        ≡ Err (TableFault.Conflict symbol first second x)
+        → IsLeastConflict grammar.now symbol first second x }
+{
+    let columns = fill(alloc, grammar)?;
+    if let Some(least) = columns.conflict {
+        return Err(TableFault::Conflict {
+            symbol: grammar.productions()[least.first as usize].left,
+            first: least.first,
+            second: least.second,
+            ahead: least.ahead,
+        });
+    }
+    Ok(Tables {
+        literals: Sizes::of(grammar).literals,
+        columns: columns.choices,
+    })
+}

@@ -1,0 +1,96 @@
+//! Which production one look-ahead chooses for each symbol, and the least two that conflict there.
+ghost use Rattle.std.specs.Prelude.{◌≡◌, ◌≤◌, ◌<◌, ℕ, true, length, slice_get};
+ghost use Rattle.std.specs.Prelude.{Some, IfOk};
+ghost use Rattle.ag_grammar.specs.declared.grammar.Production.{Production as AProduction};
+ghost use Rattle.ag_grammar.specs.grammars.Accepted.{most_productions};
+ghost use Rattle.llparse.specs.table.Predicted.{AreFirstFrom, IsLeastFrom, PutsFirst, PutsLeast};
+
+use ag_grammar::Production;
+use ag_value::NoMemory;
+use std::alloc::Global;
+
+/// Two productions that conflict.
+#[derive(Clone, Copy, Debug, PartialEq, Eq)]
+pub(crate) struct Pair {
+    pub(crate) first: u16,
+    pub(crate) second: u16,
+}
+
+/// What one look-ahead chooses: for each symbol the first production, and the least two of one
+/// symbol.
+#[derive(Drop)]
+pub(crate) struct Column {
+    pub(crate) choices: Vec<Option<u16>>,
+    pub(crate) conflict: Option<Pair>,
+}
+
+/// The least two, where a production comes before all, and this was chosen for its symbol.
+fn clash(production: u16, chosen: Option<u16>, conflict: Option<Pair>) -> Option<Pair>
+    ensures some { (r : ℕ) → chosen ≡ Some r → result ≡ Some
+        (record { first = production; second = r }) }
+    ensures none { chosen ≡ None → result ≡ conflict }
+{
+    match chosen {
+        Some(second) => Some(Pair {
+            first: production,
+            second,
+        }),
+        None => conflict,
+    }
+}
+
+impl Column {
+    /// Chooses a production that comes before all those chosen so far.
+    fn put(&mut self, symbol: usize, production: u16)
+        requires symbol { symbol < length self.old.choices.items }
+        ensures len { length self.new.choices.items ≡ length self.old.choices.items }
+        ensures first { PutsFirst symbol production true self.old.choices.items
+            self.new.choices.items }
+        ensures least { PutsLeast symbol production true self.old.choices.items
+            self.old.conflict self.new.conflict }
+    {
+        self.conflict = clash(production, self.choices[symbol], self.conflict);
+        self.choices[symbol] = Some(production);
+    }
+
+    /// Chooses a production, where it is marked.
+    fn put_if(&mut self, symbol: usize, production: u16, wanted: bool)
+        requires symbol { symbol < length self.old.choices.items }
+        ensures len { length self.new.choices.items ≡ length self.old.choices.items }
+        ensures first { PutsFirst symbol production wanted self.old.choices.items
+            self.new.choices.items }
+        ensures least { PutsLeast symbol production wanted self.old.choices.items
+            self.old.conflict self.new.conflict }
+    {
+        if wanted {
+            self.put(symbol, production);
+        }
+    }
+}
+
+/// What a look-ahead chooses that the marked productions predict.
+pub(crate) fn choose(
+    alloc: Global,
+    productions: &[Production],
+    marks: &[bool],
+    symbols: usize,
+) -> Result<Column, NoMemory>
+    requires few { length productions.now ≤ most_productions }
+    requires len { length marks.now ≡ length productions.now }
+    requires below { (p : ℕ) (q : AProduction) → slice_get productions.now p ≡ Some q
+        → q.left < symbols }
+    ensures len { IfOk result (λ column. length column.choices.items ≡ symbols) }
+    ensures first { IfOk result
+        (λ column. AreFirstFrom productions.now marks.now 0 column.choices.items) }
+    ensures least { IfOk result
+        (λ column. IsLeastFrom productions.now marks.now 0 column.conflict) }
+{
+    let mut column = Column {
+        choices: vec![in alloc; None; symbols]?,
+        conflict: None,
+    };
+    for at in (0..productions.len()).rev() {
+        column.put_if(productions[at].left as usize, at as u16, marks[at]);
+    }
+    Ok(column)
+}

@@ -1,0 +1,93 @@
+//! What may come first: edges from the items in front of right sides to the left sides, and what is
+//! reached by them from a look-ahead.
+ghost use Rattle.std.specs.Prelude.{◌≡◌, ◌≤◌, length, take, IfOk, OnOk};
+ghost use Rattle.closure.specs.Following.{is_marked};
+ghost use Rattle.ag_grammar.specs.declared.grammar.Item.{Item as AnItem};
+ghost use Rattle.llparse.specs.table.Edges.{front, AddsEdges, AreFirst, AreFirstEdges};
+ghost use Rattle.llparse.specs.table.Edges.{IsEdge, IsKnownAhead, IsOver, OfSome};
+ghost use Rattle.llparse.specs.table.Nullable.{AreNullableMarks};
+ghost use Rattle.llparse.specs.table.Nodes.{node_by};
+
+use crate::ahead::Ahead;
+use crate::table::nodes::Sizes;
+use crate::table::nullable::is_empty;
+use ag_grammar::{Grammar, Item};
+use ag_value::NoMemory;
+use closure::{Clauses, Edge};
+use std::alloc::Global;
+
+/// Notes an edge.
+pub(crate) fn note(edges: &mut Vec<Edge>, from: usize, to: usize) -> Result<(), NoMemory>
+    ensures { OnOk result (AddsEdges (IsEdge from to) edges.old.items edges.new.items) }
+{
+    edges.push(Edge { from, to })?;
+    Ok(())
+}
+
+/// How many items stand in front, up to the first that is not nullable, that one among them.
+fn front_len(nullable: &[bool], items: &[Item]) -> usize
+    ensures within { result ≤ length items.now }
+    ensures front { take result items.now ≡ front (is_marked nullable.now) items.now }
+{
+    for at in 0..items.len() {
+        if !is_empty(nullable, items[at]) {
+            return at + 1;
+        }
+    }
+    items.len()
+}
+
+/// Notes an edge from each of some items to a left side.
+fn note_front(
+    edges: &mut Vec<Edge>,
+    sizes: Sizes,
+    left: usize,
+    items: &[Item],
+) -> Result<(), NoMemory>
+    ensures { OnOk result (AddsEdges (OfSome (λ (x : AnItem) e. IsEdge (node_by sizes x) left e)
+        items.now) edges.old.items edges.new.items) }
+{
+    for item in items {
+        note(edges, sizes.node(*item), left)?;
+    }
+    Ok(())
+}
+
+/// The edges from the items in front of right sides to the left sides.
+pub(crate) fn first_edges(
+    alloc: Global,
+    grammar: &Grammar,
+    nullable: &[bool],
+) -> Result<Vec<Edge>, NoMemory>
+    ensures { IfOk result (λ edges. AreFirstEdges grammar.now nullable.now edges.items) }
+{
+    let sizes = Sizes::of(grammar);
+    let mut edges = Vec::new(alloc);
+    let productions = grammar.productions();
+    for at in 0..productions.len() {
+        let production = &productions[at];
+        let items = production.items.as_slice();
+        let front = front_len(nullable, items);
+        note_front(&mut edges, sizes, production.left as usize, &items[..front])?;
+    }
+    Ok(edges)
+}
+
+/// Which items may begin with a look-ahead.
+pub(crate) fn first(
+    alloc: Global,
+    grammar: &Grammar,
+    nullable: &[bool],
+    edges: &Clauses,
+    ahead: Ahead,
+) -> Result<Vec<bool>, NoMemory>
+    requires nullable { AreNullableMarks grammar.now nullable.now }
+    requires edges { IsOver grammar.now (AreFirstEdges grammar.now nullable.now) edges.now }
+    requires known { IsKnownAhead grammar.now ahead }
+    ensures { IfOk result (λ marks. AreFirst grammar.now ahead marks.items) }
+{
+    let sizes = Sizes::of(grammar);
+    let node = sizes.symbols as usize + sizes.place(ahead);
+    let marks = edges.closure(alloc, &[node])?;
+    Ok(marks)
+}

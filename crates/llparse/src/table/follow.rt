@@ -1,0 +1,168 @@
+//! What may follow: edges from left sides to the items that may stand last, seeds from what comes
+//! first behind an item, and what is reached.
+ghost use Rattle.std.specs.Prelude.{◌≡◌, ◌<◌, ◌↔◌, ◌&&◌, ◌||◌, true, false, length};
+ghost use Rattle.std.specs.Prelude.{Contains, IfOk, OnOk};
+ghost use Rattle.llparse.specs.table.Comes.{AreFollow, AreFollowed, AreFollowEdges, IsLastEdge};
+ghost use Rattle.llparse.specs.table.Comes.{IsNextNode};
+ghost use Rattle.llparse.specs.table.Edges.{Adds, AddsEdges, AreFirst, IsEdge, IsOver};
+ghost use Rattle.llparse.specs.table.Nullable.{is_empty, AreNullableMarks};
+ghost use Rattle.closure.specs.Following.{is_marked};
+ghost use Rattle.llparse.specs.declared.ahead.Ahead.TheVariants as look;
+
+use crate::ahead::Ahead;
+use crate::table::first::note;
+use crate::table::nodes::Sizes;
+use crate::table::nullable::is_empty;
+use ag_grammar::{Grammar, Item};
+use ag_value::NoMemory;
+use closure::{Clauses, Edge};
+use std::alloc::Global;
+
+/// A number is marked.
+pub(crate) fn has(marks: &[bool], at: usize) -> bool
+    ensures { result ≡ is_marked marks.now at }
+{
+    at < marks.len() && marks[at]
+}
+
+/// A look-ahead comes next: an item begins with it, or is nullable and it comes next behind that.
+pub(crate) fn comes(begins: bool, empty: bool, behind: bool) -> bool
+    ensures { result ≡ (begins || (empty && behind)) }
+{
+    begins || (empty && behind)
+}
+
+/// Notes an edge, where that is wanted.
+fn note_if(edges: &mut Vec<Edge>, from: usize, to: usize, wanted: bool) -> Result<(), NoMemory>
+    ensures { OnOk result (AddsEdges (λ e. (wanted
+        ≡ true) × IsEdge from to e) edges.old.items edges.new.items) }
+{
+    if wanted {
+        note(edges, from, to)?;
+    }
+    Ok(())
+}
+
+/// Notes an edge from a left side to each item behind which all are nullable.
+fn note_last(
+    edges: &mut Vec<Edge>,
+    sizes: Sizes,
+    nullable: &[bool],
+    left: usize,
+    items: &[Item],
+) -> Result<(), NoMemory>
+    ensures { OnOk result (AddsEdges (IsLastEdge sizes nullable.now left items.now)
+        edges.old.items edges.new.items) }
+{
+    let mut empty = true;
+    for at in (0..items.len()).rev() {
+        note_if(edges, left, sizes.node(items[at]), empty)?;
+        empty = comes(false, is_empty(nullable, items[at]), empty);
+    }
+    Ok(())
+}
+
+/// The edges from left sides to the items of the right sides that may stand last.
+pub(crate) fn follow_edges(
+    alloc: Global,
+    grammar: &Grammar,
+    nullable: &[bool],
+) -> Result<Vec<Edge>, NoMemory>
+    ensures { IfOk result (λ edges. AreFollowEdges grammar.now nullable.now edges.items) }
+{
+    let sizes = Sizes::of(grammar);
+    let mut edges = Vec::new(alloc);
+    let productions = grammar.productions();
+    for at in 0..productions.len() {
+        let production = &productions[at];
+        let items = production.items.as_slice();
+        note_last(&mut edges, sizes, nullable, production.left as usize, items)?;
+    }
+    Ok(edges)
+}
+
+/// Notes a seed, where that is wanted.
+fn note_seed(seeds: &mut Vec<usize>, seed: usize, wanted: bool) -> Result<(), NoMemory>
+    ensures { OnOk result (Adds (λ t. (wanted ≡ true) × (t ≡ seed)) (Contains seeds.old.items)
+        (Contains seeds.new.items)) }
+{
+    if wanted {
+        seeds.push(seed)?;
+    }
+    Ok(())
+}
+
+/// Notes each item behind which the look-ahead comes next.
+fn note_next(
+    seeds: &mut Vec<usize>,
+    sizes: Sizes,
+    nullable: &[bool],
+    begins: &[bool],
+    items: &[Item],
+) -> Result<(), NoMemory>
+    ensures { OnOk result (Adds (IsNextNode sizes begins.now nullable.now items.now)
+        (Contains seeds.old.items) (Contains seeds.new.items)) }
+{
+    let mut next = false;
+    for at in (0..items.len()).rev() {
+        let node = sizes.node(items[at]);
+        note_seed(seeds, node, next)?;
+        next = comes(has(begins, node), is_empty(nullable, items[at]), next);
+    }
+    Ok(())
+}
+
+/// A look-ahead is the end.
+fn is_end(ahead: Ahead) -> bool
+    ensures { result ≡ true ↔ ahead ≡ look.End }
+{
+    match ahead {
+        Ahead::End => true,
+        Ahead::Terminal(_) => false,
+    }
+}
+
+/// The items behind which the look-ahead comes next.
+fn followed(
+    alloc: Global,
+    grammar: &Grammar,
+    nullable: &[bool],
+    begins: &[bool],
+) -> Result<Vec<usize>, NoMemory>
+    ensures { IfOk result (λ seeds. AreFollowed grammar.now nullable.now begins.now seeds.items) }
+{
+    let sizes = Sizes::of(grammar);
+    let mut seeds = Vec::new(alloc);
+    let productions = grammar.productions();
+    for at in 0..productions.len() {
+        let production = &productions[at];
+        note_next(
+            &mut seeds,
+            sizes,
+            nullable,
+            begins,
+            production.items.as_slice(),
+        )?;
+    }
+    Ok(seeds)
+}
+
+/// Which symbols a look-ahead may follow.
+pub(crate) fn follow(
+    alloc: Global,
+    grammar: &Grammar,
+    nullable: &[bool],
+    begins: &[bool],
+    edges: &Clauses,
+    ahead: Ahead,
+) -> Result<Vec<bool>, NoMemory>
+    requires nullable { AreNullableMarks grammar.now nullable.now }
+    requires first { AreFirst grammar.now ahead begins.now }
+    requires edges { IsOver grammar.now (AreFollowEdges grammar.now nullable.now) edges.now }
+    ensures { IfOk result (λ marks. AreFollow grammar.now ahead marks.items) }
+{
+    let mut seeds = followed(alloc, grammar, nullable, begins)?;
+    note_seed(&mut seeds, grammar.start() as usize, is_end(ahead))?;
+    let marks = edges.closure(alloc, seeds.as_slice())?;
+    Ok(marks)
+}

@@ -1,0 +1,62 @@
+//! Tables of predictions, and how they are looked up.
+ghost use Rattle.std.specs.Prelude.{◌≡◌};
+ghost use Rattle.llparse.specs.table.Predicted.{choice_at};
+ghost use Rattle.llparse.specs.table.Tables.{choice_of};
+
+use crate::ahead::Ahead;
+use crate::table::nodes::Sizes;
+use std::marker::Model;
+
+/// Which production a symbol has at a look-ahead. Contracts see it as the number of literals and,
+/// for each look-ahead, the choices for all symbols. It takes two bytes and a mark for each symbol
+/// and each look-ahead.
+#[derive(Drop)]
+pub struct Tables {
+    pub(crate) literals: u16,
+    pub(crate) columns: Vec<Vec<Option<u16>>>,
+}
+
+impl Model for Tables {
+    ghost use Rattle.std.specs.Coded.{codes};
+    ghost use Rattle.closure.specs.Waiting.{rows};
+    ghost use Rattle.llparse.specs.table.Tables.{Choices};
+
+    ghost Value = { Choices };
+
+    ghost coded = { Prim.hlevel codes };
+
+    ghost view = { λ t. record {
+      literals = t.literals;
+      columns = rows t.columns.items;
+    } };
+}
+
+/// What stands at a symbol's place.
+#[inline(always)]
+fn entry(choices: &[Option<u16>], symbol: usize) -> Option<u16>
+    ensures { result ≡ choice_at choices.now symbol }
+{
+    if symbol < choices.len() {
+        return choices[symbol];
+    }
+    None
+}
+
+impl Tables {
+    /// The production that a symbol has at a look-ahead, in constant time; none where no production
+    /// of the symbol predicts it. Takes no memory.
+    #[inline(always)]
+    pub fn choice(&self, symbol: u16, ahead: Ahead) -> Option<u16>
+        ensures { result ≡ choice_of self.now symbol ahead }
+    {
+        let sizes = Sizes {
+            symbols: 0,
+            literals: self.literals,
+        };
+        let place = sizes.place(ahead);
+        if sizes.knows(ahead) && place < self.columns.len() {
+            return entry(self.columns[place].as_slice(), symbol as usize);
+        }
+        None
+    }
+}

@@ -1,0 +1,94 @@
+//! How the symbols and the look-aheads of a grammar are numbered.
+ghost use Rattle.std.specs.Prelude.{◌≡◌, ◌+◌, ◌<◌, true, length};
+ghost use Rattle.ag_grammar.specs.grammars.Accepted.{IsAccepted};
+ghost use Rattle.llparse.specs.table.Nodes.{node_of, place_of};
+ghost use Rattle.llparse.specs.table.Tables.{is_known};
+
+use crate::ahead::Ahead;
+use ag_grammar::limits::CLASS_COUNT;
+use ag_grammar::{Grammar, Item, Terminal};
+
+/// How many symbols and literals a grammar has.
+#[derive(Clone, Copy, Debug, PartialEq, Eq)]
+pub(crate) struct Sizes {
+    pub(crate) symbols: u16,
+    pub(crate) literals: u16,
+}
+
+impl Sizes {
+    /// Those of a grammar.
+    pub(crate) fn of(grammar: &Grammar) -> Sizes
+        ensures symbols { result.symbols ≡ length grammar.now.symbols }
+        ensures literals { result.literals ≡ length grammar.now.literals }
+        ensures accepted { IsAccepted grammar.now }
+    {
+        Sizes {
+            symbols: grammar.symbols().len() as u16,
+            literals: grammar.literals().len() as u16,
+        }
+    }
+
+    /// A look-ahead's place among all: literals, then classes, then the end.
+    pub(crate) fn place(self, ahead: Ahead) -> usize
+        ensures { result ≡ place_of self.literals ahead }
+    {
+        match ahead {
+            Ahead::Terminal(Terminal::Literal(literal)) => literal as usize,
+            Ahead::Terminal(Terminal::Class(class)) => { self.literals as usize + class as usize }
+            Ahead::End => self.literals as usize + CLASS_COUNT as usize,
+        }
+    }
+
+    /// The node of an item: symbols come first, then look-aheads.
+    pub(crate) fn node(self, item: Item) -> usize
+        ensures { result ≡ node_of self.symbols self.literals item }
+    {
+        match item {
+            Item::Symbol(symbol) => symbol as usize,
+            Item::Terminal(terminal) => {
+                self.symbols as usize + self.place(Ahead::Terminal(terminal))
+            }
+        }
+    }
+
+    /// How many look-aheads there are.
+    pub(crate) fn aheads(self) -> usize
+        ensures { result ≡ self.literals + 4 }
+    {
+        self.literals as usize + CLASS_COUNT as usize + 1
+    }
+
+    /// How many nodes there are.
+    pub(crate) fn nodes(self) -> usize
+        ensures { result ≡ self.symbols + (self.literals + 4) }
+    {
+        self.symbols as usize + self.aheads()
+    }
+
+    /// The look-ahead at a place.
+    pub(crate) fn ahead(self, place: usize) -> Ahead
+        requires { place < self.literals + 4 }
+        ensures place { place_of self.literals result ≡ place }
+        ensures known { is_known self.literals result ≡ true }
+    {
+        let literals = self.literals as usize;
+        if place < literals {
+            return Ahead::Terminal(Terminal::Literal(place as u16));
+        }
+        if place < literals + CLASS_COUNT as usize {
+            return Ahead::Terminal(Terminal::Class((place - literals) as u16));
+        }
+        Ahead::End
+    }
+
+    /// A look-ahead is one of the grammar's.
+    pub(crate) fn knows(self, ahead: Ahead) -> bool
+        ensures { result ≡ is_known self.literals ahead }
+    {
+        match ahead {
+            Ahead::Terminal(Terminal::Literal(literal)) => literal < self.literals,
+            Ahead::Terminal(Terminal::Class(class)) => class < CLASS_COUNT,
+            Ahead::End => true,
+        }
+    }
+}

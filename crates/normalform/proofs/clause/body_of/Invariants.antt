@@ -1,8 +1,0 @@
--- What the loop of `body_of` keeps.
-use Rattle.std.proofs.Common.{◌≡◌, ◌++◌, drop}
-use Rattle.normalform.specs.Clauses.{body_of}
-use Rattle.normalform.specs.Numbers.{symbol_names}
-use Rattle.normalform.proofs.clause.body_of.Given as goal
-
-abbrev pub invariant-loop-item : goal.invariant-loop-item
-invariant-loop-item l = l.body.items ++ body_of (symbol_names l.declared) (drop l.item-index l.items) ≡ body_of (symbol_names l.declared) l.items

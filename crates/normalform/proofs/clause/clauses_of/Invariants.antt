@@ -1,7 +1,0 @@
--- What the loop of `clauses_of` keeps.
-use Rattle.std.proofs.Common.{◌≡◌, take}
-use Rattle.normalform.specs.Clauses.{clauses_of}
-use Rattle.normalform.proofs.clause.clauses_of.Given as goal
-
-abbrev pub invariant-loop-production : goal.invariant-loop-production
-invariant-loop-production l = l.clauses.items ≡ clauses_of l.declared (take l.production-index l.productions)

@@ -1,7 +1,0 @@
--- What the loop of `push_edges` keeps.
-use Rattle.std.proofs.Common.{◌≡◌, ◌++◌, map, take}
-use Rattle.normalform.specs.Clauses.{edge}
-use Rattle.normalform.proofs.clause.push_edges.Given as goal
-
-abbrev pub invariant-loop-symbol : goal.invariant-loop-symbol
-invariant-loop-symbol l = l.edges.items ≡ l.initial.edges.items ++ map (edge l.clause.head) (take l.symbol-index l.symbol-items)

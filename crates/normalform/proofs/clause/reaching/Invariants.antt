@@ -1,7 +1,0 @@
--- What the loop of `reaching` keeps.
-use Rattle.std.proofs.Common.{◌≡◌, ◌++◌, drop, flat_map}
-use Rattle.normalform.specs.Clauses.{reaching, edges_of}
-use Rattle.normalform.proofs.clause.reaching.Given as goal
-
-abbrev pub invariant-loop-clause : goal.invariant-loop-clause
-invariant-loop-clause l = l.edges.items ++ flat_map edges_of (drop l.clause-index l.clauses) ≡ reaching l.clauses

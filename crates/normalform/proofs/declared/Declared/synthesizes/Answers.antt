@@ -1,6 +1,0 @@
--- The goals of `synthesizes` that are left.
-use Rattle.normalform.proofs.KindAt.{synthesizes_is}
-use Rattle.normalform.proofs.declared.Declared.synthesizes.Goals as goal
-
-pub returns-in-Some : goal.returns-in-Some
-returns-in-Some c = synthesizes_is _ c.in-Some.raw.now c.as_slice.result.now c.args.number c.in-Some.ensures.there c.as_slice.ensures

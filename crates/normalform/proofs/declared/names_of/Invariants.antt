@@ -1,7 +1,0 @@
--- What the loop of `names_of` keeps.
-use Rattle.std.proofs.Common.{◌≡◌, map, take}
-use Rattle.normalform.specs.Numbers.{symbol_of, symbol_names}
-use Rattle.normalform.proofs.declared.names_of.Given as goal
-
-abbrev pub invariant-loop-symbol : goal.invariant-loop-symbol
-invariant-loop-symbol l = l.names ≡ symbol_names (map symbol_of (take l.symbol-index l.symbols))

@@ -1,0 +1,7 @@
+-- What the loop of `push_edges` keeps.
+use Rattle.std.proofs.Common.{◌≡◌, ◌++◌, map, take}
+use Rattle.normalform.specs.faults.Clauses.{edge}
+use Rattle.normalform.proofs.faults.clause.push_edges.Given as goal
+
+abbrev pub invariant-loop-symbol : goal.invariant-loop-symbol
+invariant-loop-symbol l = l.edges.items ≡ l.initial.edges.items ++ map (edge l.clause.head) (take l.symbol-index l.symbol-items)

@@ -1,0 +1,8 @@
+-- What the loop of `are_readable` keeps.
+use Rattle.std.proofs.Common.{◌≡◌, drop}
+use Rattle.std.specs.List.{list_all}
+use Rattle.normalform.specs.faults.Readable.{readable_in}
+use Rattle.normalform.proofs.faults.readable.are_readable.Given as goal
+
+abbrev pub invariant-loop-production : goal.invariant-loop-production
+invariant-loop-production l = list_all readable_in (drop l.production-index l.productions) ≡ list_all readable_in l.productions

@@ -1,0 +1,8 @@
+-- What the loop of `is_readable_in` keeps.
+use Rattle.std.proofs.Common.{◌≡◌, drop}
+use Rattle.std.specs.List.{list_all}
+use Rattle.normalform.specs.faults.Readable.{readable_item, readable_in}
+use Rattle.normalform.proofs.faults.readable.is_readable_in.Given as goal
+
+abbrev pub invariant-loop-item : goal.invariant-loop-item
+invariant-loop-item l = list_all readable_item (drop l.item-index l.item-items) ≡ readable_in l.production

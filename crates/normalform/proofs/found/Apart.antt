@@ -1,0 +1,106 @@
+-- Keys that are each new where they stand differ, and the other way round.
+use Rattle.std.proofs.Common.{zero, suc, ℕ, ◌≡◌, ◌<◌, ◌≢◌, Bool, true, false, cond, not, List, [], ◌∷◌, ◌++◌, length, get_or, map, None, Some, slice_get, AllPairs, refl, sym, ap, ◌∙◌, inl, inr, arith, append-nil, append_assoc, length-append}
+use Rattle.std.proofs.lemmas.Bool.{false≢true, cases_eq, cases_lt}
+use Rattle.std.proofs.lemmas.List.{get_or_append_left, get_or_at, length-map, get_or-map}
+use Rattle.std.proofs.lemmas.List.Folds.{list_any_at, list_any_none}
+use Rattle.std.proofs.lemmas.List.Quantifiers.{all_pairs_push}
+use Rattle.std.proofs.lemmas.Option.{get_or_from_slice_get, slice_get_within, slice_get-get_or}
+use Rattle.std.specs.List.{list_any}
+use Rattle.ag_grammar.specs.Lists.{DifferIn}
+use Rattle.normalform.specs.declared.fault.NormalFault.{NormalFault}
+use Rattle.normalform.specs.faults.Faults.{Place, first_wrong, places_along}
+use Rattle.normalform.proofs.found.Right.{both_right, together, is_right, right_is}
+
+-- no key is there twice
+abbrev pub Apart : {K : Type 0} → List K → Type 0
+Apart {K} keys = AllPairs (λ (a b : K). a ≢ b) keys
+
+-- a test that tells whether keys are the same
+pub record Tells {K : Type 0} (same : K → K → Bool) : Type 0 where
+  pub sound : (a b : K) → same a b ≡ true → a ≡ b
+  pub whole : (a b : K) → a ≡ b → same a b ≡ true
+
+differs : {K : Type 0} (same : K → K → Bool) → Tells same → (a b : K) → a ≢ b → same b a ≡ false
+differs same tells a b other = go (same b a) refl
+  where
+    go : (v : Bool) → same b a ≡ v → v ≡ false
+    go false e = refl
+    go true e = absurd (other (sym (tells.sound b a e)))
+
+pub apart_push : {K : Type 0} (same : K → K → Bool) → Tells same → (seen : List K) (key : K) → Apart seen → list_any (same key) seen ≡ false → Apart (seen ++ key ∷ [])
+apart_push same tells seen key apart new = all_pairs_push (λ a b. a ≢ b) seen key apart (λ k d lt e.
+    false≢true (sym new ∙ list_any_at (same key) seen k d lt (tells.whole key (get_or seen k d) (sym e))))
+
+apart_new : {K : Type 0} (same : K → K → Bool) → Tells same → (seen : List K) (key : K) (rest : List K) → Apart (seen ++ key ∷ rest) → list_any (same key) seen ≡ false
+apart_new same tells seen key rest apart = list_any_none (same key) seen (λ k d lt. differs same tells (get_or seen k d) key (λ e.
+    apart k (length seen) d lt (omega (arith, length-append seen (key ∷ rest))) (get_or_append_left seen (key ∷ rest) d k lt ∙ e ∙ sym (get_or_at seen key rest d (length seen) refl))))
+
+-- a key where it stands, and places of its own behind it
+abbrev pub key_places : {X K : Type 0} → (K → K → Bool) → (X → NormalFault) → (X → K) → (X → List Place) → List K → X → List Place
+key_places same fault key more seen x = (fault x, not (list_any (same (key x)) seen)) ∷ more x
+
+abbrev pub with_key : {X K : Type 0} → (K → K → Bool) → (X → K) → List K → X → List K
+with_key same key seen x = cond (list_any (same (key x)) seen) seen (seen ++ key x ∷ [])
+
+new_is : (b : Bool) → not b ≡ true → b ≡ false
+new_is false h = refl
+new_is true h = absurd (cc)
+
+with_new : {X K : Type 0} (same : K → K → Bool) (key : X → K) (seen : List K) (x : X) → list_any (same (key x)) seen ≡ false → with_key same key seen x ≡ seen ++ key x ∷ []
+with_new same key seen x new = rw new refl
+
+pub apart_along : {X K : Type 0} (same : K → K → Bool) (fault : X → NormalFault) (key : X → K) (more : X → List Place) → Tells same → (seen : List K) (xs : List X) → Apart seen
+    → first_wrong (places_along (key_places same fault key more) (with_key same key) seen xs) ≡ None → Apart (seen ++ map key xs)
+apart_along same fault key more tells seen [] apart h = rw append-nil apart
+apart_along same fault key more tells seen (x ∷ xs) apart h =
+    let p = both_right (key_places same fault key more seen x) (places_along (key_places same fault key more) (with_key same key) (with_key same key seen x) xs) h in
+    let new = new_is (list_any (same (key x)) seen) (is_right (fault x, not (list_any (same (key x)) seen)) (both_right ((fault x, not (list_any (same (key x)) seen)) ∷ []) (more x) p.0).0) in
+    rw (← append_assoc seen (key x ∷ []) (map key xs)) (apart_along same fault key more tells (seen ++ key x ∷ []) xs (apart_push same tells seen (key x) apart new) (rw (with_new same key seen x new) at p.1))
+
+-- the places of their own are right too
+pub more_along : {X K : Type 0} (same : K → K → Bool) (fault : X → NormalFault) (key : X → K) (more : X → List Place) (seen : List K) (xs : List X)
+    → first_wrong (places_along (key_places same fault key more) (with_key same key) seen xs) ≡ None → (i : ℕ) (x : X) → slice_get xs i ≡ Some x → first_wrong (more x) ≡ None
+more_along same fault key more seen [] h i x e = absurd (cc)
+more_along same fault key more seen (y ∷ ys) h zero x e =
+    let p = both_right (key_places same fault key more seen y) (places_along (key_places same fault key more) (with_key same key) (with_key same key seen y) ys) h in
+    let z : y ≡ x = cc in rw (← z) (both_right ((fault y, not (list_any (same (key y)) seen)) ∷ []) (more y) p.0).1
+more_along same fault key more seen (y ∷ ys) h (suc i) x e =
+    let p = both_right (key_places same fault key more seen y) (places_along (key_places same fault key more) (with_key same key) (with_key same key seen y) ys) h in
+    more_along same fault key more (with_key same key seen y) ys p.1 i x e
+
+pub along_apart : {X K : Type 0} (same : K → K → Bool) (fault : X → NormalFault) (key : X → K) (more : X → List Place) → Tells same → (seen : List K) (xs : List X) → Apart (seen ++ map key xs)
+    → ((i : ℕ) (x : X) → slice_get xs i ≡ Some x → first_wrong (more x) ≡ None) → first_wrong (places_along (key_places same fault key more) (with_key same key) seen xs) ≡ None
+along_apart same fault key more tells seen [] apart each = refl
+along_apart same fault key more tells seen (x ∷ xs) apart each =
+    let new = apart_new same tells seen (key x) (map key xs) apart in
+    together (key_places same fault key more seen x) (places_along (key_places same fault key more) (with_key same key) (with_key same key seen x) xs)
+    (together ((fault x, not (list_any (same (key x)) seen)) ∷ []) (more x) (right_is (fault x, not (list_any (same (key x)) seen)) (rw new refl)) (each zero x refl))
+    (rw (with_new same key seen x new) (along_apart same fault key more tells (seen ++ key x ∷ []) xs (rw (append_assoc seen (key x ∷ []) (map key xs)) apart) (λ i. each (suc i))))
+
+pub none_apart : {K : Type 0} → Apart {K = K} []
+none_apart i j d before within = absurd (omega arith)
+
+key_at : {X K : Type 0} (key : X → K) (xs : List X) (n : ℕ) (z d : X) → slice_get xs n ≡ Some z → get_or (map key xs) n (key d) ≡ key z
+key_at key xs n z d e = get_or-map key xs n d (key d) (slice_get_within xs n z e) ∙ ap key (get_or_from_slice_get xs n z d e)
+
+-- keys are apart where elements differ in them
+pub apart_differ : {X K : Type 0} (key : X → K) (xs : List X) → Apart (map key xs) → DifferIn key xs
+apart_differ key xs apart i j x y e f same = elim (cases_lt i j) [
+  | inl lt ↦ absurd (apart i j (key x) lt (rw (length-map xs key) (slice_get_within xs j y f)) (key_at key xs i x x e ∙ same ∙ sym (key_at key xs j y x f)))
+  | inr le ↦ elim (cases_eq i j) [
+    | inl here ↦ here
+    | inr other ↦ absurd (apart j i (key x) (omega arith) (rw (length-map xs key) (slice_get_within xs i x e)) (key_at key xs j y x f ∙ sym same ∙ sym (key_at key xs i x x e)))
+  ]
+]
+
+same_twice : {X K : Type 0} (key : X → K) (xs : List X) → DifferIn key xs → (i j : ℕ) (d : K) (z : X) → i < j → i < length xs → j < length xs → get_or (map key xs) i d ≡ get_or (map key xs) j d → ⊥
+same_twice key xs differ i j d z lt hi hj same =
+    let k : key (get_or xs i z) ≡ key (get_or xs j z) = sym (get_or-map key xs i z d hi) ∙ same ∙ get_or-map key xs j z d hj in
+    let n = differ i j (get_or xs i z) (get_or xs j z) (slice_get-get_or xs i z hi) (slice_get-get_or xs j z hj) k in
+    absurd (omega arith)
+
+pub differ_apart : {X K : Type 0} (key : X → K) (xs : List X) → DifferIn key xs → Apart (map key xs)
+differ_apart key [] differ i j d lt within same = absurd (omega arith)
+differ_apart key (x ∷ xs) differ i j d lt within same =
+    let inside : j < length (x ∷ xs) = rw (← length-map (x ∷ xs) key) within in
+    same_twice key (x ∷ xs) differ i j d x lt (omega arith) inside same

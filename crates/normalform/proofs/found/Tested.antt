@@ -1,0 +1,67 @@
+-- The test tells what it is to tell.
+use Rattle.std.proofs.Common.{ℕ, ◌≡◌, ◌⊎◌, ◌↔◌, inl, inr, Bool, true, false, ◌&&◌, ◌||◌, not, nat_eq, nat_le, List, length, refl}
+use Rattle.std.proofs.lemmas.Bool.{eqb-true, leb-true, le-leb, ltb-true, lt-ltb}
+use Rattle.std.specs.List.{list_all}
+use Rattle.ag_grammar.specs.Lists.{Each}
+use Rattle.ag_grammar.specs.grammars.Accepted.{IsSeparator}
+use Rattle.ag_grammar.specs.declared.raw.RawItem.{RawItem}
+use Rattle.ag_grammar.specs.declared.raw.RawItem.TheVariants as raw_item
+use Rattle.ag_grammar.specs.declared.raw.RawProduction.{RawProduction}
+use Rattle.normalform.specs.faults.Faults.{IsReadableItem}
+use Rattle.normalform.specs.faults.Readable.{is_separator, readable_item, readable_in}
+use Rattle.normalform.proofs.numbered.Accepting.{all_pass}
+use Rattle.normalform.proofs.numbered.Small.{passes_at}
+
+both : (a b : Bool) → (a && b) ≡ true → (a ≡ true) × (b ≡ true)
+both true b h = (refl, h)
+both false b h = absurd (cc)
+
+either : (a b : Bool) → (a || b) ≡ true → (a ≡ true) ⊎ (b ≡ true)
+either true b h = inl refl
+either false b h = inr h
+
+pub separator_is : (b : ℕ) → IsSeparator b → is_separator b ≡ true
+separator_is b (inl e) = rw e refl
+separator_is b (inr (inl e)) = rw e refl
+separator_is b (inr (inr (inl e))) = rw e refl
+separator_is b (inr (inr (inr e))) = rw e refl
+
+is_its_separator : (b : ℕ) → is_separator b ≡ true → IsSeparator b
+is_its_separator b h = elim (either (nat_eq b 32 || nat_eq b 9 || nat_eq b 13) (nat_eq b 10) h) [
+  | inr e ↦ inr (inr (inr (eqb-true b 10 e)))
+  | inl h ↦ elim (either (nat_eq b 32 || nat_eq b 9) (nat_eq b 13) h) [
+    | inr e ↦ inr (inr (inl (eqb-true b 13 e)))
+    | inl h ↦ elim (either (nat_eq b 32) (nat_eq b 9) h) [
+      | inr e ↦ inr (inl (eqb-true b 9 e))
+      | inl e ↦ inl (eqb-true b 32 e)
+    ]
+  ]
+]
+
+no_separator : (b : ℕ) → not (is_separator b) ≡ true → IsSeparator b → ⊥
+no_separator b h s = let e = separator_is b s in absurd (cc (rw e at h))
+
+none_separator : (b : ℕ) → (IsSeparator b → ⊥) → not (is_separator b) ≡ true
+none_separator b h = go (is_separator b) refl
+  where
+    go : (v : Bool) → is_separator b ≡ v → not v ≡ true
+    go false e = refl
+    go true e = absurd (h (is_its_separator b e))
+
+item_readable : (x : RawItem) → readable_item x ≡ true → IsReadableItem x
+item_readable (raw_item.Name name) h = tt
+item_readable (raw_item.Literal text) h =
+    let w = both (nat_le 1 (length text)) (list_all (λ b. not (is_separator b)) text) h in
+    (leb-true 1 (length text) w.0, λ i b e. no_separator b (passes_at (λ b. not (is_separator b)) text i b w.1 e))
+item_readable (raw_item.Class c) h = ltb-true c 3 h
+
+readable_is : (x : RawItem) → IsReadableItem x → readable_item x ≡ true
+readable_is (raw_item.Name name) h = refl
+readable_is (raw_item.Literal text) h = rw (le-leb 1 (length text) h.0) (all_pass (λ b. not (is_separator b)) text (λ i b e. none_separator b (h.1 i b e)))
+readable_is (raw_item.Class c) h = lt-ltb c 3 h
+
+pub readable_tells : (qs : List RawProduction) → (list_all readable_in qs ≡ true) ↔ Each (λ q. Each IsReadableItem q.items) qs
+readable_tells qs = (
+  λ h p q e i x f. item_readable x (passes_at readable_item q.items i x (passes_at readable_in qs p q h e) f),
+  λ h. all_pass readable_in qs (λ p q e. all_pass readable_item q.items (λ i x f. readable_is x (h p q e i x f))),
+)

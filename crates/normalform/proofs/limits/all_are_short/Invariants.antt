@@ -1,9 +1,0 @@
--- What the loop of `all_are_short` keeps.
-use Rattle.std.proofs.Common.{◌≡◌, drop, map, List, ℕ}
-use Rattle.std.specs.Borrow.{Bor}
-use Rattle.std.specs.List.{list_all}
-use Rattle.normalform.specs.Faults.{is_short}
-use Rattle.normalform.proofs.limits.all_are_short.Given as goal
-
-abbrev pub invariant-loop-text : goal.invariant-loop-text
-invariant-loop-text l = list_all is_short (map (λ (t : Bor (List ℕ)). t.now) (drop l.text-index l.text-items)) ≡ list_all is_short l.texts

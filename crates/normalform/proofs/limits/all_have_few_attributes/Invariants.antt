@@ -1,9 +1,0 @@
--- What the loop of `all_have_few_attributes` keeps.
-use Rattle.std.proofs.Common.{◌≡◌, map, drop}
-use Rattle.std.specs.List.{list_all}
-use Rattle.normalform.specs.Faults.{few_attributes}
-use Rattle.normalform.specs.Numbers.{symbol_of}
-use Rattle.normalform.proofs.limits.all_have_few_attributes.Given as goal
-
-abbrev pub invariant-loop-symbol : goal.invariant-loop-symbol
-invariant-loop-symbol l = list_all few_attributes (map symbol_of (drop l.symbol-index l.symbols)) ≡ list_all few_attributes (map symbol_of l.symbols)

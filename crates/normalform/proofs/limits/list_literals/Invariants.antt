@@ -1,7 +1,0 @@
--- What the loop of `list_literals` keeps.
-use Rattle.std.proofs.Common.{◌≡◌, fold, take}
-use Rattle.normalform.specs.Numbers.{with_item}
-use Rattle.normalform.proofs.limits.list_literals.Given as goal
-
-abbrev pub invariant-loop-item : goal.invariant-loop-item
-invariant-loop-item l = l.texts ≡ fold with_item l.initial.texts (take l.item-index l.items)

@@ -1,7 +1,0 @@
--- What the loop of `literals_of` keeps.
-use Rattle.std.proofs.Common.{◌≡◌, fold, take, []}
-use Rattle.normalform.specs.Numbers.{with_production}
-use Rattle.normalform.proofs.limits.literals_of.Given as goal
-
-abbrev pub invariant-loop-production : goal.invariant-loop-production
-invariant-loop-production l = l.texts ≡ fold with_production [] (take l.production-index l.productions)

@@ -1,7 +1,0 @@
--- The map has a text exactly where the list does.
-use Rattle.std.proofs.Common.{ap, ◌∙◌, is_some, bytes_eq}
-use Rattle.normalform.proofs.Texts.{found}
-use Rattle.normalform.proofs.names.Names.has.Goals as goal
-
-pub returns : goal.returns
-returns c = rw (← c.self.view_is) (c.contains_key.ensures ∙ ap is_some (c.self.invariant c.args.text.now) ∙ found (bytes_eq c.args.text.now) _)

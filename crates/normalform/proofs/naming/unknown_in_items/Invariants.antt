@@ -1,8 +1,0 @@
--- What the loop of `unknown_in_items` keeps.
-use Rattle.std.proofs.Common.{◌≡◌, drop, flat_map}
-use Rattle.normalform.specs.Faults.{first_wrong, item_places}
-use Rattle.normalform.specs.Numbers.{symbol_names}
-use Rattle.normalform.proofs.naming.unknown_in_items.Given as goal
-
-abbrev pub invariant-loop-item : goal.invariant-loop-item
-invariant-loop-item l = first_wrong (flat_map (item_places (symbol_names l.declared)) (drop l.item-index l.items)) ≡ first_wrong (flat_map (item_places (symbol_names l.declared)) l.items)

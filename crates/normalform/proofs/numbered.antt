@@ -1,0 +1,8 @@
+-- What the numbers of a raw grammar stand for.
+pub mod Accepting
+pub mod KindAt
+pub mod Listed
+pub mod Pairs
+pub mod Placing
+pub mod Small
+pub mod Texts

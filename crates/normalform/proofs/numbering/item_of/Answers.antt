@@ -1,9 +1,0 @@
--- The goals of `item_of` that are left.
-use Rattle.normalform.proofs.Small.{symbol_small, text_small}
-use Rattle.normalform.proofs.numbering.item_of.Goals as goal
-
-pub narrow-requires : goal.narrow-requires
-narrow-requires c = rw (c.number.ensures) (symbol_small c.args.declared.now c.as_str.result.now c.requires.symbols)
-
-pub narrow-requires-in-Literal : goal.narrow-requires-in-Literal
-narrow-requires-in-Literal c = rw (c.place.ensures) (text_small c.args.literals.now c.as_str-in-Literal.result.now c.requires.texts)

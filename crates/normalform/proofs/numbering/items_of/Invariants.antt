@@ -1,7 +1,0 @@
--- What the loop of `items_of` keeps.
-use Rattle.std.proofs.Common.{◌≡◌, take, map}
-use Rattle.normalform.specs.Numbers.{item_of, symbol_names}
-use Rattle.normalform.proofs.numbering.items_of.Given as goal
-
-abbrev pub invariant-loop-item : goal.invariant-loop-item
-invariant-loop-item l = l.numbered.items ≡ map (item_of (symbol_names l.declared) l.literals) (take l.item-index l.items)

@@ -1,7 +1,0 @@
--- What the loop of `literal_texts` keeps.
-use Rattle.std.proofs.Common.{◌≡◌, take, map, List, ℕ}
-use Rattle.std.specs.Borrow.{Bor}
-use Rattle.normalform.proofs.numbering.literal_texts.Given as goal
-
-abbrev pub invariant-loop-text : goal.invariant-loop-text
-invariant-loop-text l = l.texts.items ≡ map (λ (t : Bor (List ℕ)). t.now) (take l.text-index l.text-items)

@@ -1,6 +1,0 @@
--- What the loop of `names_of` keeps.
-use Rattle.std.proofs.Common.{◌≡◌, take}
-use Rattle.normalform.proofs.numbering.names_of.Given as goal
-
-abbrev pub invariant-loop-text : goal.invariant-loop-text
-invariant-loop-text l = l.names ≡ take l.text-index l.texts

@@ -1,6 +1,0 @@
--- The goals of `start_of` that are left.
-use Rattle.normalform.proofs.Small.{symbol_small}
-use Rattle.normalform.proofs.numbering.start_of.Goals as goal
-
-pub narrow-requires : goal.narrow-requires
-narrow-requires c = rw (c.number.ensures) (symbol_small c.args.declared.now c.args.name.now c.requires)

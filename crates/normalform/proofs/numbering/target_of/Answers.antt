@@ -1,8 +1,0 @@
--- The goals of `target_of` that are left.
-use Rattle.std.proofs.Common.{map}
-use Rattle.normalform.specs.Placed.{item_placed}
-use Rattle.normalform.proofs.Small.{attribute_small}
-use Rattle.normalform.proofs.numbering.target_of.Goals as goal
-
-pub narrow-requires : goal.narrow-requires
-narrow-requires c = rw (c.attribute.ensures) (attribute_small c.args.declared.now (map item_placed c.args.items.now) c.args.occurrence.now c.requires.attributes)

@@ -1,8 +1,0 @@
--- What the loop of `targets_of` keeps.
-use Rattle.std.proofs.Common.{◌≡◌, take, map}
-use Rattle.normalform.specs.Numbers.{target_of}
-use Rattle.normalform.specs.Placed.{item_placed}
-use Rattle.normalform.proofs.numbering.targets_of.Given as goal
-
-abbrev pub invariant-loop-occurrence : goal.invariant-loop-occurrence
-invariant-loop-occurrence l = l.targets.items ≡ map (target_of l.declared (map item_placed l.items)) (take l.occurrence-index l.occurrences)

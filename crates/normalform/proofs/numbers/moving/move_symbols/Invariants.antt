@@ -1,0 +1,7 @@
+-- What the loop of `move_symbols` keeps.
+use Rattle.std.proofs.Common.{◌≡◌, map}
+use Rattle.normalform.specs.numbers.Numbers.{symbol_of}
+use Rattle.normalform.proofs.numbers.moving.move_symbols.Given as goal
+
+abbrev pub invariant-loop-symbol : goal.invariant-loop-symbol
+invariant-loop-symbol l = l.moved.items ≡ map symbol_of l.yielded

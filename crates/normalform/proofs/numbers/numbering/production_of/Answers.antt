@@ -1,0 +1,6 @@
+-- The goals of `production_of` that are left.
+use Rattle.normalform.proofs.numbered.Small.{symbol_small}
+use Rattle.normalform.proofs.numbers.numbering.production_of.Goals as goal
+
+pub narrow-left-requires : goal.narrow-left-requires
+narrow-left-requires c = rw (c.number.ensures) (symbol_small c.args.declared.now c.as_str.result.now c.requires.symbols)

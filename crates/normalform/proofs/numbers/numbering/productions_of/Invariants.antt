@@ -1,0 +1,11 @@
+-- What the loop of `productions_of` keeps.
+use Rattle.std.proofs.Common.{◌≡◌, map, All}
+use Rattle.normalform.specs.numbers.Numbers.{production_of}
+use Rattle.normalform.specs.faults.Faults.{AreListedIn}
+use Rattle.normalform.proofs.numbers.numbering.productions_of.Given as goal
+
+abbrev pub invariant-loop-production : goal.invariant-loop-production
+invariant-loop-production l = record {
+  numbered : l.numbered.items ≡ map (production_of l.declared l.literals) l.yielded;
+  listed : All AreListedIn l.numbered.items;
+}

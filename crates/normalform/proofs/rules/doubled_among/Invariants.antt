@@ -1,8 +1,0 @@
--- What the loop of `doubled_among` keeps.
-use Rattle.std.proofs.Common.{◌≡◌, drop, map, []}
-use Rattle.normalform.specs.Placed.{item_placed}
-use Rattle.normalform.specs.Faults.{first_wrong, places_along, with_rule, new_target}
-use Rattle.normalform.proofs.rules.doubled_among.Given as goal
-
-abbrev pub invariant-loop-rule : goal.invariant-loop-rule
-invariant-loop-rule l = first_wrong (places_along (new_target l.declared (map item_placed l.items)) (with_rule l.declared (map item_placed l.items)) l.targets (drop l.rule-index l.rules)) ≡ first_wrong (places_along (new_target l.declared (map item_placed l.items)) (with_rule l.declared (map item_placed l.items)) [] l.rules)

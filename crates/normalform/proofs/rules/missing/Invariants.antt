@@ -1,7 +1,0 @@
--- What the loop of `missing` keeps.
-use Rattle.std.proofs.Common.{◌≡◌, drop}
-use Rattle.normalform.specs.Faults.{first_wrong, places_along, after, missing_in, missing}
-use Rattle.normalform.proofs.rules.missing.Given as goal
-
-abbrev pub invariant-loop-number : goal.invariant-loop-number
-invariant-loop-number l = first_wrong (places_along (missing_in l.declared) after l.number (drop l.number l.productions)) ≡ first_wrong (missing l.declared l.productions)

@@ -1,8 +1,0 @@
--- What the loop of `missing_among` keeps.
-use Rattle.std.proofs.Common.{◌≡◌, drop, map}
-use Rattle.normalform.specs.Placed.{item_placed}
-use Rattle.normalform.specs.Faults.{first_wrong, places_along, after, missing_at}
-use Rattle.normalform.proofs.rules.missing_among.Given as goal
-
-abbrev pub invariant-loop-place : goal.invariant-loop-place
-invariant-loop-place l = first_wrong (places_along (missing_at l.declared l.targets l.production) after l.place (drop l.place (map item_placed l.items))) ≡ first_wrong (places_along (missing_at l.declared l.targets l.production) after 0 (map item_placed l.items))

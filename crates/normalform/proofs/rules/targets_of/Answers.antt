@@ -1,9 +1,0 @@
--- The goals of `targets_of` that are left.
-use Rattle.std.proofs.Common.{map, []}
-use Rattle.std.proofs.lemmas.List.Sums.{fold_more}
-use Rattle.normalform.specs.Faults.{with_rule}
-use Rattle.normalform.specs.Placed.{item_placed}
-use Rattle.normalform.proofs.rules.targets_of.Goals as goal
-
-pub loop-rule-preserved : goal.loop-rule-preserved
-loop-rule-preserved c = let e = fold_more (with_rule c.args.declared.now (map item_placed c.args.items.now)) [] c.args.rules.now c.loop-rule.rule-index c.rule-item.result c.loop-rule-test.true in cc (c.in_ok-add_target.ensures.added, c.rule-item.is, c.loop-rule.invariant)

@@ -1,8 +1,0 @@
--- What the loop of `targets_of` keeps.
-use Rattle.std.proofs.Common.{◌≡◌, take, map, fold, []}
-use Rattle.normalform.specs.Placed.{item_placed}
-use Rattle.normalform.specs.Faults.{with_rule}
-use Rattle.normalform.proofs.rules.targets_of.Given as goal
-
-abbrev pub invariant-loop-rule : goal.invariant-loop-rule
-invariant-loop-rule l = l.targets ≡ fold (with_rule l.declared (map item_placed l.items)) [] (take l.rule-index l.rules)

@@ -1,0 +1,33 @@
+-- By which clauses a symbol is productive, or reached, where others are.
+use Rattle.std.specs.Prelude.{ℕ, map, flat_map, List, [], ◌∷◌}
+use Rattle.ag_grammar.specs.declared.grammar.Symbol.{Symbol}
+use Rattle.ag_grammar.specs.declared.raw.RawItem.{RawItem}
+use Rattle.ag_grammar.specs.declared.raw.RawItem.TheVariants as raw_item
+use Rattle.ag_grammar.specs.declared.raw.RawProduction.{RawProduction}
+use Rattle.normalform.specs.numbers.Numbers.{number_in, symbol_names}
+use Rattle.closure.specs.declared.clause.Clause.{Clause}
+use Rattle.closure.specs.declared.edges.Edge.{Edge}
+
+-- the symbols on a right side
+abbrev pub body_of : List (List ℕ) → List RawItem → List ℕ
+body_of names [] = []
+body_of names (raw_item.Name name ∷ xs) = number_in names name.name ∷ body_of names xs
+body_of names (raw_item.Literal text ∷ xs) = body_of names xs
+body_of names (raw_item.Class c ∷ xs) = body_of names xs
+
+-- a left side is productive where each symbol of the right side is
+abbrev pub clause_of : List Symbol → RawProduction → Clause
+clause_of ss q = record { head = number_in (symbol_names ss) q.left.name; body = body_of (symbol_names ss) q.items }
+
+abbrev pub clauses_of : List Symbol → List RawProduction → List Clause
+clauses_of ss qs = map (clause_of ss) qs
+
+-- a symbol of a right side is reached where the left side is
+abbrev pub edge : ℕ → ℕ → Edge
+edge left t = record { from = left; to = t }
+
+abbrev pub edges_of : Clause → List Edge
+edges_of q = map (edge q.head) q.body
+
+abbrev pub reaching : List Clause → List Edge
+reaching clauses = flat_map edges_of clauses

@@ -1,0 +1,279 @@
+-- The faults of a raw grammar, kind by kind, and which comes first (this project's; complete and productive are Knuth's 1968
+-- and the textbook's). A kind is the list of its places, in the order of the text.
+use Rattle.std.specs.Prelude.{All, ℕ, zero, suc, cond, fold, ◌⊎◌, ◌+◌, ◌≡◌, ◌<◌, ◌≤◌, nat_eq, nat_le, not, Bool, true, false, ◌&&◌, List, [], ◌∷◌, ◌++◌, length, map, flat_map, find, Option, Some, None, bytes_eq, slice_get}
+use Rattle.std.specs.List.{list_any, list_all, range_with_len}
+use Rattle.std.specs.Option.{option_map}
+use Rattle.ag_grammar.specs.Lists.{Each}
+use Rattle.ag_grammar.specs.declared.grammar.Item.{Item}
+use Rattle.ag_grammar.specs.declared.grammar.Item.TheVariants as item
+use Rattle.ag_grammar.specs.declared.grammar.Production.{Production}
+use Rattle.ag_grammar.specs.declared.grammar.Rule.{Rule}
+use Rattle.ag_grammar.specs.declared.grammar.Symbol.{Symbol}
+use Rattle.ag_grammar.specs.declared.grammar.Target.{Target}
+use Rattle.ag_grammar.specs.declared.syntax.occurrence.Occ.{Occ}
+use Rattle.ag_grammar.specs.grammars.Accepted.{IsAccepted, IsProductive, IsReached, IsSeparator, class_count, out_name, most_symbols, most_attributes, most_productions, most_items, most_stored, most_literals, most_literal_bytes}
+use Rattle.ag_grammar.specs.grammars.AttributeGrammar.{Kind, Synthesized, Inherited, attribute_names, item_kinds, given_kind, found_kind}
+use Rattle.ag_grammar.specs.expressions.Trees.{is_below}
+use Rattle.ag_grammar.specs.declared.raw.Named.{Named}
+use Rattle.ag_grammar.specs.declared.raw.RawGrammar.{RawGrammar}
+use Rattle.ag_grammar.specs.declared.raw.RawItem.{RawItem}
+use Rattle.ag_grammar.specs.declared.raw.RawItem.TheVariants as raw_item
+use Rattle.ag_grammar.specs.declared.raw.RawProduction.{RawProduction}
+use Rattle.ag_grammar.specs.declared.raw.RawRule.{RawRule}
+use Rattle.ag_grammar.specs.declared.raw.RawSymbol.{RawSymbol}
+use Rattle.normalform.specs.declared.fault.LimitKind.TheVariants as limit
+use Rattle.normalform.specs.declared.fault.NormalFault.{NormalFault}
+use Rattle.normalform.specs.declared.fault.NormalFault.TheVariants as fault
+use Rattle.normalform.specs.numbers.Numbers.{symbol_of, symbol_names, with_text, declared, number_in, names_at, placed, target_of, literals_of, numbered}
+
+-- A place of the text: the fault that is there where it is wrong, and whether it is right.
+abbrev pub Place : Type 0
+Place = NormalFault × Bool
+
+-- the fault of the first place that is wrong
+abbrev pub first_wrong : List Place → Option NormalFault
+first_wrong places = option_map (λ x. x.0) (find (λ x. not x.1) places)
+
+-- places along a list, with what is known at each from those before
+abbrev pub places_along : {S X : Type 0} → (S → X → List Place) → (S → X → S) → S → List X → List Place
+places_along f g s [] = []
+places_along f g s (x ∷ xs) = f s x ++ places_along f g (g s x) xs
+
+-- N1. A name of a symbol: it is declared.
+abbrev pub name_place : List (List ℕ) → Named → Place
+name_place names name = (fault.UnknownName name.at, list_any (bytes_eq name.name) names)
+
+abbrev pub item_places : List (List ℕ) → RawItem → List Place
+item_places names (raw_item.Name name) = name_place names name ∷ []
+item_places names (raw_item.Literal text) = []
+item_places names (raw_item.Class c) = []
+
+-- An occurrence: the item at its place has an attribute of its name.
+abbrev pub occurrence_place : List Symbol → List Item → Occ → Place
+occurrence_place ss items o = (fault.UnknownName o.at, list_any (bytes_eq o.attr) (names_at ss items o.place))
+
+-- the target of a rule, then the occurrences of its expression
+abbrev pub rule_places : List Symbol → List Item → RawRule → List Place
+rule_places ss items r = occurrence_place ss items r.target ∷ map (occurrence_place ss items) r.expr.1
+
+-- a production: its left side, its items, its rules
+abbrev pub unknown_in : List Symbol → RawProduction → List Place
+unknown_in ss q = name_place (symbol_names ss) q.left ∷ flat_map (item_places (symbol_names ss)) q.items ++ flat_map (rule_places ss (placed ss q)) q.rules
+
+abbrev pub unknown : List Symbol → List RawProduction → List Place
+unknown ss qs = flat_map (unknown_in ss) qs
+
+-- N2. A name where it is declared: it is not among those before.
+abbrev pub new_place : List (List ℕ) → Named → List Place
+new_place seen name = (fault.DoubledName name.at, not (list_any (bytes_eq name.name) seen)) ∷ []
+
+abbrev pub with_name : List (List ℕ) → Named → List (List ℕ)
+with_name seen name = with_text seen name.name
+
+abbrev pub doubled_names : List (List ℕ) → List Named → List Place
+doubled_names seen names = places_along new_place with_name seen names
+
+-- a symbol: its name, then its attributes among themselves
+abbrev pub symbol_places : List (List ℕ) → RawSymbol → List Place
+symbol_places seen s = new_place seen s.name ++ doubled_names [] (s.syn ++ s.inh)
+
+abbrev pub with_symbol : List (List ℕ) → RawSymbol → List (List ℕ)
+with_symbol seen s = with_text seen s.name.name
+
+abbrev pub doubled : List RawSymbol → List Place
+doubled ss = places_along symbol_places with_symbol [] ss
+
+-- N3. The start symbol is declared, has no inherited attribute, and a synthesized one named `out`.
+abbrev pub is_start : Option Symbol → Bool
+is_start None = false
+is_start (Some s) = nat_eq (length s.inh) 0 && list_any (bytes_eq out_name) s.syn
+
+abbrev pub start_places : List Symbol → Named → List Place
+start_places ss name = (fault.BadStart, is_start (slice_get ss (number_in (symbol_names ss) name.name))) ∷ []
+
+-- N4, N5. The first of a list whose number is not so.
+pub record IsFirstNot (P : ℕ → Type 0) (ss : List RawSymbol) (name : Named) : Type 0 where
+  pub number : ℕ
+  pub symbol : RawSymbol
+  pub declared : slice_get ss number ≡ Some symbol
+  pub named : symbol.name ≡ name
+  pub wrong : P number → ⊥
+  pub before : (t : ℕ) → t < number → P t
+
+-- N6. The numbers of the attributes that rules give at a place: the synthesized ones on the left side, the inherited ones on
+-- the right side.
+abbrev pub numbers_given : ℕ → Symbol → List ℕ
+numbers_given zero s = range_with_len 0 (length s.syn)
+numbers_given (suc i) s = range_with_len (length s.syn) (length s.inh)
+
+abbrev pub given_at : List Symbol → ℕ → Item → List ℕ
+given_at ss place (item.Symbol s) = elim (slice_get ss s) [ Some x ↦ numbers_given place x | None ↦ [] ]
+given_at ss place (item.Terminal a) = []
+
+-- targets are the same
+abbrev pub same_target : Target → Target → Bool
+same_target a b = nat_eq a.place b.place && nat_eq a.attr b.attr
+
+-- one more target, unless it is there
+abbrev pub with_target : List Target → Target → List Target
+with_target ts t = cond (list_any (same_target t) ts) ts (ts ++ t ∷ [])
+
+abbrev pub with_rule : List Symbol → List Item → List Target → RawRule → List Target
+with_rule ss items ts r = with_target ts (target_of ss items r.target)
+
+-- the targets of rules, each once
+abbrev pub targets_of : List Symbol → List Item → List RawRule → List Target
+targets_of ss items rules = fold (with_rule ss items) [] rules
+
+-- a rule for the attribute is there
+abbrev pub missing_place : List Target → ℕ → ℕ → ℕ → Place
+missing_place ts p place a = (fault.RuleMissing p place a, list_any (same_target (record { place = place; attr = a })) ts)
+
+-- the attributes that rules give at a place of the production p
+abbrev pub missing_at : List Symbol → List Target → ℕ → ℕ → Item → List Place
+missing_at ss ts p place x = map (missing_place ts p place) (given_at ss place x)
+
+-- the index after that of an element
+abbrev pub after : {X : Type 0} → ℕ → X → ℕ
+after n x = n + 1
+
+abbrev pub missing_in : List Symbol → ℕ → RawProduction → List Place
+missing_in ss p q = places_along (missing_at ss (targets_of ss (placed ss q) q.rules) p) after 0 (placed ss q)
+
+abbrev pub missing : List Symbol → List RawProduction → List Place
+missing ss qs = places_along (missing_in ss) after 0 qs
+
+-- N7. The target of a rule: it is not among those of the rules before in the production.
+abbrev pub new_target : List Symbol → List Item → List Target → RawRule → List Place
+new_target ss items ts r = (fault.RuleDoubled r.target.at, not (list_any (same_target (target_of ss items r.target)) ts)) ∷ []
+
+abbrev pub doubled_in : List Symbol → RawProduction → List Place
+doubled_in ss q = places_along (new_target ss (placed ss q)) (with_rule ss (placed ss q)) [] q.rules
+
+abbrev pub doubled_rules : List Symbol → List RawProduction → List Place
+doubled_rules ss qs = flat_map (doubled_in ss) qs
+
+-- an attribute is there and of the kind
+abbrev pub is_kind : Kind → Option Kind → Bool
+is_kind k None = false
+is_kind Synthesized (Some Synthesized) = true
+is_kind Synthesized (Some Inherited) = false
+is_kind Inherited (Some Synthesized) = false
+is_kind Inherited (Some Inherited) = true
+
+abbrev pub has_kind : List Symbol → List Item → Target → Kind → Bool
+has_kind ss items t k = is_kind k (slice_get (item_kinds (declared ss) (slice_get items t.place)) t.attr)
+
+-- N8. The target of a rule is one that the rules of the production give.
+abbrev pub given_place : List Symbol → List Item → RawRule → Place
+given_place ss items r = let t = target_of ss items r.target in (fault.NotDefinedHere r.target.at, has_kind ss items t (given_kind t.place))
+
+abbrev pub not_given_in : List Symbol → RawProduction → List Place
+not_given_in ss q = map (given_place ss (placed ss q)) q.rules
+
+abbrev pub not_given : List Symbol → List RawProduction → List Place
+not_given ss qs = flat_map (not_given_in ss) qs
+
+-- N9. An occurrence is one that the rules of the production find.
+abbrev pub found_place : List Symbol → List Item → Occ → Place
+found_place ss items o = let t = target_of ss items o in (fault.NotNormal o.at, has_kind ss items t (found_kind t.place))
+
+abbrev pub not_found_in : List Symbol → RawProduction → List Place
+not_found_in ss q = flat_map (λ r. map (found_place ss (placed ss q)) r.expr.1) q.rules
+
+abbrev pub not_found : List Symbol → List RawProduction → List Place
+not_found ss qs = flat_map (not_found_in ss) qs
+
+-- N10. The limits, of symbols, productions and different literals.
+abbrev pub few_attributes : Symbol → Bool
+few_attributes s = nat_le (length (attribute_names s)) most_attributes
+
+abbrev pub few_items : RawProduction → Bool
+few_items q = nat_le (length q.items) most_items
+
+-- how many items have a place: the left side is one more
+abbrev pub few_stored : List Symbol → RawProduction → Bool
+few_stored ss q = nat_le (length (placed ss q)) (1 + most_stored)
+
+abbrev pub is_short : List ℕ → Bool
+is_short text = nat_le (length text) most_literal_bytes
+
+abbrev pub symbol_limits : List Symbol → List Place
+symbol_limits ss = (fault.Limit limit.Symbols, nat_le (length ss) most_symbols) ∷ (fault.Limit limit.Attributes, list_all few_attributes ss) ∷ []
+
+abbrev pub production_limits : List Symbol → List RawProduction → List Place
+production_limits ss qs =
+    (fault.Limit limit.Productions, nat_le (length qs) most_productions)
+    ∷ (fault.Limit limit.Items, list_all few_items qs)
+    ∷ (fault.Limit limit.Stored, list_all (few_stored ss) qs)
+    ∷ []
+
+abbrev pub literal_limits : List (List ℕ) → List Place
+literal_limits texts = (fault.Limit limit.LiteralLength, list_all is_short texts) ∷ (fault.Limit limit.Literals, nat_le (length texts) most_literals) ∷ []
+
+abbrev pub limit_places : List Symbol → List RawProduction → List Place
+limit_places ss qs = symbol_limits ss ++ production_limits ss qs ++ literal_limits (literals_of qs)
+
+-- the places of the kinds before N4: names, and the start symbol
+abbrev pub naming_places : RawGrammar → List Place
+naming_places raw = let ss = map symbol_of raw.symbols in
+    unknown ss raw.productions ++ doubled raw.symbols ++ start_places ss raw.start
+
+-- the places of the kinds about rules
+abbrev pub rule_kinds : List Symbol → List RawProduction → List Place
+rule_kinds ss qs = missing ss qs ++ doubled_rules ss qs ++ not_given ss qs ++ not_found ss qs
+
+-- the places of the kinds behind N5
+abbrev pub further_places : RawGrammar → List Place
+further_places raw = let ss = map symbol_of raw.symbols in rule_kinds ss raw.productions ++ limit_places ss raw.productions
+
+-- each declared symbol is so
+abbrev pub AreAll : (ℕ → Type 0) → RawGrammar → Type 0
+AreAll P raw = (s : ℕ) → s < length raw.symbols → P s
+
+-- The first fault: the first wrong place of the first kind that has one.
+pub data IsFirstFault (raw : RawGrammar) : NormalFault → Type 0 where
+  in_names : {f : NormalFault} → first_wrong (naming_places raw) ≡ Some f → IsFirstFault raw f
+  in_productive : {name : Named} → first_wrong (naming_places raw) ≡ None → IsFirstNot (IsProductive (numbered raw)) raw.symbols name → IsFirstFault raw (fault.Unproductive name)
+  in_reached : {name : Named} → first_wrong (naming_places raw) ≡ None → AreAll (IsProductive (numbered raw)) raw → IsFirstNot (IsReached (numbered raw)) raw.symbols name
+      → IsFirstFault raw (fault.Unreachable name)
+  in_rules : {f : NormalFault} → first_wrong (naming_places raw) ≡ None → AreAll (IsProductive (numbered raw)) raw → AreAll (IsReached (numbered raw)) raw → first_wrong (further_places raw) ≡ Some f
+      → IsFirstFault raw f
+
+-- No kind has a fault.
+pub record HasNoFault (raw : RawGrammar) : Type 0 where
+  pub names : first_wrong (naming_places raw) ≡ None
+  pub productive : AreAll (IsProductive (numbered raw)) raw
+  pub reached : AreAll (IsReached (numbered raw)) raw
+  pub rules : first_wrong (further_places raw) ≡ None
+
+-- A literal or a class as a text gives them: a literal is not empty and has no separator, a class is known.
+abbrev pub IsReadableItem : RawItem → Type 0
+IsReadableItem (raw_item.Name name) = Unit {0}
+IsReadableItem (raw_item.Literal text) = (1 ≤ length text) × Each (λ b. IsSeparator b → ⊥) text
+IsReadableItem (raw_item.Class c) = c < class_count
+
+-- the literals and classes of a raw grammar are as a text gives them
+abbrev pub IsReadable : RawGrammar → Type 0
+IsReadable raw = Each (λ q. Each IsReadableItem q.items) raw.productions
+
+-- each occurrence in a rule's expression is one of those listed with it
+abbrev pub IsListed : Rule → Type 0
+IsListed r = is_below (length r.expr.1) r.expr.0 ≡ true
+
+abbrev pub AreListedIn : Production → Type 0
+AreListedIn q = All IsListed q.rules
+
+-- Symbols and literals within the limits, so that their numbers and those of attributes are small.
+pub record IsSmall (ss : List Symbol) (literals : List (List ℕ)) : Type 0 where
+  pub symbols : length ss ≤ most_symbols
+  pub attributes : list_all few_attributes ss ≡ true
+  pub texts : length literals ≤ most_literals
+
+-- the name of the symbol of a number
+abbrev pub IsNameAt : List RawSymbol → ℕ → Named → Type 0
+IsNameAt ss number name = (s : RawSymbol) × (slice_get ss number ≡ Some s) × (s.name ≡ name)
+
+-- what a refusal says is so
+abbrev pub IsTrueOf : RawGrammar → NormalFault → Type 0
+IsTrueOf raw f = (f ≡ fault.NoMemory) ⊎ (IsFirstFault raw f × (IsAccepted (numbered raw) → ⊥))

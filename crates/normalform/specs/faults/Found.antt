@@ -1,0 +1,20 @@
+-- What the search for faults finds: a fault, or the number of a symbol whose name is to be moved into one.
+use Rattle.std.specs.Prelude.{ℕ, ◌<◌, Option, Some, None, length}
+use Rattle.ag_grammar.specs.declared.raw.Named.{Named}
+use Rattle.ag_grammar.specs.declared.raw.RawGrammar.{RawGrammar}
+use Rattle.normalform.specs.declared.checking.Found.{Found}
+use Rattle.normalform.specs.declared.checking.Found.TheVariants as found
+use Rattle.normalform.specs.declared.fault.NormalFault.{NormalFault}
+use Rattle.normalform.specs.declared.fault.NormalFault.TheVariants as fault
+use Rattle.normalform.specs.faults.Faults.{IsFirstFault, HasNoFault, IsNameAt}
+
+-- with the name of the symbol of this number it is the first fault
+pub record IsFoundAt (raw : RawGrammar) (make : Named → NormalFault) (n : ℕ) : Type 0 where
+  pub within : n < length raw.symbols
+  pub first : (name : Named) → IsNameAt raw.symbols n name → IsFirstFault raw (make name)
+
+abbrev pub IsFound : RawGrammar → Option Found → Type 0
+IsFound raw None = HasNoFault raw
+IsFound raw (Some (found.Fault f)) = IsFirstFault raw f
+IsFound raw (Some (found.Unproductive n)) = IsFoundAt raw fault.Unproductive n
+IsFound raw (Some (found.Unreachable n)) = IsFoundAt raw fault.Unreachable n

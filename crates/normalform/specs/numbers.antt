@@ -1,0 +1,3 @@
+-- A raw grammar by numbers.
+pub mod Names
+pub mod Numbers

@@ -1,0 +1,188 @@
+//! The limits of a grammar.
+ghost use Rattle.std.specs.Prelude.{◌≡◌, ◌++◌, ◌+◌, ◌≤◌, nat_le, length, fold, map, IfOk, OnOk};
+ghost use Rattle.std.specs.List.{list_all};
+ghost use Rattle.normalform.specs.faults.Faults.{first_wrong, limit_places, few_attributes, few_items};
+ghost use Rattle.normalform.specs.faults.Faults.{few_stored, is_short, symbol_limits};
+ghost use Rattle.normalform.specs.faults.Faults.{production_limits, literal_limits};
+ghost use Rattle.normalform.specs.numbers.Numbers as spec;
+ghost use Rattle.normalform.specs.numbers.Numbers.{symbol_of, with_item};
+
+use crate::fault::{LimitKind, NormalFault};
+use crate::faults::placed::places_of;
+use crate::numbers::declared::Declared;
+use crate::numbers::names::Names;
+use ag_grammar::limits::{
+    MOST_ATTRIBUTES, MOST_ITEMS, MOST_LITERAL_BYTES, MOST_LITERALS, MOST_PRODUCTIONS, MOST_STORED,
+    MOST_SYMBOLS,
+};
+use ag_grammar::{RawItem, RawProduction, RawSymbol};
+use ag_value::NoMemory;
+use std::alloc::Global;
+
+/// Lists the literals of a right side.
+fn list_literals<'t>(texts: &mut Names<'t>, items: &'t [RawItem]) -> Result<(), NoMemory>
+    ensures { OnOk result (texts.new ≡ fold with_item texts.old items.now) }
+{
+    for item in items {
+        if let RawItem::Literal(text) = item {
+            texts.list(text.as_str())?;
+        }
+    }
+    Ok(())
+}
+
+/// The literals of productions, each once, in the order of first appearance.
+pub fn literals_of<'t>(
+    alloc: Global,
+    productions: &'t [RawProduction],
+) -> Result<Names<'t>, NoMemory>
+    ensures { IfOk result (λ texts. texts ≡ spec.literals_of productions.now) }
+{
+    let mut texts = Names::new(alloc);
+    for production in productions {
+        list_literals(&mut texts, production.items.as_slice())?;
+    }
+    Ok(texts)
+}
+
+/// A symbol has no more attributes than a symbol may have.
+fn has_few_attributes(symbol: &RawSymbol) -> bool
+    ensures { result ≡ few_attributes (symbol_of symbol.now) }
+{
+    symbol.syn.as_slice().len() + symbol.inh.as_slice().len() <= MOST_ATTRIBUTES
+}
+
+/// Each symbol has no more attributes than a symbol may have.
+fn all_have_few_attributes(symbols: &[RawSymbol]) -> bool
+    ensures { result ≡ list_all few_attributes (map symbol_of symbols.now) }
+{
+    for symbol in symbols {
+        if !has_few_attributes(symbol) {
+            return false;
+        }
+    }
+    true
+}
+
+/// A right side has no more items than it may have.
+fn has_few_items(production: &RawProduction) -> bool
+    ensures { result ≡ few_items production.now }
+{
+    production.items.as_slice().len() <= MOST_ITEMS
+}
+
+/// Each right side has no more items than it may have.
+fn all_have_few_items(productions: &[RawProduction]) -> bool
+    ensures { result ≡ list_all few_items productions.now }
+{
+    productions
+        .iter()
+        .all(|production| has_few_items(production))
+}
+
+/// A right side has no more symbols and classes than it may have.
+fn has_few_stored(
+    alloc: Global,
+    declared: &Declared<'_>,
+    production: &RawProduction,
+) -> Result<bool, NoMemory>
+    ensures { IfOk result (λ b. b ≡ few_stored declared.now production.now) }
+{
+    let items = places_of(alloc, declared, production)?;
+    Ok(items.len() <= 1 + MOST_STORED)
+}
+
+/// Each right side has no more symbols and classes than it may have.
+fn all_have_few_stored(
+    alloc: Global,
+    declared: &Declared<'_>,
+    productions: &[RawProduction],
+) -> Result<bool, NoMemory>
+    ensures { IfOk result (λ b. b ≡ list_all (few_stored declared.now) productions.now) }
+{
+    for production in productions {
+        if !has_few_stored(alloc, declared, production)? {
+            return Ok(false);
+        }
+    }
+    Ok(true)
+}
+
+/// Each text has no more bytes than a literal may have.
+fn all_are_short(texts: &Names<'_>) -> bool
+    ensures { result ≡ list_all is_short texts.now }
+{
+    for text in texts.listed() {
+        if text.len() > MOST_LITERAL_BYTES {
+            return false;
+        }
+    }
+    true
+}
+
+/// The first limit that symbols or their number exceed.
+fn symbol_limit(symbols: &[RawSymbol]) -> Option<NormalFault>
+    ensures { result ≡ first_wrong (symbol_limits (map symbol_of symbols.now)) }
+{
+    if symbols.len() > MOST_SYMBOLS {
+        return Some(NormalFault::Limit(LimitKind::Symbols));
+    }
+    if !all_have_few_attributes(symbols) {
+        return Some(NormalFault::Limit(LimitKind::Attributes));
+    }
+    None
+}
+
+/// The first limit that productions or their number exceed.
+fn production_limit(
+    alloc: Global,
+    declared: &Declared<'_>,
+    productions: &[RawProduction],
+) -> Result<Option<NormalFault>, NoMemory>
+    ensures { IfOk result (λ f. f
+        ≡ first_wrong (production_limits declared.now productions.now)) }
+{
+    if productions.len() > MOST_PRODUCTIONS {
+        return Ok(Some(NormalFault::Limit(LimitKind::Productions)));
+    }
+    if !all_have_few_items(productions) {
+        return Ok(Some(NormalFault::Limit(LimitKind::Items)));
+    }
+    if !all_have_few_stored(alloc, declared, productions)? {
+        return Ok(Some(NormalFault::Limit(LimitKind::Stored)));
+    }
+    Ok(None)
+}
+
+/// The first limit that literals or their number exceed.
+fn literal_limit(literals: &Names<'_>) -> Option<NormalFault>
+    ensures { result ≡ first_wrong (literal_limits literals.now) }
+{
+    if !all_are_short(literals) {
+        return Some(NormalFault::Limit(LimitKind::LiteralLength));
+    }
+    if literals.count() > MOST_LITERALS {
+        return Some(NormalFault::Limit(LimitKind::Literals));
+    }
+    None
+}
+
+/// N10: the first limit that is exceeded.
+pub fn exceeded(
+    alloc: Global,
+    declared: &Declared<'_>,
+    symbols: &[RawSymbol],
+    productions: &[RawProduction],
+) -> Result<Option<NormalFault>, NoMemory>
+    requires { declared.now ≡ map symbol_of symbols.now }
+    ensures { IfOk result (λ f. f ≡ first_wrong (limit_places declared.now productions.now)) }
+{
+    if let Some(fault) = symbol_limit(symbols) {
+        return Ok(Some(fault));
+    }
+    if let Some(fault) = production_limit(alloc, declared, productions)? {
+        return Ok(Some(fault));
+    }
+    let literals = literals_of(alloc, productions)?;
+    Ok(literal_limit(&literals))
+}

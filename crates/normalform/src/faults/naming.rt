@@ -1,0 +1,214 @@
+//! Names that are not declared, and names that are declared twice.
+ghost use Rattle.std.specs.Prelude.{◌≡◌, ◌++◌, ◌∷◌, [], map, fold, None, IfOk, OnOk, flat_map};
+ghost use Rattle.normalform.specs.faults.Faults as spec;
+ghost use Rattle.normalform.specs.faults.Faults.{first_wrong, name_place, item_places, new_place};
+ghost use Rattle.normalform.specs.faults.Faults.{occurrence_place, rule_places, unknown_in};
+ghost use Rattle.normalform.specs.faults.Faults.{symbol_places, with_name, with_symbol};
+ghost use Rattle.normalform.specs.numbers.Numbers.{symbol_names, with_text};
+ghost use Rattle.normalform.specs.faults.Placed.{item_placed};
+
+use crate::fault::NormalFault;
+use crate::faults::placed::{Placed, places_of};
+use crate::numbers::declared::Declared;
+use crate::numbers::names::Names;
+use ag_grammar::{Named, Occ, RawItem, RawProduction, RawRule, RawSymbol, occurrences};
+use ag_value::NoMemory;
+use std::alloc::Global;
+
+/// The fault of a symbol's name that is not declared.
+fn unknown_name(declared: &Declared<'_>, name: &Named) -> Option<NormalFault>
+    ensures { result ≡ first_wrong (name_place (symbol_names declared.now) name.now ∷ []) }
+{
+    if declared.has(name.name.as_str()) {
+        None
+    } else {
+        Some(NormalFault::UnknownName(name.at))
+    }
+}
+
+/// The fault of an item that is a symbol's name and not declared.
+fn unknown_in_item(declared: &Declared<'_>, item: &RawItem) -> Option<NormalFault>
+    ensures { result ≡ first_wrong (item_places (symbol_names declared.now) item.now) }
+{
+    match item {
+        RawItem::Name(name) => unknown_name(declared, name),
+        _ => None,
+    }
+}
+
+/// The first fault of a right side.
+fn unknown_in_items(declared: &Declared<'_>, items: &[RawItem]) -> Option<NormalFault>
+    ensures { result
+        ≡ first_wrong (flat_map (item_places (symbol_names declared.now)) items.now) }
+{
+    for item in items {
+        if let Some(fault) = unknown_in_item(declared, item) {
+            return Some(fault);
+        }
+    }
+    None
+}
+
+/// The fault of an occurrence whose attribute is not there.
+fn unknown_occurrence(
+    declared: &Declared<'_>,
+    items: &[Placed],
+    occurrence: &Occ,
+) -> Option<NormalFault>
+    ensures { result ≡ first_wrong (occurrence_place declared.now (map item_placed items.now)
+        occurrence.now ∷ []) }
+{
+    if declared.has_attribute(items, occurrence) {
+        None
+    } else {
+        Some(NormalFault::UnknownName(occurrence.at))
+    }
+}
+
+/// The first fault of occurrences.
+fn unknown_among(
+    declared: &Declared<'_>,
+    items: &[Placed],
+    occurrences: &[Occ],
+) -> Option<NormalFault>
+    ensures { result ≡ first_wrong (map (occurrence_place declared.now
+        (map item_placed items.now)) occurrences.now) }
+{
+    for occurrence in occurrences {
+        if let Some(fault) = unknown_occurrence(declared, items, occurrence) {
+            return Some(fault);
+        }
+    }
+    None
+}
+
+/// The first fault of a rule.
+fn unknown_in_rule(declared: &Declared<'_>, items: &[Placed], rule: &RawRule) -> Option<NormalFault>
+    ensures { result
+        ≡ first_wrong (rule_places declared.now (map item_placed items.now) rule.now) }
+{
+    if let Some(fault) = unknown_occurrence(declared, items, &rule.target) {
+        return Some(fault);
+    }
+    unknown_among(declared, items, occurrences(&rule.expr))
+}
+
+/// The first fault of rules.
+fn unknown_in_rules(
+    declared: &Declared<'_>,
+    items: &[Placed],
+    rules: &[RawRule],
+) -> Option<NormalFault>
+    ensures { result ≡ first_wrong (flat_map (rule_places declared.now
+        (map item_placed items.now)) rules.now) }
+{
+    for rule in rules {
+        if let Some(fault) = unknown_in_rule(declared, items, rule) {
+            return Some(fault);
+        }
+    }
+    None
+}
+
+/// The first fault of a production.
+fn unknown_in_production(
+    alloc: Global,
+    declared: &Declared<'_>,
+    production: &RawProduction,
+) -> Result<Option<NormalFault>, NoMemory>
+    ensures { IfOk result (λ f. f ≡ first_wrong (unknown_in declared.now production.now)) }
+{
+    if let Some(fault) = unknown_name(declared, &production.left) {
+        return Ok(Some(fault));
+    }
+    if let Some(fault) = unknown_in_items(declared, production.items.as_slice()) {
+        return Ok(Some(fault));
+    }
+    let items = places_of(alloc, declared, production)?;
+    Ok(unknown_in_rules(declared, items.as_slice(), production.rules.as_slice()))
+}
+
+/// N1: the first symbol of a production that is not declared, or occurrence whose place or
+/// attribute is not there.
+pub fn unknown(
+    alloc: Global,
+    declared: &Declared<'_>,
+    productions: &[RawProduction],
+) -> Result<Option<NormalFault>, NoMemory>
+    ensures { IfOk result (λ f. f ≡ first_wrong (spec.unknown declared.now productions.now)) }
+{
+    for production in productions {
+        if let Some(fault) = unknown_in_production(alloc, declared, production)? {
+            return Ok(Some(fault));
+        }
+    }
+    Ok(None)
+}
+
+/// The fault of a name that is among those before; it is then among them.
+fn doubled_name<'t>(seen: &mut Names<'t>, name: &'t Named) -> Result<Option<NormalFault>, NoMemory>
+    ensures fault { IfOk result (λ f. f ≡ first_wrong (new_place seen.old name.now)) }
+    ensures seen { OnOk result (seen.new ≡ with_text seen.old name.now.name) }
+{
+    if seen.list(name.name.as_str())? {
+        Ok(None)
+    } else {
+        Ok(Some(NormalFault::DoubledName(name.at)))
+    }
+}
+
+/// The first fault of names that are declared one after the other.
+fn doubled_names<'t>(
+    seen: &mut Names<'t>,
+    names: &'t [Named],
+) -> Result<Option<NormalFault>, NoMemory>
+    ensures fault { IfOk result (λ f. f ≡ first_wrong (spec.doubled_names seen.old names.now)) }
+    ensures seen { IfOk result (λ f. f ≡ None → seen.new ≡ fold with_name seen.old names.now) }
+{
+    for name in names {
+        if let Some(fault) = doubled_name(seen, name)? {
+            return Ok(Some(fault));
+        }
+    }
+    Ok(None)
+}
+
+/// The first attribute of a symbol that is named again.
+fn doubled_attributes(alloc: Global, symbol: &RawSymbol) -> Result<Option<NormalFault>, NoMemory>
+    ensures { IfOk result (λ f. f
+        ≡ first_wrong (spec.doubled_names [] (symbol.now.syn ++ symbol.now.inh))) }
+{
+    let mut seen = Names::new(alloc);
+    if let Some(fault) = doubled_names(&mut seen, symbol.syn.as_slice())? {
+        return Ok(Some(fault));
+    }
+    doubled_names(&mut seen, symbol.inh.as_slice())
+}
+
+/// The first fault of a symbol.
+fn doubled_in_symbol<'t>(
+    alloc: Global,
+    seen: &mut Names<'t>,
+    symbol: &'t RawSymbol,
+) -> Result<Option<NormalFault>, NoMemory>
+    ensures fault { IfOk result (λ f. f ≡ first_wrong (symbol_places seen.old symbol.now)) }
+    ensures seen { OnOk result (seen.new ≡ with_symbol seen.old symbol.now) }
+{
+    if let Some(fault) = doubled_name(seen, &symbol.name)? {
+        return Ok(Some(fault));
+    }
+    doubled_attributes(alloc, symbol)
+}
+
+/// N2: the first symbol that is declared again, or attribute that is named again in its symbol.
+pub fn doubled<'t>(alloc: Global, symbols: &'t [RawSymbol]) -> Result<Option<NormalFault>, NoMemory>
+    ensures { IfOk result (λ f. f ≡ first_wrong (spec.doubled symbols.now)) }
+{
+    let mut seen = Names::new(alloc);
+    for symbol in symbols {
+        if let Some(fault) = doubled_in_symbol(alloc, &mut seen, symbol)? {
+            return Ok(Some(fault));
+        }
+    }
+    Ok(None)
+}

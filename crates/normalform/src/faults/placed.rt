@@ -1,0 +1,53 @@
+//! What stands at the places of a production. Numbers are not yet known to be small.
+ghost use Rattle.std.specs.Prelude.{◌≡◌, ◌++◌, ◌∷◌, [], map, IfOk, OnOk};
+ghost use Rattle.normalform.specs.numbers.Numbers.{stored_of, symbol_names};
+ghost use Rattle.normalform.specs.numbers.Numbers.{placed};
+ghost use Rattle.normalform.specs.faults.Placed.{item_placed};
+
+use crate::numbers::declared::Declared;
+use ag_grammar::{RawItem, RawProduction};
+use ag_value::NoMemory;
+use std::alloc::Global;
+
+/// What stands at a place of a production.
+#[derive(Clone, Copy, Debug, PartialEq, Eq)]
+pub enum Placed {
+    /// A symbol, by its number; an undeclared one has the number behind all.
+    Symbol(usize),
+    /// A token of a class.
+    Class(u16),
+}
+
+/// Appends an item, unless it is a literal, which has no place.
+fn place_item(
+    items: &mut Vec<Placed>,
+    declared: &Declared<'_>,
+    item: &RawItem,
+) -> Result<(), NoMemory>
+    ensures { OnOk result (map item_placed items.new.items ≡ map item_placed items.old.items
+        ++ stored_of (symbol_names declared.now) (item.now ∷ [])) }
+{
+    match item {
+        RawItem::Name(name) => items.push(Placed::Symbol(declared.number(name.name.as_str())))?,
+        RawItem::Literal(_) => (),
+        RawItem::Class(class) => items.push(Placed::Class(*class))?,
+    }
+    Ok(())
+}
+
+/// What stands at the places of a production, from the left side on.
+pub fn places_of(
+    alloc: Global,
+    declared: &Declared<'_>,
+    production: &RawProduction,
+) -> Result<Vec<Placed>, NoMemory>
+    ensures { IfOk result (λ items. map item_placed items.items
+        ≡ placed declared.now production.now) }
+{
+    let mut items = Vec::new(alloc);
+    items.push(Placed::Symbol(declared.number(production.left.name.as_str())))?;
+    for item in production.items.as_slice() {
+        place_item(&mut items, declared, item)?;
+    }
+    Ok(items)
+}

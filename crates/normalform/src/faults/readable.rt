@@ -1,0 +1,74 @@
+//! Whether the literals and classes of a raw grammar are as a text gives them.
+ghost use Rattle.std.specs.Prelude.{◌≡◌, ◌↔◌, IsTrue, not};
+ghost use Rattle.std.specs.List.{list_all};
+ghost use Rattle.normalform.specs.faults.Faults.{IsReadable};
+ghost use Rattle.normalform.specs.faults.Readable.{is_separator, readable_text, readable_item};
+ghost use Rattle.normalform.specs.faults.Readable.{readable_in};
+
+use ag_grammar::limits::CLASS_COUNT;
+use ag_grammar::{RawGrammar, RawItem, RawProduction};
+
+/// A byte separates the words of a sentence.
+fn is_separator(byte: u8) -> bool
+    ensures { result ≡ is_separator byte }
+{
+    byte == b' ' || byte == b'\t' || byte == b'\r' || byte == b'\n'
+}
+
+/// A literal is not empty and has no separator.
+fn is_readable_text(text: &[u8]) -> bool
+    ensures { result ≡ readable_text text.now }
+{
+    if text.is_empty() {
+        return false;
+    }
+    for byte in text {
+        if is_separator(*byte) {
+            return false;
+        }
+    }
+    true
+}
+
+/// A literal is readable, and a class known.
+fn is_readable_item(item: &RawItem) -> bool
+    ensures { result ≡ readable_item item.now }
+{
+    match item {
+        RawItem::Name(_) => true,
+        RawItem::Literal(text) => is_readable_text(text.as_str().as_bytes()),
+        RawItem::Class(class) => *class < CLASS_COUNT,
+    }
+}
+
+/// The items of a production are readable.
+fn is_readable_in(production: &RawProduction) -> bool
+    ensures { result ≡ readable_in production.now }
+{
+    for item in production.items.as_slice() {
+        if !is_readable_item(item) {
+            return false;
+        }
+    }
+    true
+}
+
+/// The items of productions are readable.
+fn are_readable(productions: &[RawProduction]) -> bool
+    ensures { result ≡ list_all readable_in productions.now }
+{
+    for production in productions {
+        if !is_readable_in(production) {
+            return false;
+        }
+    }
+    true
+}
+
+/// The classes of a raw grammar are 0 to 2, and no literal is empty or has a space, tab, CR or LF.
+/// So it is with what a text gives; what is made by hand can be tested. Takes no memory.
+pub fn is_readable(raw: &RawGrammar) -> bool
+    ensures { IsTrue result ↔ IsReadable raw.now }
+{
+    are_readable(raw.productions.as_slice())
+}

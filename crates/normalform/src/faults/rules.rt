@@ -1,0 +1,336 @@
+//! Rules that are missing, doubled, or not defined here, and arguments that are not normal.
+ghost use Rattle.std.specs.Prelude.{◌≡◌, ◌∷◌, [], map, flat_map, IfOk, OnOk, not};
+ghost use Rattle.std.specs.List.{list_any};
+ghost use Rattle.normalform.specs.faults.Faults as spec;
+ghost use Rattle.normalform.specs.faults.Faults.{first_wrong, places_along, after, with_rule, new_target};
+ghost use Rattle.normalform.specs.faults.Faults.{given_place, found_place, same_target, doubled_in};
+ghost use Rattle.normalform.specs.faults.Faults.{not_given_in, not_found_in};
+ghost use Rattle.normalform.specs.numbers.Numbers.{target_of};
+ghost use Rattle.normalform.specs.faults.Placed.{item_placed};
+
+use crate::fault::NormalFault;
+use crate::faults::placed::{Placed, places_of};
+use crate::faults::targets::Targets;
+use crate::numbers::declared::Declared;
+use ag_grammar::{Occ, RawProduction, RawRule, occurrences};
+use ag_value::NoMemory;
+use std::alloc::Global;
+
+/// Adds the target of a rule, and says whether it was not there.
+fn add_target(
+    targets: &mut Targets,
+    declared: &Declared<'_>,
+    items: &[Placed],
+    rule: &RawRule,
+) -> Result<bool, NoMemory>
+    ensures added { OnOk result (targets.new ≡ with_rule declared.now (map item_placed items.now)
+        targets.old rule.now) }
+    ensures fresh { IfOk result (λ b. b ≡ not (list_any (same_target
+        (target_of declared.now (map item_placed items.now) rule.now.target)) targets.old)) }
+{
+    let attr = declared.attribute(items, &rule.target);
+    targets.add(rule.target.place as usize, attr)
+}
+
+/// The different targets of rules.
+fn targets_of(
+    alloc: Global,
+    declared: &Declared<'_>,
+    items: &[Placed],
+    rules: &[RawRule],
+) -> Result<Targets, NoMemory>
+    ensures { IfOk result (λ t. t
+        ≡ spec.targets_of declared.now (map item_placed items.now) rules.now) }
+{
+    let mut targets = Targets::new(alloc);
+    for rule in rules {
+        add_target(&mut targets, declared, items, rule)?;
+    }
+    Ok(targets)
+}
+
+/// The first attribute without a rule at a place of a production.
+fn missing_at(
+    declared: &Declared<'_>,
+    targets: &Targets,
+    production: usize,
+    place: usize,
+    item: Placed,
+) -> Option<NormalFault>
+    ensures { result ≡ first_wrong (spec.missing_at declared.now targets.now production place
+        (item_placed item)) }
+{
+    let Placed::Symbol(symbol) = item else {
+        return None;
+    };
+    let (first, end) = declared.given(place, symbol);
+    for attr in first..end {
+        if !targets.has(place, attr) {
+            return Some(NormalFault::RuleMissing(production, place, attr));
+        }
+    }
+    None
+}
+
+/// The first attribute without a rule at the places of a production.
+fn missing_among(
+    declared: &Declared<'_>,
+    targets: &Targets,
+    production: usize,
+    items: &[Placed],
+) -> Option<NormalFault>
+    ensures { result ≡ first_wrong (places_along (spec.missing_at declared.now targets.now
+        production) after 0 (map item_placed items.now)) }
+{
+    for place in 0..items.len() {
+        if let Some(fault) = missing_at(declared, targets, production, place, items[place]) {
+            return Some(fault);
+        }
+    }
+    None
+}
+
+/// The first attribute without a rule in a production.
+fn missing_in(
+    alloc: Global,
+    declared: &Declared<'_>,
+    number: usize,
+    production: &RawProduction,
+) -> Result<Option<NormalFault>, NoMemory>
+    ensures { IfOk result (λ f. f
+        ≡ first_wrong (spec.missing_in declared.now number production.now)) }
+{
+    let items = places_of(alloc, declared, production)?;
+    let targets = targets_of(
+        alloc,
+        declared,
+        items.as_slice(),
+        production.rules.as_slice(),
+    )?;
+    Ok(missing_among(declared, &targets, number, items.as_slice()))
+}
+
+/// N6: the first attribute that rules are to give and for which there is none, by production, then
+/// place, then attribute.
+pub fn missing(
+    alloc: Global,
+    declared: &Declared<'_>,
+    productions: &[RawProduction],
+) -> Result<Option<NormalFault>, NoMemory>
+    ensures { IfOk result (λ f. f ≡ first_wrong (spec.missing declared.now productions.now)) }
+{
+    for (number, production) in productions.iter().enumerate() {
+        if let Some(fault) = missing_in(alloc, declared, number, production)? {
+            return Ok(Some(fault));
+        }
+    }
+    Ok(None)
+}
+
+/// The fault of a rule whose target is among those before; it is then among them.
+fn doubled_rule(
+    targets: &mut Targets,
+    declared: &Declared<'_>,
+    items: &[Placed],
+    rule: &RawRule,
+) -> Result<Option<NormalFault>, NoMemory>
+    ensures fault { IfOk result (λ f. f ≡ first_wrong (new_target declared.now
+        (map item_placed items.now) targets.old rule.now)) }
+    ensures added { OnOk result (targets.new ≡ with_rule declared.now (map item_placed items.now)
+        targets.old rule.now) }
+{
+    if add_target(targets, declared, items, rule)? {
+        Ok(None)
+    } else {
+        Ok(Some(NormalFault::RuleDoubled(rule.target.at)))
+    }
+}
+
+/// The first rule of a production with the target of one before.
+fn doubled_among(
+    alloc: Global,
+    declared: &Declared<'_>,
+    items: &[Placed],
+    rules: &[RawRule],
+) -> Result<Option<NormalFault>, NoMemory>
+    ensures { IfOk result (λ f. f ≡ first_wrong (places_along (new_target declared.now
+        (map item_placed items.now)) (with_rule declared.now (map item_placed items.now)) []
+        rules.now)) }
+{
+    let mut targets = Targets::new(alloc);
+    for rule in rules {
+        if let Some(fault) = doubled_rule(&mut targets, declared, items, rule)? {
+            return Ok(Some(fault));
+        }
+    }
+    Ok(None)
+}
+
+/// The first fault of the targets of a production.
+fn doubled_in_production(
+    alloc: Global,
+    declared: &Declared<'_>,
+    production: &RawProduction,
+) -> Result<Option<NormalFault>, NoMemory>
+    ensures { IfOk result (λ f. f ≡ first_wrong (doubled_in declared.now production.now)) }
+{
+    let items = places_of(alloc, declared, production)?;
+    doubled_among(
+        alloc,
+        declared,
+        items.as_slice(),
+        production.rules.as_slice(),
+    )
+}
+
+/// N7: the first second rule for a target of a production.
+pub fn doubled_rules(
+    alloc: Global,
+    declared: &Declared<'_>,
+    productions: &[RawProduction],
+) -> Result<Option<NormalFault>, NoMemory>
+    ensures { IfOk result (λ f. f
+        ≡ first_wrong (spec.doubled_rules declared.now productions.now)) }
+{
+    for production in productions {
+        if let Some(fault) = doubled_in_production(alloc, declared, production)? {
+            return Ok(Some(fault));
+        }
+    }
+    Ok(None)
+}
+
+/// The fault of a rule whose target the rules of its production do not give.
+fn not_given_rule(declared: &Declared<'_>, items: &[Placed], rule: &RawRule) -> Option<NormalFault>
+    ensures { result ≡ first_wrong (given_place declared.now (map item_placed items.now) rule.now
+        ∷ []) }
+{
+    if declared.is_given(items, &rule.target) {
+        None
+    } else {
+        Some(NormalFault::NotDefinedHere(rule.target.at))
+    }
+}
+
+/// The first fault of the targets of rules.
+fn not_given_among(
+    declared: &Declared<'_>,
+    items: &[Placed],
+    rules: &[RawRule],
+) -> Option<NormalFault>
+    ensures { result ≡ first_wrong (map (given_place declared.now (map item_placed items.now))
+        rules.now) }
+{
+    for rule in rules {
+        if let Some(fault) = not_given_rule(declared, items, rule) {
+            return Some(fault);
+        }
+    }
+    None
+}
+
+/// The first such fault of a production.
+fn not_given_in_production(
+    alloc: Global,
+    declared: &Declared<'_>,
+    production: &RawProduction,
+) -> Result<Option<NormalFault>, NoMemory>
+    ensures { IfOk result (λ f. f ≡ first_wrong (not_given_in declared.now production.now)) }
+{
+    let items = places_of(alloc, declared, production)?;
+    Ok(not_given_among(declared, items.as_slice(), production.rules.as_slice()))
+}
+
+/// N8: the first target that is inherited at place 0, or synthesized at a later place.
+pub fn not_given(
+    alloc: Global,
+    declared: &Declared<'_>,
+    productions: &[RawProduction],
+) -> Result<Option<NormalFault>, NoMemory>
+    ensures { IfOk result (λ f. f ≡ first_wrong (spec.not_given declared.now productions.now)) }
+{
+    for production in productions {
+        if let Some(fault) = not_given_in_production(alloc, declared, production)? {
+            return Ok(Some(fault));
+        }
+    }
+    Ok(None)
+}
+
+/// The fault of an occurrence that the rules of its production do not find.
+fn not_found_occurrence(
+    declared: &Declared<'_>,
+    items: &[Placed],
+    occurrence: &Occ,
+) -> Option<NormalFault>
+    ensures { result ≡ first_wrong (found_place declared.now (map item_placed items.now)
+        occurrence.now ∷ []) }
+{
+    if declared.is_found(items, occurrence) {
+        None
+    } else {
+        Some(NormalFault::NotNormal(occurrence.at))
+    }
+}
+
+/// The first fault of occurrences.
+fn not_found_among(
+    declared: &Declared<'_>,
+    items: &[Placed],
+    occurrences: &[Occ],
+) -> Option<NormalFault>
+    ensures { result ≡ first_wrong (map (found_place declared.now (map item_placed items.now))
+        occurrences.now) }
+{
+    for occurrence in occurrences {
+        if let Some(fault) = not_found_occurrence(declared, items, occurrence) {
+            return Some(fault);
+        }
+    }
+    None
+}
+
+/// The first fault of the arguments of rules.
+fn not_found_in_rules(
+    declared: &Declared<'_>,
+    items: &[Placed],
+    rules: &[RawRule],
+) -> Option<NormalFault>
+    ensures { result ≡ first_wrong (flat_map (λ r. map (found_place declared.now
+        (map item_placed items.now)) r.expr.1) rules.now) }
+{
+    for rule in rules {
+        if let Some(fault) = not_found_among(declared, items, occurrences(&rule.expr)) {
+            return Some(fault);
+        }
+    }
+    None
+}
+
+/// The first such fault of a production.
+fn not_found_in_production(
+    alloc: Global,
+    declared: &Declared<'_>,
+    production: &RawProduction,
+) -> Result<Option<NormalFault>, NoMemory>
+    ensures { IfOk result (λ f. f ≡ first_wrong (not_found_in declared.now production.now)) }
+{
+    let items = places_of(alloc, declared, production)?;
+    Ok(not_found_in_rules(declared, items.as_slice(), production.rules.as_slice()))
+}
+
+/// N9: the first argument that is synthesized at place 0, or inherited at a later place.
+pub fn not_found(
+    alloc: Global,
+    declared: &Declared<'_>,
+    productions: &[RawProduction],
+) -> Result<Option<NormalFault>, NoMemory>
+    ensures { IfOk result (λ f. f ≡ first_wrong (spec.not_found declared.now productions.now)) }
+{
+    for production in productions {
+        if let Some(fault) = not_found_in_production(alloc, declared, production)? {
+            return Ok(Some(fault));
+        }
+    }
+    Ok(None)
+}

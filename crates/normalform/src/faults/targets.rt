@@ -1,0 +1,55 @@
+//! The different targets of a production's rules, looked up by hash.
+ghost use Rattle.std.specs.Prelude.{◌≡◌, [], not, IfOk, OnOk};
+ghost use Rattle.std.specs.List.{list_any};
+ghost use Rattle.ag_grammar.specs.declared.grammar.Target.{Target as Pair};
+ghost use Rattle.normalform.specs.faults.Faults.{same_target, with_target};
+
+use ag_value::NoMemory;
+use indexmap::IndexSet;
+use std::alloc::Global;
+use std::marker::Model;
+
+/// Different targets. Contracts see the list of them, in the order in which they were added.
+#[derive(Drop)]
+pub struct Targets {
+    set: IndexSet<(usize, usize)>,
+}
+
+impl Model for Targets {
+    ghost use Rattle.std.specs.Prelude.{List, map};
+    ghost use Rattle.ag_grammar.specs.declared.grammar.Target.{Target};
+
+    ghost Value = { List Target };
+
+    ghost view = { λ t. map (λ p. record { place = p.0; attr = p.1 }) t.set.keys };
+}
+
+impl Targets {
+    /// No targets. Takes no memory.
+    pub fn new(alloc: Global) -> Targets
+        ensures { result ≡ [] }
+    {
+        Targets {
+            set: IndexSet::new(alloc),
+        }
+    }
+
+    /// One more target, unless it is there; says whether it was not.
+    pub fn add(&mut self, place: usize, attr: usize) -> Result<bool, NoMemory>
+        ensures added { OnOk result (self.new
+            ≡ with_target self.old (record { place = place; attr = attr })) }
+        ensures fresh { IfOk result (λ b. b
+            ≡ not (list_any (same_target (record { place = place; attr = attr })) self.old)) }
+    {
+        let (_, fresh) = self.set.insert_full((place, attr))?;
+        Ok(fresh)
+    }
+
+    /// A target is there.
+    pub fn has(&self, place: usize, attr: usize) -> bool
+        ensures { result
+            ≡ list_any (same_target (record { place = place; attr = attr })) self.now }
+    {
+        self.set.contains(&(place, attr))
+    }
+}

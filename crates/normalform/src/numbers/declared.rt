@@ -1,0 +1,293 @@
+//! The declared symbols, with their names and those of their attributes looked up by hash.
+ghost use Rattle.std.specs.Prelude.{◌≡◌, ◌++◌, length, map, bytes_eq, IfOk, OnOk, IfSome};
+ghost use Rattle.std.specs.Prelude.{ℕ, List, Some, None};
+ghost use Rattle.std.specs.Prelude.{slice_get, [], ◌∷◌, ◌≤◌, ◌-◌};
+ghost use Rattle.std.specs.List.{list_any, range_with_len};
+ghost use Rattle.ag_grammar.specs.declared.grammar.Item.TheVariants as Item;
+ghost use Rattle.ag_grammar.specs.declared.grammar.Symbol.{Symbol};
+ghost use Rattle.ag_grammar.specs.grammars.AttributeGrammar.{attribute_names, lex_name};
+ghost use Rattle.ag_grammar.specs.grammars.AttributeGrammar.{symbol_names as attributes_of};
+ghost use Rattle.ag_grammar.specs.grammars.AttributeGrammar.{Synthesized, Inherited};
+ghost use Rattle.ag_grammar.specs.grammars.AttributeGrammar.{symbol_kinds, item_kinds};
+ghost use Rattle.ag_grammar.specs.grammars.AttributeGrammar.{given_kind, found_kind};
+ghost use Rattle.ag_grammar.specs.grammars.Raw.{texts_of};
+ghost use Rattle.normalform.specs.faults.Faults as spec;
+ghost use Rattle.normalform.specs.faults.Faults.{has_kind, is_kind, given_at};
+ghost use Rattle.normalform.specs.numbers.Numbers.{declared};
+ghost use Rattle.normalform.specs.numbers.Numbers.{number_in, symbol_of, symbol_names, names_at};
+ghost use Rattle.normalform.specs.numbers.Numbers.{target_of};
+ghost use Rattle.normalform.specs.faults.Placed.{item_placed};
+
+use crate::faults::placed::Placed;
+use crate::numbers::names::Names;
+use ag_grammar::{Named, Occ, RawSymbol};
+use ag_value::NoMemory;
+use std::alloc::Global;
+use std::marker::Model;
+
+/// Appends names.
+fn push_names<'t>(names: &mut Names<'t>, added: &'t [Named]) -> Result<(), NoMemory>
+    ensures { OnOk result (names.new ≡ names.old ++ texts_of added.now) }
+{
+    for name in added {
+        names.push(name.name.as_str())?;
+    }
+    Ok(())
+}
+
+/// The names of a symbol's attributes, the synthesized ones first.
+fn attributes_of<'t>(alloc: Global, symbol: &'t RawSymbol) -> Result<Names<'t>, NoMemory>
+    ensures { IfOk result (λ names. names ≡ attribute_names (symbol_of symbol.now)) }
+{
+    let mut names = Names::new(alloc);
+    push_names(&mut names, symbol.syn.as_slice())?;
+    push_names(&mut names, symbol.inh.as_slice())?;
+    Ok(names)
+}
+
+/// The names of symbols.
+fn names_of<'t>(alloc: Global, symbols: &'t [RawSymbol]) -> Result<Names<'t>, NoMemory>
+    ensures { IfOk result (λ names. names ≡ symbol_names (map symbol_of symbols.now)) }
+{
+    let mut names = Names::new(alloc);
+    for symbol in symbols {
+        names.push(symbol.name.name.as_str())?;
+    }
+    Ok(names)
+}
+
+/// The names of each symbol's attributes.
+fn attributes<'t>(alloc: Global, symbols: &'t [RawSymbol]) -> Result<Vec<Names<'t>>, NoMemory>
+    ensures { IfOk result (λ names. names.items
+        ≡ map attribute_names (map symbol_of symbols.now)) }
+{
+    let mut names = Vec::new(alloc);
+    for symbol in symbols {
+        names.push(attributes_of(alloc, symbol)?)?;
+    }
+    Ok(names)
+}
+
+/// The declared symbols. Contracts see the list of them.
+#[derive(Drop)]
+pub struct Declared<'t> {
+    symbols: &'t [RawSymbol],
+    names: Names<'t>,
+    attributes: Vec<Names<'t>>,
+}
+
+impl<'t> Model for Declared<'t> {
+    ghost use Rattle.std.specs.Prelude.{◌≡◌, List, map};
+    ghost use Rattle.ag_grammar.specs.declared.grammar.Symbol.{Symbol};
+    ghost use Rattle.ag_grammar.specs.grammars.AttributeGrammar.{attribute_names, lex_name};
+    ghost use Rattle.normalform.specs.numbers.Numbers.{symbol_of, symbol_names};
+
+    ghost Value = { List Symbol };
+
+    ghost view = { λ d. map symbol_of d.symbols.now };
+
+    ghost invariant = { λ d. (d.names ≡ symbol_names (map symbol_of d.symbols.now))
+        × (d.attributes.items ≡ map attribute_names (map symbol_of d.symbols.now)) };
+}
+
+/// The number of `lex` among the attributes of a token.
+fn lex_number(name: &str) -> usize
+    ensures { result ≡ number_in (lex_name ∷ []) name.now }
+{
+    if name == "lex" { 0 } else { 1 }
+}
+
+impl<'t> Declared<'t> {
+    /// Looks up the names of symbols and attributes.
+    pub fn new(alloc: Global, symbols: &'t [RawSymbol]) -> Result<Declared<'t>, NoMemory>
+        ensures { IfOk result (λ d. d ≡ map symbol_of symbols.now) }
+    {
+        let names = names_of(alloc, symbols)?;
+        let attributes = attributes(alloc, symbols)?;
+        Ok(Declared {
+            symbols,
+            names,
+            attributes,
+        })
+    }
+
+    /// How many symbols there are.
+    pub fn count(&self) -> usize
+        ensures { result ≡ length self.now }
+    {
+        self.symbols.len()
+    }
+
+    /// The number of a symbol, and the number behind all where it is not declared.
+    pub fn number(&self, name: &str) -> usize
+        ensures { result ≡ number_in (symbol_names self.now) name.now }
+    {
+        self.names.place(name)
+    }
+
+    /// A symbol is declared.
+    pub fn has(&self, name: &str) -> bool
+        ensures { result ≡ list_any (bytes_eq name.now) (symbol_names self.now) }
+    {
+        self.names.has(name)
+    }
+
+    /// The number of an attribute of a symbol, and the number behind all where it is not there.
+    fn attribute_of(&self, symbol: usize, name: &str) -> usize
+        ensures { result ≡ number_in (attributes_of (slice_get self.now symbol)) name.now }
+    {
+        match self.attributes.get(symbol) {
+            Some(names) => names.place(name),
+            None => 0,
+        }
+    }
+
+    /// A symbol has an attribute.
+    fn has_attribute_of(&self, symbol: usize, name: &str) -> bool
+        ensures { result
+            ≡ list_any (bytes_eq name.now) (attributes_of (slice_get self.now symbol)) }
+    {
+        match self.attributes.get(symbol) {
+            Some(names) => names.has(name),
+            None => false,
+        }
+    }
+
+    /// The number of the attribute that an occurrence names, and the number behind all where it is
+    /// not there.
+    pub fn attribute(&self, items: &[Placed], occurrence: &Occ) -> usize
+        ensures { result ≡ (target_of self.now (map item_placed items.now) occurrence.now).attr }
+    {
+        let name = occurrence.attr.as_str();
+        match items.get(occurrence.place as usize) {
+            Some(Placed::Symbol(symbol)) => self.attribute_of(*symbol, name),
+            Some(Placed::Class(_)) => lex_number(name),
+            None => 0,
+        }
+    }
+
+    /// The attribute that an occurrence names is there.
+    pub fn has_attribute(&self, items: &[Placed], occurrence: &Occ) -> bool
+        ensures { result ≡ list_any (bytes_eq occurrence.now.attr)
+            (names_at self.now (map item_placed items.now) occurrence.now.place) }
+    {
+        let name = occurrence.attr.as_str();
+        match items.get(occurrence.place as usize) {
+            Some(Placed::Symbol(symbol)) => self.has_attribute_of(*symbol, name),
+            Some(Placed::Class(_)) => name == "lex",
+            None => false,
+        }
+    }
+
+    /// The symbol of a number.
+    fn symbol(&self, number: usize) -> Option<&RawSymbol>
+        ensures there { IfSome result (λ s. slice_get self.now number ≡ Some (symbol_of s.now)) }
+        ensures none { result ≡ None → slice_get self.now number ≡ None }
+    {
+        self.symbols.get(number)
+    }
+
+    /// A symbol has a synthesized attribute of the number.
+    fn synthesizes(&self, symbol: usize, number: usize) -> bool
+        ensures { result
+            ≡ is_kind Synthesized (slice_get (symbol_kinds (slice_get self.now symbol)) number) }
+    {
+        match self.symbol(symbol) {
+            Some(raw) => number < raw.syn.as_slice().len(),
+            None => false,
+        }
+    }
+
+    /// A symbol has an inherited attribute of the number.
+    fn inherits(&self, symbol: usize, number: usize) -> bool
+        ensures { result
+            ≡ is_kind Inherited (slice_get (symbol_kinds (slice_get self.now symbol)) number) }
+    {
+        match self.symbol(symbol) {
+            Some(raw) => {
+                let first = raw.syn.as_slice().len();
+                number >= first && number - first < raw.inh.as_slice().len()
+            }
+            None => false,
+        }
+    }
+
+    /// At a place stands an item with a synthesized attribute of the number.
+    fn is_synthesized(&self, items: &[Placed], place: usize, number: usize) -> bool
+        ensures { result ≡ is_kind Synthesized (slice_get (item_kinds (declared self.now)
+            (slice_get (map item_placed items.now) place)) number) }
+    {
+        match items.get(place) {
+            Some(Placed::Symbol(symbol)) => self.synthesizes(*symbol, number),
+            Some(Placed::Class(_)) => number == 0,
+            None => false,
+        }
+    }
+
+    /// At a place stands an item with an inherited attribute of the number.
+    fn is_inherited(&self, items: &[Placed], place: usize, number: usize) -> bool
+        ensures { result ≡ is_kind Inherited (slice_get (item_kinds (declared self.now)
+            (slice_get (map item_placed items.now) place)) number) }
+    {
+        match items.get(place) {
+            Some(Placed::Symbol(symbol)) => self.inherits(*symbol, number),
+            _ => false,
+        }
+    }
+
+    /// An occurrence is one that the rules of its production give.
+    pub fn is_given(&self, items: &[Placed], occurrence: &Occ) -> bool
+        ensures { let t = target_of self.now (map item_placed items.now) occurrence.now in
+            result ≡ has_kind self.now (map item_placed items.now) t (given_kind t.place) }
+    {
+        let place = occurrence.place as usize;
+        let number = self.attribute(items, occurrence);
+        if place == 0 {
+            self.is_synthesized(items, place, number)
+        } else {
+            self.is_inherited(items, place, number)
+        }
+    }
+
+    /// An occurrence is one that the rules of its production find.
+    pub fn is_found(&self, items: &[Placed], occurrence: &Occ) -> bool
+        ensures { let t = target_of self.now (map item_placed items.now) occurrence.now in
+            result ≡ has_kind self.now (map item_placed items.now) t (found_kind t.place) }
+    {
+        let place = occurrence.place as usize;
+        let number = self.attribute(items, occurrence);
+        if place == 0 {
+            self.is_inherited(items, place, number)
+        } else {
+            self.is_synthesized(items, place, number)
+        }
+    }
+
+    /// The numbers, from the first up to the second, of the attributes that rules give at a place
+    /// where a symbol stands.
+    pub fn given(&self, place: usize, symbol: usize) -> (usize, usize)
+        ensures ordered { result.0 ≤ result.1 }
+        ensures numbers { range_with_len result.0 (result.1 - result.0)
+            ≡ given_at self.now place (Item.Symbol symbol) }
+    {
+        let Some(raw) = self.symbol(symbol) else {
+            return (0, 0);
+        };
+        let count = raw.syn.as_slice().len();
+        if place == 0 {
+            (0, count)
+        } else {
+            (count, count + raw.inh.as_slice().len())
+        }
+    }
+
+    /// The symbol of a number may be the start symbol.
+    pub fn is_start(&self, symbol: usize) -> bool
+        ensures { result ≡ spec.is_start (slice_get self.now symbol) }
+    {
+        match self.symbol(symbol) {
+            Some(raw) => { raw.inh.as_slice().is_empty() && self.has_attribute_of(symbol, "out") }
+            None => false,
+        }
+    }
+}

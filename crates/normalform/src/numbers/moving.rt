@@ -1,0 +1,47 @@
+//! The parts of a raw grammar that are moved into the numbered one.
+ghost use Rattle.std.specs.Prelude.{◌≡◌, ◌<◌, length, map, IfOk};
+ghost use Rattle.ag_grammar.specs.grammars.Raw.{texts_of};
+ghost use Rattle.normalform.specs.faults.Faults.{IsNameAt};
+ghost use Rattle.normalform.specs.numbers.Numbers.{symbol_of};
+
+use ag_grammar::{Named, RawSymbol, Symbol};
+use ag_value::{Items, NoMemory, Text};
+use std::alloc::Global;
+
+/// Names without their offsets, moved.
+fn move_names(alloc: Global, names: Items<Named>) -> Result<Items<Text>, NoMemory>
+    ensures { IfOk result (λ texts. texts ≡ texts_of names) }
+{
+    let mut texts = Vec::new(alloc);
+    for named in names.into_vec() {
+        texts.push(named.name)?;
+    }
+    Ok(Items::from_vec(texts))
+}
+
+/// Symbols without offsets, moved.
+pub fn move_symbols(alloc: Global, symbols: Items<RawSymbol>) -> Result<Items<Symbol>, NoMemory>
+    ensures { IfOk result (λ moved. moved ≡ map symbol_of symbols) }
+{
+    let mut moved = Vec::new(alloc);
+    for symbol in symbols.into_vec() {
+        let RawSymbol { name, syn, inh } = symbol;
+        let syn = move_names(alloc, syn)?;
+        let inh = move_names(alloc, inh)?;
+        moved.push(Symbol {
+            name: name.name,
+            syn,
+            inh,
+        })?;
+    }
+    Ok(Items::from_vec(moved))
+}
+
+/// The name of the symbol of a number, moved.
+pub fn name_at(symbols: Items<RawSymbol>, number: usize) -> Named
+    requires { number < length symbols }
+    ensures { IsNameAt symbols number result }
+{
+    let mut symbols = symbols.into_vec();
+    symbols.swap_remove(number).name
+}

@@ -1,0 +1,255 @@
+//! The numbered grammar of a raw one within the limits.
+ghost use Rattle.std.specs.Prelude.{◌≡◌, ◌<◌, ◌≤◌, length, map, filter, All, IfOk};
+ghost use Rattle.std.specs.List.{list_any};
+ghost use Rattle.ag_grammar.specs.grammars.Accepted.{most_symbols};
+ghost use Rattle.normalform.specs.faults.Faults.{IsSmall, IsListed, AreListedIn};
+ghost use Rattle.normalform.specs.numbers.Numbers as spec;
+ghost use Rattle.normalform.specs.numbers.Numbers.{symbol_names};
+ghost use Rattle.normalform.specs.faults.Placed.{item_placed};
+
+use crate::faults::limits::literals_of;
+use crate::faults::placed::{Placed, places_of};
+use crate::numbers::declared::Declared;
+use crate::numbers::names::Names;
+use ag_grammar::{
+    Item, Occ, Production, RawItem, RawProduction, RawRule, Rule, Target, Terminal, occurrences,
+};
+use ag_value::{Items, NoMemory, Text};
+use std::alloc::Global;
+
+/// A number in 16 bits.
+fn narrow(number: usize) -> u16
+    requires { number < 65536 }
+    ensures { result ≡ number }
+{
+    number as u16
+}
+
+/// An item by its number.
+fn item_of(declared: &Declared<'_>, literals: &Names<'_>, item: &RawItem) -> Item
+    requires { IsSmall declared.now literals.now }
+    ensures { result ≡ spec.item_of (symbol_names declared.now) literals.now item.now }
+{
+    match item {
+        RawItem::Name(name) => Item::Symbol(narrow(declared.number(name.name.as_str()))),
+        RawItem::Literal(text) => {
+            Item::Terminal(Terminal::Literal(narrow(literals.place(text.as_str()))))
+        }
+        RawItem::Class(class) => Item::Terminal(Terminal::Class(*class)),
+    }
+}
+
+/// Items by their numbers.
+fn items_of(
+    alloc: Global,
+    declared: &Declared<'_>,
+    literals: &Names<'_>,
+    items: &[RawItem],
+) -> Result<Items<Item>, NoMemory>
+    requires { IsSmall declared.now literals.now }
+    ensures { IfOk result (λ xs. xs
+        ≡ map (spec.item_of (symbol_names declared.now) literals.now) items.now) }
+{
+    let mut numbered = Vec::new(alloc);
+    for item in items {
+        numbered.push(item_of(declared, literals, item))?;
+    }
+    Ok(Items::from_vec(numbered))
+}
+
+/// The attribute that an occurrence names.
+fn target_of(
+    declared: &Declared<'_>,
+    literals: &Names<'_>,
+    items: &[Placed],
+    occurrence: &Occ,
+) -> Target
+    requires { IsSmall declared.now literals.now }
+    ensures { result ≡ spec.target_of declared.now (map item_placed items.now) occurrence.now }
+{
+    Target {
+        place: occurrence.place,
+        attr: narrow(declared.attribute(items, occurrence)),
+    }
+}
+
+/// The attributes that occurrences name.
+fn targets_of(
+    alloc: Global,
+    declared: &Declared<'_>,
+    literals: &Names<'_>,
+    items: &[Placed],
+    occurrences: &[Occ],
+) -> Result<Items<Target>, NoMemory>
+    requires { IsSmall declared.now literals.now }
+    ensures { IfOk result (λ ts. ts
+        ≡ map (spec.target_of declared.now (map item_placed items.now)) occurrences.now) }
+{
+    let mut targets = Vec::new(alloc);
+    for occurrence in occurrences {
+        targets.push(target_of(declared, literals, items, occurrence))?;
+    }
+    Ok(Items::from_vec(targets))
+}
+
+/// A rule with its target and arguments by number; the expression is moved.
+fn rule_of(
+    alloc: Global,
+    declared: &Declared<'_>,
+    literals: &Names<'_>,
+    items: &[Placed],
+    rule: RawRule,
+) -> Result<Rule, NoMemory>
+    requires { IsSmall declared.now literals.now }
+    ensures numbered { IfOk result (λ r. r
+        ≡ spec.rule_of declared.now (map item_placed items.now) rule) }
+    ensures listed { IfOk result (λ r. IsListed r) }
+{
+    let RawRule { target, expr } = rule;
+    let args = targets_of(alloc, declared, literals, items, occurrences(&expr))?;
+    let target = target_of(declared, literals, items, &target);
+    Ok(Rule { target, expr, args })
+}
+
+/// Rules by numbers; the expressions are moved.
+fn rules_of(
+    alloc: Global,
+    declared: &Declared<'_>,
+    literals: &Names<'_>,
+    items: &[Placed],
+    rules: Items<RawRule>,
+) -> Result<Items<Rule>, NoMemory>
+    requires { IsSmall declared.now literals.now }
+    ensures numbered { IfOk result (λ rs. rs
+        ≡ map (spec.rule_of declared.now (map item_placed items.now)) rules) }
+    ensures listed { IfOk result (λ rs. All IsListed rs) }
+{
+    let mut numbered = Vec::new(alloc);
+    for rule in rules.into_vec() {
+        numbered.push(rule_of(alloc, declared, literals, items, rule)?)?;
+    }
+    Ok(Items::from_vec(numbered))
+}
+
+/// A production by numbers; the expressions are moved.
+fn production_of(
+    alloc: Global,
+    declared: &Declared<'_>,
+    literals: &Names<'_>,
+    production: RawProduction,
+) -> Result<Production, NoMemory>
+    requires { IsSmall declared.now literals.now }
+    ensures numbered { IfOk result (λ q. q
+        ≡ spec.production_of declared.now literals.now production) }
+    ensures listed { IfOk result (λ q. AreListedIn q) }
+{
+    let places = places_of(alloc, declared, &production)?;
+    let RawProduction { left, items, rules } = production;
+    let left = narrow(declared.number(left.name.as_str()));
+    let items = items_of(alloc, declared, literals, items.as_slice())?;
+    let rules = rules_of(alloc, declared, literals, places.as_slice(), rules)?;
+    Ok(Production { left, items, rules })
+}
+
+/// Productions by numbers; the expressions are moved.
+pub fn productions_of(
+    alloc: Global,
+    declared: &Declared<'_>,
+    literals: &Names<'_>,
+    productions: Items<RawProduction>,
+) -> Result<Items<Production>, NoMemory>
+    requires { IsSmall declared.now literals.now }
+    ensures numbered { IfOk result (λ qs. qs
+        ≡ map (spec.production_of declared.now literals.now) productions) }
+    ensures listed { IfOk result (λ qs. All AreListedIn qs) }
+{
+    let mut numbered = Vec::new(alloc);
+    for production in productions.into_vec() {
+        numbered.push(production_of(alloc, declared, literals, production)?)?;
+    }
+    Ok(Items::from_vec(numbered))
+}
+
+/// The number of a symbol within the limits.
+pub fn start_of(declared: &Declared<'_>, name: &str) -> u16
+    requires { length declared.now ≤ most_symbols }
+    ensures { result ≡ spec.number_in (symbol_names declared.now) name.now }
+{
+    narrow(declared.number(name))
+}
+
+/// The literals of productions as texts of their own.
+pub fn literal_texts(alloc: Global, productions: &[RawProduction]) -> Result<Items<Text>, NoMemory>
+    ensures { IfOk result (λ texts. texts ≡ spec.literals_of productions.now) }
+{
+    let literals = literals_of(alloc, productions)?;
+    let mut texts = Vec::new(alloc);
+    for text in literals.listed() {
+        texts.push(Text::from_string(String::from_str(alloc, text)?))?;
+    }
+    Ok(Items::from_vec(texts))
+}
+
+/// Texts with their numbers.
+pub fn names_of<'t>(alloc: Global, texts: &'t [Text]) -> Result<Names<'t>, NoMemory>
+    ensures { IfOk result (λ names. names ≡ texts.now) }
+{
+    let mut names = Names::new(alloc);
+    for text in texts {
+        names.push(text.as_str())?;
+    }
+    Ok(names)
+}
+
+/// An item is a token of the class.
+fn is_class(item: &RawItem, class: u16) -> bool
+    ensures { result ≡ spec.is_class class item.now }
+{
+    match item {
+        RawItem::Class(other) => *other == class,
+        _ => false,
+    }
+}
+
+/// A right side has a token of the class.
+fn has_class(production: &RawProduction, class: u16) -> bool
+    ensures { result ≡ list_any (spec.is_class class) production.now.items }
+{
+    production
+        .items
+        .as_slice()
+        .iter()
+        .any(|item| is_class(item, class))
+}
+
+/// A class is in use.
+fn uses_class(productions: &[RawProduction], class: u16) -> bool
+    ensures { result ≡ list_any (λ q. list_any (spec.is_class class) q.items) productions.now }
+{
+    productions.iter().any(|q| has_class(q, class))
+}
+
+/// Those of some classes that are in use.
+fn classes_among(
+    alloc: Global,
+    productions: &[RawProduction],
+    known: &[u16],
+) -> Result<Items<u16>, NoMemory>
+    ensures { IfOk result (λ classes. classes ≡ filter (λ c. list_any (λ q. list_any
+        (spec.is_class c) q.items) productions.now) known.now) }
+{
+    let mut classes = Vec::new(alloc);
+    for class in known {
+        if uses_class(productions, *class) {
+            classes.push(*class)?;
+        }
+    }
+    Ok(Items::from_vec(classes))
+}
+
+/// The classes in use, ascending.
+pub fn classes_of(alloc: Global, productions: &[RawProduction]) -> Result<Items<u16>, NoMemory>
+    ensures { IfOk result (λ classes. classes ≡ spec.classes_of productions.now) }
+{
+    classes_among(alloc, productions, &[0, 1, 2])
+}

@@ -1,0 +1,12 @@
+-- What passes that are made one after the other give, and what they leave.
+pub mod Earliest
+pub mod Fewest
+pub mod Finally
+pub mod Legal
+pub mod Made
+pub mod Marked
+pub mod PassMade
+pub mod Refusing
+pub mod Rest
+pub mod Struck
+pub mod Whole

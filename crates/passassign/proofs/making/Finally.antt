@@ -1,0 +1,144 @@
+-- The table at first and in the end.
+use Rattle.std.proofs.Common.{ℕ, ◌≡◌, ◌+◌, ◌<◌, ◌≤◌, Bool, true, false, cond, nat_lt, List, [], ◌∷◌, Some, None, zero, suc, ◌⊎◌, slice_get, get_or, length, unwrap_or, inl, inr, refl, ap, ◌∙◌, sym, subst, arith}
+use Rattle.std.proofs.lemmas.Bool.{cases_lt, lt-ltb, ltb-true}
+use Rattle.std.proofs.lemmas.Option.{slice_get_within, slice_get_past, slice_get-get_or}
+use Rattle.std.proofs.Math.ListN.{get_or-eq_default}
+use Rattle.ag_grammar.specs.declared.grammar.Production.{Production}
+use Rattle.ag_grammar.specs.declared.grammar.Symbol.{Symbol}
+use Rattle.ag_grammar.specs.grammars.AttributeGrammar.{Grammar, Kind, symbol_kinds}
+use Rattle.passassign.specs.Dependencies.{AreDependencies}
+use Rattle.passassign.specs.Least.{partial_of, IsLeast}
+use Rattle.passassign.specs.Making.{IsMade, start}
+use Rattle.passassign.specs.Progress.{IsWith, IsProgress, open_count}
+use Rattle.ag_grammar.specs.grammars.Accepted.{most_passes}
+use Rattle.passassign.specs.Rows.{passes_of, AreFew}
+use Rattle.passassign.specs.Searching.{AreOf}
+use Rattle.passassign.specs.Tables.{slot_of, state_at, state_of, given, first_state, attribute_count, table_passes, IsFirstTable, IsTable, IsDeclared, AreRowsOfTable}
+use Rattle.passassign.specs.declared.assigning.Progress.{Progress}
+use Rattle.passassign.specs.declared.dependency.Dependency.{Dependency}
+use Rattle.passassign.specs.declared.table.State.{State}
+use Rattle.passassign.specs.declared.table.State.TheVariants.{Absent, Open, Given}
+use Rattle.passassign.proofs.slots.Linked.{kinds_names, attribute_within, state_in}
+use Rattle.passassign.proofs.making.Made.{made_before}
+use Rattle.passassign.proofs.making.Refusing.{open_step}
+use Rattle.passassign.proofs.making.Whole.{whole_least}
+
+-- a symbol has an attribute where the number is one of as many as it has
+declared_at : (symbols : List Symbol) (s a : ℕ) → a < attribute_count (slice_get symbols s) → IsDeclared symbols s a
+declared_at symbols s a lt = go (symbol_kinds (slice_get symbols s)) refl
+  where
+    go : (kinds : List Kind) → symbol_kinds (slice_get symbols s) ≡ kinds → IsDeclared symbols s a
+    go [] e = absurd (let n = kinds_names (slice_get symbols s) in let m = ap length e in omega arith)
+    go (k ∷ kinds) e = let n = kinds_names (slice_get symbols s) in let m : a < length (symbol_kinds (slice_get symbols s)) = omega arith in (get_or (symbol_kinds (slice_get symbols s)) a k, slice_get-get_or (symbol_kinds (slice_get symbols s)) a k m)
+
+declared_within : (symbols : List Symbol) (s a : ℕ) → IsDeclared symbols s a → a < attribute_count (slice_get symbols s)
+declared_within symbols s a is = let w = slice_get_within (symbol_kinds (slice_get symbols s)) a is.0 is.1 in let n = kinds_names (slice_get symbols s) in omega arith
+
+pub first_state_open : (n a : ℕ) → a < n → first_state n a ≡ Open
+first_state_open n a lt = ap (λ b. cond b Open Absent) (lt-ltb a n lt)
+
+first_state_there : (n a : ℕ) → (first_state n a ≡ Absent → ⊥) → a < n
+first_state_there n a there = go (nat_lt a n) refl
+  where
+    go : (b : Bool) → nat_lt a n ≡ b → a < n
+    go true e = ltb-true a n e
+    go false e = absurd (there (ap (λ b. cond b Open Absent) e))
+
+first_state_none : (n a : ℕ) → given (first_state n a) ≡ None
+first_state_none n a = go (nat_lt a n)
+  where
+    go : (b : Bool) → given (cond b Open Absent) ≡ None
+    go true = refl
+    go false = refl
+
+module _ (symbols : List Symbol) (states : List State) (first : IsFirstTable symbols states) where
+  -- what the first table has of any attribute
+  first_of : (s a : ℕ) → (state_of states s a ≡ Absent) ⊎ ((a < 16) × (state_of states s a ≡ first_state (attribute_count (slice_get symbols s)) a))
+  first_of s a = go (nat_lt a 16) refl
+    where
+      in_range : a < 16 → (state_at states (slot_of s a) ≡ Absent) ⊎ (state_at states (slot_of s a) ≡ first_state (attribute_count (slice_get symbols s)) a)
+      in_range lt = elim (cases_lt s (length symbols)) [
+        | inl l ↦ inr (first.at s a lt l)
+        | inr le ↦ inl (get_or-eq_default states Absent (let e = first.len in omega arith))
+      ]
+
+      go : (b : Bool) → nat_lt a 16 ≡ b → (state_of states s a ≡ Absent) ⊎ ((a < 16) × (state_of states s a ≡ first_state (attribute_count (slice_get symbols s)) a))
+      go false e = inl (ap (λ b. cond b (state_at states (slot_of s a)) Absent) e)
+      go true e =
+          let lt = ltb-true a 16 e in
+          elim (in_range lt) [ inl f ↦ inl (state_in states s a lt ∙ f) | inr f ↦ inr (lt, state_in states s a lt ∙ f) ]
+
+  pub first_none : (s a : ℕ) → table_passes states s a ≡ None
+  first_none s a = elim (first_of s a) [
+    | inl e ↦ ap given e
+    | inr e ↦ ap given e.1 ∙ first_state_none (attribute_count (slice_get symbols s)) a
+  ]
+
+  pub first_is_table : (small : (s a : ℕ) → IsDeclared symbols s a → (a < 16) × (s < length symbols)) → IsTable symbols states
+  first_is_table small = record {
+    len = first.len;
+    there = λ s a. (
+      (λ there. elim (first_of s a) [
+        | inl e ↦ absurd (there e)
+        | inr e ↦ declared_at symbols s a (first_state_there (attribute_count (slice_get symbols s)) a (λ f. there (e.1 ∙ f)))
+      ]),
+      (λ is e. (
+          let w = small s a is in
+          let o : state_of states s a ≡ Open = state_in states s a w.0 ∙ first.at s a w.0 w.1 ∙ first_state_open (attribute_count (slice_get symbols s)) a (declared_within symbols s a is) in
+          let bad : Open ≡ Absent = sym o ∙ e in cc)),
+    );
+  }
+
+pub with_of : (symbols : List Symbol) (productions : List Production) (g : Grammar) (all : List Dependency) (states : List State) → IsWith symbols productions g → AreDependencies productions all → IsFirstTable symbols states → AreOf g all states
+with_of symbols productions g all states w are first =
+    let f : IsFirstTable g.symbols states = subst (λ symbols. IsFirstTable symbols states) (sym w.symbols_are) first in
+    record {
+      accepted = w.accepted;
+      dependencies = subst (λ productions. AreDependencies productions all) (sym w.productions_are) are;
+      table = first_is_table g.symbols states f (λ s a is. attribute_within g s a w.accepted is);
+    }
+
+pub first_made : (g : Grammar) (symbols : List Symbol) (states : List State) → IsFirstTable symbols states → IsMade g 1 (table_passes states)
+first_made g symbols states first = start (table_passes states) (first_none symbols states first)
+
+none_open : (states : List State) → open_count states ≡ 0 → (k : ℕ) → state_at states k ≡ Open → ⊥
+none_open [] e k o = let bad : ⊥ = cc in bad
+none_open (Open ∷ states) e k o = omega (arith, open_step Open states, e)
+none_open (Absent ∷ states) e zero o = let bad : ⊥ = cc in bad
+none_open (Given p ∷ states) e zero o = let bad : ⊥ = cc in bad
+none_open (Absent ∷ states) e (suc k) o = none_open states (omega (arith, open_step Absent states, e)) k o
+none_open (Given p ∷ states) e (suc k) o = none_open states (omega (arith, open_step (Given p) states, e)) k o
+
+given_pass : (x : State) → (x ≡ Absent → ⊥) → (x ≡ Open → ⊥) → Some (unwrap_or (given x) 0) ≡ given x
+given_pass Absent there o = absurd (there refl)
+given_pass Open there o = absurd (o refl)
+given_pass (Given p) there o = refl
+
+-- the rows of a table without open attributes tell what the table tells
+module _ (g : Grammar) (all : List Dependency) (p : Progress) (symbols : List Symbol) (productions : List Production) (rows : List (List ℕ)) (w : IsWith symbols productions g) (progress : IsProgress g all p) (none : open_count p.states.items ≡ 0)
+    (rows_are : AreRowsOfTable symbols p.states.items rows) where
+  are : AreRowsOfTable g.symbols p.states.items rows
+  are = subst (λ symbols. AreRowsOfTable symbols p.states.items rows) (sym w.symbols_are) rows_are
+
+  none_there : (s a : ℕ) → attribute_count (slice_get g.symbols s) ≤ a → (x : State) → state_of p.states.items s a ≡ x → given x ≡ None
+  none_there s a le Absent e = refl
+  none_there s a le Open e = refl
+  none_there s a le (Given q) e =
+      let is = (progress.of.table.there s a).0 (λ f. let bad : Given q ≡ Absent = sym e ∙ f in cc) in
+      let l = declared_within g.symbols s a is in absurd (omega arith)
+
+  is_table : (s a : ℕ) → partial_of (passes_of rows) s a ≡ table_passes p.states.items s a
+  is_table s a = elim (cases_lt a (attribute_count (slice_get g.symbols s))) [
+    | inl lt ↦ (
+        let d = declared_at g.symbols s a lt in
+        let l = (attribute_within g s a w.accepted d).0 in
+        let e = state_in p.states.items s a l in
+        are.passes s a lt ∙ given_pass (state_at p.states.items (slot_of s a)) (λ f. (progress.of.table.there s a).1 d (e ∙ f)) (none_open p.states.items none (slot_of s a)) ∙ ap given (sym e))
+    | inr le ↦ slice_get_past (passes_of rows s) a (let n = are.len s in omega arith) ∙ sym (none_there s a le (state_of p.states.items s a) refl)
+  ]
+
+  pub least : IsLeast g (passes_of rows)
+  least = whole_least g p.next (table_passes p.states.items) (passes_of rows) w.accepted.complete w.accepted.normal progress.made (λ s. are.len s ∙ sym (kinds_names (slice_get g.symbols s))) is_table
+
+  pub few : p.next ≤ most_passes + 1 → AreFew rows
+  few next s a k e = let lt : k < p.next = made_before progress.made s a k (sym (is_table s a) ∙ e) in omega (arith, lt, next)

@@ -1,0 +1,115 @@
+-- A pass of the program is one of the definitions'.
+use Rattle.std.proofs.Common.{ℕ, suc, ◌≡◌, ◌<◌, ◌+◌, ◌↔◌, Bool, true, false, cond, ◌&&◌, nat_lt, List, [], Some, None, length, refl, ap, ◌∙◌, sym, subst, add-one}
+use Rattle.std.proofs.lemmas.Bool.{lt-ltb, ltb-true, false≢true}
+use Rattle.ag_grammar.specs.grammars.AttributeGrammar.{Grammar}
+use Rattle.ag_grammar.specs.grammars.Passes.{direction_of, other}
+use Rattle.passassign.specs.Least.{IsOver}
+use Rattle.passassign.specs.Making.{IsOpen, IsMade, IsPass, AreMarks, given_by, passed}
+use Rattle.passassign.specs.Progress.{IsProgress, IsNext, AreOpenIn}
+use Rattle.passassign.specs.Searching.{AreOf, IsSearch, IsFinished}
+use Rattle.passassign.specs.Tables.{slot_of, state_at, state_of, given, after_pass, is_marked, table_passes}
+use Rattle.passassign.specs.declared.assigning.Progress.{Progress}
+use Rattle.passassign.specs.declared.dependency.Dependency.{Dependency}
+use Rattle.passassign.specs.declared.stuck.Strike.{Strike}
+use Rattle.passassign.specs.declared.table.State.{State}
+use Rattle.passassign.specs.declared.table.State.TheVariants.{Absent, Open, Given}
+use Rattle.passassign.proofs.strikes.Following.{struck_at, at_struck, strikes_open}
+use Rattle.passassign.proofs.slots.Linked.{attribute_within, open_state}
+use Rattle.passassign.proofs.making.Marked.{pass_by_marks}
+
+absent_after : (k : ℕ) (x : State) (b : Bool) → (after_pass k x b ≡ Absent) ↔ (x ≡ Absent)
+absent_after k Absent b = ((λ e. refl), (λ e. refl))
+absent_after k Open true = ((λ e. e), (λ e. e))
+absent_after k Open false = ((λ e. absurd (let bad : ⊥ = cc in bad)), (λ e. absurd (let bad : ⊥ = cc in bad)))
+absent_after k (Given p) b = ((λ e. e), (λ e. e))
+
+given_after : (k : ℕ) (x : State) (b : Bool) → (x ≡ Absent → ⊥) → given (after_pass k x b) ≡ given_by k (given x) b
+given_after k Absent b there = absurd (there refl)
+given_after k Open true there = refl
+given_after k Open false there = refl
+given_after k (Given p) true there = refl
+given_after k (Given p) false there = refl
+
+open_after : (k : ℕ) (x : State) (b : Bool) → after_pass k x b ≡ Open → x ≡ Open
+open_after k Absent b e = e
+open_after k Open b e = refl
+open_after k (Given p) b e = e
+
+given_there : (x : State) (p : ℕ) → given x ≡ Some p → x ≡ Absent → ⊥
+given_there x p e f = let bad : Some p ≡ None = sym e ∙ ap given f in cc
+
+pub over : (g : Grammar) (all : List Dependency) (states : List State) → AreOf g all states → IsOver g (table_passes states)
+over g all states of s a p e = (of.table.there s a).0 (given_there (state_of states s a) p e)
+
+module _ (old new : List State) (marks : List Bool) (k : ℕ) (after : (i : ℕ) → state_at new i ≡ after_pass k (state_at old i) (is_marked marks i)) where
+  -- what the pass makes of an attribute's state
+  after_of : (s a : ℕ) → state_of new s a ≡ after_pass k (state_of old s a) (is_marked marks (slot_of s a))
+  after_of s a = go (nat_lt a 16)
+    where
+      go : (b : Bool) → cond b (state_at new (slot_of s a)) Absent ≡ after_pass k (cond b (state_at old (slot_of s a)) Absent) (is_marked marks (slot_of s a))
+      go true = after (slot_of s a)
+      go false = refl
+
+  pub open_in : AreOpenIn new old
+  open_in i e = open_after k (state_at old i) (is_marked marks i) (sym (after i) ∙ e)
+
+  module _ (g : Grammar) (all : List Dependency) (of : AreOf g all old) (len : length new ≡ length old) where
+    pub of_new : AreOf g all new
+    of_new = record {
+      accepted = of.accepted;
+      dependencies = of.dependencies;
+      table = record {
+        len = len ∙ of.table.len;
+        there = λ s a. (
+          (λ h. (of.table.there s a).0 (λ e. h (after_of s a ∙ (absent_after k (state_of old s a) (is_marked marks (slot_of s a))).1 e))),
+          (λ d e. (of.table.there s a).1 d ((absent_after k (state_of old s a) (is_marked marks (slot_of s a))).0 (sym (after_of s a) ∙ e))),
+        );
+      };
+    }
+
+    module _ (xs : List Strike) (s : IsSearch all (direction_of k) old xs marks) (f : IsFinished all (direction_of k) old xs) where
+      hit_in : (s a : ℕ) → a < 16 → (nat_lt a 16 && is_marked marks (slot_of s a)) ≡ is_marked marks (slot_of s a)
+      hit_in s a lt = ap (λ b. b && is_marked marks (slot_of s a)) (lt-ltb a 16 lt)
+
+      hit_small : (s a : ℕ) → (nat_lt a 16 && is_marked marks (slot_of s a)) ≡ true → a < 16
+      hit_small s a e = go (nat_lt a 16) refl
+        where
+          go : (b : Bool) → nat_lt a 16 ≡ b → a < 16
+          go true h = ltb-true a 16 h
+          go false h = absurd (false≢true (sym (ap (λ b. b && is_marked marks (slot_of s a)) h) ∙ e))
+
+      are_marks : AreMarks (λ s a. nat_lt a 16 && is_marked marks (slot_of s a)) xs
+      are_marks u a = (
+        (λ e. (let lt = hit_small u a e in at_struck g all (direction_of k) old xs of (s.good g of) u a lt ((s.marked (slot_of u a)).0 (sym (hit_in u a lt) ∙ e)))),
+        (λ h. (
+            let lt = (open_state g all old of u a (strikes_open g (direction_of k) (IsOpen g (table_passes old)) [] xs (s.good g of) u a h)).0 in
+            hit_in u a lt ∙ (s.marked (slot_of u a)).1 (struck_at g all (direction_of k) old xs of (s.good g of) u a h))),
+      )
+
+      pub is_pass : IsPass g k (table_passes old) (table_passes new) xs
+      is_pass =
+          pass_by_marks g k (table_passes old) (table_passes new) xs (λ s a. nat_lt a 16 && is_marked marks (slot_of s a)) (over g all old of) (over g all new of_new) (s.good g of) (f g of) are_marks
+          (λ u a i.
+          let lt = (attribute_within g u a of.accepted i).0 in
+          ap given (after_of u a) ∙ given_after k (state_of old u a) (is_marked marks (slot_of u a)) ((of.table.there u a).1 i) ∙ ap (given_by k (given (state_of old u a))) (sym (hit_in u a lt)))
+
+pub next_made : (g : Grammar) (all : List Dependency) (old new : Progress) (xs : List Strike) (marks : List Bool) → ((i : ℕ) → state_at new.states.items i ≡ after_pass old.next (state_at old.states.items i) (is_marked marks i)) → length new.states.items ≡ length old.states.items → new.next ≡ old.next + 1
+    → new.direction ≡ other old.direction → IsSearch all old.direction old.states.items xs marks → IsFinished all old.direction old.states.items xs → IsProgress g all old → IsNext g all old new xs
+next_made g all old new xs marks after len next turned s f p = record { progress = record { of = now; made = made; turned = turn }; pass = pass }
+  where
+    now : AreOf g all new.states.items
+    now = of_new old.states.items new.states.items marks old.next after g all p.of len
+
+    pass : IsPass g old.next (table_passes old.states.items) (table_passes new.states.items) xs
+    pass =
+        is_pass old.states.items new.states.items marks old.next after g all p.of len xs (subst (λ d. IsSearch all d old.states.items xs marks) p.turned s)
+        (subst (λ d. IsFinished all d old.states.items xs) p.turned f)
+
+    one_more : new.next ≡ suc old.next
+    one_more = next ∙ add-one old.next
+
+    made : IsMade g new.next (table_passes new.states.items)
+    made = subst (λ k. IsMade g k (table_passes new.states.items)) (sym one_more) (passed old.next (table_passes old.states.items) (table_passes new.states.items) xs p.made pass)
+
+    turn : new.direction ≡ direction_of new.next
+    turn = turned ∙ ap other p.turned ∙ ap direction_of (sym one_more)

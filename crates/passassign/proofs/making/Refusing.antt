@@ -1,0 +1,138 @@
+-- What two passes leave that give nothing is refused.
+use Rattle.std.proofs.Common.{ℕ, zero, suc, ◌≡◌, ◌<◌, ◌≤◌, ◌+◌, ◌/◌, ◌%◌, ◌↔◌, cond, List, [], ◌∷◌, None, length, inl, inr, refl, ap, ◌∙◌, sym, subst, arith, add-one}
+use Rattle.std.proofs.lemmas.Bool.{cases_order}
+use Rattle.std.proofs.lemmas.List.Sums.{sum_by-cons}
+use Rattle.ag_grammar.specs.Lists.{Has, Differ}
+use Rattle.ag_grammar.specs.grammars.AttributeGrammar.{Grammar}
+use Rattle.ag_grammar.specs.declared.direction.Direction.{Direction}
+use Rattle.ag_grammar.specs.declared.direction.Direction.TheVariants.{LeftToRight, RightToLeft}
+use Rattle.ag_grammar.specs.grammars.Passes.{direction_of, other}
+use Rattle.passassign.specs.Answer.{IsInDeclaredOrder, IsRefused}
+use Rattle.passassign.specs.Certificate.{Members, IsCertificate, stuck_of}
+use Rattle.passassign.specs.Making.{IsOpen, IsPass, AreIdle}
+use Rattle.passassign.specs.Progress.{IsProgress, IsNext, AreOpenIn, open_count}
+use Rattle.passassign.specs.Tables.{slot_of, state_at, state_of, given, is_open, table_passes}
+use Rattle.passassign.specs.declared.assigning.Progress.{Progress}
+use Rattle.passassign.specs.declared.dependency.Dependency.{Dependency}
+use Rattle.passassign.specs.declared.stuck.Strike.{Strike}
+use Rattle.passassign.specs.declared.stuck.Stuck.{Stuck}
+use Rattle.passassign.specs.declared.table.State.{State}
+use Rattle.passassign.specs.declared.table.State.TheVariants.{Absent, Open, Given}
+use Rattle.passassign.proofs.slots.Linked.{open_state, open_there}
+use Rattle.passassign.proofs.making.Rest.{rest_certified, rest_stuck}
+use Rattle.passassign.proofs.making.Whole.{certified_refused, stuck_left}
+
+-- a list in declared order has nothing twice
+differ : (set : List (ℕ × ℕ)) → IsInDeclaredOrder set → Differ set
+differ set ordered i j x y ex ey same = elim (cases_order i j) [
+  | inl e ↦ e
+  | inr o ↦ elim o [
+    | inl lt ↦ absurd (elim (ordered i j x y ex ey lt) [ inl l ↦ (let e = ap (λ (z : ℕ × ℕ). z.0) same in omega arith) | inr l ↦ (let e = ap (λ (z : ℕ × ℕ). z.1) same in let m = l.1 in omega arith) ])
+    | inr gt ↦ absurd (elim (ordered j i y x ey ex gt) [ inl l ↦ (let e = ap (λ (z : ℕ × ℕ). z.0) same in omega arith) | inr l ↦ (let e = ap (λ (z : ℕ × ℕ). z.1) same in let m = l.1 in omega arith) ])
+  ]
+]
+
+abbrev pub bit : State → ℕ
+bit x = cond (is_open x) 1 0
+
+bit_open : (x : State) → x ≡ Open → bit x ≡ 1
+bit_open x e = ap (λ x. cond (is_open x) 1 0) e
+
+pub open_step : (x : State) (xs : List State) → open_count (x ∷ xs) ≡ bit x + open_count xs
+open_step x xs = sum_by-cons (λ x. cond (is_open x) 1 0) x xs
+
+bit_le : (x y : State) → (y ≡ Open → x ≡ Open) → bit y ≤ bit x
+bit_le x Absent h = omega arith
+bit_le x (Given p) h = omega arith
+bit_le x Open h = let e : bit x ≡ 1 = bit_open x (h refl) in omega (arith, e)
+
+bit_same : (x y : State) → x ≡ Open → bit x ≤ bit y → y ≡ Open
+bit_same x Absent e le = let f : bit x ≡ 1 = bit_open x e in absurd (omega (arith, f, le))
+bit_same x (Given p) e le = let f : bit x ≡ 1 = bit_open x e in absurd (omega (arith, f, le))
+bit_same x Open e le = refl
+
+count_le : (xs ys : List State) → length ys ≡ length xs → AreOpenIn ys xs → open_count ys ≤ open_count xs
+count_le [] [] len h = omega arith
+count_le [] (y ∷ ys) len h = absurd (omega arith)
+count_le (x ∷ xs) [] len h = absurd (omega arith)
+count_le (x ∷ xs) (y ∷ ys) len h = let a = bit_le x y (h zero) in let b = count_le xs ys (omega arith) (λ k. h (suc k)) in omega (arith, open_step x xs, open_step y ys, a, b)
+
+-- where no fewer are left open, each that was open is
+same_open : (xs ys : List State) → length ys ≡ length xs → AreOpenIn ys xs → open_count xs ≤ open_count ys → AreOpenIn xs ys
+same_open [] [] len h le k e = e
+same_open [] (y ∷ ys) len h le k e = absurd (omega arith)
+same_open (x ∷ xs) [] len h le k e = absurd (omega arith)
+same_open (x ∷ xs) (y ∷ ys) len h le zero e = let b = count_le xs ys (omega arith) (λ k. h (suc k)) in bit_same x y e (omega (arith, open_step x xs, open_step y ys, b, le))
+same_open (x ∷ xs) (y ∷ ys) len h le (suc k) e = let a = bit_le x y (h zero) in same_open xs ys (omega arith) (λ k. h (suc k)) (omega (arith, open_step x xs, open_step y ys, a, le)) k e
+
+some_open : (xs : List State) → 0 < open_count xs → (k : ℕ) × (state_at xs k ≡ Open)
+some_open [] lt = absurd (omega arith)
+some_open (Open ∷ xs) lt = (0, refl)
+some_open (Absent ∷ xs) lt = let o = some_open xs (omega (arith, open_step Absent xs, lt)) in (suc o.0, o.1)
+some_open (Given p ∷ xs) lt = let o = some_open xs (omega (arith, open_step (Given p) xs, lt)) in (suc o.0, o.1)
+
+turned_twice : (d : Direction) → other (other d) ≡ d
+turned_twice LeftToRight = refl
+turned_twice RightToLeft = refl
+
+module _ (g : Grammar) (all : List Dependency) (old new last : Progress) (first second : List Strike) (one : IsNext g all old new first) (two : IsNext g all new last second) (before : IsProgress g all old) (next : new.next ≡ old.next + 1) (next_two : last.next ≡ new.next + 1) (len : length last.states.items ≡ length old.states.items) (kept : AreOpenIn last.states.items old.states.items) (most : open_count old.states.items ≤ open_count last.states.items) where
+  still : AreOpenIn old.states.items last.states.items
+  still = same_open old.states.items last.states.items len kept most
+
+  -- what had no pass has none after the two passes
+  none_given : (s a : ℕ) → table_passes old.states.items s a ≡ None → table_passes last.states.items s a ≡ None
+  none_given s a e = go (state_of last.states.items s a) refl
+    where
+      go : (x : State) → state_of last.states.items s a ≡ x → table_passes last.states.items s a ≡ None
+      go Absent f = ap given f
+      go Open f = ap given f
+      go (Given p) f =
+          let is = (two.progress.of.table.there s a).0 (λ h. let bad : Given p ≡ Absent = sym f ∙ h in cc) in
+          let o = open_state g all old.states.items before.of s a (is, e) in
+          (open_there g all last.states.items two.progress.of s a o.0 (still (slot_of s a) o.1)).1
+
+  one_more : new.next ≡ suc old.next
+  one_more = next ∙ add-one old.next
+
+  are_idle : AreIdle g old.next (table_passes old.states.items) first second
+  are_idle = record {
+    between = table_passes new.states.items;
+    last = table_passes last.states.items;
+    one = one.pass;
+    other = subst (λ k. IsPass g k (table_passes new.states.items) (table_passes last.states.items) second) one_more two.pass;
+    idle = none_given;
+  }
+
+  direction : last.direction ≡ direction_of old.next
+  direction = two.progress.turned ∙ ap direction_of (next_two ∙ add-one new.next ∙ ap suc one_more) ∙ turned_twice (direction_of old.next)
+
+  module _ (c : Stuck) (strikes : c ≡ stuck_of last.direction c.set first second) (members : (s a : ℕ) → Has c.set (s, a) ↔ ((a < 16) × (state_at last.states.items (slot_of s a) ≡ Open))) (ordered : IsInDeclaredOrder c.set) (some : 0 < open_count old.states.items) where
+    open_members : (s a : ℕ) → Members c.set s a ↔ IsOpen g (table_passes old.states.items) s a
+    open_members s a = (
+      (λ h. let m = (members s a).0 h in open_there g all old.states.items before.of s a m.0 (kept (slot_of s a) m.1)),
+      (λ i. let o = open_state g all old.states.items before.of s a i in (members s a).1 (o.0, still (slot_of s a) o.1)),
+    )
+
+    is_stuck : c ≡ stuck_of (direction_of old.next) c.set first second
+    is_stuck = strikes ∙ ap (λ d. stuck_of d c.set first second) direction
+
+    member : (x : ℕ × ℕ) × Has c.set x
+    member =
+        let o = some_open old.states.items some in
+        let e : slot_of (o.0 / 16) (o.0 % 16) ≡ o.0 = omega arith in
+        ((o.0 / 16, o.0 % 16), (members (o.0 / 16) (o.0 % 16)).1 (omega arith, ap (state_at last.states.items) e ∙ still o.0 o.1))
+
+    certificate : IsCertificate g c
+    certificate = subst (IsCertificate g) (sym is_stuck) (rest_certified g old.next (table_passes old.states.items) first second are_idle c.set (differ c.set ordered) member open_members)
+
+    pub refused : IsRefused g c
+    refused = record {
+      none = certified_refused g c before.of.accepted.complete certificate;
+      all = λ s a. (
+        (λ h. let i = (open_members s a).0 h in (i.0, rest_stuck g old.next (table_passes old.states.items) first second are_idle s a i)),
+        (λ h. (open_members s a).1 (h.0, (stuck_left g old.next (table_passes old.states.items) first second before.of.accepted.complete before.of.accepted.normal before.made are_idle s a h.0).1 h.1)),
+      );
+      ordered = ordered;
+      certificate = certificate;
+      made = record { pass = old.next; before = table_passes old.states.items; first = first; second = second; made = before.made; idle = are_idle; strikes = is_stuck };
+    }

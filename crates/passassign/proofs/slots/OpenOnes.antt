@@ -1,0 +1,92 @@
+-- The attributes without a pass, as they are found in a table.
+use Rattle.std.proofs.Common.{ℕ, ◌≡◌, ◌<◌, ◌+◌, ◌/◌, ◌%◌, ◌⊎◌, ◌↔◌, ◌++◌, Bool, true, false, List, [], ◌∷◌, length, inl, inr, refl, ap, ◌∙◌, sym, subst, arith}
+use Rattle.std.proofs.lemmas.Bool.{cases_eq, cases_lt}
+use Rattle.ag_grammar.specs.Lists.{Has}
+use Rattle.passassign.specs.Answer.{IsInDeclaredOrder}
+use Rattle.passassign.specs.Tables.{state_at, slot_of, is_open}
+use Rattle.passassign.specs.declared.table.State.{State}
+use Rattle.passassign.specs.declared.table.State.TheVariants.{Absent, Open, Given}
+use Rattle.std.proofs.lemmas.Option.{slice_get_within}
+use Rattle.std.proofs.Math.ListN.{get_or-eq_default}
+use Rattle.passassign.proofs.slots.Lists.{get_push_cases, has_kept, has_put, has_cases}
+
+pub open_is : (x : State) → is_open x ≡ true → x ≡ Open
+open_is Absent e = absurd (let bad : ⊥ = cc in bad)
+open_is Open e = refl
+open_is (Given p) e = absurd (let bad : ⊥ = cc in bad)
+
+pub is_no_open : (x : State) → is_open x ≡ false → x ≡ Open → ⊥
+is_no_open Absent e f = cc
+is_no_open Open e f = cc
+is_no_open (Given p) e f = cc
+
+-- a list has the attributes without a pass in front of slot i of a table
+pub record AreOpenOnes (states : List State) (i : ℕ) (xs : List (ℕ × ℕ)) : Type 0 where
+  pub all : (s a : ℕ) → Has xs (s, a) ↔ ((a < 16) × (slot_of s a < i) × (state_at states (slot_of s a) ≡ Open))
+  pub ordered : IsInDeclaredOrder xs
+
+before : (x : ℕ × ℕ) (i : ℕ) → x.1 < 16 → slot_of x.0 x.1 < i → (x.0 < i / 16) ⊎ ((x.0 ≡ i / 16) × (x.1 < i % 16))
+before x i lt less = elim (cases_lt x.0 (i / 16)) [ inl l ↦ inl l | inr m ↦ inr (omega arith, omega arith) ]
+
+slot_split : (s a i : ℕ) → a < 16 → slot_of s a ≡ i → (i / 16 ≡ s) × (i % 16 ≡ a)
+slot_split s a i lt e = (omega arith, omega arith)
+
+found : (states : List State) (i : ℕ) (xs : List (ℕ × ℕ)) → state_at states i ≡ Open → AreOpenOnes states i xs → AreOpenOnes states (i + 1) (xs ++ (i / 16, i % 16) ∷ [])
+found states i xs is h = record { all = λ s a. (there s a, in_it s a); ordered = ordered }
+  where
+    there : (s a : ℕ) → Has (xs ++ (i / 16, i % 16) ∷ []) (s, a) → (a < 16) × (slot_of s a < i + 1) × (state_at states (slot_of s a) ≡ Open)
+    there s a m = elim (has_cases xs (i / 16, i % 16) (s, a) m) [
+      | inl old ↦ (let o = (h.all s a).0 old in (o.0, omega (arith, o.1), o.2))
+      | inr new ↦ (
+          let q : i / 16 ≡ s = ap (λ (x : ℕ × ℕ). x.0) new in
+          let r : i % 16 ≡ a = ap (λ (x : ℕ × ℕ). x.1) new in
+          let e : slot_of s a ≡ i = omega arith in
+          (omega arith, omega arith, ap (state_at states) e ∙ is))
+    ]
+
+    in_it : (s a : ℕ) → (a < 16) × (slot_of s a < i + 1) × (state_at states (slot_of s a) ≡ Open) → Has (xs ++ (i / 16, i % 16) ∷ []) (s, a)
+    in_it s a m = elim (cases_eq (slot_of s a) i) [
+      | inl e ↦ (
+          let p = slot_split s a i m.0 e in
+          subst (λ x. Has (xs ++ (i / 16, i % 16) ∷ []) (x, a)) p.0 (subst (λ x. Has (xs ++ (i / 16, i % 16) ∷ []) (i / 16, x)) p.1 (has_put xs (i / 16, i % 16))))
+      | inr e ↦ has_kept xs (i / 16, i % 16) (s, a) ((h.all s a).1 (m.0, omega (arith, m.1), m.2))
+    ]
+
+    ordered : IsInDeclaredOrder (xs ++ (i / 16, i % 16) ∷ [])
+    ordered j k x y ex ey lt = elim (get_push_cases xs (i / 16, i % 16) y k ey) [
+      | inl oldy ↦ elim (get_push_cases xs (i / 16, i % 16) x j ex) [
+        | inl oldx ↦ h.ordered j k x y oldx oldy lt
+        | inr newx ↦ absurd (let w = slice_get_within xs k y oldy in let e = newx.0 in omega arith)
+      ]
+      | inr newy ↦ elim (get_push_cases xs (i / 16, i % 16) x j ex) [
+        | inl oldx ↦ (
+            let o = (h.all x.0 x.1).0 (j, oldx) in
+            subst (λ (y : ℕ × ℕ). (x.0 < y.0) ⊎ ((x.0 ≡ y.0) × (x.1 < y.1))) newy.1 (before x i o.0 o.1))
+        | inr newx ↦ absurd (let e = newx.0 in let f = newy.0 in omega arith)
+      ]
+    ]
+
+passed : (states : List State) (i : ℕ) (xs : List (ℕ × ℕ)) → (state_at states i ≡ Open → ⊥) → AreOpenOnes states i xs → AreOpenOnes states (i + 1) xs
+passed states i xs no_open h = record {
+  all = λ s a. (
+    (λ m. let o = (h.all s a).0 m in (o.0, omega (arith, o.1), o.2)),
+    (λ m. elim (cases_eq (slot_of s a) i) [
+      | inl e ↦ absurd (no_open (subst (λ k. state_at states k ≡ Open) e m.2))
+      | inr e ↦ (h.all s a).1 (m.0, omega (arith, m.1), m.2)
+    ]),
+  );
+  ordered = h.ordered;
+}
+
+pub open_more : (states : List State) (i : ℕ) (st : State) (xs ys : List (ℕ × ℕ)) → st ≡ state_at states i → (is_open st ≡ true → ys ≡ xs ++ (i / 16, i % 16) ∷ []) → (is_open st ≡ false → ys ≡ xs) → AreOpenOnes states i xs → AreOpenOnes states (i + 1) ys
+open_more states i st xs ys is yes_open none h = go (is_open st) refl
+  where
+    go : (b : Bool) → is_open st ≡ b → AreOpenOnes states (i + 1) ys
+    go true e = subst (AreOpenOnes states (i + 1)) (sym (yes_open e)) (found states i xs (sym is ∙ open_is st e) h)
+    go false e = subst (AreOpenOnes states (i + 1)) (sym (none e)) (passed states i xs (λ o. is_no_open st e (is ∙ o)) h)
+
+pub open_within : (states : List State) (k : ℕ) → state_at states k ≡ Open → k < length states
+open_within states k e = elim (cases_lt k (length states)) [
+  | inl lt ↦ lt
+  | inr le ↦ absurd (let bad : Absent ≡ Open = sym (get_or-eq_default states Absent le) ∙ e in let worse : ⊥ = cc in worse)
+]

@@ -1,0 +1,58 @@
+-- Lists to which members are added.
+use Rattle.std.proofs.Common.{ℕ, ◌≡◌, ◌≤◌, ◌+◌, ◌↔◌, ◌++◌, List, [], ◌∷◌, Some, slice_get, length, inl, inr, ap, ◌∙◌, sym, subst, arith}
+use Rattle.std.proofs.lemmas.Bool.{cases_eq}
+use Rattle.std.proofs.lemmas.Option.{slice_get_within}
+use Rattle.ag_grammar.specs.Lists.{Has}
+use Rattle.passassign.specs.Dependencies.{OfEach, OfFront, Adds}
+use Rattle.passassign.proofs.slots.Lists.{has_kept, has_put, has_cases}
+
+pub adds_push : {X : Type 0} (xs : List X) (y : X) → Adds (λ u. u ≡ y) xs (xs ++ y ∷ [])
+adds_push xs y = record {
+  kept = λ x h. has_kept xs y x h;
+  all = λ x e. subst (Has (xs ++ y ∷ [])) (sym e) (has_put xs y);
+  only = λ x h. elim (has_cases xs y x h) [ inl old ↦ inl old | inr e ↦ inr (sym e) ];
+}
+
+pub adds_more : {X Y : Type 0} (R : ℕ → X → Y → Type 0) (xs : List X) (i : ℕ) (x : X) (a b c : List Y) → slice_get xs i ≡ Some x → Adds (OfFront R xs i) a b → Adds (R i x) b c → Adds (OfFront R xs (i + 1)) a c
+adds_more R xs i x a b c is m n = record {
+  kept = λ y h. n.kept y (m.kept y h);
+  all = λ y h. elim (cases_eq h.0 i) [
+    | inl same ↦ (let e : Some h.1 ≡ Some x = sym h.3 ∙ ap (slice_get xs) same ∙ is in let f : h.1 ≡ x = cc in n.all y (subst (λ k. R k x y) same (subst (λ z. R h.0 z y) f h.4)))
+    | inr other ↦ (let l = h.2 in n.kept y (m.all y (h.0, h.1, omega arith, h.3, h.4)))
+  ];
+  only = λ y h. elim (n.only y h) [
+    | inl old ↦ elim (m.only y old) [
+      | inl older ↦ inl older
+      | inr e ↦ (let l = e.2 in inr (e.0, e.1, omega arith, e.3, e.4))
+    ]
+    | inr e ↦ inr (i, x, omega arith, is, e)
+  ];
+}
+
+pub adds_all : {X Y : Type 0} (R : ℕ → X → Y → Type 0) (xs : List X) (i : ℕ) (a b : List Y) → length xs ≤ i → Adds (OfFront R xs i) a b → Adds (OfEach R xs) a b
+adds_all R xs i a b most m = record {
+  kept = m.kept;
+  all = λ y h. let w = slice_get_within xs h.0 h.1 h.2 in m.all y (h.0, h.1, omega arith, h.2, h.3);
+  only = λ y h. elim (m.only y h) [ inl old ↦ inl old | inr e ↦ inr (e.0, e.1, e.3, e.4) ];
+}
+
+-- what is added under one word is added under another that means the same
+pub adds_same : {Y : Type 0} (P Q : Y → Type 0) (a b : List Y) → ((y : Y) → P y ↔ Q y) → Adds P a b → Adds Q a b
+adds_same P Q a b same m = record {
+  kept = m.kept;
+  all = λ y h. m.all y ((same y).1 h);
+  only = λ y h. elim (m.only y h) [ inl old ↦ inl old | inr e ↦ inr ((same y).0 e) ];
+}
+
+pub adds_none : {Y : Type 0} (P : Y → Type 0) (a : List Y) → ((y : Y) → P y → ⊥) → Adds P a a
+adds_none P a none = record { kept = λ y h. h; all = λ y h. absurd (none y h); only = λ y h. inl h }
+
+-- what is added to an empty list is all that the list has
+pub adds_only : {Y : Type 0} (P : Y → Type 0) (a : List Y) → Adds P [] a → (y : Y) → Has a y ↔ P y
+adds_only {Y} P a m y = (
+  (λ h. elim (m.only y h) [
+    | inl old ↦ absurd (let e : slice_get {X = Y} [] old.0 ≡ Some y = old.1 in let bad : ⊥ = cc in bad)
+    | inr e ↦ e
+  ]),
+  m.all y,
+)

@@ -1,0 +1,159 @@
+-- What is to come at each step.
+use Rattle.std.proofs.Common.{ℕ, suc, ◌≡◌, ◌<◌, inl, inr, true, List, [], ◌∷◌, ◌++◌, Option, Some, None, Result, Ok, Err, Bor, slice_get, length, refl, ap, ◌∙◌, sym, subst, arith}
+use Rattle.ag_value.specs.declared.value.Value.{Value}
+use Rattle.ag_grammar.specs.declared.grammar.Item.{Item}
+use Rattle.ag_grammar.specs.declared.grammar.Item.TheVariants as item
+use Rattle.ag_grammar.specs.declared.grammar.Terminal.TheVariants.{Literal, Class}
+use Rattle.ag_grammar.specs.declared.grammar.Production.{Production}
+use Rattle.ag_grammar.specs.grammars.AttributeGrammar.{IsProduction, item_at, stored_items}
+use Rattle.ag_grammar.specs.grammars.Passes.{direction_of, other, nth}
+use Rattle.ag_grammar.specs.grammars.Tree.{most_depth, most_nodes}
+use Rattle.ag_grammar.specs.grammars.Solution.{left_passes}
+use Rattle.ag_grammar.proofs.values.Wells.{well_text}
+use Rattle.treefile.specs.declared.body.Kind.TheVariants.{Node}
+use Rattle.treefile.specs.declared.reading.FrameFault.{FrameFault}
+use Rattle.treefile.specs.declared.reading.FrameFault.TheVariants as frame_fault
+use Rattle.treefile.specs.ways.Backward.{next_before}
+use Rattle.treefile.specs.ways.Ending.{Told}
+use Rattle.treefile.specs.records.Records.{node_body, values_up_to}
+use Rattle.treefile.specs.records.TreeFile.{body_of, version_two}
+use Rattle.treefile.specs.ways.Awaited as awaited
+use Rattle.treefile.specs.ways.Awaited.{Child, IsAsTold, IsNodeRecord, IsRecordOf, ToCome, before_others, told}
+use Rattle.treefile.proofs.ways.Coming.{all_to_come, next_to_come}
+use Rattle.treefile.proofs.ways.Backward.{damage_is_there, never_no_file}
+use Rattle.treefile.proofs.records.Fitting.{fits_version_two}
+use Rattle.treefile.proofs.records.Spelled.{one_token, same_node}
+use Rattle.treefile.proofs.ways.Way.{way_is_too_long}
+use Rattle.backreader.specs.Place.{Place}
+use Rattle.planchecker.specs.courses.Settings.{Setting, arity, place, way}
+use Rattle.planchecker.specs.courses.Sound.{IsSound}
+use Rattle.passrun.specs.declared.run_fault.RunFault.{RunFault}
+use Rattle.passrun.specs.declared.run_fault.RunFault.TheVariants as fault
+use Rattle.passrun.specs.passing.Ahead.{IsRunFault, behind, children_of, of_node}
+use Rattle.passrun.specs.Damage.{ComesTo, IsDamaged, IsReadable, source}
+use Rattle.passrun.specs.Faults.{run_fault_of_frame}
+use Rattle.passrun.specs.reading.Fetching.{IsMissing, IsUnfetched}
+use Rattle.passrun.specs.passing.Places.{Table, copied_passes, copies, in_children}
+use Rattle.passrun.specs.reading.Reading.{AgreeAt, IsNoRecord, IsRead, read_values}
+use Rattle.passrun.proofs.places.Copies.{told_at, told_length}
+use Rattle.passrun.proofs.Damage.{broken, tellable, way_to}
+use Rattle.passrun.proofs.Recorded.{copies_counted, copies_well, mended, tabled}
+use Rattle.passrun.proofs.places.Slots.{copied_is}
+use Rattle.passrun.proofs.places.Tables.{same_values, text_row}
+
+-- the children of what was read for an item
+abbrev pub children_read : (c : Setting) (x : Item) (p : ℕ) (body : List ℕ) (old new : List Value) → IsRead c x p body old new → List Child
+children_read c (item.Symbol s) p body old new h = told true c.grammar c.passes c.read (stored_items h.production.items) (copies c c.read (stored_items h.production.items) h.table)
+children_read c (item.Terminal (Class d)) p body old new h = []
+children_read c (item.Terminal (Literal l)) p body old new h = []
+
+-- a record that was read is one of its item, and as the record of its parent told where it agrees with it
+pub is_record : (c : Setting) (x : Item) (p : ℕ) (body : List ℕ) (old new : List Value) (h : IsRead c x p body old new) (copy : Option (List Value)) → IsAsTold copy (values_up_to c.read (copied_passes c x) (read_values c x p body old new h))
+    → IsRecordOf version_two c.grammar c.passes c.read (x, copy) body (children_read c x p body old new h)
+is_record c (item.Symbol s) p body old new h copy as_told = (
+  p,
+  h.production,
+  h.values,
+  record {
+    production = h.there;
+    left = h.left;
+    well = λ a n is le. h.well a;
+    copies = copies c c.read (stored_items h.production.items) h.table;
+    are_copies = (copies_counted c c.read (stored_items h.production.items) h.table, copies_well c c.read (stored_items h.production.items) h.table h.table_well);
+    stands = h.same;
+  },
+  refl,
+  as_told,
+)
+is_record c (item.Terminal (Class d)) p body old new h copy as_told = (h.1.text, h.1.fits, h.1.same, refl, subst (IsAsTold copy) (text_row c.read h.1.text) as_told)
+is_record c (item.Terminal (Literal l)) p body old new h copy as_told = elim h [ ]
+
+-- a body that is no record with values that are all well is none at all
+pub no_record : (c : Setting) (x : Item) (body : List ℕ) (copy : Option (List Value)) → IsNoRecord c x body → awaited.IsNoRecord version_two c.grammar c.passes c.read (x, copy) body
+no_record c (item.Symbol s) body copy none ys (p, q, e, is, same, as_told) =
+    let own = mended c.read (c.passes s) e is.well in
+    let row = tabled c c.read (stored_items q.items) is.copies is.are_copies.0 is.are_copies.1 in
+    let cs = copies c c.read (stored_items q.items) row.0 in
+    let ps : c.passes s ≡ left_passes c.passes (slice_get c.grammar.productions p) = ap c.passes (sym is.left) ∙ ap (left_passes c.passes) (sym is.production) in
+    none p q own.0 row.0 is.production is.left own.1 row.1
+    (is.stands ∙ ap (node_body version_two c.grammar c.passes c.read p e) (sym row.2) ∙ ap (λ ps. body_of Node p (values_up_to c.read ps e ++ cs)) (sym ps) ∙ ap (λ vs. body_of Node p (vs ++ cs)) own.2 ∙ ap (λ ps. body_of Node p (values_up_to c.read ps own.0 ++ cs)) ps)
+no_record c (item.Terminal (Class d)) body copy none ys (text, fits, is, same, as_told) = none text fits is
+no_record c (item.Terminal (Literal l)) body copy none ys h = elim h [ ]
+
+-- the children that are to come at a node, one after the other
+pub behind_next : (c : Setting) (q : Production) (e : Table) (i level : ℕ) (others : ToCome) (x : Item) → i < arity q → item_at q (place (way c) (arity q) i) ≡ Some x
+    → behind c q e i level others ≡ (level, (x, Some (values_up_to c.read (copied_passes c x) (e (place (way c) (arity q) i))))) ∷ behind c q e (suc i) level others
+behind_next c q e i level others x within stands =
+    let long = told_length c c.read (stored_items q.items) (copies c c.read (stored_items q.items) (in_children e)) in
+    let copy = values_up_to c.read (copied_passes c x) (e (place (way c) (arity q) i)) in
+    let child = told_at c c.read (stored_items q.items) (in_children e) (nth (way c) (arity q) i) x stands in
+    next_to_come (way c) level i (children_of c q e) (x, Some copy) others (omega arith) (subst (λ n. slice_get (children_of c q e) (nth (way c) n i) ≡ Some (x, Some copy)) (sym long) child)
+
+pub behind_last : (c : Setting) (q : Production) (e : Table) (i level : ℕ) (others : ToCome) → i ≡ arity q → behind c q e i level others ≡ others
+behind_last c q e i level others full =
+    let long = told_length c c.read (stored_items q.items) (copies c c.read (stored_items q.items) (in_children e)) in
+    ap (λ n. behind c q e n level others) (full ∙ sym long) ∙ (all_to_come (way c) level (children_of c q e) others).1
+
+-- they are the same where a table has the same copies of earlier passes
+pub behind_same : (c : Setting) (q : Production) (e h : Table) (i level : ℕ) (others : ToCome) → copies c c.read (stored_items q.items) (in_children e) ≡ copies c c.read (stored_items q.items) (in_children h) → behind c q e i level others ≡ behind c q h i level others
+behind_same c q e h i level others same = ap (λ cs. before_others (way c) level (awaited.unvisited (way c) (told true c.grammar c.passes c.read (stored_items q.items) cs) i) others) same
+
+module _ (c : Setting) (sound : IsSound c) where
+  dir : way c ≡ other (direction_of c.read)
+  dir = ap direction_of sound.next
+
+  -- all children of a node whose record was read
+  pub of_node_is : (p : ℕ) (q : Production) (e : Table) (level : ℕ) (others : ToCome) → IsProduction c.grammar p q → of_node c (slice_get c.grammar.productions p) e level others ≡ before_others (other (direction_of c.read)) level (children_of c q e) others
+  of_node_is p q e level others there =
+      ap (λ o. of_node c o e level others) there ∙ ap (λ (xs : List Child). before_others (way c) level xs others) (all_to_come (way c) level (children_of c q e) others).0
+      ∙ ap (λ d. before_others d level (children_of c q e) others) dir
+
+  -- a record that does not agree with what its parent's told is none of that child
+  pub differs : (x : Item) (p : ℕ) (body : List ℕ) (old new : List Value) (h : IsRead c x p body old new) (f : ℕ → Value) → (AgreeAt c x f (read_values c x p body old new h) → ⊥)
+      → awaited.IsNoRecord version_two c.grammar c.passes c.read (x, Some (values_up_to c.read (copied_passes c x) f)) body
+  differs (item.Symbol s) p body old new h f apart ys (r, w, e, is, same, as_told) =
+      let cs = copies c c.read (stored_items h.production.items) h.table in
+      let own : IsNodeRecord version_two c.grammar c.passes c.read s body p h.production h.values = record {
+        production = h.there;
+        left = h.left;
+        well = λ a n is le. h.well a;
+        copies = cs;
+        are_copies = (copies_counted c c.read (stored_items h.production.items) h.table, copies_well c c.read (stored_items h.production.items) h.table h.table_well);
+        stands = h.same;
+      } in
+      let one = same_node version_two c.grammar c.passes c.read s s p r body h.production w h.values e (fits_version_two c.grammar c.passes sound.accepted sound.legal).0 own is in
+      apart (sym as_told ∙ same_values c.read (copied_passes c (item.Symbol s)) e h.values (λ a n at le. sym (one.1 a n (copied_is c (item.Symbol s) a n at) le)))
+  differs (item.Terminal (Class d)) p body old new h f apart ys (text, fits, is, same, as_told) =
+      let t = h.1 in
+      let well = well_text text fits.utf8 (let short = fits.short in omega arith) in
+      let one = one_token d text t.text well t.well (sym is ∙ t.same) in
+      apart (sym as_told ∙ ap (λ v. v ∷ []) one ∙ sym (text_row c.read t.text))
+  differs (item.Terminal (Literal l)) p body old new h f apart ys bad = elim bad [ ]
+
+  missing_breaks : (x : Item) (copy : Option (List Value)) (level : ℕ) (todo : ToCome) (found : Result (Option (List ℕ)) FrameFault) → IsMissing c x found → awaited.Breaks version_two c.grammar c.passes c.read ((level, (x, copy)) ∷ todo) found
+  missing_breaks x copy level todo (Err e) h = tt
+  missing_breaks x copy level todo (Ok None) h = tt
+  missing_breaks x copy level todo (Ok (Some body)) h = no_record c x body copy h
+
+  pub unfetched : (x : Item) (copy : Option (List Value)) (open_count : ℕ) (content : List ℕ) (place : Place) (todo : ToCome) (f : RunFault) → IsReadable (source c) content → (h : ComesTo (source c) content place.progress.at ((suc open_count, (x, copy)) ∷ todo)) → place.progress.records ≡ length h.bodies
+      → IsUnfetched c x open_count content place f → IsRunFault c content f
+  unfetched x copy n content place todo (fault.Damaged at) readable h count (same, missing) =
+      subst (IsDamaged (source c) content) (sym same) (broken (source c) (tellable c sound) content place.progress.at readable ((suc n, (x, copy)) ∷ todo, h, missing_breaks x copy (suc n) todo (next_before version_two content place.progress.at) missing))
+  unfetched x copy n content place todo fault.TooDeep readable h count deep = way_is_too_long version_two c.grammar c.passes c.read content place.progress.at (length h.bodies) (suc n) most_depth most_nodes (x, copy) todo (way_to (source c) (tellable c sound) content place.progress.at ((suc n, (x, copy)) ∷ todo) h) (inl (omega arith))
+  unfetched x copy n content place todo fault.TooManyNodes readable h count many = way_is_too_long version_two c.grammar c.passes c.read content place.progress.at (length h.bodies) (suc n) most_depth most_nodes (x, copy) todo (way_to (source c) (tellable c sound) content place.progress.at ((suc n, (x, copy)) ∷ todo) h) (inr (omega arith))
+  unfetched x copy n content place todo fault.Device readable h count u = tt
+  unfetched x copy n content place todo fault.NoMemory readable h count u = tt
+
+  -- a record that was read and does not agree breaks the way
+  pub disagreed : (x : Item) (p level : ℕ) (content body : List ℕ) (at : ℕ) (todo : ToCome) (old new : List Value) (h : IsRead c x p body old new) (f : ℕ → Value) → (AgreeAt c x f (read_values c x p body old new h) → ⊥) → IsReadable (source c) content
+      → ComesTo (source c) content at ((level, (x, Some (values_up_to c.read (copied_passes c x) f))) ∷ todo) → next_before version_two content at ≡ Ok (Some body) → IsDamaged (source c) content at
+  disagreed x p level content body at todo old new h f apart readable here found =
+      let first : ToCome = (level, (x, Some (values_up_to c.read (copied_passes c x) f))) ∷ todo in
+      broken (source c) (tellable c sound) content at readable (first, here, subst (awaited.Breaks version_two c.grammar c.passes c.read first) (sym found) (differs x p body old new h f apart))
+
+-- no frame is found
+pub frame_unfetched : (c : Setting) (x : Item) (open_count : ℕ) (content : List ℕ) (place : Place) (view : Option (Bor (List ℕ)) → Option (List ℕ)) (f : FrameFault) → Told view (Err f) (next_before version_two content place.progress.at) → IsUnfetched c x open_count content place (run_fault_of_frame f)
+frame_unfetched c x n content place view frame_fault.NotATreeFile told = absurd (never_no_file version_two content place.progress.at told)
+frame_unfetched c x n content place view (frame_fault.Damaged at) told = (damage_is_there version_two content place.progress.at at told, subst (IsMissing c x) (sym told) tt)
+frame_unfetched c x n content place view frame_fault.Device told = tt
+frame_unfetched c x n content place view frame_fault.NoMemory told = tt

@@ -1,0 +1,82 @@
+-- What a pass has done when its root is put and nothing is left to read.
+use Rattle.std.specs.List.{flat_map}
+use Rattle.std.proofs.Common.{ℕ, suc, ◌≡◌, ◌≤◌, List, [], ◌∷◌, ◌++◌, None, Ok, length, reverse, true, refl, ap, ◌∙◌, sym, arith, length-append}
+use Rattle.std.proofs.lemmas.List.{reverse-reverse}
+use Rattle.ag_value.specs.declared.value.Value.{Value}
+use Rattle.ag_grammar.specs.declared.direction.Direction.{Direction}
+use Rattle.ag_grammar.specs.declared.direction.Direction.TheVariants.{LeftToRight, RightToLeft}
+use Rattle.ag_grammar.specs.grammars.AttributeGrammar.{Grammar}
+use Rattle.ag_grammar.specs.grammars.Passes.{Passes, direction_of, other}
+use Rattle.ag_grammar.specs.grammars.Solution.{Valuation, children, rest, NoRule, OfPass, WellAt}
+use Rattle.ag_grammar.specs.grammars.Tree.{Tree, Forest, leaf, node, none, more, node_count, node_counts, most_nodes}
+use Rattle.ag_grammar.proofs.grammars.EachNode.{each_map, solves_wider}
+use Rattle.treefile.specs.ways.Backward.{ReadsTo, next_before, pass_of}
+use Rattle.treefile.specs.ways.Ending.{IsBytes, is_tree_file, version_two_usable}
+use Rattle.treefile.specs.records.Orders.{BodyTree, branch, prefix, prefix_all, postfix}
+use Rattle.treefile.specs.records.Records.{bodies_of, bodies_of_all}
+use Rattle.treefile.specs.records.TreeFile.{version_two, file, frame, header}
+use Rattle.treefile.proofs.ways.Backward.{back_is_file, reads_whole}
+use Rattle.treefile.proofs.records.Orders.{turned}
+use Rattle.planchecker.specs.courses.Settings.{Setting, way}
+use Rattle.planchecker.specs.courses.Sound.{IsSound}
+use Rattle.passrun.specs.Passed.{IsPassed}
+use Rattle.treefile.specs.ways.Awaited.{ToCome}
+use Rattle.passrun.specs.passing.Passing.{Tapes, IsRootReady, below, root_body}
+
+mutual
+  pub count_of : (d : Direction) (g : Grammar) (m : Passes) (k : ℕ) (t : Tree) (v : Valuation) → length (prefix d (bodies_of version_two g m k t v)) ≡ node_count t
+  count_of d g m k (leaf c x) v = refl
+  count_of d g m k (node p ts) v = ap suc (count_of_all d g m k ts (children v))
+
+  pub count_of_all : (d : Direction) (g : Grammar) (m : Passes) (k : ℕ) (ts : Forest) (vs : ℕ → Valuation) → length (prefix_all d (bodies_of_all version_two g m k ts vs)) ≡ node_counts ts
+  count_of_all d g m k none vs = refl
+  count_of_all LeftToRight g m k (more t ts) vs =
+      let a = count_of LeftToRight g m k t (vs 0) in
+      let b = count_of_all LeftToRight g m k ts (rest vs) in
+      let e = length-append (prefix LeftToRight (bodies_of version_two g m k t (vs 0))) (prefix_all LeftToRight (bodies_of_all version_two g m k ts (rest vs))) in
+      omega arith
+  count_of_all RightToLeft g m k (more t ts) vs =
+      let a = count_of RightToLeft g m k t (vs 0) in
+      let b = count_of_all RightToLeft g m k ts (rest vs) in
+      let e = length-append (prefix_all RightToLeft (bodies_of_all version_two g m k ts (rest vs))) (prefix RightToLeft (bodies_of version_two g m k t (vs 0))) in
+      omega arith
+
+whole : (d : Direction) (b : BodyTree) → below d b ++ root_body b ∷ [] ≡ postfix d b
+whole d (branch body ts) = refl
+
+-- the pass is done
+pub finished : (c : Setting) → IsSound c → (root : ℕ) (content to : List ℕ) (values : List Value) (tapes : Tapes) (place count evals : ℕ) (body : List ℕ) (todo : ToCome)
+    → (ready : IsRootReady c root values tapes evals todo) → body ≡ root_body (bodies_of version_two c.grammar c.passes c.write ready.tree ready.valuation)
+    → IsBytes content → is_tree_file version_two content ≡ true → pass_of content ≡ c.read
+    → ReadsTo version_two content (length content) tapes.read place → next_before version_two content place ≡ Ok None
+    → to ≡ header version_two c.write ++ flat_map frame (tapes.put ++ body ∷ []) → count ≡ length tapes.read → length tapes.read ≤ most_nodes
+    → IsPassed c content to count evals
+finished c sound root content to values tapes place count evals body todo ready own bytes is_file pass read end put counted few =
+    let t = ready.tree in
+    let w = ready.valuation in
+    let d = direction_of c.read in
+    let bt = bodies_of version_two c.grammar c.passes c.read t w in
+    let dir : way c ≡ other d = ap direction_of sound.next in
+    let back : reverse tapes.read ≡ postfix d bt = ap reverse (ready.ready.read ∙ ap (λ d. prefix d bt) dir ∙ sym (turned d bt)) ∙ reverse-reverse (postfix d bt) in
+    let n = count_of (way c) c.grammar c.passes c.read t w in
+    let len : length tapes.read ≡ node_count t = ap length ready.ready.read ∙ n in
+    record {
+      tree = t;
+      values = w;
+      fits = ready.ready.took.fits;
+      from = record {
+        stands = back_is_file version_two content bytes tapes.read version_two_usable is_file (reads_whole version_two content tapes.read (length content) place read end)
+            ∙ ap (λ k. file version_two k (reverse tapes.read)) pass ∙ ap (file version_two c.read) back;
+        texts = solves_wider (OfPass c.passes c.write) NoRule c.grammar (λ p q r production rule bad. absurd bad) t w ready.ready.took.solved;
+        well = each_map (WellAt (λ p. p ≤ c.write)) (WellAt (λ p. p ≤ c.read)) c.grammar c.passes (λ ps d e r a p is le. r a p is (let s = sound.next in omega arith)) t w w ready.ready.took.well;
+      };
+      written = record {
+        stands = put ∙ ap (λ xs. header version_two c.write ++ flat_map frame xs) (ap (λ b. tapes.put ++ b ∷ []) own ∙ ap (λ xs. xs ++ root_body (bodies_of version_two c.grammar c.passes c.write t w) ∷ []) ready.ready.put ∙ whole (way c) (bodies_of version_two c.grammar c.passes c.write t w));
+        texts = solves_wider (OfPass c.passes c.write) NoRule c.grammar (λ p q r production rule bad. absurd bad) t w ready.ready.took.solved;
+        well = ready.ready.took.well;
+      };
+      solved = ready.ready.took.solved;
+      limits = record { deep = ready.deep; large = omega arith };
+      nodes = counted ∙ len;
+      rules = ready.counted;
+    }

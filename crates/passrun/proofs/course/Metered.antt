@@ -1,0 +1,30 @@
+-- A pass that is done has run no more rules than its records allow, whatever the devices gave back.
+use Rattle.std.proofs.Common.{ℕ, ◌+◌, ◌^◌, ◌≤◌, Bool, List, None, Result, Ok, Err, length, ap, arith}
+use Rattle.std.specs.Prelude.{IfErr, OnErr, OnOk}
+use Rattle.planchecker.specs.courses.Settings.{Setting, way}
+use Rattle.planchecker.specs.courses.Sound.{IsSound}
+use Rattle.passrun.specs.declared.passing.ends.Passed.{Passed}
+use Rattle.passrun.specs.declared.passing.machine.Machine.{Machine}
+use Rattle.passrun.specs.declared.run_fault.RunFault.{RunFault}
+use Rattle.passrun.specs.passing.Running.{Runs}
+use Rattle.passrun.proofs.course.Counted.{rules_bound}
+use Rattle.passrun.proofs.course.Finish.{count_of}
+
+pub meter_few : (c : Setting) → IsSound c → (honest : Bool) (content : List ℕ) (to_honest : Bool) (to : List ℕ) (meter : ℕ) (m : Machine) → Runs c honest content to_honest to meter m None → (m.begun ≤ meter) × (meter ≤ m.begun + 2 ^ 36)
+meter_few c sound honest content to_honest to meter m r =
+    let h = r.running.passing in
+    let read = ap length h.ready.read in
+    let nodes = count_of (way c) c.grammar c.passes c.read h.tree h.valuation in
+    let rules = rules_bound c sound h.tree in
+    let counted = h.counted in
+    let few = r.running.few in
+    let begun = r.begun in
+    (begun, omega arith)
+
+pub on_ok : (P : Type 0) (r : Result Passed RunFault) → P → OnOk r P
+on_ok P (Ok p) h = h
+on_ok P (Err f) h = tt
+
+pub on_err : (P : Type 0) (Q : RunFault → Type 0) (r : Result Passed RunFault) → ((f : RunFault) → Q f → P) → IfErr r Q → OnErr r P
+on_err P Q (Ok p) go h = h
+on_err P Q (Err f) go h = go f h

@@ -1,8 +1,0 @@
-use Rattle.std.proofs.Common.{◌∙◌}
-use Rattle.passrun.proofs.Entries.{some_at}
-use Rattle.passrun.proofs.job.Job.list.Goals as goal
-
-pub returns : goal.returns
-returns c =
-    let q = some_at c.args.self.now.grammar.now.productions c.args.production c.requires.there in
-    c.as_slice.ensures ∙ (c.row.ensures q.0 q.1).list

@@ -1,0 +1,8 @@
+use Rattle.std.proofs.Common.{◌∙◌}
+use Rattle.passrun.proofs.places.Entries.{some_at}
+use Rattle.passrun.proofs.laid.job.Job.list.Goals as goal
+
+pub returns : goal.returns
+returns c =
+    let q = some_at c.args.self.now.grammar.now.productions c.args.production c.requires.there in
+    c.as_slice.ensures ∙ (c.row.ensures q.0 q.1).list

@@ -1,0 +1,37 @@
+use Rattle.std.proofs.Common.{arith}
+use Rattle.passrun.specs.laid.Jobs.{setting}
+use Rattle.passrun.proofs.course.Metered.{meter_few, on_err, on_ok}
+use Rattle.std.proofs.Common.{Err, inr, ◌∙◌}
+use Rattle.std.proofs.lemmas.Result.{err_from_is_err_and}
+use Rattle.treefile.proofs.ways.Beginning.{added, frames_begin}
+use Rattle.passrun.specs.declared.run_fault.RunFault.{RunFault}
+use Rattle.passrun.specs.passing.Putting.{LeavesFrames}
+use Rattle.passrun.proofs.passing.pass.run_job.Goals as goal
+
+pub returns-clause-meter : goal.returns-clause-meter
+returns-clause-meter g c =
+    let few = meter_few (setting c.args.job.now) c.requires.job.sound (g.D.Device.is_honest c.run.new.from) (g.D.Device.content c.run.new.from) (g.E.Device.is_honest c.run.new.to) (g.E.Device.content c.run.new.to) c.run.new.meter c.run.new.machine c.in_ok-run.ensures.runs in
+    let now = c.in_ok-run.ensures.begun in
+    let begun = c.in_ok-machine.ensures.begun in
+    let low = few.0 in
+    let high = few.1 in
+    on_ok _ c.finish.result (omega arith)
+
+pub returns-in_err-run-clause-left : goal.returns-in_err-run-clause-left
+returns-in_err-run-clause-left g c =
+    let begun = c.in_ok-machine.ensures in
+    let p = err_from_is_err_and c.from_residual-in_err-run.result c.from_residual-in_err-run.ensures.1 in
+    rw p.1 (λ h. inr (frames_begin RunFault c.args.job.now.pass (g.E.Device.content c.begin.new.to) (g.E.Device.content c.run.new.to) (Err p.0) (begun.header h) (c.in_err-run.ensures.left (begun.to_persists.honest ∙ h))))
+
+pub returns-clause-left : goal.returns-clause-left
+returns-clause-left g c =
+    let begun = c.in_ok-machine.ensures in
+    let ran = c.in_ok-run.ensures in
+    let from = g.E.Device.content c.begin.new.to in
+    let between = g.E.Device.content c.run.new.to in
+    let now = g.E.Device.content c.finish.new.to in
+    on_err _ (LeavesFrames (g.E.Device.is_honest c.run.new.to) between now) c.finish.result
+    (λ f left h.
+    let is = begun.to_persists.honest ∙ h in
+    inr (frames_begin RunFault c.args.job.now.pass from now (Err f) (begun.header h) (added RunFault from between now (Err f) (ran.added is) (left (ran.to_persists.honest ∙ is)))))
+    c.finish.ensures.left

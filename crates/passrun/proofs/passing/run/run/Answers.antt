@@ -1,0 +1,28 @@
+use Rattle.std.proofs.Common.{Err, Ok, ◌∙◌, arith}
+use Rattle.std.proofs.lemmas.Result.{err_from_is_err_and}
+use Rattle.treefile.proofs.ways.Beginning.{added}
+use Rattle.passrun.specs.declared.run_fault.RunFault.{RunFault}
+use Rattle.passrun.proofs.Stepping.{persists_on}
+use Rattle.passrun.proofs.passing.run.run.Goals as goal
+
+pub returns-in_err-next-clause-left : goal.returns-in_err-next-clause-left
+returns-in_err-next-clause-left g c =
+    let p = err_from_is_err_and c.from_residual.result c.from_residual.ensures.1 in
+    let old = c.loop-next.invariant in
+    rw p.1 (λ h. added RunFault (g.E.Device.content c.args.to.now) (g.E.Device.content c.loop-next.to) (g.E.Device.content c.step.new.to) (Err p.0) (old.added h) (c.in_err-next.ensures.left (old.to_persists.honest ∙ h)))
+
+pub loop-next-preserved : goal.loop-next-preserved
+loop-next-preserved g c =
+    let old = c.loop-next.invariant in
+    let next = c.in_ok-next.ensures in
+    let before = old.meter in
+    let rises = next.rises in
+    record {
+      runs = next.runs;
+      added = λ h. added RunFault (g.E.Device.content c.args.to.now) (g.E.Device.content c.loop-next.to) (g.E.Device.content c.step.new.to) (Ok tt) (old.added h) (next.added (old.to_persists.honest ∙ h));
+      meter = omega arith;
+      begun = next.begun ∙ old.begun;
+      content = λ h. next.content (old.from_persists.honest ∙ h) ∙ old.content h;
+      from_persists = persists_on _ _ _ _ _ _ old.from_persists next.from_persists;
+      to_persists = persists_on _ _ _ _ _ _ old.to_persists next.to_persists;
+    }

@@ -1,0 +1,12 @@
+-- What each step of a pass does.
+pub mod Facts
+pub mod Given
+pub mod Giving
+pub mod Going
+pub mod Lending
+pub mod Moves
+pub mod Ruled
+pub mod Running
+pub mod Stays
+pub mod Steps
+pub mod Turning

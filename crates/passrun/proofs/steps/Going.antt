@@ -1,0 +1,50 @@
+-- Going into a child.
+use Rattle.std.proofs.Common.{ℕ, ◌≡◌, ◌-◌, ◌≤◌, List, [], ◌∷◌, ◌++◌, Some, slice_get, length, reverse, ap, ◌∙◌, sym, subst, arith, length-append}
+use Rattle.std.proofs.lemmas.List.{reverse-append}
+use Rattle.ag_value.specs.declared.value.Value.{Value}
+use Rattle.ag_grammar.specs.declared.grammar.Production.{Production}
+use Rattle.ag_grammar.specs.grammars.AttributeGrammar.{IsProduction}
+use Rattle.passcode.specs.declared.instr.Instr.TheVariants as instr
+use Rattle.planchecker.specs.courses.Course.{Between, Got, Gone}
+use Rattle.planchecker.specs.courses.Settings.{Setting, list_at, way, arity, place}
+use Rattle.planchecker.specs.courses.Sound.{IsSound}
+use Rattle.passrun.specs.declared.passing.open_node.OpenNode.{OpenNode}
+use Rattle.passrun.specs.passing.Nodes.{first_at, left_at}
+use Rattle.passrun.specs.passing.Passing.{Passing, IsPassing, GoesOn}
+use Rattle.passrun.specs.passing.Places.{stored}
+use Rattle.passrun.specs.laid.Slots.{stored_width}
+use Rattle.passrun.proofs.places.Slots.{length_stored}
+use Rattle.passrun.proofs.steps.Steps.{follows_next, step_go}
+
+-- the child whose record was read, with the last row of all
+pub record HasChild (c : Setting) (p : ℕ) (values : List Value) : Type 0 where
+  pub production : Production
+  pub there : IsProduction c.grammar p production
+  pub width : stored_width c production ≤ length values
+
+pub child_of : (c : Setting) → IsSound c → (x : OpenNode) (xs : List OpenNode) (values : List Value) (j : ℕ) → slice_get (list_at c x.production) x.at ≡ Some (instr.Go j) → IsPassing c (x ∷ xs) values → HasChild c x.child values
+child_of c sound x xs values j at (root, t, now, todo, (s, f, under, old, before, others, waits, Between, o)) = elim (follows_next c sound o.production Between o.i o.done x (instr.Go j) at o.stays.follows) [ ]
+child_of c sound x xs values j at (root, t, now, todo, (s, f, under, old, before, others, waits, Gone, o)) = elim (follows_next c sound o.production Gone o.i o.done x (instr.Go j) at o.stays.follows) [ ]
+child_of c sound x xs values j at (root, t, now, todo, (s, f, under, old, before, others, waits, Got, o)) =
+    let q = o.production in
+    let g = o.current.0 in
+    let row = stored c g.production (o.table (place (way c) (arity q) o.i)) o.of_child in
+    let n = length_stored c g.production (o.table (place (way c) (arity q) o.i)) o.of_child in
+    let m = ap length o.current.2 in
+    let a = length-append under (stored c q (o.table 0) o.copied ++ o.row) in
+    let b = length-append (stored c q (o.table 0) o.copied) o.row in
+    let e = ap length o.values_are in
+    record { production = g.production; there = g.there; width = omega arith }
+
+pub goes : (c : Setting) → IsSound c → (x : OpenNode) (old new : List OpenNode) (values : List Value) (j width : ℕ) → slice_get (list_at c x.production) x.at ≡ Some (instr.Go j)
+    → ((q : Production) → IsProduction c.grammar x.child q → width ≡ stored_width c q) → new ≡ old ++ left_at x j ∷ []
+    → GoesOn c (x ∷ reverse old) values (first_at x.child (length values - width) ∷ reverse new) values
+goes c sound x old new values j width at is pushed root t now todo h =
+    let child = child_of c sound x (reverse old) values j at (root, t, now, todo, h) in
+    subst (λ ys. Passing c root (first_at x.child (length values - width) ∷ ys) values t now todo) (sym (ap reverse pushed ∙ reverse-append old (left_at x j ∷ [])))
+    (step_go c sound root x (reverse old) values t now todo j (length values - width) at (λ q there.
+    let same : Some child.production ≡ Some q = sym child.there ∙ there in
+    let one : child.production ≡ q = cc in
+    let w = is q there in
+    let long = subst (λ q. stored_width c q ≤ length values) one child.width in
+    omega arith) h)

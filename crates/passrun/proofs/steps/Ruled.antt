@@ -1,0 +1,297 @@
+-- A rule is run: what is lent, and where the value goes.
+use Rattle.std.proofs.Common.{ℕ, zero, suc, ◌≡◌, ◌≢◌, ◌+◌, ◌-◌, ◌<◌, ◌⊎◌, inl, inr, Bool, List, [], ◌∷◌, ◌++◌, Option, Some, None, All, slice_get, slice_index, get_or, length, drop, set, refl, ap, ◌∙◌, sym, subst, arith}
+use Rattle.std.proofs.lemmas.List.{drop_at, set-append_left, set-append_right}
+use Rattle.std.proofs.lemmas.List.Elements.{All-set}
+use Rattle.std.proofs.lemmas.Option.{get_or_from_slice_get, slice_get_within}
+use Rattle.ag_value.specs.declared.value.Value.{Value}
+use Rattle.ag_value.specs.Well.{IsWell}
+use Rattle.ag_grammar.specs.declared.grammar.Item.{Item}
+use Rattle.ag_grammar.specs.declared.grammar.Production.{Production}
+use Rattle.ag_grammar.specs.declared.grammar.Rule.{Rule}
+use Rattle.ag_grammar.specs.declared.grammar.Target.{Target}
+use Rattle.ag_grammar.specs.grammars.AttributeGrammar.{IsArgument, IsProduction, Synthesized, found_kind, item_at, item_kinds, stored_items}
+use Rattle.ag_grammar.specs.grammars.Passes.{HasPass, item_passes}
+use Rattle.ag_grammar.specs.grammars.Solution.{Lends, left_passes}
+use Rattle.ag_grammar.specs.expressions.Evaluation.{value_of}
+use Rattle.ag_grammar.proofs.expressions.Depending.{rule_has_one_value}
+use Rattle.treefile.specs.ways.Awaited.{ToCome}
+use Rattle.treefile.specs.records.Records.{values_up_to}
+use Rattle.treefile.specs.ways.Writing as writing
+use Rattle.backreader.specs.Place.{Place}
+use Rattle.passcode.specs.declared.instr.Instr.{Instr}
+use Rattle.planchecker.specs.courses.Course.{Phase, Between, Got, Gone, Follows, Gives, got, went, IsAtHand, IsFinal, IsKnown}
+use Rattle.planchecker.specs.courses.Settings.{Setting, arity, list_at, place, way}
+use Rattle.planchecker.specs.courses.Sound.{IsSound}
+use Rattle.passrun.specs.declared.laid.laying.RuleSlots.{RuleSlots}
+use Rattle.passrun.specs.declared.passing.open_node.OpenNode.{OpenNode}
+use Rattle.passrun.specs.passing.Ahead.{coming, of_node}
+use Rattle.passrun.specs.passing.Change as change
+use Rattle.passrun.specs.laid.Layouts.{AreSlotsOf}
+use Rattle.passrun.specs.passing.Nodes.{stepped}
+use Rattle.passrun.specs.Passed.{IsRunning}
+use Rattle.passrun.specs.passing.Passing.{IsCurrent, Opens, Passing, Tapes}
+use Rattle.passrun.specs.passing.Places.{IsShown, Table, copies, in_children, place_passes, stored}
+use Rattle.passrun.specs.laid.Slots.{argument_slot, rank, stored_width, target_slot}
+use Rattle.passrun.proofs.course.Ahead.{behind_same}
+use Rattle.passrun.proofs.places.Copies.{copies_set, shown_set}
+use Rattle.passrun.proofs.places.Entries.{some_at}
+use Rattle.passrun.proofs.steps.Given.{argument_kind}
+use Rattle.passrun.proofs.steps.Giving.{given}
+use Rattle.passrun.proofs.steps.Moves.{known_differs}
+use Rattle.passrun.proofs.places.Slots.{argument_at, has_copy, length_row, length_stored, own_at, own_set, row_at}
+use Rattle.passrun.proofs.steps.Steps.{IsGivingOf, IsPlaced, at_open, follows_next, give_next, place_known, same_production, stored_same}
+use Rattle.passrun.proofs.places.Tables.{body_same, set_here, set_other}
+
+-- a rule has as many occurrences as arguments, and its expression names no other
+pub rule_named : (c : Setting) → IsSound c → (p r : ℕ) (q : Production) (u : Rule) → IsProduction c.grammar p q → slice_get q.rules r ≡ Some u → (length u.expr.1 ≡ length u.args)
+rule_named c sound p r q u there num = (sound.accepted.named.rules_named p q there r u num).arguments.equally_long
+
+-- what a target is of
+passed_at : (c : Setting) (q : Production) (j a : ℕ) (u : Rule) → u.target ≡ record { place = j; attr = a } → HasPass c.passes q u.target c.write → HasPass c.passes q (record { place = j; attr = a }) c.write
+passed_at c q j a u is h = subst (λ t. HasPass c.passes q t c.write) is h
+
+-- the row of the child that was got, behind a value of it
+abbrev IsRowNow : Setting → Production → Phase → ℕ → ℕ → ℕ → Value → List Value → List Value → Type 0
+IsRowNow c q ph i j a v row now = ((j ≡ 0) × (now ≡ row)) ⊎ ((j ≢ 0) × (now ≡ set row (rank c.write (place_passes c q j) a) v))
+
+-- A value of the pass is changed where it belongs: what stands at the next place is as before, but for that value in the child's row.
+current_stays : (c : Setting) (q : Production) (ph : Phase) (i level p : ℕ) (e of_child : Table) (row now : List Value) (j a : ℕ) (v : Value) (old new : Tapes) (count : ℕ) → c.write ≡ suc c.read → HasPass c.passes q (record { place = j; attr = a }) c.write → IsPlaced c q ph i j → IsRowNow c q ph i j a v row now
+    → IsCurrent c q ph i level p e of_child row old new count → IsCurrent c q ph i level p (change.set e j a v) of_child now old new count
+current_stays c q Between i level p e of_child row now j a v old new count next pass placed (inl k) h = (h.0, h.1, k.1 ∙ h.2)
+current_stays c q Between i level p e of_child row now j a v old new count next pass placed (inr k) h = absurd (elim placed [ inl x ↦ k.0 x | inr x ↦ (let y = x.0 in let bad : ⊥ = cc in bad) ])
+current_stays c q Gone i level p e of_child row now j a v old new count next pass placed (inr k) h = absurd (elim placed [ inl x ↦ k.0 x | inr x ↦ (let y = x.0 in let bad : ⊥ = cc in bad) ])
+current_stays c q Gone i level p e of_child row now j a v old new count next pass placed (inl k) (g, nothing) = (
+  record {
+    item = g.item;
+    stands = g.stands;
+    tree = g.tree;
+    values = g.values;
+    took = g.took;
+    number = g.number;
+    root = λ b. g.root b ∙ sym (set_other e j a v (place (way c) (arity q) i) b (λ both. let x = both.0 in let y = k.0 in omega arith));
+    read = g.read;
+    put = g.put;
+    counted = g.counted;
+    deep = g.deep;
+  },
+  k.1 ∙ nothing,
+)
+current_stays c q Got i level p e of_child row now j a v old new count next pass placed now_is (g, none, is) = (
+  record {
+    symbol = g.symbol;
+    stands = g.stands;
+    production = g.production;
+    there = g.there;
+    left = g.left;
+    tapes = g.tapes ∙ ap (λ b. record { read = old.read ++ b ∷ []; put = old.put }) (body_same c.read c.grammar c.passes p g.symbol (e pl) (change.set e j a v pl) (copies c c.read (stored_items g.production.items) (in_children of_child))
+        (ap (left_passes c.passes) g.there ∙ ap c.passes g.left)
+        (λ b n is le. sym (set_other e j a v pl b (λ both. let w = of_pass b n both.0 both.1 is in absurd (omega arith)))));
+    deep = g.deep;
+  },
+  none,
+  row_is now_is,
+)
+  where
+    pl : ℕ
+    pl = place (way c) (arity q) i
+
+    there : item_passes c.passes (item_at q pl) ≡ c.passes g.symbol
+    there = ap (item_passes c.passes) g.stands
+
+    of_pass : (b n : ℕ) → pl ≡ j → b ≡ a → slice_get (c.passes g.symbol) b ≡ Some n → n ≡ c.write
+    of_pass b n bj ba is' =
+        let w : slice_get (item_passes c.passes (item_at q pl)) b ≡ Some c.write = subst (λ j. slice_get (item_passes c.passes (item_at q j)) b ≡ Some c.write) (sym bj) (subst (λ a. slice_get (item_passes c.passes (item_at q j)) a ≡ Some c.write) (sym ba) pass) in
+        let w3 : Some n ≡ Some c.write = sym is' ∙ ap (λ ps. slice_get ps b) (sym there) ∙ w in
+        cc
+
+    row_is : IsRowNow c q Got i j a v row now → now ≡ stored c g.production (change.set e j a v pl) of_child
+    row_is (inl k) = k.1 ∙ is ∙ stored_same c g.production (e pl) (change.set e j a v pl) of_child (λ b. sym (set_other e j a v pl b (λ both. let x = both.0 in let y = k.0 in omega arith)))
+    row_is (inr k) =
+        let here : j ≡ pl = elim placed [ inl x ↦ absurd (k.0 x) | inr x ↦ x.2 ] in
+        let ps : place_passes c q j ≡ c.passes g.production.left = ap (λ j. item_passes c.passes (item_at q j)) here ∙ there ∙ ap c.passes (sym g.left) in
+        let at : slice_get (c.passes g.production.left) a ≡ Some c.write = ap (λ ps. slice_get ps a) (sym ps) ∙ pass in
+        k.1 ∙ ap (λ ps. set row (rank c.write ps a) v) ps ∙ ap (λ vs. set vs (rank c.write (c.passes g.production.left) a) v) is
+        ∙ own_set c g.production (e pl) (change.set e j a v pl) of_child a c.write v at (omega arith) (ap (λ j. change.set e j a v pl a) here ∙ set_here e pl a v) (λ b apart. set_other e j a v pl b (λ both. apart both.1))
+
+module _ (c : Setting) (sound : IsSound c) where
+  -- an argument stands where its slot says
+  argument_there : (p : ℕ) (q : Production) (ph : Phase) (i r : ℕ) (u : Rule) (e s : Table) (row : List Value) → IsProduction c.grammar p q → slice_get q.rules r ≡ Some u → IsShown c q (went ph i) e s → (o : Target) → IsArgument u o → IsAtHand c q ph i o
+      → slice_get (stored c q (e 0) s ++ row) (argument_slot c q o.place o.attr) ≡ Some (e o.place o.attr)
+  argument_there p q ph i r u e s row there num shown o arg (n, pass, le, final) = go o.place pass final (argument_kind c.grammar sound.accepted p q there r u o num arg)
+    where
+      go : (j : ℕ) → slice_get (item_passes c.passes (item_at q j)) o.attr ≡ Some n → IsFinal c q ph i j n → slice_get (item_kinds c.grammar (item_at q j)) o.attr ≡ Some (found_kind j) → slice_get (stored c q (e 0) s ++ row) (argument_slot c q j o.attr) ≡ Some (e j o.attr)
+      go zero pass final kind = own_at c q (e 0) s row o.attr n pass le
+      go (suc b) pass final kind = child (item_at q (suc b)) refl pass kind
+        where
+          child : (z : Option Item) → item_at q (suc b) ≡ z → slice_get (item_passes c.passes z) o.attr ≡ Some n → slice_get (item_kinds c.grammar z) o.attr ≡ Some Synthesized → slice_get (stored c q (e 0) s ++ row) (argument_slot c q (suc b) o.attr) ≡ Some (e (suc b) o.attr)
+          child None is pass kind = absurd (let bad : ⊥ = cc in bad)
+          child (Some x) is pass kind =
+              let copy = has_copy c x o.attr n kind pass in
+              argument_at c q (e 0) s row b o.attr n x is copy le ∙ ap Some (shown b o.attr n x is copy le final)
+
+  -- what is lent of a node's values is what the occurrences stand for
+  lent_is : (p : ℕ) (q : Production) (ph : Phase) (i r : ℕ) (u : Rule) (e s : Table) (row : List Value) (slots : RuleSlots) (spare : Value) → IsProduction c.grammar p q → slice_get q.rules r ≡ Some u → IsShown c q (went ph i) e s → AreSlotsOf c q u slots
+      → ((o : Target) → IsArgument u o → IsAtHand c q ph i o) → (k : ℕ) (o : Target) → slice_get u.args k ≡ Some o → get_or (stored c q (e 0) s ++ row) (slice_index slots.args k) spare ≡ e o.place o.attr
+  lent_is p q ph i r u e s row slots spare there num shown are at_hand k o at =
+      let less : k < length slots.args = let l = slice_get_within u.args k o at in let m = are.args.equally_long in omega arith in
+      let z = some_at slots.args k less in
+      let is : z.0 ≡ argument_slot c q o.place o.attr = are.args.each k o z.0 at z.1 in
+      let index : slice_index slots.args k ≡ argument_slot c q o.place o.attr = get_or_from_slice_get slots.args k z.0 0 z.1 ∙ is in
+      ap (λ i. get_or (stored c q (e 0) s ++ row) i spare) index ∙ get_or_from_slice_get (stored c q (e 0) s ++ row) (argument_slot c q o.place o.attr) (e o.place o.attr) spare (argument_there p q ph i r u e s row there num shown o (k, at) (at_hand o (k, at)))
+
+  -- where the value goes among a node's values
+  put_own : (q : Production) (e s : Table) (row : List Value) (a : ℕ) (v : Value) → HasPass c.passes q (record { place = 0; attr = a }) c.write → set (stored c q (e 0) s ++ row) (target_slot c q 0 a) v ≡ stored c q (change.set e 0 a v 0) s ++ row
+  put_own q e s row a v pass =
+      let own = values_up_to c.write (c.passes q.left) (e 0) in
+      let at : slice_get (c.passes q.left) a ≡ Some c.write = pass in
+      let less = slice_get_within own (rank c.write (c.passes q.left) a) (e 0 a) (row_at c.write (c.passes q.left) (e 0) a c.write at (omega arith)) in
+      let n = length_row c.write (c.passes q.left) (e 0) in
+      let m = length_stored c q (e 0) s in
+      let slot : target_slot c q 0 a ≡ rank c.write (c.passes q.left) a = omega arith in
+      ap (λ n. set (stored c q (e 0) s ++ row) n v) slot ∙ set-append_left (stored c q (e 0) s) row (rank c.write (c.passes q.left) a) v (omega arith)
+      ∙ ap (λ vs. vs ++ row) (own_set c q (e 0) (change.set e 0 a v 0) s a c.write v at (omega arith) (set_here e 0 a v) (λ b apart. set_other e 0 a v 0 b (λ both. apart both.1)))
+
+  put_child_value : (q : Production) (e s : Table) (row : List Value) (b a : ℕ) (v : Value) → set (stored c q (e 0) s ++ row) (target_slot c q (suc b) a) v ≡ stored c q (change.set e (suc b) a v 0) s ++ set row (rank c.write (place_passes c q (suc b)) a) v
+  put_child_value q e s row b a v =
+      let m = length_stored c q (e 0) s in
+      let r = rank c.write (place_passes c q (suc b)) a in
+      let minus : stored_width c q + r - stored_width c q ≡ r = omega arith in
+      set-append_right (stored c q (e 0) s) row (stored_width c q) (target_slot c q (suc b) a) v m (omega arith) ∙ ap (λ i. stored c q (e 0) s ++ set row i v) minus
+      ∙ ap (λ vs. vs ++ set row r v) (stored_same c q (e 0) (change.set e (suc b) a v 0) s (λ n. sym (set_other e (suc b) a v 0 n (λ both. omega arith))))
+
+  -- a rule was run at the innermost open node, whose values are these
+  given_in : (s : ℕ) (f : ℕ → Value) (level : ℕ) (x : OpenNode) (under : List Value) (old : Tapes) (before : ℕ) (others : ToCome) (ph : Phase) (values new : List Value) (t : Tapes) (now : ℕ) (todo : ToCome) (j a r : ℕ) (v spare : Value) (z : Instr) (q0 : Production) (u0 : Rule) (slots : RuleSlots)
+      → IsGivingOf j a r z → slice_get (list_at c x.production) x.at ≡ Some z → IsProduction c.grammar x.production q0 → slice_get q0.rules r ≡ Some u0 → AreSlotsOf c q0 u0 slots
+      → v ≡ value_of u0.expr.0 (λ k. get_or (drop x.base values) (slice_index slots.args k) spare) → new ≡ set values (x.base + slots.target) v
+      → Opens c s f level x under old before others ph values t now todo → Opens c s f level (stepped x x.child) under old before others ph new t (now + 1) todo
+  given_in s f level x under old before others ph values new t now todo j a r v spare z q0 u0 slots giving at there0 num0 are0 is0 written o =
+      record {
+        production = q;
+        i = o.i;
+        done = r ∷ o.done;
+        table = change.set e j a v;
+        copied = o.copied;
+        of_child = o.of_child;
+        row = row_now;
+        trees = o.trees;
+        valuations = o.valuations;
+        mid = o.mid;
+        sofar = o.sofar + 1;
+        count = o.count;
+        stays = given c sound s f level x (stepped x x.child) q ph o.i o.done e o.trees o.valuations old o.mid before o.sofar j a r v g value_is (at_open c q ph o.i j next.1) known refl next.2 o.stays;
+        shown = shown_set c q (went ph o.i) e o.copied j a v pass (unless ph next.1) o.shown;
+        current = current_stays c q ph o.i level x.child e o.of_child o.row row_now j a v o.mid t o.count sound.next pass next.1 (both j refl).1 o.current;
+        counted = let n = o.counted in omega arith;
+        values_are =
+            written ∙ ap (λ vs. set vs (x.base + slots.target) v) o.values_are ∙ ap (λ i. set (under ++ front) i v) sum ∙ set-append_right under front (length under) (length under + target_slot c q j a) v refl (omega arith)
+            ∙ ap (λ i. under ++ set front i v) (let minus : length under + target_slot c q j a - length under ≡ target_slot c q j a = omega arith in minus) ∙ ap (λ vs. under ++ vs) (both j refl).0;
+        base = o.base;
+        todo_is = o.todo_is ∙ coming_same ph;
+      }
+    where
+      q : Production
+      q = o.production
+
+      e : Table
+      e = o.table
+
+      front : List Value
+      front = stored c q (e 0) o.copied ++ o.row
+
+      next : Gives c q ph o.i o.done j a r × IsPlaced c q ph o.i j × Follows c q ph o.i (r ∷ o.done) (drop (x.at + 1) (list_at c x.production))
+      next = give_next c sound q ph o.i o.done j a r z (drop (x.at + 1) (list_at c x.production)) giving (follows_next c sound q ph o.i o.done x z at o.stays.follows)
+
+      g : Gives c q ph o.i o.done j a r
+      g = next.0
+
+      known : IsKnown c q (got ph o.i) j
+      known = place_known c q ph o.i j next.1
+
+      pass : HasPass c.passes q (record { place = j; attr = a }) c.write
+      pass = passed_at c q j a g.rule g.target g.passed
+
+      qs : q0 ≡ q
+      qs = same_production c x.production q0 q there0 o.stays.there
+
+      rules_same : u0 ≡ g.rule
+      rules_same =
+          let us : Some u0 ≡ Some g.rule = sym num0 ∙ ap (λ q. slice_get q.rules r) qs ∙ g.numbered in
+          cc
+
+      are : AreSlotsOf c q g.rule slots
+      are = subst (λ u. AreSlotsOf c q u slots) rules_same (subst (λ q. AreSlotsOf c q u0 slots) qs are0)
+
+      sum : x.base + slots.target ≡ length under + target_slot c q j a
+      sum =
+          let to : slots.target ≡ target_slot c q j a = are.target ∙ ap (λ t. target_slot c q t.place t.attr) g.target in
+          let b = o.base in
+          omega arith
+
+      value_is : (env : ℕ → Value) → Lends g.rule e env → v ≡ value_of g.rule.expr.0 env
+      value_is env lends =
+          let lent : ℕ → Value = λ k. get_or front (slice_index slots.args k) spare in
+          let dropped : drop x.base values ≡ front = ap (drop x.base) o.values_are ∙ drop_at under front x.base (sym o.base) in
+          is0 ∙ ap (λ u. value_of u.expr.0 (λ k. get_or (drop x.base values) (slice_index slots.args k) spare)) rules_same ∙ ap (λ vs. value_of g.rule.expr.0 (λ k. get_or vs (slice_index slots.args k) spare)) dropped
+          ∙ rule_has_one_value c.grammar q g.rule e lent env (sound.accepted.named.rules_named x.production q o.stays.there r g.rule g.numbered) (λ k o' at'. lent_is x.production q ph o.i r g.rule e o.copied o.row slots spare o.stays.there g.numbered o.shown are g.at_hand k o' at') lends
+
+      row_of : ℕ → List Value
+      row_of zero = o.row
+      row_of (suc b) = set o.row (rank c.write (place_passes c q (suc b)) a) v
+
+      row_now : List Value
+      row_now = row_of j
+
+      both : (n : ℕ) → n ≡ j → (set front (target_slot c q j a) v ≡ stored c q (change.set e j a v 0) o.copied ++ row_now) × IsRowNow c q ph o.i j a v o.row row_now
+      both zero is = (
+        ap (λ n. set front (target_slot c q n a) v) (sym is) ∙ put_own q e o.copied o.row a v (subst (λ n. HasPass c.passes q (record { place = n; attr = a }) c.write) (sym is) pass) ∙ ap (λ n. stored c q (change.set e n a v 0) o.copied ++ row_of n) is,
+        inl (sym is, ap row_of (sym is)),
+      )
+      both (suc b) is = (
+        ap (λ n. set front (target_slot c q n a) v) (sym is) ∙ put_child_value q e o.copied o.row b a v ∙ ap (λ n. stored c q (change.set e n a v 0) o.copied ++ row_of n) is,
+        inr ((λ none. omega arith), ap row_of (sym is) ∙ ap (λ n. set o.row (rank c.write (place_passes c q n) a) v) is),
+      )
+
+      unless : (ph : Phase) → IsPlaced c q ph o.i j → IsKnown c q (went ph o.i) j → j ≡ 0
+      unless ph (inl none) k = none
+      unless Between (inr x) k = absurd (let y = x.0 in let bad : ⊥ = cc in bad)
+      unless Gone (inr x) k = absurd (let y = x.0 in let bad : ⊥ = cc in bad)
+      unless Got (inr x) k = absurd (known_differs c q o.i j x.1 k x.2)
+
+      copied_same : copies c c.read (stored_items q.items) (in_children e) ≡ copies c c.read (stored_items q.items) (in_children (change.set e j a v))
+      copied_same = sym (copies_set c q e j a v sound.next pass)
+
+      coming_same : (ph : Phase) → coming c q ph o.i x.child e o.of_child (suc level) others ≡ coming c q ph o.i x.child (change.set e j a v) o.of_child (suc level) others
+      coming_same Between = behind_same c q e (change.set e j a v) o.i (suc level) others copied_same
+      coming_same Got = ap (of_node c (slice_get c.grammar.productions x.child) o.of_child (suc (suc level))) (behind_same c q e (change.set e j a v) (suc o.i) (suc level) others copied_same)
+      coming_same Gone = behind_same c q e (change.set e j a v) (suc o.i) (suc level) others copied_same
+
+  pub step_give : (root : ℕ) (x : OpenNode) (xs : List OpenNode) (values new : List Value) (t : Tapes) (now : ℕ) (todo : ToCome) (j a r : ℕ) (v spare : Value) (z : Instr) (q : Production) (u : Rule) (slots : RuleSlots)
+      → IsGivingOf j a r z → slice_get (list_at c x.production) x.at ≡ Some z → IsProduction c.grammar x.production q → slice_get q.rules r ≡ Some u → AreSlotsOf c q u slots
+      → v ≡ value_of u.expr.0 (λ k. get_or (drop x.base values) (slice_index slots.args k) spare) → new ≡ set values (x.base + slots.target) v
+      → Passing c root (x ∷ xs) values t now todo → Passing c root (stepped x x.child ∷ xs) new t (now + 1) todo
+  step_give root x xs values new t now todo j a r v spare z q u slots giving at there num are is written (s, f, under, old, before, others, waits, ph, o) =
+      (s, f, under, old, before, others, waits, ph, given_in s f (suc (length xs)) x under old before others ph values new t now todo j a r v spare z q u slots giving at there num are is written o)
+
+  pub given_runs : (root : ℕ) (honest to_honest : Bool) (content to : List ℕ) (place : Place) (out : writing.Progress) (values new : List Value) (x : OpenNode) (xs : List OpenNode) (evals j a r : ℕ) (z : Instr) (q : Production) (u : Rule) (slots : RuleSlots) (spare v : Value)
+      → IsGivingOf j a r z → slice_get (list_at c x.production) x.at ≡ Some z → IsProduction c.grammar x.production q → slice_get q.rules r ≡ Some u → AreSlotsOf c q u slots
+      → v ≡ value_of u.expr.0 (λ k. get_or (drop x.base values) (slice_index slots.args k) spare) → IsWell v → new ≡ set values (x.base + slots.target) v
+      → IsRunning c root honest content to_honest to place out values (x ∷ xs) evals
+      → IsRunning c root honest content to_honest to place out new (stepped x x.child ∷ xs) (evals + 1)
+  given_runs root honest to_honest content to place out values new x xs evals j a r z q u slots spare v giving at there num are is well written run =
+      record {
+        tapes = run.tapes;
+        todo = run.todo;
+        passing = step_give root x xs values new run.tapes evals run.todo j a r v spare z q u slots giving at there num are is written run.passing;
+        over = run.over;
+        read = run.read;
+        records = run.records;
+        few = run.few;
+        put = run.put;
+        written = run.written;
+        version = run.version;
+        unbroken = run.unbroken;
+        whole = run.whole;
+        well = subst (All IsWell) (sym written) (All-set IsWell values (x.base + slots.target) v well run.well);
+        readable = run.readable;
+        ahead = run.ahead;
+      }

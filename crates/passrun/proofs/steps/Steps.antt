@@ -1,0 +1,679 @@
+-- The steps of a pass.
+use Rattle.std.proofs.Common.{ℕ, zero, suc, ◌≡◌, ◌+◌, ◌<◌, ◌≤◌, ◌⊎◌, inl, inr, List, [], ◌∷◌, ◌++◌, Some, All, if◌then◌else◌, slice_get, length, take, drop, refl, ap, ◌∙◌, sym, subst, arith, append_assoc, append-nil, length-append}
+use Rattle.std.proofs.lemmas.Bool.{le-leb}
+use Rattle.std.proofs.lemmas.List.{drop_at, take_at}
+use Rattle.ag_value.specs.declared.value.Value.{Value, Text}
+use Rattle.ag_value.specs.Well.{IsWell}
+use Rattle.ag_grammar.specs.declared.direction.Direction.{Direction}
+use Rattle.ag_grammar.specs.declared.grammar.Item.{Item}
+use Rattle.ag_grammar.specs.declared.grammar.Item.TheVariants as item
+use Rattle.ag_grammar.specs.declared.grammar.Terminal.TheVariants.{Class}
+use Rattle.ag_grammar.specs.declared.grammar.Production.{Production}
+use Rattle.ag_grammar.specs.grammars.AttributeGrammar.{IsProduction, item_at, stored_items}
+use Rattle.ag_grammar.specs.grammars.Passes.{direction_of, nth, other}
+use Rattle.ag_grammar.specs.grammars.Solution.{Valuation, graft}
+use Rattle.ag_grammar.specs.grammars.Tree.{Tree, Forest, leaf, node, none, depth_of, most_depth}
+use Rattle.ag_grammar.specs.grammars.Counts.{rules_of_pass}
+use Rattle.treefile.specs.declared.body.Kind.TheVariants.{Node, Token}
+use Rattle.treefile.specs.ways.Awaited.{Child, ToCome, before_others, root_to_come}
+use Rattle.treefile.specs.records.Orders.{BodyTree, branch, postfix}
+use Rattle.treefile.specs.records.Records.{bodies_of, values_up_to}
+use Rattle.treefile.specs.records.TreeFile.{body_of, version_two}
+use Rattle.passcode.specs.declared.instr.Instr.{Instr}
+use Rattle.passcode.specs.declared.instr.Instr.TheVariants as instr
+use Rattle.planchecker.specs.courses.Course.{Phase, Between, Got, Gone, got, after_get, Follows, Gives, AreDone, IsKnown}
+use Rattle.planchecker.specs.courses.Settings.{Setting, way, arity, place, list_at}
+use Rattle.planchecker.specs.courses.Sound.{IsSound}
+use Rattle.passrun.specs.declared.passing.open_node.OpenNode.{OpenNode}
+use Rattle.passrun.specs.passing.Ahead.{behind, children_of, of_node}
+use Rattle.passrun.specs.passing.Change.{over, with_row}
+use Rattle.passrun.specs.Damage.{AreRecords, source}
+use Rattle.passrun.specs.passing.Nodes.{first_at, left_at, stepped}
+use Rattle.passrun.specs.passing.Passing.{Tapes, Keeps, Took, Stays, IsReady, Opens, Awaits, Passing, below, met, put_of, root_body, root_number}
+use Rattle.passrun.specs.passing.Places.{IsShown, Table, copied_passes, copies, in_children, stored}
+use Rattle.passrun.specs.reading.Reading.{AgreeAt, IsNodeRead, IsTokenRead}
+use Rattle.passrun.specs.laid.Slots.{copied_width, copy_start, stored_width}
+use Rattle.passrun.proofs.course.Ahead.{behind_last, behind_next, behind_same, is_record, of_node_is}
+use Rattle.passrun.proofs.places.Copies.{agree_table, copies_row, shown_both, shown_row}
+use Rattle.passrun.proofs.Damage.{leaves_on}
+use Rattle.passrun.proofs.course.Forests.{add_tree, add_values, fits_none}
+use Rattle.passrun.proofs.steps.Moves.{met_child, returned, put_child, ended, kept_copy, known_here, known_last, known_more, known_differs}
+use Rattle.passrun.proofs.Recorded.{first_row}
+use Rattle.passrun.proofs.steps.Giving.{IsOpenPlace}
+use Rattle.passrun.proofs.places.Slots.{begins_with_copy, length_row, length_stored, share_at, shares}
+use Rattle.passrun.proofs.places.Widths.{few_values}
+use Rattle.passrun.proofs.places.Tables.{with_is, with_here, with_other, same_values, All-before, All-after}
+
+-- the instruction at an index, and those behind it
+pub next_is : (xs : List Instr) (n : ℕ) (x : Instr) → slice_get xs n ≡ Some x → drop n xs ≡ x ∷ drop (n + 1) xs
+next_is xs n x at = let m : n + 1 ≡ suc n = omega arith in go xs n at ∙ ap (λ m. x ∷ drop m xs) (sym m)
+  where
+    go : (xs : List Instr) (n : ℕ) → slice_get xs n ≡ Some x → drop n xs ≡ x ∷ drop (suc n) xs
+    go [] n at = cc
+    go (y ∷ ys) zero at = let e : y ≡ x = cc in ap (λ z. z ∷ ys) e
+    go (y ∷ ys) (suc n) at = go ys n at
+
+pub same_production : (c : Setting) (p : ℕ) (q r : Production) → IsProduction c.grammar p q → IsProduction c.grammar p r → q ≡ r
+same_production c p q r a b = let e : Some q ≡ Some r = sym a ∙ b in cc
+
+abbrev pub IsGivingOf : ℕ → ℕ → ℕ → Instr → Type 0
+IsGivingOf j a r z = (z ≡ instr.Set j a r) ⊎ ((z ≡ instr.Def a r) × (j ≡ 0))
+
+-- where a rule gives a value in a phase: at the node itself, or at the child whose record was read
+abbrev pub IsPlaced : Setting → Production → Phase → ℕ → ℕ → Type 0
+IsPlaced c q ph i j = (j ≡ 0) ⊎ ((ph ≡ Got) × (i < arity q) × (j ≡ place (way c) (arity q) i))
+
+give_def : (c : Setting) (q : Production) (ph : Phase) (i : ℕ) (done : List ℕ) (a r : ℕ) (xs : List Instr) → Follows c q ph i done (instr.Def a r ∷ xs) → Gives c q ph i done 0 a r × Follows c q ph i (r ∷ done) xs
+give_def c q Between i done a r xs h = h
+give_def c q Got i done a r xs h = h
+give_def c q Gone i done a r xs h = h
+
+give_set : (c : Setting) (q : Production) (ph : Phase) (i : ℕ) (done : List ℕ) (j a r : ℕ) (xs : List Instr) → Follows c q ph i done (instr.Set j a r ∷ xs) → Gives c q ph i done j a r × IsPlaced c q ph i j × Follows c q ph i (r ∷ done) xs
+give_set c q Between i done j a r xs h = elim h [ ]
+give_set c q Got i done j a r xs h = (h.2, inr (refl, h.0, h.1), h.3)
+give_set c q Gone i done j a r xs h = elim h [ ]
+
+pub place_known : (c : Setting) (q : Production) (ph : Phase) (i j : ℕ) → IsPlaced c q ph i j → IsKnown c q (got ph i) j
+place_known c q ph i j h = elim h [ inl x ↦ inl x | inr x ↦ subst (λ ph. IsKnown c q (got ph i) j) (sym x.0) (known_here c q i j x.2) ]
+
+pub at_open : (c : Setting) (q : Production) (ph : Phase) (i j : ℕ) → IsPlaced c q ph i j → IsOpenPlace c q i j
+at_open c q ph i j h = elim h [ inl x ↦ inl x | inr x ↦ inr (x.2, x.1) ]
+
+-- a node's own values in its row are those at place 0
+pub stored_same : (c : Setting) (q : Production) (f h : ℕ → Value) (s : Table) → ((a : ℕ) → f a ≡ h a) → stored c q f s ≡ stored c q h s
+stored_same c q f h s same = ap (λ vs. vs ++ copies c c.write (stored_items q.items) (in_children s)) (same_values c.write (c.passes q.left) f h (λ a p is le. same a))
+
+-- where the row of a child at a place begins with these values, they agree with those that were read
+abbrev pub HasAgreed : Setting → Production → OpenNode → ℕ → Item → List Value → (ℕ → Value) → Type 0
+HasAgreed c q x j x' values h = (f : ℕ → Value) (rest : List Value) → drop (x.base + copy_start c q j) values ≡ values_up_to c.write (copied_passes c x') f ++ rest → AgreeAt c x' f h
+
+-- a node goes on behind a record that was read
+pub record Arrives (c : Setting) (s : ℕ) (f : ℕ → Value) (level : ℕ) (x : OpenNode) (under : List Value) (old : Tapes) (before : ℕ) (others : ToCome) (phase : Phase) (values : List Value) (t : Tapes) (body : List ℕ) (now : ℕ) (todo : ToCome) : Type 0 where
+  pub next : ToCome
+  pub records : AreRecords (source c) t.read todo → AreRecords (source c) (t.read ++ body ∷ []) next
+  pub opens : Opens c s f level x under old before others phase values (record { read = t.read ++ body ∷ []; put = t.put }) now next
+
+-- the copies at a place of what stands behind other values
+pub copies_there : (c : Setting) (q : Production) (f : ℕ → Value) (s : Table) (under row : List Value) (b base : ℕ) (x : Item) → base ≡ length under → slice_get (stored_items q.items) b ≡ Some x
+    → (rest : List Value) × (drop (base + copy_start c q (suc b)) (under ++ (stored c q f s ++ row)) ≡ values_up_to c.write (copied_passes c x) (s (suc b)) ++ rest)
+copies_there c q f s under row b base x is at =
+    let r = share_at c q f s row b x at in
+    let start = copy_start c q (suc b) in
+    let sum : base + start ≡ length under + start = omega arith in
+    (r.0, ap (λ n. drop n (under ++ (stored c q f s ++ row))) sum ∙ beyond under (stored c q f s ++ row) start ∙ r.1)
+  where
+    beyond : (xs ys : List Value) (n : ℕ) → drop (length xs + n) (xs ++ ys) ≡ drop n ys
+    beyond [] ys n = let z : 0 + n ≡ n = omega arith in ap (λ n. drop n ys) z
+    beyond (x ∷ xs) ys n = let z : suc (length xs) + n ≡ suc (length xs + n) = omega arith in ap (λ n. drop n (x ∷ (xs ++ ys))) z ∙ beyond xs ys n
+
+module _ (c : Setting) (sound : IsSound c) where
+  pub follows_next : (q : Production) (ph : Phase) (i : ℕ) (done : List ℕ) (x : OpenNode) (z : Instr) → slice_get (list_at c x.production) x.at ≡ Some z → Follows c q ph i done (drop x.at (list_at c x.production)) → Follows c q ph i done (z ∷ drop (x.at + 1) (list_at c x.production))
+  follows_next q ph i done x z at h = subst (Follows c q ph i done) (next_is (list_at c x.production) x.at z at) h
+
+  -- the record of a node comes in
+  got_in : (s : ℕ) (f : ℕ → Value) (level : ℕ) (x : OpenNode) (under : List Value) (old : Tapes) (before : ℕ) (others : ToCome) (ph : Phase) (values new : List Value) (t : Tapes) (now : ℕ) (todo : ToCome) (j p s' : ℕ) (q0 : Production) (body : List ℕ) (read : IsNodeRead c s' p body values new)
+      → slice_get (list_at c x.production) x.at ≡ Some (instr.Get j) → IsProduction c.grammar x.production q0 → item_at q0 j ≡ Some (item.Symbol s') → level < most_depth → HasAgreed c q0 x j (item.Symbol s') new read.values
+      → Opens c s f level x under old before others ph values t now todo → Arrives c s f level (stepped x p) under old before others Got new t body now todo
+  got_in s f level x under old before others Got values new t now todo j p s' q0 body read at there0 stands0 deep agreed o = elim (follows_next o.production Got o.i o.done x (instr.Get j) at o.stays.follows) [ ]
+  got_in s f level x under old before others Gone values new t now todo j p s' q0 body read at there0 stands0 deep agreed o = elim (follows_next o.production Gone o.i o.done x (instr.Get j) at o.stays.follows) [ ]
+  got_in s f level x under old before others Between values new t now todo j p s' q0 body read at there0 stands0 deep agreed o =
+      let q = o.production in
+      let next = follows_next q Between o.i o.done x (instr.Get j) at o.stays.follows in
+      let b = nth (way c) (arity q) o.i in
+      let pl = place (way c) (arity q) o.i in
+      let h = read.values in
+      let e = with_row o.table pl h in
+      let of_child = first_row h read.table in
+      let same : q0 ≡ q = same_production c x.production q0 q there0 o.stays.there in
+      let stands : item_at q pl ≡ Some (item.Symbol s') = ap (item_at q) (sym next.1) ∙ ap (λ q. item_at q j) (sym same) ∙ stands0 in
+      let is : Some next.2 ≡ Some (item.Symbol s') = sym next.3 ∙ ap (item_at q) next.1 ∙ stands in
+      let is' : next.2 ≡ item.Symbol s' = cc in
+      let child_row = stored c read.production h of_child in
+      let row : child_row ≡ values_up_to c.write (c.passes s') h ++ copies c c.write (stored_items read.production.items) read.table = ap (λ s. values_up_to c.write (c.passes s) h ++ copies c c.write (stored_items read.production.items) read.table) read.left in
+      let whole : new ≡ under ++ (stored c q (o.table 0) o.copied ++ child_row) =
+      read.row ∙ ap (λ vs. vs ++ (values_up_to c.write (c.passes s') h ++ copies c c.write (stored_items read.production.items) read.table)) (o.values_are ∙ ap (λ r. under ++ (stored c q (o.table 0) o.copied ++ r)) o.current.2 ∙ ap (λ vs. under ++ vs) (append-nil (stored c q (o.table 0) o.copied)))
+      ∙ ap (λ vs. (under ++ stored c q (o.table 0) o.copied) ++ vs) (sym row) ∙ append_assoc under (stored c q (o.table 0) o.copied) child_row in
+      let found = copies_there c q (o.table 0) o.copied under child_row b x.base (item.Symbol s') o.base stands in
+      let slot : copy_start c q0 j ≡ copy_start c q pl = ap (λ q. copy_start c q j) same ∙ ap (copy_start c q) next.1 in
+      let agree = agreed (o.copied pl) found.0 (ap (λ n. drop (x.base + n) new) slot ∙ ap (drop (x.base + copy_start c q pl)) whole ∙ found.1) in
+      let agree' = agree_table c q o.i o.table o.copied b (item.Symbol s') h stands sound.next o.shown agree in
+      let copied = copies_row c q o.table b (item.Symbol s') h stands agree' in
+      let copy = values_up_to c.read (copied_passes c (item.Symbol s')) (o.table pl) in
+      let rest = behind c q o.table (suc o.i) (suc level) others in
+      let ys : List Child = children_of c read.production of_child in
+      let first : todo ≡ (suc level, (item.Symbol s', Some copy)) ∷ rest = o.todo_is ∙ behind_next c q o.table o.i (suc level) others (item.Symbol s') next.0 stands in
+      let next_todo = before_others (other (direction_of c.read)) (suc (suc level)) ys rest in
+      record {
+        next = next_todo;
+        records = λ here. leaves_on (source c) (other (direction_of c.read)) t.read body (suc level) (item.Symbol s', Some copy) ys (root_to_come c.grammar) rest (subst (AreRecords (source c) t.read) first here) (is_record c (item.Symbol s') p body values new read (Some copy) (sym agree'));
+        opens = record {
+          production = q;
+          i = o.i;
+          done = o.done;
+          table = e;
+          copied = o.copied;
+          of_child = of_child;
+          row = child_row;
+          trees = o.trees;
+          valuations = o.valuations;
+          mid = o.mid;
+          sofar = o.sofar;
+          count = 0;
+          stays = met_child c sound s f level x (stepped x p) q Got o.i o.done o.table o.trees o.valuations old o.mid before o.sofar (item.Symbol s') h next.0 stands agree' refl (λ j p k. k) refl (subst (λ x'. Follows c q (after_get x') o.i o.done (drop (x.at + 1) (list_at c x.production))) is' next.4) o.stays;
+          shown = shown_row c q o.i o.i o.table o.copied b (item.Symbol s') h stands agree sound.next (λ b apart k. k) (λ a n at k. absurd (known_differs c q o.i pl next.0 k refl)) o.shown;
+          current = (
+            record {
+              symbol = s';
+              stands = stands;
+              production = read.production;
+              there = read.there;
+              left = read.left;
+              tapes = ap (λ bs. record { read = t.read ++ bs ∷ []; put = t.put }) read.same ∙ ap (met c p h (copies c c.read (stored_items read.production.items) read.table)) o.current.0 ∙ sym (ap (λ f. met c p f (copies c c.read (stored_items read.production.items) read.table) o.mid) (with_is o.table pl h));
+              deep = deep;
+            },
+            refl,
+            ap (λ f. stored c read.production f of_child) (sym (with_is o.table pl h)),
+          );
+          counted = let n = o.counted in let m = o.current.1 in omega arith;
+          values_are = whole ∙ ap (λ vs. under ++ (vs ++ child_row)) (stored_same c q (o.table 0) (e 0) o.copied (λ a. sym (with_other o.table pl h 0 a (λ z. omega arith))));
+          base = o.base;
+          todo_is = ap (before_others (other (direction_of c.read)) (suc (suc level)) ys) (sym (behind_same c q e o.table (suc o.i) (suc level) others copied)) ∙ sym (of_node_is c sound p read.production of_child (suc (suc level)) (behind c q e (suc o.i) (suc level) others) read.there);
+        };
+      }
+
+  -- that of a token does
+  leaf_in : (s : ℕ) (f : ℕ → Value) (level : ℕ) (x : OpenNode) (under : List Value) (old : Tapes) (before : ℕ) (others : ToCome) (ph : Phase) (values new : List Value) (t : Tapes) (now : ℕ) (todo : ToCome) (j d : ℕ) (q0 : Production) (body : List ℕ) (read : IsTokenRead d body values new)
+      → slice_get (list_at c x.production) x.at ≡ Some (instr.Get j) → IsProduction c.grammar x.production q0 → item_at q0 j ≡ Some (item.Terminal (Class d)) → level < most_depth → HasAgreed c q0 x j (item.Terminal (Class d)) new (λ a. Text read.text)
+      → Opens c s f level x under old before others ph values t now todo → Arrives c s f level (stepped x d) under old before others Gone values t body now todo
+  leaf_in s f level x under old before others Got values new t now todo j d q0 body read at there0 stands0 deep agreed o = elim (follows_next o.production Got o.i o.done x (instr.Get j) at o.stays.follows) [ ]
+  leaf_in s f level x under old before others Gone values new t now todo j d q0 body read at there0 stands0 deep agreed o = elim (follows_next o.production Gone o.i o.done x (instr.Get j) at o.stays.follows) [ ]
+  leaf_in s f level x under old before others Between values new t now todo j d q0 body read at there0 stands0 deep agreed o =
+      let q = o.production in
+      let next = follows_next q Between o.i o.done x (instr.Get j) at o.stays.follows in
+      let b = nth (way c) (arity q) o.i in
+      let pl = place (way c) (arity q) o.i in
+      let x' = item.Terminal (Class d) in
+      let h : ℕ → Value = λ a. Text read.text in
+      let e = with_row o.table pl h in
+      let same : q0 ≡ q = same_production c x.production q0 q there0 o.stays.there in
+      let stands : item_at q pl ≡ Some (item.Terminal (Class d)) = ap (item_at q) (sym next.1) ∙ ap (λ q. item_at q j) (sym same) ∙ stands0 in
+      let is : Some next.2 ≡ Some (item.Terminal (Class d)) = sym next.3 ∙ ap (item_at q) next.1 ∙ stands in
+      let is' : next.2 ≡ item.Terminal (Class d) = cc in
+      let whole : new ≡ under ++ (stored c q (o.table 0) o.copied ++ Text read.text ∷ []) =
+      read.row ∙ ap (λ vs. vs ++ Text read.text ∷ []) (o.values_are ∙ ap (λ r. under ++ (stored c q (o.table 0) o.copied ++ r)) o.current.2 ∙ ap (λ vs. under ++ vs) (append-nil (stored c q (o.table 0) o.copied))) ∙ append_assoc under (stored c q (o.table 0) o.copied) (Text read.text ∷ []) in
+      let found = copies_there c q (o.table 0) o.copied under (Text read.text ∷ []) b x.base x' o.base stands in
+      let slot : copy_start c q0 j ≡ copy_start c q pl = ap (λ q. copy_start c q j) same ∙ ap (copy_start c q) next.1 in
+      let agree = agreed (o.copied pl) found.0 (ap (λ n. drop (x.base + n) new) slot ∙ ap (drop (x.base + copy_start c q pl)) whole ∙ found.1) in
+      let agree' = agree_table c q o.i o.table o.copied b x' h stands sound.next o.shown agree in
+      let copied = copies_row c q o.table b x' h stands agree' in
+      let copy = values_up_to c.read (copied_passes c x') (o.table pl) in
+      let rest = behind c q o.table (suc o.i) (suc level) others in
+      let first : todo ≡ (suc level, (x', Some copy)) ∷ rest = o.todo_is ∙ behind_next c q o.table o.i (suc level) others x' next.0 stands in
+      record {
+        next = rest;
+        records = λ here. leaves_on (source c) (other (direction_of c.read)) t.read body (suc level) (x', Some copy) [] (root_to_come c.grammar) rest (subst (AreRecords (source c) t.read) first here) (is_record c x' d body values new (refl, read) (Some copy) (sym agree'));
+        opens = record {
+          production = q;
+          i = o.i;
+          done = o.done;
+          table = e;
+          copied = o.copied;
+          of_child = o.of_child;
+          row = [];
+          trees = o.trees;
+          valuations = o.valuations;
+          mid = o.mid;
+          sofar = o.sofar;
+          count = 0;
+          stays = met_child c sound s f level x (stepped x d) q Gone o.i o.done o.table o.trees o.valuations old o.mid before o.sofar x' h next.0 stands agree' refl (λ j p k. elim k [ inl l ↦ inl l | inr l ↦ inr (known_more c q o.i j l) ]) refl (subst (λ x'. Follows c q (after_get x') o.i o.done (drop (x.at + 1) (list_at c x.production))) is' next.4) o.stays;
+          shown = shown_row c q o.i (suc o.i) o.table o.copied b x' h stands agree sound.next (λ b' apart k. elim (known_last c q o.i (suc b') k) [ inl l ↦ l | inr here ↦ absurd (apart (omega arith)) ]) (λ a n at k. zero_pass a n at) o.shown;
+          current = (
+            record {
+              item = x';
+              stands = stands;
+              tree = leaf d read.text;
+              values = λ path. h;
+              took = record { fits = (refl, read.fits); solved = refl; well = λ a p at le. read.well };
+              number = refl;
+              root = λ a. sym (with_here o.table pl h a);
+              read = ap (λ z. z.read ++ body ∷ []) o.current.0 ∙ ap (λ bs. o.mid.read ++ bs ∷ []) read.same;
+              put = ap (λ z. z.put) o.current.0 ∙ sym (append-nil o.mid.put);
+              counted = refl;
+              deep = omega arith;
+            },
+            refl,
+          );
+          counted = let n = o.counted in let m = o.current.1 in omega arith;
+          values_are = o.values_are ∙ ap (λ r. under ++ (stored c q (o.table 0) o.copied ++ r)) o.current.2 ∙ ap (λ vs. under ++ (vs ++ [])) (stored_same c q (o.table 0) (e 0) o.copied (λ a. sym (with_other o.table pl h 0 a (λ z. omega arith))));
+          base = o.base;
+          todo_is = sym (behind_same c q e o.table (suc o.i) (suc level) others copied);
+        };
+      }
+    where
+      zero_pass : (a n : ℕ) → slice_get (0 ∷ []) a ≡ Some n → n < c.write
+      zero_pass zero n at = let e : 0 ≡ n = cc in let next = sound.next in omega arith
+      zero_pass (suc a) n at = absurd (let bad : ⊥ = cc in bad)
+
+  pub step_got : (root : ℕ) (x : OpenNode) (xs : List OpenNode) (values new : List Value) (t : Tapes) (now : ℕ) (todo : ToCome) (j p s' : ℕ) (q0 : Production) (body : List ℕ) (read : IsNodeRead c s' p body values new)
+      → slice_get (list_at c x.production) x.at ≡ Some (instr.Get j) → IsProduction c.grammar x.production q0 → item_at q0 j ≡ Some (item.Symbol s') → suc (length xs) < most_depth → HasAgreed c q0 x j (item.Symbol s') new read.values
+      → Passing c root (x ∷ xs) values t now todo → (next : ToCome) × (AreRecords (source c) t.read todo → AreRecords (source c) (t.read ++ body ∷ []) next) × Passing c root (stepped x p ∷ xs) new (record { read = t.read ++ body ∷ []; put = t.put }) now next
+  step_got root x xs values new t now todo j p s' q0 body read at there0 stands0 deep agreed (s, f, under, old, before, others, waits, ph, o) =
+      let on = got_in s f (suc (length xs)) x under old before others ph values new t now todo j p s' q0 body read at there0 stands0 deep agreed o in
+      (on.next, on.records, (s, f, under, old, before, others, waits, Got, on.opens))
+
+  pub step_leaf : (root : ℕ) (x : OpenNode) (xs : List OpenNode) (values new : List Value) (t : Tapes) (now : ℕ) (todo : ToCome) (j d : ℕ) (q0 : Production) (body : List ℕ) (read : IsTokenRead d body values new)
+      → slice_get (list_at c x.production) x.at ≡ Some (instr.Get j) → IsProduction c.grammar x.production q0 → item_at q0 j ≡ Some (item.Terminal (Class d)) → suc (length xs) < most_depth → HasAgreed c q0 x j (item.Terminal (Class d)) new (λ a. Text read.text)
+      → Passing c root (x ∷ xs) values t now todo → (next : ToCome) × (AreRecords (source c) t.read todo → AreRecords (source c) (t.read ++ body ∷ []) next) × Passing c root (stepped x d ∷ xs) values (record { read = t.read ++ body ∷ []; put = t.put }) now next
+  step_leaf root x xs values new t now todo j d q0 body read at there0 stands0 deep agreed (s, f, under, old, before, others, waits, ph, o) =
+      let on = leaf_in s f (suc (length xs)) x under old before others ph values new t now todo j d q0 body read at there0 stands0 deep agreed o in
+      (on.next, on.records, (s, f, under, old, before, others, waits, Gone, on.opens))
+
+  -- a node whose record was read, and that nothing was done in yet
+  pub opened : (p s : ℕ) (q : Production) (f : ℕ → Value) (e : Table) (level base : ℕ) (under : List Value) (old : Tapes) (before : ℕ) (others : ToCome) → IsProduction c.grammar p q → q.left ≡ s → level ≤ most_depth → base ≡ length under
+      → Opens c s f level (first_at p base) under old before others Between (under ++ stored c q f e) (met c p f (copies c c.read (stored_items q.items) (in_children e)) old) before (behind c q e 0 (suc level) others)
+  opened p s q f e level base under old before others there left deep is =
+      record {
+        production = q;
+        i = 0;
+        done = [];
+        table = over f e;
+        copied = e;
+        of_child = e;
+        row = [];
+        trees = none;
+        valuations = λ i path a. f a;
+        mid = met c p f (copies c c.read (stored_items q.items) (in_children e)) old;
+        sofar = before;
+        count = 0;
+        stays = record {
+          there = there;
+          left = left;
+          within = omega arith;
+          follows = sound.course p q there;
+          entered = λ a p at le other. refl;
+          visits = record {
+            fits = fits_none (way c) c.grammar (stored_items q.items);
+            solved = tt;
+            well = tt;
+            read = sym (append-nil (met c p f (copies c c.read (stored_items q.items) (in_children e)) old).read);
+            put = sym (append-nil old.put);
+            deep = let d = deep in omega arith;
+          };
+          roots = λ b a l. absurd (omega arith);
+          held = λ r u has num. let z = has.1 in absurd (cc);
+          counted = omega arith;
+        };
+        shown = λ j a p x at is le when. refl;
+        current = (refl, refl, refl);
+        counted = omega arith;
+        values_are = ap (λ vs. under ++ vs) (sym (append-nil (stored c q f e)));
+        base = is;
+        todo_is = refl;
+      }
+
+  gone_in : (root s : ℕ) (f : ℕ → Value) (x : OpenNode) (xs : List OpenNode) (under : List Value) (old : Tapes) (before : ℕ) (others : ToCome) (ph : Phase) (values : List Value) (t : Tapes) (now : ℕ) (todo : ToCome) (j base : ℕ)
+      → slice_get (list_at c x.production) x.at ≡ Some (instr.Go j) → Awaits c root xs s x.production f under old before others → Opens c s f (suc (length xs)) x under old before others ph values t now todo
+      → ((q : Production) → IsProduction c.grammar x.child q → base + stored_width c q ≡ length values)
+      → Passing c root (first_at x.child base ∷ left_at x j ∷ xs) values t now todo
+  gone_in root s f x xs under old before others Between values t now todo j base at waits o is = elim (follows_next o.production Between o.i o.done x (instr.Go j) at o.stays.follows) [ ]
+  gone_in root s f x xs under old before others Gone values t now todo j base at waits o is = elim (follows_next o.production Gone o.i o.done x (instr.Go j) at o.stays.follows) [ ]
+  gone_in root s f x xs under old before others Got values t now todo j base at waits o is =
+      let q = o.production in
+      let next = follows_next q Got o.i o.done x (instr.Go j) at o.stays.follows in
+      let pl = place (way c) (arity q) o.i in
+      let g = o.current.0 in
+      let h = o.table pl in
+      let level = suc (length xs) in
+      let rest = under ++ stored c q (o.table 0) o.copied in
+      let child_row = stored c g.production h o.of_child in
+      let vs : values ≡ rest ++ child_row = o.values_are ∙ ap (λ r. under ++ (stored c q (o.table 0) o.copied ++ r)) o.current.2 ∙ sym (append_assoc under (stored c q (o.table 0) o.copied) child_row) in
+      let base' : base ≡ length rest =
+      let a = is g.production g.there in
+      let d = length_stored c g.production h o.of_child in
+      let l = length-append rest child_row in
+      let m = ap length vs in
+      omega arith in
+      let deep = g.deep in
+      let behind_it = behind c q o.table (suc o.i) (suc level) others in
+      let child = opened x.child g.symbol g.production h o.of_child (suc level) base rest o.mid now behind_it g.there g.left (omega arith) base' in
+      let same_todo : todo ≡ behind c g.production o.of_child 0 (suc (suc level)) behind_it = o.todo_is ∙ ap (λ p. of_node c p o.of_child (suc (suc level)) behind_it) g.there in (
+        g.symbol,
+        h,
+        rest,
+        o.mid,
+        now,
+        behind_it,
+        (
+          s,
+          f,
+          under,
+          old,
+          before,
+          others,
+          waits,
+          record {
+            production = q;
+            i = o.i;
+            done = o.done;
+            table = o.table;
+            copied = o.copied;
+            trees = o.trees;
+            values = o.valuations;
+            stays = record {
+              there = o.stays.there;
+              left = o.stays.left;
+              within = o.stays.within;
+              follows = next.4;
+              entered = o.stays.entered;
+              visits = o.stays.visits;
+              roots = o.stays.roots;
+              held = o.stays.held;
+              counted = let n = o.stays.counted in let m = o.counted in let k = o.current.1 in omega arith;
+            };
+            shown = o.shown;
+            within = next.0;
+            stands = g.stands;
+            place_is = next.1;
+            number = refl;
+            row_is = λ a. refl;
+            under_is = refl;
+            base = o.base;
+            deep = deep;
+            todo_is = refl;
+          },
+        ),
+        Between,
+        subst (λ (z : ToCome). Opens c g.symbol h (suc level) (first_at x.child base) rest o.mid now behind_it Between values t now z) (sym same_todo)
+            (subst (λ t. Opens c g.symbol h (suc level) (first_at x.child base) rest o.mid now behind_it Between values t now (behind c g.production o.of_child 0 (suc (suc level)) behind_it)) (sym g.tapes)
+            (subst (λ vs. Opens c g.symbol h (suc level) (first_at x.child base) rest o.mid now behind_it Between vs (met c x.child h (copies c c.read (stored_items g.production.items) (in_children o.of_child)) o.mid) now (behind c g.production o.of_child 0 (suc (suc level)) behind_it)) (sym vs) child)),
+      )
+
+  pub step_go : (root : ℕ) (x : OpenNode) (xs : List OpenNode) (values : List Value) (t : Tapes) (now : ℕ) (todo : ToCome) (j base : ℕ) → slice_get (list_at c x.production) x.at ≡ Some (instr.Go j)
+      → ((q : Production) → IsProduction c.grammar x.child q → base + stored_width c q ≡ length values)
+      → Passing c root (x ∷ xs) values t now todo → Passing c root (first_at x.child base ∷ left_at x j ∷ xs) values t now todo
+  step_go root x xs values t now todo j base at is (s, f, under, old, before, others, waits, ph, o) = gone_in root s f x xs under old before others ph values t now todo j base at waits o is
+
+  -- the tree at the next place is left behind, where all of it was put
+  left_in : (s : ℕ) (f : ℕ → Value) (level : ℕ) (x : OpenNode) (under : List Value) (old : Tapes) (before : ℕ) (others : ToCome) (values : List Value) (t new : Tapes) (now : ℕ) (todo : ToCome) (j : ℕ)
+      → slice_get (list_at c x.production) x.at ≡ Some (instr.Put j) → (o : Opens c s f level x under old before others Gone values t now todo) → new.read ≡ t.read
+      → new.put ≡ o.mid.put ++ postfix (way c) (bodies_of version_two c.grammar c.passes c.write o.current.0.tree o.current.0.values)
+      → Opens c s f level (stepped x x.child) under old before others Between values new now todo
+  left_in s f level x under old before others values t new now todo j at o reads puts =
+      let q = o.production in
+      let next = follows_next q Gone o.i o.done x (instr.Put j) at o.stays.follows in
+      let g = o.current.0 in
+      record {
+        production = q;
+        i = suc o.i;
+        done = o.done;
+        table = o.table;
+        copied = o.copied;
+        of_child = o.of_child;
+        row = [];
+        trees = add_tree (way c) o.trees g.tree;
+        valuations = add_values (way c) o.trees o.valuations g.values;
+        mid = new;
+        sofar = o.sofar + o.count;
+        count = 0;
+        stays = put_child c sound s f level x (stepped x x.child) q o.i o.done o.table o.trees o.valuations old o.mid t new before o.sofar o.count next.0 refl next.2 g reads puts o.stays;
+        shown = o.shown;
+        current = (refl, refl, refl);
+        counted = let n = o.counted in omega arith;
+        values_are = o.values_are ∙ ap (λ r. under ++ (stored c q (o.table 0) o.copied ++ r)) o.current.1;
+        base = o.base;
+        todo_is = o.todo_is;
+      }
+
+  -- nothing is put of a node, all of which was put
+  put_node_in : (s : ℕ) (f : ℕ → Value) (level : ℕ) (x : OpenNode) (under : List Value) (old : Tapes) (before : ℕ) (others : ToCome) (ph : Phase) (values : List Value) (t : Tapes) (now : ℕ) (todo : ToCome) (j s' : ℕ) (q0 : Production)
+      → slice_get (list_at c x.production) x.at ≡ Some (instr.Put j) → IsProduction c.grammar x.production q0 → item_at q0 j ≡ Some (item.Symbol s')
+      → Opens c s f level x under old before others ph values t now todo → Opens c s f level (stepped x x.child) under old before others Between values t now todo
+  put_node_in s f level x under old before others Between values t now todo j s' q0 at there0 stands0 o = elim (follows_next o.production Between o.i o.done x (instr.Put j) at o.stays.follows) [ ]
+  put_node_in s f level x under old before others Got values t now todo j s' q0 at there0 stands0 o = elim (follows_next o.production Got o.i o.done x (instr.Put j) at o.stays.follows) [ ]
+  put_node_in s f level x under old before others Gone values t now todo j s' q0 at there0 stands0 o =
+      let q = o.production in
+      let next = follows_next q Gone o.i o.done x (instr.Put j) at o.stays.follows in
+      let g = o.current.0 in
+      let same : q0 ≡ q = same_production c x.production q0 q there0 o.stays.there in
+      let items : Some g.item ≡ Some (item.Symbol s') = sym (ap (item_at q) next.1 ∙ g.stands) ∙ ap (λ q. item_at q j) (sym same) ∙ stands0 in
+      let is : g.item ≡ item.Symbol s' = cc in
+      left_in s f level x under old before others values t t now todo j at o refl (g.put ∙ ap (λ xs. o.mid.put ++ xs) (whole g.tree g.values (subst (λ x. Took c x g.tree g.values) is g.took)))
+    where
+      whole : (u : Tree) (w : Valuation) → Took c (item.Symbol s') u w → put_of (way c) u (bodies_of version_two c.grammar c.passes c.write u w) ≡ postfix (way c) (bodies_of version_two c.grammar c.passes c.write u w)
+      whole (leaf d text) w took = elim took.fits [ ]
+      whole (node p ts) w took = refl
+
+  pub step_put_node : (root : ℕ) (x : OpenNode) (xs : List OpenNode) (values : List Value) (t : Tapes) (now : ℕ) (todo : ToCome) (j s' : ℕ) (q0 : Production) → slice_get (list_at c x.production) x.at ≡ Some (instr.Put j) → IsProduction c.grammar x.production q0 → item_at q0 j ≡ Some (item.Symbol s')
+      → Passing c root (x ∷ xs) values t now todo → Passing c root (stepped x x.child ∷ xs) values t now todo
+  step_put_node root x xs values t now todo j s' q0 at there0 stands0 (s, f, under, old, before, others, waits, ph, o) =
+      (s, f, under, old, before, others, waits, Between, put_node_in s f (suc (length xs)) x under old before others ph values t now todo j s' q0 at there0 stands0 o)
+
+  -- the record of a token is put, whose text stands among the copies
+  put_leaf_in : (s : ℕ) (f : ℕ → Value) (level : ℕ) (x : OpenNode) (under : List Value) (old : Tapes) (before : ℕ) (others : ToCome) (ph : Phase) (values : List Value) (t : Tapes) (now : ℕ) (todo : ToCome) (j d : ℕ) (q0 : Production) (text : List Value)
+      → slice_get (list_at c x.production) x.at ≡ Some (instr.Put j) → IsProduction c.grammar x.production q0 → item_at q0 j ≡ Some (item.Terminal (Class d)) → text ≡ take 1 (drop (x.base + copy_start c q0 j) values)
+      → Opens c s f level x under old before others ph values t now todo → Opens c s f level (stepped x x.child) under old before others Between values (record { read = t.read; put = t.put ++ body_of Token x.child text ∷ [] }) now todo
+  put_leaf_in s f level x under old before others Between values t now todo j d q0 text at there0 stands0 is o = elim (follows_next o.production Between o.i o.done x (instr.Put j) at o.stays.follows) [ ]
+  put_leaf_in s f level x under old before others Got values t now todo j d q0 text at there0 stands0 is o = elim (follows_next o.production Got o.i o.done x (instr.Put j) at o.stays.follows) [ ]
+  put_leaf_in s f level x under old before others Gone values t now todo j d q0 text at there0 stands0 is o =
+      let q = o.production in
+      let next = follows_next q Gone o.i o.done x (instr.Put j) at o.stays.follows in
+      let g = o.current.0 in
+      let b = nth (way c) (arity q) o.i in
+      let pl = place (way c) (arity q) o.i in
+      let x' = item.Terminal (Class d) in
+      let same : q0 ≡ q = same_production c x.production q0 q there0 o.stays.there in
+      let stands : item_at q pl ≡ Some (item.Terminal (Class d)) = ap (item_at q) (sym next.1) ∙ ap (λ q. item_at q j) (sym same) ∙ stands0 in
+      let items : Some g.item ≡ Some (item.Terminal (Class d)) = sym g.stands ∙ stands in
+      let item_is : g.item ≡ item.Terminal (Class d) = cc in
+      let found = copies_there c q (o.table 0) o.copied under o.row b x.base x' o.base stands in
+      let slot : copy_start c q0 j ≡ copy_start c q pl = ap (λ q. copy_start c q j) same ∙ ap (copy_start c q) next.1 in
+      let first : text ≡ o.copied pl 0 ∷ [] = is ∙ ap (λ n. take 1 (drop (x.base + n) values)) slot ∙ ap (λ vs. take 1 (drop (x.base + copy_start c q pl) vs)) o.values_are ∙ ap (take 1) found.1 ∙ ap (λ b. take 1 (((if b then o.copied pl 0 ∷ [] else []) ++ []) ++ found.0)) (le-leb 0 c.write (omega arith)) in
+      let shown : o.copied pl 0 ≡ o.table pl 0 = o.shown b 0 0 x' stands refl (omega arith) (inr (known_here c q o.i pl refl)) in
+      let took = subst (λ x. Took c x g.tree g.values) item_is g.took in
+      left_in s f level x under old before others values t (record { read = t.read; put = t.put ++ body_of Token x.child text ∷ [] }) now todo j at o refl
+      (put_all g.tree g.values (o.mid.put) t.put text took g.number g.put (first ∙ ap (λ v. v ∷ []) (shown ∙ sym (g.root 0))))
+    where
+      put_all : (u : Tree) (w : Valuation) (before_it put : List (List ℕ)) (text : List Value) → Took c (item.Terminal (Class d)) u w → root_number u ≡ x.child → put ≡ before_it ++ put_of (way c) u (bodies_of version_two c.grammar c.passes c.write u w) → text ≡ w [] 0 ∷ []
+          → put ++ body_of Token x.child text ∷ [] ≡ before_it ++ postfix (way c) (bodies_of version_two c.grammar c.passes c.write u w)
+      put_all (node p ts) w before_it put text took number is same = elim took.fits [ ]
+      put_all (leaf e string) w before_it put text took number is same =
+          ap (λ xs. xs ++ body_of Token x.child text ∷ []) (is ∙ append-nil before_it) ∙ ap (λ n. before_it ++ body_of Token n text ∷ []) (sym number) ∙ ap (λ vs. before_it ++ body_of Token e vs ∷ []) (same ∙ ap (λ v. v ∷ []) took.solved)
+
+  pub step_put_leaf : (root : ℕ) (x : OpenNode) (xs : List OpenNode) (values : List Value) (t : Tapes) (now : ℕ) (todo : ToCome) (j d : ℕ) (q0 : Production) (text : List Value)
+      → slice_get (list_at c x.production) x.at ≡ Some (instr.Put j) → IsProduction c.grammar x.production q0 → item_at q0 j ≡ Some (item.Terminal (Class d)) → text ≡ take 1 (drop (x.base + copy_start c q0 j) values)
+      → Passing c root (x ∷ xs) values t now todo → Passing c root (stepped x x.child ∷ xs) values (record { read = t.read; put = t.put ++ body_of Token x.child text ∷ [] }) now todo
+  step_put_leaf root x xs values t now todo j d q0 text at there0 stands0 is (s, f, under, old, before, others, waits, ph, o) =
+      (s, f, under, old, before, others, waits, Between, put_leaf_in s f (suc (length xs)) x under old before others ph values t now todo j d q0 text at there0 stands0 is o)
+
+  -- a node is done, whose row is the last
+  node_done : (s : ℕ) (f : ℕ → Value) (level : ℕ) (x : OpenNode) (q : Production) (i : ℕ) (done : List ℕ) (e shows : Table) (ts : Forest) (ws : ℕ → Valuation) (old mid new : Tapes) (before sofar now : ℕ) (under values : List Value)
+      → i ≡ arity q → AreDone c q done → All IsWell values → values ≡ under ++ stored c q (e 0) shows → mid ≡ new → sofar ≡ now → IsShown c q i e shows
+      → Stays c s f (suc level) x q Between Between i done e ts ws old mid before sofar
+      → IsReady c (item.Symbol s) x.production (e 0) (node x.production ts) (graft (e 0) ws) old new × (now ≡ before + rules_of_pass c.passes c.write c.grammar (node x.production ts)) × (depth_of (node x.production ts) + level ≤ most_depth)
+      × (root_body (bodies_of version_two c.grammar c.passes c.write (node x.production ts) (graft (e 0) ws)) ≡ body_of Node x.production (stored c q (e 0) shows))
+  node_done s f level x q i done e shows ts ws old mid new before sofar now under values full dones well whole tapes counted shown stays =
+      let own = values_up_to c.write (c.passes q.left) (e 0) in
+      let copied = copies c c.write (stored_items q.items) (in_children shows) in
+      let own_well : All IsWell own = All-before IsWell own copied (All-after IsWell under (own ++ copied) (subst (All IsWell) whole well)) in
+      ended c sound s f level x q i done e shows ts ws old new before now full dones own_well shown
+      (subst (λ n. Stays c s f (suc level) x q Between Between i done e ts ws old new before n) counted (subst (λ t. Stays c s f (suc level) x q Between Between i done e ts ws old t before sofar) tapes stays))
+
+  -- the root is done
+  pub step_end_root : (root : ℕ) (x : OpenNode) (values : List Value) (t : Tapes) (now : ℕ) (todo : ToCome) → slice_get (list_at c x.production) x.at ≡ Some instr.End → All IsWell values → Passing c root (x ∷ []) values t now todo → Passing c root [] values t now todo
+  step_end_root root x values t now todo at well (s, f, under, old, before, others, waits, Got, o) = elim (follows_next o.production Got o.i o.done x instr.End at o.stays.follows) [ ]
+  step_end_root root x values t now todo at well (s, f, under, old, before, others, waits, Gone, o) = elim (follows_next o.production Gone o.i o.done x instr.End at o.stays.follows) [ ]
+  step_end_root root x values t now todo at well (s, f, under, old, before, others, (start, number, none_under, tapes, none_before, none_left), Between, o) =
+      let q = o.production in
+      let next = follows_next q Between o.i o.done x instr.End at o.stays.follows in
+      let row = stored c q (o.table 0) o.copied in
+      let whole : values ≡ under ++ row = o.values_are ∙ ap (λ r. under ++ (row ++ r)) o.current.2 ∙ ap (λ vs. under ++ vs) (append-nil row) in
+      let done' = node_done s f 0 x q o.i o.done o.table o.copied o.trees o.valuations old o.mid t before o.sofar now under values next.0 next.1 well whole (sym o.current.0) (let n = o.counted in let m = o.current.1 in omega arith) o.shown o.stays in
+      record {
+        tree = node x.production o.trees;
+        valuation = graft (o.table 0) o.valuations;
+        ready = subst (λ z. IsReady c (item.Symbol c.grammar.start) root (o.table 0) (node x.production o.trees) (graft (o.table 0) o.valuations) z t) tapes
+            (subst (λ p. IsReady c (item.Symbol c.grammar.start) p (o.table 0) (node x.production o.trees) (graft (o.table 0) o.valuations) old t) number (subst (λ s. IsReady c (item.Symbol s) x.production (o.table 0) (node x.production o.trees) (graft (o.table 0) o.valuations) old t) start done'.0));
+        counted = done'.1 ∙ ap (λ n. n + rules_of_pass c.passes c.write c.grammar (node x.production o.trees)) none_before ∙ (let n : 0 + rules_of_pass c.passes c.write c.grammar (node x.production o.trees) ≡ rules_of_pass c.passes c.write c.grammar (node x.production o.trees) = omega arith in n);
+        deep = let d = done'.2 in omega arith;
+        few = let w = few_values c sound x.production q o.stays.there in let n = length_stored c q (o.table 0) o.copied in let l = ap length (whole ∙ ap (λ vs. vs ++ row) none_under) in omega arith;
+        record_is = done'.3 ∙ ap (body_of Node x.production) (sym (whole ∙ ap (λ vs. vs ++ row) none_under)) ∙ ap (λ n. body_of Node n values) number;
+        nothing = o.todo_is ∙ behind_last c q o.table o.i 2 others next.0 ∙ none_left;
+      }
+
+  -- the values of a node's synthesized attributes stand among the copies of the other that waited
+  handed_over : (q : Production) (f : ℕ → Value) (s : Table) (under row others : List Value) (b : ℕ) (x : Item) (h : ℕ → Value) (to count from : ℕ) (values : List Value)
+      → slice_get (stored_items q.items) b ≡ Some x → to ≡ length under + copy_start c q (suc b) → count ≡ copied_width c x → from ≡ length (under ++ stored c q f s) → row ≡ values_up_to c.write (copied_passes c x) h ++ others → values ≡ (under ++ stored c q f s) ++ row
+      → take to values ++ (take count (drop from values) ++ drop (to + count) (take from values)) ≡ under ++ stored c q f (with_row s (suc b) h)
+  handed_over q f s under row others b x h to count from values at to_is count_is from_is row_is values_are =
+      let xs = stored_items q.items in
+      let ps = copied_passes c x in
+      let r = shares c xs b x at (in_children s) in
+      let own = values_up_to c.write (c.passes q.left) f in
+      let old_share = values_up_to c.write ps (s (suc b)) in
+      let share = values_up_to c.write ps h in
+      let front = under ++ (own ++ r.0) in
+      let joined : (vs : List Value) → under ++ (own ++ (r.0 ++ vs)) ≡ front ++ vs = λ vs. ap (λ ws. under ++ ws) (sym (append_assoc own r.0 vs)) ∙ sym (append_assoc under (own ++ r.0) vs) in
+      let was : under ++ stored c q f s ≡ front ++ (old_share ++ r.1) = ap (λ vs. under ++ (own ++ vs)) (r.3 (in_children s) (λ j a z. refl)) ∙ joined (old_share ++ r.1) in
+      let now : under ++ stored c q f (with_row s (suc b) h) ≡ front ++ (share ++ r.1) =
+      ap (λ vs. under ++ (own ++ vs)) (r.3 (in_children (with_row s (suc b) h)) (λ j a z. with_other s (suc b) h (suc j) a (λ y. z (omega arith)))) ∙ joined (values_up_to c.write ps (with_row s (suc b) h (suc b)) ++ r.1) ∙ ap (λ g. front ++ (values_up_to c.write ps g ++ r.1)) (with_is s (suc b) h) in
+      let n = length_row c.write (c.passes q.left) f in
+      let m = r.2 in
+      let l = length-append own r.0 in
+      let k = length-append under (own ++ r.0) in
+      let o = length_row c.write ps (s (suc b)) in
+      let w = length_row c.write ps h in
+      let z = length-append front old_share in
+      let long : length front ≡ to = omega arith in
+      let beginning : take to values ≡ front = ap (take to) (values_are ∙ ap (λ vs. vs ++ row) was ∙ append_assoc front (old_share ++ r.1) row) ∙ take_at front ((old_share ++ r.1) ++ row) to long in
+      let middle : take count (drop from values) ≡ share = ap (take count) (ap (drop from) values_are ∙ drop_at (under ++ stored c q f s) row from (sym from_is) ∙ row_is) ∙ take_at share others count (omega arith) in
+      let end : drop (to + count) (take from values) ≡ r.1 = ap (drop (to + count)) (ap (take from) values_are ∙ take_at (under ++ stored c q f s) row from (sym from_is) ∙ was ∙ sym (append_assoc front old_share r.1)) ∙ drop_at (front ++ old_share) r.1 (to + count) (omega arith) in
+      ap (λ vs. vs ++ (take count (drop from values) ++ drop (to + count) (take from values))) beginning ∙ ap (λ vs. front ++ (vs ++ drop (to + count) (take from values))) middle ∙ ap (λ vs. front ++ (share ++ vs)) end ∙ sym now
+
+  -- the node that waited has its child, whose record was put
+  resumed : (root s p : ℕ) (f : ℕ → Value) (y : OpenNode) (ys : List OpenNode) (under : List Value) (old new : Tapes) (before now : ℕ) (others : ToCome) (q' : Production) (h : ℕ → Value) (shows : Table) (ts : Forest) (ws : ℕ → Valuation) (values result : List Value) (to count from : ℕ)
+      → Awaits c root (y ∷ ys) s p f under old before others → q'.left ≡ s → IsReady c (item.Symbol s) p h (node p ts) (graft h ws) old new → Keeps c s f h → depth_of (node p ts) + suc (length ys) ≤ most_depth → now ≡ before + rules_of_pass c.passes c.write c.grammar (node p ts)
+      → root_body (bodies_of version_two c.grammar c.passes c.write (node p ts) (graft h ws)) ≡ body_of Node p (stored c q' h shows) → values ≡ under ++ stored c q' h shows → from ≡ length under
+      → ((q : Production) (x' : Item) → IsProduction c.grammar y.production q → item_at q y.place ≡ Some x' → (to ≡ y.base + copy_start c q y.place) × (count ≡ copied_width c x'))
+      → result ≡ take to values ++ (take count (drop from values) ++ drop (to + count) (take from values))
+      → Passing c root (y ∷ ys) result (record { read = new.read; put = new.put ++ body_of Node p (drop from values) ∷ [] }) now others
+  resumed root s p f y ys under old new before now others q' h shows ts ws values result to count from (s', f', under', old', before', others', waits, z) left ready keeps deep counted is values_are base slots result_is =
+      let q = z.production in
+      let b = nth (way c) (arity q) z.i in
+      let pl = place (way c) (arity q) z.i in
+      let e = with_row z.table pl h in
+      let tape : Tapes = record { read = new.read; put = new.put ++ body_of Node p (drop from values) ∷ [] } in
+      let at_place : item_at q y.place ≡ Some (item.Symbol s) = ap (item_at q) z.place_is ∙ z.stands in
+      let slot = slots q (item.Symbol s) z.stays.there at_place in
+      let begins = begins_with_copy c (item.Symbol s) h in
+      let child_row = stored c q' h shows in
+      let copied_rest = copies c c.write (stored_items q'.items) (in_children shows) in
+      let share = values_up_to c.write (copied_passes c (item.Symbol s)) h in
+      let row : child_row ≡ share ++ (begins.0 ++ copied_rest) = ap (λ ps. values_up_to c.write ps h ++ copied_rest) (ap c.passes left) ∙ ap (λ vs. vs ++ copied_rest) begins.1 ∙ append_assoc share begins.0 copied_rest in
+      let to_is : to ≡ length under' + copy_start c q pl = slot.0 ∙ ap (λ j. y.base + copy_start c q j) z.place_is ∙ ap (λ n. n + copy_start c q pl) z.base in
+      let keeps' : Keeps c s (z.table pl) h = λ a n is le other. keeps a n is le other ∙ sym (z.row_is a) in
+      let agree = kept_copy c sound s (z.table pl) h keeps' in
+      let done = ap (λ vs. body_of Node p vs) (ap (drop from) values_are ∙ drop_at under child_row from (sym base)) ∙ sym is in
+      let bt = bodies_of version_two c.grammar c.passes c.write (node p ts) (graft h ws) in (
+        s',
+        f',
+        under',
+        old',
+        before',
+        others',
+        waits,
+        Gone,
+        record {
+          production = q;
+          i = z.i;
+          done = z.done;
+          table = e;
+          copied = with_row z.copied pl h;
+          of_child = shows;
+          row = [];
+          trees = z.trees;
+          valuations = z.values;
+          mid = old;
+          sofar = before;
+          count = rules_of_pass c.passes c.write c.grammar (node p ts);
+          stays = returned c sound s' f' (suc (length ys)) y q z.i z.done z.table z.trees z.values old' old before' before s h z.within z.stands keeps' z.stays;
+          shown = shown_both c q z.i (suc z.i) z.table z.copied b h (λ b' apart k. elim (known_last c q z.i (suc b') k) [ inl l ↦ l | inr here ↦ absurd (apart (omega arith)) ]) z.shown;
+          current = (
+            record {
+              item = item.Symbol s;
+              stands = z.stands;
+              tree = node p ts;
+              values = graft h ws;
+              took = ready.took;
+              number = sym z.number;
+              root = λ a. sym (with_here z.table pl h a);
+              read = ready.read;
+              put = ap (λ bs. new.put ++ bs ∷ []) done ∙ ap (λ bs. bs ++ root_body bt ∷ []) ready.put ∙ append_assoc old.put (below (way c) bt) (root_body bt ∷ []) ∙ ap (λ bs. old.put ++ bs) (whole (way c) bt);
+              counted = refl;
+              deep = deep;
+            },
+            refl,
+          );
+          counted = counted;
+          values_are =
+              result_is ∙ handed_over q (z.table 0) z.copied under' child_row (begins.0 ++ copied_rest) b (item.Symbol s) h to count from values z.stands to_is slot.1 (base ∙ ap length z.under_is) row (values_are ∙ ap (λ vs. vs ++ child_row) z.under_is)
+              ∙ ap (λ vs. under' ++ vs) (stored_same c q (z.table 0) (e 0) (with_row z.copied pl h) (λ a. sym (with_other z.table pl h 0 a (λ y. omega arith)))) ∙ ap (λ vs. under' ++ vs) (sym (append-nil (stored c q (e 0) (with_row z.copied pl h))));
+          base = z.base;
+          todo_is = z.todo_is ∙ sym (behind_same c q e z.table (suc z.i) (suc (suc (length ys))) others' (copies_row c q z.table b (item.Symbol s) h z.stands agree));
+        },
+      )
+    where
+      whole : (d : Direction) (b : BodyTree) → below d b ++ root_body b ∷ [] ≡ postfix d b
+      whole d (branch body ts) = refl
+
+  -- a node is done for which another one waits
+  pub step_end : (root : ℕ) (x y : OpenNode) (ys : List OpenNode) (values result : List Value) (t : Tapes) (now : ℕ) (todo : ToCome) (to count : ℕ) → slice_get (list_at c x.production) x.at ≡ Some instr.End → All IsWell values
+      → ((q : Production) (x' : Item) → IsProduction c.grammar y.production q → item_at q y.place ≡ Some x' → (to ≡ y.base + copy_start c q y.place) × (count ≡ copied_width c x'))
+      → result ≡ take to values ++ (take count (drop x.base values) ++ drop (to + count) (take x.base values))
+      → Passing c root (x ∷ y ∷ ys) values t now todo → Passing c root (y ∷ ys) result (record { read = t.read; put = t.put ++ body_of Node x.production (drop x.base values) ∷ [] }) now todo
+  step_end root x y ys values result t now todo to count at well slots result_is (s, f, under, old, before, others, waits, Got, o) = elim (follows_next o.production Got o.i o.done x instr.End at o.stays.follows) [ ]
+  step_end root x y ys values result t now todo to count at well slots result_is (s, f, under, old, before, others, waits, Gone, o) = elim (follows_next o.production Gone o.i o.done x instr.End at o.stays.follows) [ ]
+  step_end root x y ys values result t now todo to count at well slots result_is (s, f, under, old, before, others, waits, Between, o) =
+      let q = o.production in
+      let next = follows_next q Between o.i o.done x instr.End at o.stays.follows in
+      let row = stored c q (o.table 0) o.copied in
+      let whole : values ≡ under ++ row = o.values_are ∙ ap (λ r. under ++ (row ++ r)) o.current.2 ∙ ap (λ vs. under ++ vs) (append-nil row) in
+      let done' = node_done s f (suc (length ys)) x q o.i o.done o.table o.copied o.trees o.valuations old o.mid t before o.sofar now under values next.0 next.1 well whole (sym o.current.0) (let n = o.counted in let m = o.current.1 in omega arith) o.shown o.stays in
+      subst (Passing c root (y ∷ ys) result (record { read = t.read; put = t.put ++ body_of Node x.production (drop x.base values) ∷ [] }) now) (sym (o.todo_is ∙ behind_last c q o.table o.i (suc (suc (suc (length ys)))) others next.0))
+      (resumed root s x.production f y ys under old t before now others q (o.table 0) o.copied o.trees o.valuations values result to count x.base waits o.stays.left done'.0 o.stays.entered done'.2 done'.1 done'.3 whole o.base slots result_is)
+
+  pub give_next : (q : Production) (ph : Phase) (i : ℕ) (done : List ℕ) (j a r : ℕ) (z : Instr) (xs : List Instr) → IsGivingOf j a r z → Follows c q ph i done (z ∷ xs) → Gives c q ph i done j a r × IsPlaced c q ph i j × Follows c q ph i (r ∷ done) xs
+  give_next q ph i done j a r z xs giving h = elim giving [
+    | inl is ↦ give_set c q ph i done j a r xs (subst (λ z. Follows c q ph i done (z ∷ xs)) is h)
+    | inr is ↦ let g = give_def c q ph i done a r xs (subst (λ z. Follows c q ph i done (z ∷ xs)) is.0 h) in (subst (λ j. Gives c q ph i done j a r) (sym is.1) g.0, inl is.1, g.1)
+  ]
+
+  -- what comes first at a `Get`, with the copy of its values that stands in the row of the node
+  pub get_first : (root : ℕ) (x : OpenNode) (xs : List OpenNode) (values : List Value) (t : Tapes) (now : ℕ) (todo : ToCome) (j : ℕ) (q0 : Production) (x' : Item)
+      → slice_get (list_at c x.production) x.at ≡ Some (instr.Get j) → IsProduction c.grammar x.production q0 → item_at q0 j ≡ Some x' → Passing c root (x ∷ xs) values t now todo
+      → (f : ℕ → Value) × (left : ToCome) × (todo ≡ (suc (suc (length xs)), (x', Some (values_up_to c.read (copied_passes c x') f))) ∷ left)
+      × ((row : List Value) → (rest : List Value) × (drop (x.base + copy_start c q0 j) (values ++ row) ≡ values_up_to c.write (copied_passes c x') f ++ rest))
+  get_first root x xs values t now todo j q0 x' at there0 stands0 (s, f, under, old, before, others, waits, Got, o) = elim (follows_next o.production Got o.i o.done x (instr.Get j) at o.stays.follows) [ ]
+  get_first root x xs values t now todo j q0 x' at there0 stands0 (s, f, under, old, before, others, waits, Gone, o) = elim (follows_next o.production Gone o.i o.done x (instr.Get j) at o.stays.follows) [ ]
+  get_first root x xs values t now todo j q0 x' at there0 stands0 (s, f, under, old, before, others, waits, Between, o) =
+      let q = o.production in
+      let level = suc (suc (length xs)) in
+      let next = follows_next q Between o.i o.done x (instr.Get j) at o.stays.follows in
+      let b = nth (way c) (arity q) o.i in
+      let pl = place (way c) (arity q) o.i in
+      let same : q0 ≡ q = same_production c x.production q0 q there0 o.stays.there in
+      let stands : item_at q pl ≡ Some x' = ap (item_at q) (sym next.1) ∙ ap (λ q. item_at q j) (sym same) ∙ stands0 in
+      let n = sound.next in
+      let copies_same : values_up_to c.read (copied_passes c x') (o.table pl) ≡ values_up_to c.read (copied_passes c x') (o.copied pl) =
+      same_values c.read (copied_passes c x') (o.table pl) (o.copied pl) (λ a p is le. sym (o.shown b a p x' stands is (omega arith) (inl (omega arith)))) in
+      let slot : copy_start c q0 j ≡ copy_start c q pl = ap (λ q. copy_start c q j) same ∙ ap (copy_start c q) next.1 in
+      let kept : values ≡ under ++ stored c q (o.table 0) o.copied = o.values_are ∙ ap (λ r. under ++ (stored c q (o.table 0) o.copied ++ r)) o.current.2 ∙ ap (λ vs. under ++ vs) (append-nil (stored c q (o.table 0) o.copied)) in (
+        o.copied pl,
+        behind c q o.table (suc o.i) level others,
+        o.todo_is ∙ behind_next c q o.table o.i level others x' next.0 stands ∙ ap (λ vs. first level vs (behind c q o.table (suc o.i) level others)) copies_same,
+        (λ row.
+            let found = copies_there c q (o.table 0) o.copied under row b x.base x' o.base stands in
+            (found.0, ap (λ n. drop (x.base + n) (values ++ row)) slot ∙ ap (λ vs. drop (x.base + copy_start c q pl) (vs ++ row)) kept ∙ ap (drop (x.base + copy_start c q pl)) (append_assoc under (stored c q (o.table 0) o.copied) row) ∙ found.1)),
+      )
+    where
+      first : ℕ → List Value → ToCome → ToCome
+      first level vs left = (level, (x', Some vs)) ∷ left

@@ -1,0 +1,38 @@
+-- Reading the record of an item out of a tree file that is read from its end. All of this is this project's.
+use Rattle.std.specs.Prelude.{ℕ, ◌≡◌, ◌+◌, ◌<◌, ◌≤◌, Bool, List, Option, Some, None, Result, Ok, Err}
+use Rattle.ag_value.specs.declared.value.Value.{Value}
+use Rattle.ag_grammar.specs.declared.grammar.Item.{Item}
+use Rattle.ag_grammar.specs.grammars.Tree.{most_depth, most_nodes}
+use Rattle.treefile.specs.declared.reading.FrameFault.{FrameFault}
+use Rattle.treefile.specs.ways.Backward.{before_frame, next_before}
+use Rattle.treefile.specs.devices.Device.{WhenHonest}
+use Rattle.treefile.specs.records.TreeFile.{version_two}
+use Rattle.backreader.specs.Place.{IsOver, Place}
+use Rattle.planchecker.specs.courses.Settings.{Setting}
+use Rattle.passrun.specs.declared.run_fault.RunFault.{RunFault}
+use Rattle.passrun.specs.declared.run_fault.RunFault.TheVariants as fault
+use Rattle.passrun.specs.reading.Reading.{IsRead, IsNoRecord}
+
+-- The record of an item was read below so many open nodes: its body stood before the offset, and its row came behind the values.
+pub record HasFetched (c : Setting) (x : Item) (p open_count : ℕ) (honest : Bool) (content : List ℕ) (old new : Place) (values now : List Value) : Type 0 where
+  pub body : List ℕ
+  pub found : WhenHonest honest (next_before version_two content old.progress.at ≡ Ok (Some body))
+  pub taken : IsRead c x p body values now
+  pub over : WhenHonest honest (IsOver content new)
+  pub progress : new.progress ≡ record old.progress { at = before_frame old.progress.at body; records = old.progress.records + 1 }
+  pub deep : open_count < most_depth
+  pub few : old.progress.records < most_nodes
+
+-- what stands before an offset is no record of an item
+abbrev pub IsMissing : Setting → Item → Result (Option (List ℕ)) FrameFault → Type 0
+IsMissing c x (Err frame_fault) = Unit {0}
+IsMissing c x (Ok None) = Unit {0}
+IsMissing c x (Ok (Some body)) = IsNoRecord c x body
+
+-- Why no record of an item was read: none ends where the reader has come to, or it would be too deep, or one too many.
+abbrev pub IsUnfetched : Setting → Item → ℕ → List ℕ → Place → RunFault → Type 0
+IsUnfetched c x open_count content old (fault.Damaged at) = (at ≡ old.progress.at) × IsMissing c x (next_before version_two content old.progress.at)
+IsUnfetched c x open_count content old fault.TooDeep = most_depth ≤ open_count
+IsUnfetched c x open_count content old fault.TooManyNodes = most_nodes ≤ old.progress.records
+IsUnfetched c x open_count content old fault.Device = Unit {0}
+IsUnfetched c x open_count content old fault.NoMemory = Unit {0}

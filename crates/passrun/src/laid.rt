@@ -1,0 +1,5 @@
+//! What a pass asks of each production, laid out before it runs.
+
+pub mod job;
+pub mod laying;
+pub mod rows;

@@ -1,0 +1,101 @@
+//! What a pass works by, and what it asks of it at each instruction.
+
+ghost use Rattle.std.specs.Prelude.{◌≡◌, ◌<◌, ◌≤◌, ◌+◌, ◌-◌, ◌^◌, Some, length, slice_get};
+ghost use Rattle.ag_grammar.specs.declared.grammar.Production.{Production};
+ghost use Rattle.ag_grammar.specs.grammars.AttributeGrammar.{IsProduction};
+ghost use Rattle.passrun.specs.laid.Jobs.{CanRun, setting};
+ghost use Rattle.passrun.specs.laid.Layouts.{IsRowOf};
+ghost use Rattle.passrun.specs.laid.Laid.{place_rows};
+ghost use Rattle.passrun.specs.passing.Places.{copied_passes};
+ghost use Rattle.passrun.specs.laid.Slots.{stored_width};
+ghost use Rattle.planchecker.specs.courses.Settings.{list_at};
+
+use crate::laid::laying::{Layout, PlaceRow, ProductionRow};
+use crate::laid::rows::copied_passes;
+use crate::passing::open_node::OpenNode;
+use ag_grammar::{Grammar, Item};
+use passcode::Instr;
+use planchecker::Plan;
+
+/// What a pass works by: a grammar, a plan for it, what it asks of each production, and the number
+/// of the pass.
+#[derive(Clone, Copy)]
+pub(crate) struct Job<'a> {
+    pub(crate) grammar: &'a Grammar,
+    pub(crate) plan: &'a Plan,
+    pub(crate) layout: &'a Layout,
+    pub(crate) pass: u16,
+}
+
+impl Job<'_> {
+    /// The pass before, whose file is read.
+    pub(crate) fn file_pass(&self) -> u16
+        requires { 1 ≤ self.now.pass }
+        ensures { result ≡ self.now.pass - 1 }
+    {
+        self.pass - 1
+    }
+
+    /// What the pass asks of a production.
+    pub(crate) fn row(&self, production: u16) -> &ProductionRow
+        requires job { CanRun self.now }
+        requires there { production < length self.now.grammar.now.productions }
+        ensures { (q : Production) → IsProduction self.now.grammar.now production q →
+            IsRowOf (setting self.now) production q result.now }
+    {
+        &self.layout.productions.as_slice()[production as usize]
+    }
+
+    /// The instructions of the pass for a production, none where it has none.
+    pub(crate) fn list(&self, production: u16) -> &[Instr]
+        requires job { CanRun self.now }
+        requires there { production < length self.now.grammar.now.productions }
+        ensures { result.now ≡ list_at (setting self.now) production }
+    {
+        self.row(production).list.as_slice()
+    }
+
+    /// The instruction that an open node has next.
+    pub(crate) fn instruction(&self, node: OpenNode) -> Instr
+        requires job { CanRun self.now }
+        requires there { node.production < length self.now.grammar.now.productions }
+        requires next { node.at < length (list_at (setting self.now) node.production) }
+        ensures there { slice_get (list_at (setting self.now) node.production) node.at
+            ≡ Some result }
+        ensures room { node.at + 1 < 2 ^ 64 }
+    {
+        let list = self.list(node.production);
+        if node.at < list.len() {
+            return list[node.at];
+        }
+        unreachable!()
+    }
+
+    /// What stands at a place of a production, with the copies of its values.
+    pub(crate) fn place(&self, production: u16, place: u16) -> Option<PlaceRow>
+        requires job { CanRun self.now }
+        requires there { production < length self.now.grammar.now.productions }
+        ensures { (q : Production) → IsProduction self.now.grammar.now production q →
+            result ≡ slice_get (place_rows (setting self.now) q) place }
+    {
+        let row = self.row(production);
+        row.places.as_slice().get(place as usize).copied()
+    }
+
+    /// How many values the row of a node of a production has.
+    pub(crate) fn width(&self, production: u16) -> usize
+        requires job { CanRun self.now }
+        requires there { production < length self.now.grammar.now.productions }
+        ensures { (q : Production) → IsProduction self.now.grammar.now production q →
+            result ≡ stored_width (setting self.now) q }
+    {
+        self.row(production).width as usize
+    }
+
+    /// The passes of the values at an item that have copies.
+    pub(crate) fn copied_passes(&self, item: Item) -> &[u16]
+        ensures { result.now ≡ copied_passes (setting self.now) item }
+    {
+        copied_passes(self.grammar, self.plan, item)
+    }
+}

@@ -1,0 +1,10 @@
+//! One pass over a tree file, step by step.
+
+pub mod copying;
+pub mod ends;
+pub mod evaluating;
+pub mod machine;
+pub mod open_node;
+pub mod pass;
+pub mod putting;
+pub mod run;

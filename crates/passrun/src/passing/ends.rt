@@ -1,0 +1,137 @@
+//! The beginning and the end of a pass.
+
+ghost use Rattle.std.specs.Prelude.{◌≡◌, ◌⊎◌, ◌-◌, ◌^◌, ◌≤◌, ℕ, None, Some, IfErr, IfOk, IsErrOf};
+ghost use Rattle.std.specs.Prelude.{OnErr, OnOk};
+ghost use Rattle.ag_grammar.specs.grammars.Tree.{most_nodes};
+ghost use Rattle.passrun.specs.passing.Ahead.{IsRunFault};
+ghost use Rattle.passrun.specs.passing.Ends.{RunsBetween};
+ghost use Rattle.passrun.specs.passing.Nodes.{first_at};
+ghost use Rattle.passrun.specs.laid.Jobs.{CanRun, setting};
+ghost use Rattle.passrun.specs.Passed.{IsPassed};
+ghost use Rattle.passrun.specs.passing.Putting.{LeavesFrames};
+ghost use Rattle.passrun.specs.passing.Running.{Runs};
+ghost use Rattle.treefile.specs.ways.Beginning.{LeavesBeginning};
+ghost use Rattle.treefile.specs.devices.Device.{HasRisen, LeavesContent, Persists, WhenHonest};
+ghost use Rattle.treefile.specs.records.TreeFile.{header, version_two};
+
+use crate::laid::job::Job;
+use crate::passing::machine::Machine;
+use crate::passing::open_node::OpenNode;
+use crate::passing::putting::put_record;
+use crate::reading::fetching::fetch;
+use crate::run_fault::RunFault;
+use ag_eval::Meter;
+use ag_grammar::Item;
+use backreader::Back;
+use std::alloc::Global;
+use treefile::{Device, Kind, Writer};
+
+/// The offset in bytes of the number of the pass in a header.
+const PASS_OFFSET: u64 = 4;
+
+/// What a pass has done.
+#[derive(Clone, Copy, Debug, PartialEq, Eq)]
+pub struct Passed {
+    /// How many stored nodes the tree has, from 1 to `MOST_NODES`.
+    pub nodes: u32,
+    /// How many records were read: one for each stored node.
+    pub read: u64,
+    /// How many records were written: one for each stored node.
+    pub written: u64,
+}
+
+/// Begins a pass: reads the root's record, and writes the header.
+pub(crate) fn begin<D: Device, E: Device>(
+    alloc: Global,
+    job: &Job<'_>,
+    from: &mut D,
+    to: &mut E,
+    meter: &Meter,
+) -> Result<Machine, RunFault>
+    requires job { CanRun job.now }
+    requires meter { meter.now ≤ 2 ^ 63 }
+    ensures runs { IfOk result (λ m. Runs (setting job.now)
+        (D.is_honest from.new) (D.content from.new)
+        (E.is_honest to.new) (E.content to.new) meter.now m (Some (first_at m.root 0))) }
+    ensures header { OnOk result (WhenHonest (E.is_honest to.old)
+        (E.content to.new ≡ header version_two (setting job.now).write)) }
+    // what the second device had, or a beginning of the file
+    ensures left { OnErr result (WhenHonest (E.is_honest to.old)
+        (LeavesBeginning (setting job.now).write (E.content to.old) (E.content to.new))) }
+    ensures refused { IfErr result (λ f. WhenHonest (D.is_honest from.old)
+        (IsRunFault (setting job.now) (D.content from.old) f)) }
+    ensures begun { IfOk result (λ m. m.begun ≡ meter.now) }
+    ensures content { LeavesContent (D.is_honest from.old)
+        (D.content from.old) (D.content from.new) }
+    ensures from_persists { Persists (D.is_honest from.old) (D.is_honest from.new)
+        (D.failures from.old) (D.failures from.new) ⊥ }
+    ensures to_persists { Persists (E.is_honest to.old) (E.is_honest to.new)
+        (E.failures to.old) (E.failures to.new) ⊥ }
+    // D1 only where the number of failures rose on one of the two
+    ensures cause { IsErrOf result RunFault.Device →
+        HasRisen (D.failures from.old) (D.failures from.new)
+        ⊎ HasRisen (E.failures to.old) (E.failures to.new) }
+{
+    let mut back = Back::start(alloc, from)?;
+    if back.pass() != job.file_pass() {
+        return Err(RunFault::Damaged(PASS_OFFSET));
+    }
+    let writer = Writer::begin(alloc, to, job.pass)?;
+    let mut values = Vec::new(alloc);
+    let start = Item::Symbol(job.grammar.start());
+    let root = fetch(alloc, job, start, 0, &mut back, &mut values, from)?;
+    Ok(Machine {
+        back,
+        writer,
+        values,
+        waiting: Vec::new(alloc),
+        root,
+        begun: meter.count(),
+    })
+}
+
+/// Ends a pass whose root is done: puts the root's record, and nothing may be left to read.
+pub(crate) fn finish<D: Device, E: Device>(
+    job: &Job<'_>,
+    machine: &mut Machine,
+    from: &mut D,
+    to: &mut E,
+) -> Result<Passed, RunFault>
+    requires job { CanRun job.now }
+    requires runs { RunsBetween (setting job.now) (D.is_honest from.old) (D.content from.old)
+        (E.is_honest to.old) (E.content to.old) machine.old None }
+    ensures passed { (meter : ℕ) → Runs (setting job.now) (D.is_honest from.old)
+        (D.content from.old) (E.is_honest to.old) (E.content to.old) meter machine.old None →
+        WhenHonest (D.is_honest from.old) (WhenHonest (E.is_honest to.old)
+        (IfOk result (λ p. IsPassed (setting job.now) (D.content from.old) (E.content to.new)
+        p.nodes (meter - machine.old.begun)))) }
+    ensures left { IfErr result (LeavesFrames (E.is_honest to.old)
+        (E.content to.old) (E.content to.new)) }
+    ensures refused { IfErr result (λ f. WhenHonest (D.is_honest from.old)
+        (IsRunFault (setting job.now) (D.content from.old) f)) }
+    ensures counts { IfOk result (λ p. (p.read ≡ p.nodes) × (p.written ≡ p.nodes)) }
+    // whatever the devices give back
+    ensures few { IfOk result (λ p. p.nodes ≤ most_nodes) }
+    ensures content { LeavesContent (D.is_honest from.old)
+        (D.content from.old) (D.content from.new) }
+    ensures from_persists { Persists (D.is_honest from.old) (D.is_honest from.new)
+        (D.failures from.old) (D.failures from.new) ⊥ }
+    ensures to_persists { Persists (E.is_honest to.old) (E.is_honest to.new)
+        (E.failures to.old) (E.failures to.new) ⊥ }
+    // D1 only where the number of failures rose on one of the two
+    ensures cause { IsErrOf result RunFault.Device →
+        HasRisen (D.failures from.old) (D.failures from.new)
+        ⊎ HasRisen (E.failures to.old) (E.failures to.new) }
+{
+    let values = machine.values.as_slice();
+    put_record(Kind::Node, machine.root, values, &mut machine.writer, to)?;
+    let end = machine.back.end();
+    if machine.back.back(from)?.is_some() {
+        return Err(RunFault::Damaged(end));
+    }
+    Ok(Passed {
+        nodes: machine.back.records() as u32,
+        read: machine.back.records(),
+        written: machine.writer.written(),
+    })
+}

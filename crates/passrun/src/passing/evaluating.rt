@@ -1,0 +1,62 @@
+//! The value of a rule at a node.
+
+ghost use Rattle.std.specs.Prelude.{◌≡◌, ◌+◌, ◌-◌, ◌^◌, ◌<◌, All, IfOk, get_or, length};
+ghost use Rattle.std.specs.Prelude.{slice_index};
+ghost use Rattle.ag_grammar.specs.expressions.Evaluation.{value_of};
+ghost use Rattle.ag_value.specs.Well.{IsWell};
+
+use ag_eval::{Environment, Meter, eval};
+use ag_grammar::Expr;
+use ag_value::{NoMemory, Value};
+use std::alloc::Global;
+
+/// Lends the values of a rule's arguments: those in these slots of a node's values.
+#[derive(Drop)]
+struct Lender<'a> {
+    values: &'a [Value],
+    slots: &'a [u16],
+    spare: &'a Value,
+}
+
+impl<'a> Environment for Lender<'a> {
+    ghost use Rattle.std.specs.Prelude.{get_or, length, slice_index};
+
+    ghost count = { λ l. length l.slots.now };
+
+    ghost lent = { λ l k. get_or l.values.now (slice_index l.slots.now k) l.spare.now };
+
+    fn lend(&self, k: usize) -> &Value {
+        match self.values.get(self.slots[k] as usize) {
+            Some(value) => value,
+            None => self.spare,
+        }
+    }
+}
+
+/// The value of a rule's expression, where its arguments stand in these slots of a node's values.
+#[tactic(auto, using(crate::proofs::steps::Lending::are_well))]
+#[inline(always)]
+pub(crate) fn evaluate(
+    alloc: Global,
+    expr: &Expr,
+    slots: &[u16],
+    values: &[Value],
+    spare: &Value,
+    meter: &mut Meter,
+) -> Result<Value, NoMemory>
+    requires slots { length slots.now ≡ length expr.now.1 }
+    requires well { All IsWell values.now }
+    requires spare { IsWell spare.now }
+    requires not_full { meter.old < 2 ^ 64 - 1 }
+    ensures value { IfOk result (λ v. v ≡ value_of expr.now.0
+        (λ k. get_or values.now (slice_index slots.now k) spare.now)) }
+    ensures well { IfOk result (λ v. IsWell v) }
+    ensures counted { meter.new ≡ meter.old + 1 }
+{
+    let env = Lender {
+        values,
+        slots,
+        spare,
+    };
+    eval(alloc, expr, &env, meter)
+}

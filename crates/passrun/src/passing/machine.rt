@@ -1,0 +1,327 @@
+//! The steps of a pass, one for each kind of instruction.
+
+ghost use Rattle.std.specs.Prelude.{◌≡◌, ◌+◌, ◌^◌, ◌<◌, ◌≤◌, ◌∷◌, ◌++◌, ◌⊎◌, [], Some, IfErr, IfOk};
+ghost use Rattle.std.specs.Prelude.{IsErrOf, OnOk, length, reverse, slice_get};
+ghost use Rattle.passcode.specs.declared.instr.Instr.TheVariants as instr;
+ghost use Rattle.passrun.specs.passing.Passing.{IsPassing, GoesOn};
+ghost use Rattle.passrun.specs.passing.Ahead.{IsRunFault, IsWant};
+ghost use Rattle.passrun.specs.laid.Jobs.{CanRun, setting};
+ghost use Rattle.passrun.specs.passing.Nodes.{left_at};
+ghost use Rattle.passrun.specs.passing.Putting.{AddsFrames, LeavesFrames};
+ghost use Rattle.passrun.specs.passing.Running.{GivesNext, Runs, RunsAt, RunsFrom, RunsSomehow, Turns};
+ghost use Rattle.passrun.specs.passing.Running.{TurnsAt, TurnsFrom, TurnsTo};
+ghost use Rattle.passrun.specs.passing.Working.{work};
+ghost use Rattle.planchecker.specs.courses.Settings.{list_at};
+ghost use Rattle.treefile.specs.devices.Device.{HasRisen, LeavesContent, Persists, WhenHonest};
+
+use crate::laid::job::Job;
+use crate::passing::copying::{alone, behind, hand_over, is_as_told, keep_row};
+use crate::passing::evaluating::evaluate;
+use crate::passing::open_node::OpenNode;
+use crate::passing::putting::put_record;
+use crate::reading::fetching::fetch;
+use crate::run_fault::RunFault;
+use ag_eval::Meter;
+use ag_grammar::Item;
+use ag_value::{NoMemory, Value};
+use backreader::Back;
+use passcode::Instr;
+use std::alloc::Global;
+use treefile::{Device, Kind, Writer};
+
+/// A pass in the middle of its run: how far it has read and written, the values of all open nodes,
+/// those that wait for the innermost one, the number in the root's record, and where the meter
+/// stood when it began.
+#[derive(Drop)]
+pub(crate) struct Machine {
+    pub(crate) back: Back,
+    pub(crate) writer: Writer,
+    pub(crate) values: Vec<Value>,
+    pub(crate) waiting: Vec<OpenNode>,
+    pub(crate) root: u16,
+    pub(crate) begun: u64,
+}
+
+/// Goes into the child whose record was read last, which stands at a place: its node is the innermost
+/// one now, and the other waits.
+pub(crate) fn go(
+    job: &Job<'_>,
+    node: OpenNode,
+    place: u16,
+    values: &[Value],
+    waiting: &mut Vec<OpenNode>,
+) -> Result<OpenNode, NoMemory>
+    requires job { CanRun job.now }
+    requires room { node.at + 1 < 2 ^ 64 }
+    requires next { slice_get (list_at (setting job.now) node.production) node.at
+        ≡ Some (instr.Go place) }
+    requires passing { IsPassing (setting job.now)
+        (node ∷ reverse waiting.old.items) values.now }
+    ensures goes { IfOk result (λ child. GoesOn (setting job.now)
+        (node ∷ reverse waiting.old.items) values.now
+        (child ∷ reverse waiting.new.items) values.now) }
+    ensures child { IfOk result (λ child. (child.production ≡ node.child) × (child.at ≡ 0)) }
+    ensures pushed { OnOk result (waiting.new.items
+        ≡ waiting.old.items ++ left_at node place ∷ []) }
+{
+    let width = job.width(node.child);
+    waiting.push(node.left_at(place))?;
+    Ok(OpenNode::begun(node.child, values.len() - width))
+}
+
+impl Machine {
+    /// Fetches the record of the child at a place.
+    #[inline(always)]
+    pub(crate) fn get<D: Device>(
+        &mut self,
+        alloc: Global,
+        job: &Job<'_>,
+        node: OpenNode,
+        place: u16,
+        from: &mut D,
+    ) -> Result<OpenNode, RunFault>
+        requires job { CanRun job.now }
+        requires runs { RunsFrom (setting job.now) (D.is_honest from.old) (D.content from.old)
+            self.old (Some node) }
+        requires next { slice_get (list_at (setting job.now) node.production) node.at
+            ≡ Some (instr.Get place) }
+        requires room { node.at + 1 < 2 ^ 64 }
+        ensures runs { IfOk result (λ next. TurnsFrom (setting job.now)
+            (D.is_honest from.old) (D.is_honest from.new)
+            (D.content from.old) (D.content from.new) self.old self.new (Some node) (Some next)) }
+        ensures refused { IfErr result (λ f. WhenHonest (D.is_honest from.old)
+            (IsRunFault (setting job.now) (D.content from.old) f)) }
+        ensures less { IfOk result (λ next.
+            work (setting job.now) self.new (Some next)
+            < work (setting job.now) self.old (Some node)) }
+        ensures begun { self.new.begun ≡ self.old.begun }
+        ensures content { LeavesContent (D.is_honest from.old)
+            (D.content from.old) (D.content from.new) }
+        ensures persists { Persists (D.is_honest from.old) (D.is_honest from.new)
+            (D.failures from.old) (D.failures from.new) (IsErrOf result RunFault.Device) }
+    {
+        let Some(row) = job.place(node.production, place) else {
+            unreachable!();
+        };
+        let open_count = self.waiting.len() + 1;
+        let end = self.back.end();
+        let start = self.values.len();
+        let number = fetch(
+            alloc,
+            job,
+            row.item,
+            open_count,
+            &mut self.back,
+            &mut self.values,
+            from,
+        )?;
+        let copied = node.base + row.start as usize;
+        if !is_as_told(job, row, self.values.as_slice(), copied, start) {
+            return Err(RunFault::Damaged(end));
+        }
+        keep_row(row.item, &mut self.values, start);
+        Ok(node.stepped(number))
+    }
+
+    /// Puts the record of the token at a place, whose text stands among the copies. That of a node was
+    /// put when the pass left it.
+    #[inline(always)]
+    pub(crate) fn put<E: Device>(
+        &mut self,
+        job: &Job<'_>,
+        node: OpenNode,
+        place: u16,
+        to: &mut E,
+    ) -> Result<OpenNode, RunFault>
+        requires job { CanRun job.now }
+        requires runs { RunsSomehow (setting job.now) self.old (Some node) }
+        requires next { slice_get (list_at (setting job.now) node.production) node.at
+            ≡ Some (instr.Put place) }
+        requires room { node.at + 1 < 2 ^ 64 }
+        ensures runs { IfOk result (λ next. TurnsTo (setting job.now)
+            (E.is_honest to.old) (E.is_honest to.new)
+            (E.content to.old) (E.content to.new) self.old self.new (Some node) (Some next)) }
+        ensures added { OnOk result (AddsFrames (E.is_honest to.old)
+            (E.content to.old) (E.content to.new)) }
+        ensures left { IfErr result (LeavesFrames (E.is_honest to.old)
+            (E.content to.old) (E.content to.new)) }
+        ensures want { IfErr result IsWant }
+        ensures less { IfOk result (λ next.
+            work (setting job.now) self.new (Some next)
+            < work (setting job.now) self.old (Some node)) }
+        ensures begun { self.new.begun ≡ self.old.begun }
+        ensures persists { Persists (E.is_honest to.old) (E.is_honest to.new)
+            (E.failures to.old) (E.failures to.new) (IsErrOf result RunFault.Device) }
+    {
+        let Some(row) = job.place(node.production, place) else {
+            unreachable!();
+        };
+        let Item::Terminal(_) = row.item else {
+            return Ok(node.stepped(node.child));
+        };
+        let text = node.base + row.start as usize;
+        let values = alone(self.values.as_slice(), text);
+        put_record(Kind::Token, node.child, values, &mut self.writer, to)?;
+        Ok(node.stepped(node.child))
+    }
+
+    /// Runs a rule, and leaves its value where its target stands.
+    #[inline(always)]
+    pub(crate) fn give(
+        &mut self,
+        alloc: Global,
+        job: &Job<'_>,
+        node: OpenNode,
+        rule: u16,
+        meter: &mut Meter,
+    ) -> Result<OpenNode, NoMemory>
+        requires job { CanRun job.now }
+        requires runs { RunsAt (setting job.now) meter.old self.old (Some node) }
+        requires next { GivesNext (setting job.now) node rule }
+        requires room { node.at + 1 < 2 ^ 64 }
+        ensures runs { IfOk result (λ next. TurnsAt (setting job.now) meter.old meter.new
+            self.old self.new (Some node) (Some next)) }
+        ensures rises { meter.old ≤ meter.new }
+        ensures less { IfOk result (λ next.
+            work (setting job.now) self.new (Some next)
+            < work (setting job.now) self.old (Some node)) }
+        ensures begun { self.new.begun ≡ self.old.begun }
+    {
+        let production = &job.grammar.productions()[node.production as usize];
+        let semantic = &production.rules.as_slice()[rule as usize];
+        let row = job.row(node.production);
+        let slots = &row.rules.as_slice()[rule as usize];
+        let spare = Value::Num(0);
+        let value = evaluate(
+            alloc,
+            &semantic.expr,
+            slots.args.as_slice(),
+            &self.values[node.base..],
+            &spare,
+            meter,
+        )?;
+        let target = node.base + slots.target as usize;
+        self.values[target] = value;
+        Ok(node.stepped(node.child))
+    }
+
+    /// Goes into the child whose record was read last.
+    #[inline(always)]
+    pub(crate) fn enter(
+        &mut self,
+        job: &Job<'_>,
+        node: OpenNode,
+        place: u16,
+    ) -> Result<OpenNode, NoMemory>
+        requires job { CanRun job.now }
+        requires runs { RunsSomehow (setting job.now) self.old (Some node) }
+        requires next { slice_get (list_at (setting job.now) node.production) node.at
+            ≡ Some (instr.Go place) }
+        requires room { node.at + 1 < 2 ^ 64 }
+        ensures runs { IfOk result (λ next. Turns (setting job.now)
+            self.old self.new (Some node) (Some next)) }
+        ensures less { IfOk result (λ next.
+            work (setting job.now) self.new (Some next)
+            < work (setting job.now) self.old (Some node)) }
+        ensures begun { self.new.begun ≡ self.old.begun }
+    {
+        let values = self.values.as_slice();
+        let waiting = &mut self.waiting;
+        let child = go(job, node, place, values, waiting)?;
+        Ok(child)
+    }
+
+    /// Ends a node: the one that waited for it goes on, if there is one. Then the node's record is put,
+    /// and the values of its synthesized attributes stand among the copies of the other.
+    #[inline(always)]
+    pub(crate) fn end<E: Device>(
+        &mut self,
+        job: &Job<'_>,
+        node: OpenNode,
+        to: &mut E,
+    ) -> Result<Option<OpenNode>, RunFault>
+        requires job { CanRun job.now }
+        requires runs { RunsSomehow (setting job.now) self.old (Some node) }
+        requires next { slice_get (list_at (setting job.now) node.production) node.at
+            ≡ Some instr.End }
+        ensures runs { IfOk result (λ next. TurnsTo (setting job.now)
+            (E.is_honest to.old) (E.is_honest to.new)
+            (E.content to.old) (E.content to.new) self.old self.new (Some node) next) }
+        ensures added { OnOk result (AddsFrames (E.is_honest to.old)
+            (E.content to.old) (E.content to.new)) }
+        ensures left { IfErr result (LeavesFrames (E.is_honest to.old)
+            (E.content to.old) (E.content to.new)) }
+        ensures want { IfErr result IsWant }
+        ensures less { IfOk result (λ next.
+            work (setting job.now) self.new next
+            < work (setting job.now) self.old (Some node)) }
+        ensures begun { self.new.begun ≡ self.old.begun }
+        ensures persists { Persists (E.is_honest to.old) (E.is_honest to.new)
+            (E.failures to.old) (E.failures to.new) (IsErrOf result RunFault.Device) }
+    {
+        let Some(outer) = self.waiting.pop() else {
+            return Ok(None);
+        };
+        let values = behind(self.values.as_slice(), node.base);
+        put_record(Kind::Node, node.production, values, &mut self.writer, to)?;
+        let Some(row) = job.place(outer.production, outer.place) else {
+            unreachable!();
+        };
+        let copied = outer.base + row.start as usize;
+        hand_over(&mut self.values, node.base, copied, row.width as usize);
+        Ok(Some(outer))
+    }
+
+    /// Follows the next instruction of the innermost open node. The node that goes on next, none
+    /// where the root is done.
+    #[inline(always)]
+    pub(crate) fn step<D: Device, E: Device>(
+        &mut self,
+        alloc: Global,
+        job: &Job<'_>,
+        node: OpenNode,
+        from: &mut D,
+        to: &mut E,
+        meter: &mut Meter,
+    ) -> Result<Option<OpenNode>, RunFault>
+        requires job { CanRun job.now }
+        requires runs { Runs (setting job.now) (D.is_honest from.old) (D.content from.old)
+            (E.is_honest to.old) (E.content to.old) meter.old self.old (Some node) }
+        ensures runs { IfOk result (λ next. Runs (setting job.now)
+            (D.is_honest from.new) (D.content from.new)
+            (E.is_honest to.new) (E.content to.new) meter.new self.new next) }
+        ensures added { OnOk result (AddsFrames (E.is_honest to.old)
+            (E.content to.old) (E.content to.new)) }
+        ensures left { IfErr result (LeavesFrames (E.is_honest to.old)
+            (E.content to.old) (E.content to.new)) }
+        ensures refused { IfErr result (λ f. WhenHonest (D.is_honest from.old)
+            (IsRunFault (setting job.now) (D.content from.old) f)) }
+        ensures less { IfOk result (λ next.
+            work (setting job.now) self.new next < work (setting job.now) self.old (Some node)) }
+        ensures begun { self.new.begun ≡ self.old.begun }
+        ensures rises { meter.old ≤ meter.new }
+        ensures content { LeavesContent (D.is_honest from.old)
+            (D.content from.old) (D.content from.new) }
+        ensures from_persists { Persists (D.is_honest from.old) (D.is_honest from.new)
+            (D.failures from.old) (D.failures from.new) ⊥ }
+        ensures to_persists { Persists (E.is_honest to.old) (E.is_honest to.new)
+            (E.failures to.old) (E.failures to.new) ⊥ }
+        // D1 only where the number of failures rose on one of the two
+        ensures cause { IsErrOf result RunFault.Device →
+            HasRisen (D.failures from.old) (D.failures from.new)
+            ⊎ HasRisen (E.failures to.old) (E.failures to.new) }
+    {
+        match job.instruction(node) {
+            Instr::Get(place) => Ok(Some(self.get(alloc, job, node, place, from)?)),
+            Instr::Set {
+                place: _,
+                attr: _,
+                rule,
+            } => Ok(Some(self.give(alloc, job, node, rule, meter)?)),
+            Instr::Def { attr: _, rule } => Ok(Some(self.give(alloc, job, node, rule, meter)?)),
+            Instr::Go(place) => Ok(Some(self.enter(job, node, place)?)),
+            Instr::Put(place) => Ok(Some(self.put(job, node, place, to)?)),
+            Instr::End => self.end(job, node, to),
+        }
+    }
+}

@@ -1,0 +1,57 @@
+//! One pass over a tree file, with a stack of its own.
+
+ghost use Rattle.std.specs.Prelude.{◌≡◌, ◌≤◌, ◌⊎◌, None, Some, IfErr, IsErrOf, OnOk};
+ghost use Rattle.passrun.specs.passing.Ahead.{IsRunFault};
+ghost use Rattle.passrun.specs.laid.Jobs.{CanRun, setting};
+ghost use Rattle.passrun.specs.passing.Putting.{AddsFrames, LeavesFrames};
+ghost use Rattle.passrun.specs.passing.Running.{Runs};
+ghost use Rattle.treefile.specs.devices.Device.{HasRisen, LeavesContent, Persists, WhenHonest};
+
+use crate::laid::job::Job;
+use crate::passing::machine::Machine;
+use crate::passing::open_node::OpenNode;
+use crate::run_fault::RunFault;
+use ag_eval::Meter;
+use std::alloc::Global;
+use treefile::Device;
+
+/// Runs a pass from its root's node until that is done.
+pub(crate) fn run<D: Device, E: Device>(
+    alloc: Global,
+    job: &Job<'_>,
+    machine: &mut Machine,
+    root: OpenNode,
+    from: &mut D,
+    to: &mut E,
+    meter: &mut Meter,
+) -> Result<(), RunFault>
+    requires job { CanRun job.now }
+    requires runs { Runs (setting job.now) (D.is_honest from.old) (D.content from.old)
+        (E.is_honest to.old) (E.content to.old) meter.old machine.old (Some root) }
+    ensures runs { OnOk result (Runs (setting job.now) (D.is_honest from.new) (D.content from.new)
+        (E.is_honest to.new) (E.content to.new) meter.new machine.new None) }
+    ensures added { OnOk result (AddsFrames (E.is_honest to.old)
+        (E.content to.old) (E.content to.new)) }
+    ensures left { IfErr result (LeavesFrames (E.is_honest to.old)
+        (E.content to.old) (E.content to.new)) }
+    ensures refused { IfErr result (λ f. WhenHonest (D.is_honest from.old)
+        (IsRunFault (setting job.now) (D.content from.old) f)) }
+    ensures begun { OnOk result (machine.new.begun ≡ machine.old.begun) }
+    ensures rises { meter.old ≤ meter.new }
+    ensures content { LeavesContent (D.is_honest from.old)
+        (D.content from.old) (D.content from.new) }
+    ensures from_persists { Persists (D.is_honest from.old) (D.is_honest from.new)
+        (D.failures from.old) (D.failures from.new) ⊥ }
+    ensures to_persists { Persists (E.is_honest to.old) (E.is_honest to.new)
+        (E.failures to.old) (E.failures to.new) ⊥ }
+    // D1 only where the number of failures rose on one of the two
+    ensures cause { IsErrOf result RunFault.Device →
+        HasRisen (D.failures from.old) (D.failures from.new)
+        ⊎ HasRisen (E.failures to.old) (E.failures to.new) }
+{
+    let mut next = Some(root);
+    while let Some(node) = next {
+        next = machine.step(alloc, job, node, from, to, meter)?;
+    }
+    Ok(())
+}

@@ -1,0 +1,5 @@
+//! Reading the records of a tree file.
+
+pub mod fetching;
+pub mod old_record;
+pub mod record;

@@ -1,0 +1,61 @@
+//! Fetching the record of an item: the next body of the file that a pass reads from its end.
+
+ghost use Rattle.std.specs.Prelude.{◌≡◌, ◌≤◌, None, IfErr, IfOk, IsErrOf};
+ghost use Rattle.backreader.specs.Place.{IsOver};
+ghost use Rattle.passrun.specs.reading.Fetching.{HasFetched, IsUnfetched};
+ghost use Rattle.passrun.specs.laid.Jobs.{CanRun, setting};
+ghost use Rattle.treefile.specs.devices.Device.{LeavesContent, Persists, WhenHonest};
+ghost use Rattle.treefile.specs.records.TreeFile.{version_two};
+
+use crate::laid::job::Job;
+use crate::reading::record::{RecordFault, read_record};
+use crate::run_fault::RunFault;
+use ag_grammar::Item;
+use ag_grammar::limits::{MOST_DEPTH, MOST_NODES};
+use ag_value::Value;
+use backreader::Back;
+use std::alloc::Global;
+use treefile::Device;
+
+/// Fetches the record of an item that stands below so many open nodes: its row comes behind the
+/// values. The number in the record.
+#[inline(always)]
+pub(crate) fn fetch<D: Device>(
+    alloc: Global,
+    job: &Job<'_>,
+    item: Item,
+    open_count: usize,
+    back: &mut Back,
+    values: &mut Vec<Value>,
+    from: &mut D,
+) -> Result<u16, RunFault>
+    requires job { CanRun job.now }
+    requires over { WhenHonest (D.is_honest from.old) (IsOver (D.content from.old) back.old) }
+    requires version { back.old.progress.version ≡ version_two }
+    requires unbroken { back.old.progress.fault ≡ None }
+    ensures fetched { IfOk result (λ p. HasFetched (setting job.now) item p open_count
+        (D.is_honest from.old) (D.content from.old) back.old back.new
+        values.old.items values.new.items) }
+    ensures refused { IfErr result (λ f. WhenHonest (D.is_honest from.old)
+        (IsUnfetched (setting job.now) item open_count (D.content from.old) back.old f)) }
+    ensures content { LeavesContent (D.is_honest from.old)
+        (D.content from.old) (D.content from.new) }
+    ensures persists { Persists (D.is_honest from.old) (D.is_honest from.new)
+        (D.failures from.old) (D.failures from.new) (IsErrOf result RunFault.Device) }
+{
+    if open_count >= MOST_DEPTH {
+        return Err(RunFault::TooDeep);
+    }
+    if back.records() >= u64::from(MOST_NODES) {
+        return Err(RunFault::TooManyNodes);
+    }
+    let end = back.end();
+    let Some(body) = back.back(from)? else {
+        return Err(RunFault::Damaged(end));
+    };
+    match read_record(alloc, job, item, body, values) {
+        Ok(number) => Ok(number),
+        Err(RecordFault::Damaged) => Err(RunFault::Damaged(end)),
+        Err(RecordFault::NoMemory) => Err(RunFault::NoMemory),
+    }
+}

@@ -1,0 +1,49 @@
+//! Records of version 1 and pass 0: a node has its production alone, and a token its text.
+
+ghost use Rattle.std.specs.Prelude.{◌≡◌, IfOk, IsErrOf};
+ghost use Rattle.passrun.specs.Upgrading.{IsOf, body_in};
+ghost use Rattle.passrun.specs.declared.reading.old_record.OldRecord.{OldRecord as TheOldRecord};
+
+use crate::reading::record::{RecordFault, node_in, text_in};
+use ag_grammar::{Grammar, Item, Terminal};
+use ag_value::Value;
+use std::alloc::Global;
+
+/// A record of version 1 and pass 0.
+#[derive(Drop)]
+pub(crate) enum OldRecord {
+    /// A node, by the number of its production.
+    Node(u16),
+    /// A token, by its class, with its text.
+    Token(u16, Value),
+}
+
+/// The record of an item that a body is.
+///
+/// Damaged where it is none: of a production of the symbol with nothing behind it, or of a token of
+/// the class.
+pub(crate) fn old_record(
+    alloc: Global,
+    grammar: &Grammar,
+    item: Item,
+    body: &[u8],
+) -> Result<OldRecord, RecordFault>
+    ensures is { IfOk result (λ r. IsOf grammar.now item r) }
+    ensures same { IfOk result (λ r. body.now ≡ body_in r) }
+    ensures none { IsErrOf result RecordFault.Damaged → (r : TheOldRecord)
+        → IsOf grammar.now item r → body.now ≡ body_in r → ⊥ }
+{
+    match item {
+        Item::Symbol(symbol) => {
+            let Some((production, [])) = node_in(grammar, symbol, body) else {
+                return Err(RecordFault::Damaged);
+            };
+            Ok(OldRecord::Node(production))
+        }
+        Item::Terminal(Terminal::Class(class)) => {
+            let text = text_in(alloc, class, body)?;
+            Ok(OldRecord::Token(class, text))
+        }
+        Item::Terminal(Terminal::Literal(_)) => Err(RecordFault::Damaged),
+    }
+}

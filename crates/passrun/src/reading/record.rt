@@ -1,0 +1,269 @@
+//! Reading the body of a record: the values of a node, or the text of a token.
+
+ghost use Rattle.std.specs.Prelude.{◌≡◌, ◌≤◌, ◌-◌, [], IfOk, IfSome, IsErrOf, None, OnOk, length};
+ghost use Rattle.passrun.specs.laid.Jobs.{CanRun, setting};
+ghost use Rattle.passrun.specs.reading.Reading.{AreTaken, AreUntaken, IsNoNodeBody, IsNoRow, IsNodeBody};
+ghost use Rattle.passrun.specs.reading.Reading.{IsTaken, IsUntaken, IsNodeRead, IsNoNode};
+ghost use Rattle.passrun.specs.reading.Reading.{IsTextOf, IsTokenRead, IsNoToken, IsRead, IsNoRecord};
+ghost use Rattle.passrun.specs.declared.reading.record.RecordFault.TheVariants as record_fault;
+ghost use Rattle.passrun.specs.Faults.{record_fault_of};
+ghost use Rattle.planchecker.specs.courses.Settings.{setting_of};
+
+use crate::laid::job::Job;
+use crate::laid::rows::row_passes;
+use ag_grammar::limits::MOST_TOKEN_BYTES;
+use ag_grammar::{Grammar, Item, Terminal};
+use ag_value::{NoMemory, Value, ValueFault, decode};
+use planchecker::Plan;
+use std::alloc::{AllocError, AllocFailed, Global};
+use treefile::{Kind, split_body};
+
+/// Why no record was read.
+#[derive(Clone, Copy, Debug, PartialEq, Eq)]
+pub enum RecordFault {
+    /// The body is no record of what is expected.
+    Damaged,
+    /// A growth was refused.
+    NoMemory,
+}
+
+impl From<ValueFault> for RecordFault {
+    ghost from_gives = { λ fault e. e ≡ record_fault_of fault };
+
+    fn from(fault: ValueFault) -> RecordFault {
+        match fault {
+            ValueFault::Malformed => RecordFault::Damaged,
+            ValueFault::NoMemory => RecordFault::NoMemory,
+        }
+    }
+}
+
+impl From<AllocError> for RecordFault {
+    ghost from_gives = { λ _ e. e ≡ record_fault.NoMemory };
+
+    fn from(_error: AllocError) -> RecordFault {
+        RecordFault::NoMemory
+    }
+}
+
+impl From<NoMemory> for RecordFault {
+    ghost from_gives = { λ _ e. e ≡ record_fault.NoMemory };
+
+    fn from(_error: NoMemory) -> RecordFault {
+        RecordFault::NoMemory
+    }
+}
+
+impl<T: Drop> From<AllocFailed<T>> for RecordFault {
+    ghost from_gives = { λ _ e. e ≡ record_fault.NoMemory };
+
+    fn from(_error: AllocFailed<T>) -> RecordFault {
+        RecordFault::NoMemory
+    }
+}
+
+/// Takes the value of an attribute of a pass: from the bytes where an earlier pass gave it, and a
+/// number in its place where pass k is to give it.
+#[inline(always)]
+fn take_value<'b>(
+    alloc: Global,
+    pass: u16,
+    k: u16,
+    bytes: &'b [u8],
+    values: &mut Vec<Value>,
+) -> Result<&'b [u8], RecordFault>
+    requires { 1 ≤ k }
+    ensures taken { IfOk result (λ rest. IsTaken (k - 1) k pass bytes.now rest.now
+        values.old.items values.new.items) }
+    ensures untaken { IsErrOf result RecordFault.Damaged → IsUntaken (k - 1) pass bytes.now }
+{
+    if pass < k {
+        let (value, length) = decode(alloc, bytes)?;
+        values.push(value)?;
+        return Ok(&bytes[length..]);
+    }
+    if pass == k {
+        values.push(Value::Num(0))?;
+        return Ok(bytes);
+    }
+    Ok(bytes)
+}
+
+/// Takes the values of attributes with these passes from the front of the bytes: numbers stand in the
+/// places of those that pass k is to give. The bytes behind them.
+fn take_values<'b>(
+    alloc: Global,
+    passes: &[u16],
+    k: u16,
+    bytes: &'b [u8],
+    values: &mut Vec<Value>,
+) -> Result<&'b [u8], RecordFault>
+    requires { 1 ≤ k }
+    ensures taken { IfOk result (λ rest. AreTaken (k - 1) k passes.now bytes.now rest.now
+        values.old.items values.new.items) }
+    ensures untaken { IsErrOf result RecordFault.Damaged
+        → AreUntaken (k - 1) passes.now bytes.now }
+{
+    let mut rest = bytes;
+    for pass in passes {
+        rest = take_value(alloc, *pass, k, rest, values)?;
+    }
+    Ok(rest)
+}
+
+/// Takes the row of a node whose values have these passes: no bytes may be left behind it.
+fn take_row(
+    alloc: Global,
+    passes: &[u16],
+    k: u16,
+    bytes: &[u8],
+    values: &mut Vec<Value>,
+) -> Result<(), RecordFault>
+    requires { 1 ≤ k }
+    ensures taken { OnOk result (AreTaken (k - 1) k passes.now bytes.now []
+        values.old.items values.new.items) }
+    ensures none { IsErrOf result RecordFault.Damaged → IsNoRow (k - 1) passes.now bytes.now }
+{
+    let rest = take_values(alloc, passes, k, bytes, values)?;
+    if !rest.is_empty() {
+        return Err(RecordFault::Damaged);
+    }
+    Ok(())
+}
+
+/// The number of the production of a symbol's node in a body, and the spellings behind it; none where
+/// the body is that of no node of the symbol.
+#[inline(always)]
+pub(crate) fn node_in<'b>(grammar: &Grammar, symbol: u16, body: &'b [u8]) -> Option<(u16, &'b [u8])>
+    ensures some { IfSome result (λ found.
+        IsNodeBody grammar.now symbol found.0 found.1.now body.now) }
+    ensures none { result ≡ None → IsNoNodeBody grammar.now symbol body.now }
+    ensures few { length grammar.now.productions ≤ 65536 }
+{
+    let productions = grammar.productions();
+    let Some((Kind::Node, number, spellings)) = split_body(body) else {
+        return None;
+    };
+    let production = productions.get(number as usize)?;
+    if production.left != symbol {
+        return None;
+    }
+    Some((number, spellings))
+}
+
+/// Reads the body of a node of a symbol from the file of pass k - 1: its row goes to the values, its
+/// own first and then the copies of its children's; those of pass k, which are still to come, are
+/// numbers. Gives the number of the node's production.
+///
+/// Damaged where the body is no record of a node of the symbol in the file of that pass: of a
+/// production of it, with as many well values as it has attributes of passes before k and its
+/// children have in copies, and with no bytes behind them. NoMemory where a growth was refused. After
+/// a refusal the values have a beginning of a row more, or none. Takes memory for what is read, and
+/// for the passes of the production's values.
+pub fn read_node(
+    alloc: Global,
+    grammar: &Grammar,
+    plan: &Plan,
+    k: u16,
+    symbol: u16,
+    body: &[u8],
+    values: &mut Vec<Value>,
+) -> Result<u16, RecordFault>
+    requires { 1 ≤ k }
+    ensures read { IfOk result (λ p. IsNodeRead (setting_of grammar.now plan.now k) symbol p
+        body.now values.old.items values.new.items) }
+    ensures none { IsErrOf result RecordFault.Damaged →
+        IsNoNode (setting_of grammar.now plan.now k) symbol body.now }
+{
+    let Some((number, spellings)) = node_in(grammar, symbol, body) else {
+        return Err(RecordFault::Damaged);
+    };
+    let production = &grammar.productions()[number as usize];
+    let passes = row_passes(alloc, grammar, plan, production)?;
+    take_row(alloc, passes.as_slice(), k, spellings, values)?;
+    Ok(number)
+}
+
+/// The same in a pass, which has laid out the passes of each production's values.
+#[inline(always)]
+fn read_laid_node(
+    alloc: Global,
+    job: &Job<'_>,
+    symbol: u16,
+    body: &[u8],
+    values: &mut Vec<Value>,
+) -> Result<u16, RecordFault>
+    requires { CanRun job.now }
+    ensures read { IfOk result (λ p. IsNodeRead (setting job.now) symbol p
+        body.now values.old.items values.new.items) }
+    ensures none { IsErrOf result RecordFault.Damaged → IsNoNode (setting job.now) symbol body.now }
+{
+    let Some((number, spellings)) = node_in(job.grammar, symbol, body) else {
+        return Err(RecordFault::Damaged);
+    };
+    let row = job.row(number);
+    take_row(alloc, row.passes.as_slice(), job.pass, spellings, values)?;
+    Ok(number)
+}
+
+/// The text in the body of a token of a class.
+#[inline(always)]
+pub(crate) fn text_in(alloc: Global, class: u16, body: &[u8]) -> Result<Value, RecordFault>
+    ensures text { IfOk result (λ v. IsTextOf class body.now v) }
+    ensures none { IsErrOf result RecordFault.Damaged → IsNoToken class body.now }
+{
+    let Some((Kind::Token, number, spelling)) = split_body(body) else {
+        return Err(RecordFault::Damaged);
+    };
+    let (value, length) = decode(alloc, spelling)?;
+    if number != class || length != spelling.len() {
+        return Err(RecordFault::Damaged);
+    }
+    let Value::Text(text) = value else {
+        return Err(RecordFault::Damaged);
+    };
+    if text.as_str().len() > MOST_TOKEN_BYTES {
+        return Err(RecordFault::Damaged);
+    }
+    Ok(Value::Text(text))
+}
+
+/// Reads the body of a token of a class: its text goes to the values.
+#[inline(always)]
+fn read_token(
+    alloc: Global,
+    class: u16,
+    body: &[u8],
+    values: &mut Vec<Value>,
+) -> Result<(), RecordFault>
+    ensures read { OnOk result (IsTokenRead class body.now values.old.items values.new.items) }
+    ensures none { IsErrOf result RecordFault.Damaged → IsNoToken class body.now }
+{
+    let text = text_in(alloc, class, body)?;
+    values.push(text)?;
+    Ok(())
+}
+
+/// Reads the body of what an item asks for: its row goes to the values. The number in the record.
+#[inline(always)]
+pub(crate) fn read_record(
+    alloc: Global,
+    job: &Job<'_>,
+    item: Item,
+    body: &[u8],
+    values: &mut Vec<Value>,
+) -> Result<u16, RecordFault>
+    requires { CanRun job.now }
+    ensures read { IfOk result (λ p. IsRead (setting job.now) item p
+        body.now values.old.items values.new.items) }
+    ensures none { IsErrOf result RecordFault.Damaged → IsNoRecord (setting job.now) item body.now }
+{
+    match item {
+        Item::Symbol(symbol) => read_laid_node(alloc, job, symbol, body, values),
+        Item::Terminal(Terminal::Class(class)) => {
+            read_token(alloc, class, body, values)?;
+            Ok(class)
+        }
+        Item::Terminal(Terminal::Literal(_)) => Err(RecordFault::Damaged),
+    }
+}

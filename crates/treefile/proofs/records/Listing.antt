@@ -1,0 +1,184 @@
+-- The values of a record as a list.
+use Rattle.std.proofs.Common.{◌≡◌, ℕ, zero, suc, ◌+◌, ◌≤◌, Bool, true, false, cond, List, [], ◌∷◌, ◌++◌, length, take, drop, None, All, slice_get, refl, ap, sym, subst, ◌∙◌, append_assoc, length-append, length-drop, length-take-le, take-append-drop, arith}
+use Rattle.std.specs.Prelude.{nat_le}
+use Rattle.std.specs.List.{flat_map}
+use Rattle.std.proofs.lemmas.Bool.{le-leb}
+use Rattle.std.proofs.lemmas.List.{drop_at}
+use Rattle.std.proofs.lemmas.List.Elements.{All-append, All-drop, All-head, All-tail, All-take}
+use Rattle.ag_value.specs.declared.value.Value.{Value}
+use Rattle.ag_value.specs.Spelling.{spelling_of}
+use Rattle.ag_value.specs.Well.{IsWell}
+use Rattle.ag_grammar.specs.declared.grammar.Item.TheVariants as item
+use Rattle.ag_grammar.specs.declared.grammar.Item.{Item}
+use Rattle.ag_grammar.specs.declared.grammar.Production.{Production}
+use Rattle.ag_grammar.specs.grammars.AttributeGrammar.{Grammar, stored_items}
+use Rattle.ag_grammar.specs.grammars.Passes.{Passes}
+use Rattle.ag_grammar.specs.grammars.Solution.{WellAt, left_passes}
+use Rattle.treefile.specs.ways.Awaited.{AreCopies, Child, IsRecordOf, told}
+use Rattle.treefile.specs.Laws.{BytesAreLeft, ListedRecord, ValueIsMissing}
+use Rattle.treefile.specs.records.Listed.{IsListedRecord, count_up_to, first_of_values, others_of_values, placed, stored_count}
+use Rattle.treefile.specs.records.Records.{values_up_to, with_copies}
+use Rattle.treefile.specs.records.TreeFile.{Version, body_of}
+use Rattle.treefile.specs.declared.body.Kind.TheVariants.{Node}
+use Rattle.treefile.proofs.records.Spelled.{spelled_apart}
+use Rattle.treefile.proofs.records.Values.{count_of_values, values_well}
+
+-- a list of one value more
+placed_more : (k : ℕ) (ps : List ℕ) (vs : List Value) (n : ℕ) → length vs ≡ suc n → (length (others_of_values vs) ≡ n) × (first_of_values vs ∷ others_of_values vs ≡ vs)
+placed_more k ps [] n e = absurd (omega arith)
+placed_more k ps (v ∷ vs) n e = (omega arith, refl)
+
+-- the values up to a pass, of values that were placed
+values_of_placed : (k : ℕ) (ps : List ℕ) (vs : List Value) → length vs ≡ count_up_to k ps → values_up_to k ps (placed k ps vs) ≡ vs
+values_of_placed k [] [] e = refl
+values_of_placed k [] (v ∷ vs) e = absurd (omega arith)
+values_of_placed k (p ∷ ps) vs e = by_test (nat_le p k) e (λ ws. values_of_placed k ps ws)
+  where
+    by_test : (b : Bool) → length vs ≡ cond b 1 0 + count_up_to k ps → ((ws : List Value) → length ws ≡ count_up_to k ps → values_up_to k ps (placed k ps ws) ≡ ws) → cond b (first_of_values vs ∷ []) [] ++ values_up_to k ps (placed k ps (cond b (others_of_values vs) vs)) ≡ vs
+    by_test true e later = let more = placed_more k ps vs (count_up_to k ps) (omega arith) in ap (λ (ws : List Value). first_of_values vs ∷ ws) (later (others_of_values vs) more.0) ∙ more.1
+    by_test false e later = later vs (omega arith)
+
+-- the parts of well values are well
+others_well : (vs : List Value) → All IsWell vs → All IsWell (others_of_values vs)
+others_well [] all = all
+others_well (v ∷ vs) all = All-tail IsWell v vs all
+
+first_well : (vs : List Value) (n : ℕ) → length vs ≡ suc n → All IsWell vs → IsWell (first_of_values vs)
+first_well [] n e all = absurd (omega arith)
+first_well (v ∷ vs) n e all = All-head IsWell v vs all
+
+-- well values that were placed are well where the pass is at most k
+placed_well : (k : ℕ) (ps : List ℕ) (vs : List Value) → length vs ≡ count_up_to k ps → All IsWell vs → WellAt (λ p. p ≤ k) ps (placed k ps vs) (placed k ps vs)
+placed_well k [] vs e all a p is le = absurd (let bad : ⊥ = cc in bad)
+placed_well k (p ∷ ps) vs e all zero q is le =
+    let same : p ≡ q = cc in
+    let test : nat_le p k ≡ true = le-leb p k (subst (λ n. n ≤ k) (sym same) le) in
+    let one : length vs ≡ 1 + count_up_to k ps = subst (λ b. length vs ≡ cond b 1 0 + count_up_to k ps) test e in
+    first_well vs (count_up_to k ps) (omega (arith, one)) all
+placed_well k (p ∷ ps) vs e all (suc a) q is le = by_test (nat_le p k) e (λ ws f g. placed_well k ps ws f g a q is le)
+  where
+    by_test : (b : Bool) → length vs ≡ cond b 1 0 + count_up_to k ps → ((ws : List Value) → length ws ≡ count_up_to k ps → All IsWell ws → IsWell (placed k ps ws a)) → IsWell (placed k ps (cond b (others_of_values vs) vs) a)
+    by_test true e later = later (others_of_values vs) (placed_more k ps vs (count_up_to k ps) (omega arith)).0 (others_well vs all)
+    by_test false e later = later vs (omega arith) all
+
+-- a record's own values and its copies, of a list of them all
+abbrev own_of : Bool → ℕ → List Value → List Value
+own_of false n vs = vs
+own_of true n vs = take n vs
+
+abbrev copies_in : Bool → ℕ → List Value → List Value
+copies_in false n vs = []
+copies_in true n vs = drop n vs
+
+parted : (has : Bool) (g : Grammar) (m : Passes) (k : ℕ) (q : Production) (vs : List Value) → length vs ≡ stored_count has g m k q → (length (own_of has (count_up_to k (m q.left)) vs) ≡ count_up_to k (m q.left)) × (with_copies has (own_of has (count_up_to k (m q.left)) vs) (copies_in has (count_up_to k (m q.left)) vs) ≡ vs)
+parted false g m k q vs count = (count, refl)
+parted true g m k q vs count = (length-take-le (count_up_to k (m q.left)) vs (omega arith), take-append-drop (count_up_to k (m q.left)) vs)
+
+own_well : (has : Bool) (n : ℕ) (vs : List Value) → All IsWell vs → All IsWell (own_of has n vs)
+own_well false n vs all = all
+own_well true n vs all = All-take IsWell n vs all
+
+are_copies_in : (has : Bool) (g : Grammar) (m : Passes) (k : ℕ) (q : Production) (vs : List Value) → length vs ≡ stored_count has g m k q → All IsWell vs → AreCopies has g m k (stored_items q.items) (copies_in has (count_up_to k (m q.left)) vs)
+are_copies_in false g m k q vs count all = refl
+are_copies_in true g m k q vs count all = (omega (arith, length-drop (count_up_to k (m q.left)) vs), All-drop IsWell (count_up_to k (m q.left)) vs all)
+
+-- what is told by these copies
+told_in : (has : Bool) (g : Grammar) (m : Passes) (k n : ℕ) (xs : List Item) (vs : List Value) → told has g m k xs (copies_in has n vs) ≡ told has g m k xs (drop n vs)
+told_in true g m k n xs vs = refl
+told_in false g m k n [] vs = refl
+told_in false g m k n (x ∷ xs) vs = ap (λ (ys : List Child). (x, None) ∷ ys) (told_nothing xs)
+  where
+    told_nothing : (xs : List Item) → told false g m k xs [] ≡ told false g m k xs (drop n vs)
+    told_nothing [] = refl
+    told_nothing (x ∷ xs) = ap (λ (ys : List Child). (x, None) ∷ ys) (told_nothing xs)
+
+-- a listed record is a record, and each record is listed
+module _ (version : Version) (g : Grammar) (m : Passes) (k s : ℕ) (body : List ℕ) where
+  is_record : (p : ℕ) (q : Production) (vs : List Value) → IsListedRecord version g m k s body p q vs → IsRecordOf version g m k (item.Symbol s, None) body (told version.has_copies g m k (stored_items q.items) (drop (count_up_to k (m s)) vs))
+  is_record p q vs is =
+      let has = version.has_copies in
+      let n = count_up_to k (m q.left) in
+      let passes : left_passes m (slice_get g.productions p) ≡ m s = ap (left_passes m) is.production ∙ ap m is.left in
+      let symbol : m q.left ≡ m s = ap m is.left in
+      let parts = parted has g m k q vs is.count in
+      let own = own_of has n vs in
+      let long : length own ≡ count_up_to k (m s) = parts.0 ∙ ap (count_up_to k) symbol in
+      let values : values_up_to k (left_passes m (slice_get g.productions p)) (placed k (m s) own) ≡ own = ap (λ ps. values_up_to k ps (placed k (m s) own)) passes ∙ values_of_placed k (m s) own long in (
+        p,
+        q,
+        placed k (m s) own,
+        record {
+          production = is.production;
+          left = is.left;
+          well = placed_well k (m s) own long (own_well has n vs is.well);
+          copies = copies_in has n vs;
+          are_copies = are_copies_in has g m k q vs is.count is.well;
+          stands = is.stands ∙ ap (body_of Node p) (sym parts.1 ∙ ap (λ (zs : List Value). with_copies has zs (copies_in has n vs)) (sym values));
+        },
+        sym (told_in has g m k n (stored_items q.items) vs ∙ ap (λ ps. told has g m k (stored_items q.items) (drop (count_up_to k ps) vs)) symbol),
+        tt,
+      )
+
+  is_listed : (ys : List Child) → IsRecordOf version g m k (item.Symbol s, None) body ys → (p : ℕ) × (q : Production) × (vs : List Value) × IsListedRecord version g m k s body p q vs × (ys ≡ told version.has_copies g m k (stored_items q.items) (drop (count_up_to k (m s)) vs))
+  is_listed ys is =
+      let p = is.0 in
+      let q = is.1 in
+      let e = is.2 in
+      let has = version.has_copies in
+      let own = values_up_to k (m s) e in
+      let passes : left_passes m (slice_get g.productions p) ≡ m s = ap (left_passes m) is.3.production ∙ ap m is.3.left in
+      let counted : length own ≡ count_up_to k (m q.left) = count_of_values k (m s) e ∙ ap (λ z. count_up_to k (m z)) (sym is.3.left) in
+      let stored = listed_parts has g m k q own is.3.copies counted is.3.are_copies (values_well k (m s) e is.3.well) in (
+        p,
+        q,
+        with_copies has own is.3.copies,
+        record {
+          production = is.3.production;
+          left = is.3.left;
+          count = stored.0;
+          well = stored.1;
+          stands = is.3.stands ∙ ap (λ ps. body_of Node p (with_copies has (values_up_to k ps e) is.3.copies)) passes;
+        },
+        is.4 ∙ stored.2 ∙ ap (λ z. told has g m k (stored_items q.items) (drop (count_up_to k (m z)) (with_copies has own is.3.copies))) is.3.left,
+      )
+    where
+      listed_parts : (has : Bool) (g : Grammar) (m : Passes) (k : ℕ) (q : Production) (own cs : List Value) → length own ≡ count_up_to k (m q.left) → AreCopies has g m k (stored_items q.items) cs → All IsWell own → (length (with_copies has own cs) ≡ stored_count has g m k q) × All IsWell (with_copies has own cs) × (told has g m k (stored_items q.items) cs ≡ told has g m k (stored_items q.items) (drop (count_up_to k (m q.left)) (with_copies has own cs)))
+      listed_parts false g m k q own cs count are well = (count, well, ap (told false g m k (stored_items q.items)) are ∙ told_in false g m k (count_up_to k (m q.left)) (stored_items q.items) own)
+      listed_parts true g m k q own cs count are well = (
+        omega (arith, length-append own cs, are.0),
+        All-append IsWell own cs well are.1,
+        ap (told true g m k (stored_items q.items)) (sym (drop_at own cs (count_up_to k (m q.left)) count)),
+      )
+
+pub listed_record : ListedRecord
+listed_record version g m k s body ys = (is_listed version g m k s body ys, λ is. subst (IsRecordOf version g m k (item.Symbol s, None) body) (sym is.4) (is_record version g m k s body is.0 is.1 is.2 is.3))
+
+-- behind values that were read of the spellings of others stand the spellings of the rest
+read_on : (vs ws : List Value) (rest : List ℕ) → All IsWell vs → All IsWell ws → length vs ≤ length ws → flat_map spelling_of vs ++ rest ≡ flat_map spelling_of ws → (more : List Value) × (length ws ≡ length vs + length more) × All IsWell more × (rest ≡ flat_map spelling_of more)
+read_on [] ws rest a b le e = (ws, omega arith, b, e)
+read_on (v ∷ vs) [] rest a b le e = absurd (omega arith)
+read_on (v ∷ vs) (w ∷ ws) rest a b le e =
+    let apart = spelled_apart v w (flat_map spelling_of vs ++ rest) (flat_map spelling_of ws) (All-head IsWell v vs a) (All-head IsWell w ws b) (sym (append_assoc (spelling_of v) (flat_map spelling_of vs) rest) ∙ e) in
+    let later = read_on vs ws rest (All-tail IsWell v vs a) (All-tail IsWell w ws b) (omega arith) apart.1 in
+    let count = later.1 in
+    (later.0, omega arith, later.2, later.3)
+
+pub value_is_missing : ValueIsMissing
+value_is_missing bytes vs rest n read less begins is =
+    let count = is.1 in
+    let on = read_on vs is.0 rest read.well is.2 (omega arith) (sym read.split ∙ is.3) in
+    go on.0 on.1 on.2 on.3
+  where
+    go : (more : List Value) → length is.0 ≡ length vs + length more → All IsWell more → rest ≡ flat_map spelling_of more → ⊥
+    go [] count all e = let n = is.1 in omega arith
+    go (v ∷ more) count all e = begins v (flat_map spelling_of more) (All-head IsWell v more all) e
+
+pub bytes_are_left : BytesAreLeft
+bytes_are_left bytes vs rest n read all left is =
+    let count = is.1 in
+    let on = read_on vs is.0 rest read.well is.2 (omega arith) (sym read.split ∙ is.3) in
+    go on.0 on.1 on.3
+  where
+    go : (more : List Value) → length is.0 ≡ length vs + length more → rest ≡ flat_map spelling_of more → ⊥
+    go [] count e = let none : length rest ≡ 0 = ap length e in omega arith
+    go (v ∷ more) count e = let n = is.1 in omega arith

@@ -1,0 +1,27 @@
+-- How many bytes a body has at most.
+use Rattle.std.proofs.Common.{ℕ, ◌*◌, ◌≤◌, List, [], ◌∷◌, length, All, arith}
+use Rattle.std.specs.List.{flat_map}
+use Rattle.std.proofs.lemmas.List.{length-append}
+use Rattle.std.proofs.lemmas.List.Elements.{All-drop}
+use Rattle.ag_value.specs.declared.value.Value.{Value}
+use Rattle.ag_value.specs.Spelling.{spelling_of}
+use Rattle.ag_value.specs.Well.{IsWell}
+use Rattle.ag_value.proofs.Lengths.{length-spelling}
+use Rattle.treefile.specs.declared.body.Kind.{Kind}
+use Rattle.treefile.specs.records.TreeFile.{Version, body_of}
+use Rattle.treefile.specs.ways.Ending.{greatest_body}
+
+-- the spelling of a well value is as long as the value is heavy
+spelling_size : (value : Value) → IsWell value → length (spelling_of value) ≤ 1048576
+spelling_size value well = omega (arith, length-spelling value, well.light)
+
+spellings_size : (values : List Value) → All IsWell values → length (flat_map spelling_of values) ≤ length values * 1048576
+spellings_size [] all = omega arith
+spellings_size (value ∷ values) all =
+    let first : length (spelling_of value) ≤ 1048576 = spelling_size value (all 0 value (omega arith)) in
+    let others : length (flat_map spelling_of values) ≤ length values * 1048576 = spellings_size values (All-drop IsWell 1 (value ∷ values) all) in
+    omega (arith, length-append (spelling_of value) (flat_map spelling_of values))
+
+-- a kind, a number, and at most as many well values as the version allows
+pub body_size : (version : Version) (kind : Kind) (number : ℕ) (values : List Value) → length values ≤ version.most_values → All IsWell values → length (body_of kind number values) ≤ greatest_body version
+body_size version kind number values few all = omega (arith, spellings_size values all)

@@ -1,0 +1,7 @@
+-- Reading from the end of a file, and writing behind it.
+pub mod Backward
+pub mod Beginning
+pub mod Coming
+pub mod Files
+pub mod Root
+pub mod Way

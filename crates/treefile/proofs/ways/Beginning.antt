@@ -1,0 +1,76 @@
+-- What was put behind a content, one part behind another.
+use Rattle.std.proofs.Common.{◌≡◌, ℕ, ◌+◌, ◌⊎◌, inl, inr, List, [], ◌∷◌, ◌++◌, length, take, Result, Ok, Err, refl, ap, sym, ◌∙◌, append_assoc, append-nil}
+use Rattle.std.specs.List.{All, flat_map}
+use Rattle.std.proofs.Math.Seq.{take-append-add, take-length}
+use Rattle.std.proofs.lemmas.Grind.{flat_map-append}
+use Rattle.std.proofs.lemmas.List.Elements.{All-append, All-cons, All-nil}
+use Rattle.treefile.specs.ways.Beginning.{AddsFrames, BeginsFile, LeavesBeginning}
+use Rattle.treefile.specs.devices.Device.{AppendsFront}
+use Rattle.treefile.specs.ways.Ending.{IsBody}
+use Rattle.treefile.specs.records.TreeFile.{file, frame, header, version_two}
+use Rattle.treefile.specs.declared.writing.WriteFault.{WriteFault}
+use Rattle.treefile.specs.declared.writing.WriteFault.TheVariants as write_fault
+
+-- no body, and one
+no_body : All (IsBody version_two) []
+no_body = All-nil (IsBody version_two)
+
+one_body : (body : List ℕ) → IsBody version_two body → All (IsBody version_two) (body ∷ [])
+one_body body sound = All-cons (IsBody version_two) body [] sound no_body
+
+-- a beginning of the header, and frames behind all of it
+header_begins : (pass : ℕ) (content : List ℕ) → AppendsFront (header version_two pass) [] content → BeginsFile pass content
+header_begins pass content put = record { bodies = []; sound = no_body; front = (put.0, put.1 ∙ ap (take put.0) (sym (append-nil (header version_two pass)))) }
+
+pub not_begun : (pass : ℕ) (old now : List ℕ) (f : WriteFault) → (f ≡ write_fault.Device → (now ≡ old) ⊎ AppendsFront (header version_two pass) [] now) → (f ≡ write_fault.NoMemory → now ≡ []) → LeavesBeginning pass old now
+not_begun pass old now write_fault.Device failed want = elim (failed refl) [ inl same ↦ inl same | inr front ↦ inr (header_begins pass now front) ]
+not_begun pass old now write_fault.NoMemory failed want = inr (header_begins pass now (0, want refl))
+
+module _ (E : Type 0) where
+  -- nothing was put
+  pub none_added : (old : List ℕ) (r : Result (Unit {0}) E) → AddsFrames old old r
+  none_added old (Ok u) = ([], no_body, sym (append-nil old))
+  none_added old (Err fault) = ([], no_body, (0, sym (append-nil old)))
+
+  -- some frames were put, and then what a step put
+  pub added : (old between now : List ℕ) (r : Result (Unit {0}) E) → AddsFrames {E = E} old between (Ok tt) → AddsFrames between now r → AddsFrames old now r
+  added old between now (Ok u) first next = (
+    first.0 ++ next.0,
+    All-append (IsBody version_two) first.0 next.0 first.1 next.1,
+    next.2 ∙ ap (λ (xs : List ℕ). xs ++ flat_map frame next.0) first.2 ∙ append_assoc old (flat_map frame first.0) (flat_map frame next.0) ∙ ap (λ (xs : List ℕ). old ++ xs) (sym (flat_map-append frame first.0 next.0)),
+  )
+  added old between now (Err fault) first next =
+      let before = flat_map frame first.0 in
+      let behind = flat_map frame next.0 in
+      let n = next.2.0 in (
+        first.0 ++ next.0,
+        All-append (IsBody version_two) first.0 next.0 first.1 next.1,
+        (length before + n, next.2.1 ∙ ap (λ (xs : List ℕ). xs ++ take n behind) first.2 ∙ append_assoc old before (take n behind) ∙ ap (λ (xs : List ℕ). old ++ xs) (sym (take-append-add before behind n) ∙ ap (take (length before + n)) (sym (flat_map-append frame first.0 next.0)))),
+      )
+
+  -- a frame was put, or not
+  pub one_added : (old now body : List ℕ) → IsBody version_two body → now ≡ old ++ frame body → AddsFrames {E = E} old now (Ok tt)
+  one_added old now body sound is = (body ∷ [], one_body body sound, is ∙ ap (λ (xs : List ℕ). old ++ xs) (sym (append-nil (frame body))))
+
+  pub one_refused : (old now body : List ℕ) (f : WriteFault) (fault : E) → IsBody version_two body → (f ≡ write_fault.Device → AppendsFront (frame body) old now) → (f ≡ write_fault.NoMemory → now ≡ old) → AddsFrames old now (Err fault)
+  one_refused old now body write_fault.Device fault sound front same =
+      let put = front refl in
+      (body ∷ [], one_body body sound, (put.0, put.1 ∙ ap (λ (xs : List ℕ). old ++ take put.0 xs) (sym (append-nil (frame body)))))
+  one_refused old now body write_fault.NoMemory fault sound front same = ([], no_body, (0, same refl ∙ sym (append-nil old)))
+
+  -- frames were put behind a header
+  pub frames_begin : (pass : ℕ) (old content : List ℕ) (r : Result (Unit {0}) E) → old ≡ header version_two pass → AddsFrames old content r → BeginsFile pass content
+  frames_begin pass old content (Ok u) is put = record {
+    bodies = put.0;
+    sound = put.1;
+    front =
+        let whole : content ≡ file version_two pass put.0 = put.2 ∙ ap (λ (xs : List ℕ). xs ++ flat_map frame put.0) is in
+        (length (file version_two pass put.0), whole ∙ sym (take-length (file version_two pass put.0)));
+  }
+  frames_begin pass old content (Err fault) is put =
+      let head = header version_two pass in
+      record {
+        bodies = put.0;
+        sound = put.1;
+        front = (length head + put.2.0, put.2.1 ∙ ap (λ (xs : List ℕ). xs ++ take put.2.0 (flat_map frame put.0)) is ∙ sym (take-append-add head (flat_map frame put.0) put.2.0));
+      }

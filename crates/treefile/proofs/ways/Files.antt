@@ -1,0 +1,88 @@
+-- The last body of a file.
+use Rattle.std.proofs.Common.{◌≡◌, ℕ, ◌+◌, ◌≤◌, ◌↔◌, Bool, true, false, cond, inl, inr, List, [], ◌∷◌, ◌++◌, length, take, Ok, Err, refl, sym, ap, ◌∙◌, append_assoc, arith}
+use Rattle.std.specs.Prelude.{nat_le, nat_eq}
+use Rattle.std.specs.Int.{w16, w32, to_be_bytes}
+use Rattle.std.specs.List.{flat_map, starts_with}
+use Rattle.std.specs.Bool.{Decides}
+use Rattle.std.proofs.lemmas.Bool.{and_from, and_parts, le-leb, leb-true}
+use Rattle.std.proofs.lemmas.Bool.Decides.{Decides-eqb}
+use Rattle.std.proofs.lemmas.List.{append-nil, length-append, take_at}
+use Rattle.std.proofs.lemmas.Grind.{flat_map-append}
+use Rattle.std.proofs.lemmas.Slice.Eq.{slice_eq-Decides}
+use Rattle.treefile.specs.declared.reading.FrameFault.TheVariants.{Damaged, NotATreeFile}
+use Rattle.treefile.specs.records.TreeFile.{Version, file, frame, header}
+use Rattle.treefile.specs.ways.Ending.{IsUsable, body_before, greatest_body, header_bytes, is_tree_file, last_body_of, least_body}
+use Rattle.treefile.proofs.records.Frames.{answers, frame_is_read, none_before}
+
+-- the test of the first bytes tells whether they are those of the version
+begins_with : (version : Version) (content : List ℕ) → Decides (starts_with nat_eq content version.magic) (version.magic ≡ take (length version.magic) content)
+begins_with version content = slice_eq-Decides Decides-eqb version.magic (take (length version.magic) content) (starts_with nat_eq content version.magic) refl
+
+pub told_as_file : (version : Version) (content : List ℕ) → (is_tree_file version content ≡ true) ↔ ((header_bytes ≤ length content) × (take (length version.magic) content ≡ version.magic))
+unfolding is_tree_file
+told_as_file version content = (
+  λ told.
+      let both = and_parts (nat_le header_bytes (length content)) (starts_with nat_eq content version.magic) told in
+      (leb-true header_bytes (length content) both.0, sym ((begins_with version content).0 both.1)),
+  λ is. and_from (nat_le header_bytes (length content)) (starts_with nat_eq content version.magic) (le-leb header_bytes (length content) is.0) ((begins_with version content).1 (sym is.1)),
+)
+
+pub length-header : (version : Version) (pass : ℕ) → IsUsable version → length (header version pass) ≡ 6
+length-header version pass usable = omega (arith, usable.four, length-append version.magic (to_be_bytes w16 pass))
+
+-- what begins with a header is a tree file
+pub begins : (version : Version) (pass : ℕ) (rest : List ℕ) → IsUsable version → is_tree_file version (header version pass ++ rest) ≡ true
+begins version pass rest usable =
+    let long : header_bytes ≤ length (header version pass ++ rest) = omega (arith, length-header version pass usable, length-append (header version pass) rest) in
+    let first : take (length version.magic) (header version pass ++ rest) ≡ version.magic = rw append_assoc (take_at version.magic (to_be_bytes w16 pass ++ rest) (length version.magic) refl) in
+    (told_as_file version (header version pass ++ rest)).1 (long, first)
+
+-- a frame behind a header and anything
+last_behind : (version : Version) (pass : ℕ) (middle body : List ℕ) → IsUsable version → least_body ≤ length body → length body ≤ greatest_body version → last_body_of version (header version pass ++ (middle ++ frame body)) ≡ Ok body
+unfolding last_body_of
+last_behind version pass middle body usable least greatest =
+    let content = header version pass ++ (middle ++ frame body) in
+    let head : length (header version pass) ≡ 6 = length-header version pass usable in
+    let front : length (header version pass ++ middle) ≡ 6 + length middle = omega (arith, head, length-append (header version pass) middle) in
+    let stands : content ≡ (header version pass ++ middle) ++ (frame body ++ []) = simp (append-nil, append_assoc) in
+    let ends : length (header version pass ++ middle) + length body + 4 ≡ length content = omega (arith, head, front, length-append (header version pass) (middle ++ frame body), length-append middle (frame body), length-append body (to_be_bytes w32 (length body))) in
+    rw (begins version pass (middle ++ frame body) usable) (frame_is_read version content body (length content) usable (record {
+      front = header version pass ++ middle;
+      rest = [];
+      stands = stands;
+      ends = ends;
+      behind = omega (arith, front);
+      least = least;
+      greatest = greatest;
+    }))
+
+-- one body more is one frame more
+pub file_grows : (version : Version) (pass : ℕ) (bodies : List (List ℕ)) (body : List ℕ) → file version pass (bodies ++ body ∷ []) ≡ file version pass bodies ++ frame body
+file_grows version pass bodies body =
+    ap (λ (frames : List ℕ). header version pass ++ frames) (flat_map-append frame bodies (body ∷ []) ∙ ap (λ (last : List ℕ). flat_map frame bodies ++ last) (append-nil (frame body)))
+    ∙ sym (append_assoc (header version pass) (flat_map frame bodies) (frame body))
+
+pub last_of_file : (version : Version) (pass : ℕ) (bodies : List (List ℕ)) (body : List ℕ) → IsUsable version → least_body ≤ length body → length body ≤ greatest_body version → last_body_of version (file version pass (bodies ++ body ∷ [])) ≡ Ok body
+last_of_file version pass bodies body usable least greatest =
+    ap (last_body_of version) (file_grows version pass bodies body ∙ append_assoc (header version pass) (flat_map frame bodies) (frame body))
+    ∙ last_behind version pass (flat_map frame bodies) body usable least greatest
+
+pub none_of_header : (version : Version) (pass : ℕ) → IsUsable version → last_body_of version (file version pass []) ≡ Err (Damaged 6)
+unfolding last_body_of
+none_of_header version pass usable =
+    let content = file version pass [] in
+    let six : length content ≡ 6 = ap length (append-nil (header version pass)) ∙ length-header version pass usable in
+    rw (begins version pass [] usable) (none_before version content (length content) (omega arith) ∙ ap (λ (n : ℕ). Err (Damaged n)) six)
+
+-- where no frame ends, the end of the content is told
+pub damaged_at_end : (version : Version) (content : List ℕ) (at : ℕ) → last_body_of version content ≡ Err (Damaged at) → at ≡ length content
+unfolding last_body_of
+damaged_at_end version content at = told_by (is_tree_file version content)
+  where
+    told_by : (b : Bool) → cond b (body_before version content (length content)) (Err NotATreeFile) ≡ Err (Damaged at) → at ≡ length content
+    told_by false told = absurd cc
+    told_by true told =
+        elim (answers version content (length content)) [
+          | inl found ↦ let bad : Ok found.0 ≡ Err (Damaged at) = sym found.1 ∙ told in absurd cc
+          | inr end ↦ let same : Err (Damaged (length content)) ≡ Err (Damaged at) = sym end ∙ told in cc
+        ]
