@@ -1,3 +1,4 @@
+pub mod Additions
 pub mod Following
 pub mod Marks
 pub mod Noted

@@ -1,16 +1,23 @@
 -- One more mark, and what it leaves.
-use Rattle.std.proofs.Common.{ℕ, zero, suc, ◌⊎◌, Contains, ◌+◌, ◌≡◌, ◌<◌, ◌≤◌, Bool, true, false, ◌&&◌, List, [], ◌∷◌, ◌++◌, length, get_or, take, replicate, Some, slice_index, nat_eq, refl, sym, ◌∙◌, inl, inr, set, arith, length-set}
-use Rattle.std.proofs.lemmas.Bool.{cases_eq, false≢true}
+use Rattle.std.proofs.Common.{ℕ, zero, suc, ◌⊎◌, Contains, ◌+◌, ◌≡◌, ◌<◌, ◌≤◌, ◌↔◌, Bool, true, false, ◌&&◌, List, [], ◌∷◌, ◌++◌, length, get_or, take, replicate, count_by, Some, slice_get, slice_index, nat_eq, refl, sym, subst, ◌∙◌, inl, inr, set, arith, length-set}
+use Rattle.std.proofs.lemmas.Bool.{cases_eq, cases_lt, false≢true}
 use Rattle.std.proofs.lemmas.Bool.Decides.{nat_tests}
+use Rattle.std.proofs.lemmas.Grind.{common_steps}
 use Rattle.std.proofs.lemmas.List.{get_or-set_other, get_or-set_same, get_or_default, take_more}
-use Rattle.std.proofs.lemmas.List.Elements.{All-push, Contains-push_cases, Contains-get_or, All-contains, All-pop}
+use Rattle.std.proofs.lemmas.List.Elements.{Contains-push_cases, Contains-get_or, All-contains}
 use Rattle.std.proofs.lemmas.List.Sums.{AllPass-from_list_all}
-use Rattle.std.proofs.lemmas.Option.{slice_get-get_or, slice_get_within, get_or_from_slice_get}
+use Rattle.std.proofs.lemmas.Option.{slice_get-get_or, slice_get_within, slice_get_read, get_or_from_slice_get}
+use Rattle.std.proofs.Math.ListN.{length-append, get_or-eq_default}
 use Rattle.std.specs.List.{list_all}
+use Rattle.closure.specs.Additions.{IsAdded, IsReason}
+use Rattle.closure.specs.declared.addition.Addition.{Addition}
+use Rattle.closure.specs.declared.addition.Reason.{Reason}
+use Rattle.closure.specs.declared.addition.Reason.TheVariants as reason
 use Rattle.closure.specs.declared.clause.Clause.{Clause}
-use Rattle.closure.specs.Following.{Follows, is_marked}
+use Rattle.closure.specs.Following.{Follows, seed, is_marked}
 use Rattle.closure.specs.Search.{IsSearch, IsSettled, Grows}
 use Rattle.closure.specs.Waiting.{row}
+use Rattle.closure.proofs.Additions.{added_here, added_more, at_cases, at_end, in_front, order_more}
 use Rattle.closure.proofs.Following.{follows_in, head_follows}
 
 both : (a b : Bool) → (a && b) ≡ true → (a ≡ true) × (b ≡ true)
@@ -23,15 +30,15 @@ list_all-within s t le [] h = refl
 list_all-within s t le (x ∷ xs) h = let p = both (s x) (list_all s xs) h in rw (le x p.0) (list_all-within s t le xs p.1)
 
 -- a number that is not marked is open
-pub waits : (marks : List Bool) (work : List ℕ) (q : Clause) (n : ℕ) (d : ℕ) → n < length q.body → is_marked marks (get_or q.body n d) ≡ false → IsSettled marks work q
-waits marks work q n d lt h = inr (get_or q.body n d, Contains-get_or q.body n d lt, inl h)
+pub waits : (marks : List Bool) (added : List Addition) (v : ℕ) (q : Clause) (n : ℕ) (d : ℕ) → n < length q.body → is_marked marks (get_or q.body n d) ≡ false → IsSettled marks added v q
+waits marks added v q n d lt h = inr (get_or q.body n d, Contains-get_or q.body n d lt, inl h)
 
 -- the same in the words of the code
-pub waits_at : (marks : List Bool) (work : List ℕ) (clauses : List Clause) (clause : ℕ) (q : Clause) (body : List ℕ) (n : ℕ) (d : Clause) → clause < length clauses → body ≡ (get_or clauses clause q).body → n ≤ length body
-    → ((e : ℕ) → n < length body → is_marked marks (get_or body n e) ≡ false) → nat_eq n (length body) ≡ false → IsSettled marks work (get_or clauses clause d)
-waits_at marks work clauses clause q body n d inside is most stops differs =
+pub waits_at : (marks : List Bool) (added : List Addition) (v : ℕ) (clauses : List Clause) (clause : ℕ) (q : Clause) (body : List ℕ) (n : ℕ) (d : Clause) → clause < length clauses → body ≡ (get_or clauses clause q).body → n ≤ length body
+    → ((e : ℕ) → n < length body → is_marked marks (get_or body n e) ≡ false) → nat_eq n (length body) ≡ false → IsSettled marks added v (get_or clauses clause d)
+waits_at marks added v clauses clause q body n d inside is most stops differs =
     let lt : n < length body = grind (arith, nat_tests) in
-    rw (get_or_default clauses clause d q inside) (waits marks work (get_or clauses clause q) n 0 (rw (← is) lt) (rw (← is) (stops 0 lt)))
+    rw (get_or_default clauses clause d q inside) (waits marks added v (get_or clauses clause q) n 0 (rw (← is) lt) (rw (← is) (stops 0 lt)))
 
 marks_stay : (marks : List Bool) (u : ℕ) → u < length marks → (t : ℕ) → is_marked marks t ≡ true → is_marked (set marks u true) t ≡ true
 marks_stay marks u lt t h = elim (cases_eq t u) [
@@ -39,34 +46,70 @@ marks_stay marks u lt t h = elim (cases_eq t u) [
   | inr other ↦ get_or-set_other marks u t true false other ∙ h
 ]
 
--- a search goes on with a number marked that follows
-pub marked_more : (clauses : List Clause) (seeds : List ℕ) (marks : List Bool) (work passed : List ℕ) (u : ℕ) → u < length marks → Follows clauses seeds u → IsSearch clauses seeds marks work passed → IsSearch clauses seeds (set marks u true) (work ++ u ∷ []) passed
-marked_more clauses seeds marks work passed u lt productive search = record {
+count_one : (marks : List Bool) (k : ℕ) → k < length marks → is_marked marks k ≡ false → count_by (λ b. b) (set marks k true) ≡ count_by (λ b. b) marks + 1
+count_one marks k lt e = grind (arith, common_steps)
+
+-- what is added for a reason follows where what is there does
+reason_follows : (clauses : List Clause) (seeds : List ℕ) (there : ℕ → Type 0) → ((t : ℕ) → there t → Follows clauses seeds t) → (n : ℕ) (r : Reason) → IsReason clauses seeds there n r → Follows clauses seeds n
+reason_follows clauses seeds there follow n (reason.Seed i) h = seed (i, slice_get_within seeds i n h, get_or_from_slice_get seeds i n n h)
+reason_follows clauses seeds there follow n (reason.Clause p) h = subst (Follows clauses seeds) h.2 (head_follows clauses seeds p h.0 h.1 (λ k d lt. follow (get_or h.0.body k d) (h.3 k d lt)))
+
+-- a search goes on with a number added that was not, for a reason
+pub marked_more : (clauses : List Clause) (seeds : List ℕ) (marks : List Bool) (added : List Addition) (v : ℕ) (passed : List ℕ) (x : Addition) → x.number < length marks → is_marked marks x.number ≡ false → IsReason clauses seeds (IsAdded added) x.number x.reason → IsSearch clauses seeds marks added v passed
+    → IsSearch clauses seeds (set marks x.number true) (added ++ x ∷ []) v passed
+marked_more clauses seeds marks added v passed x lt new why search = record {
   below = rw length-set search.below;
   count = search.count;
-  work_below = rw length-set (All-push (λ t. t < length marks) work u search.work_below lt);
-  sound = λ t h. elim (cases_eq t u) [
-    | inl same ↦ rw same productive
-    | inr other ↦ search.sound t (sym (get_or-set_other marks u t true false other) ∙ h)
+  visited_within = let w = search.visited_within in let l = length-append added (x ∷ []) in omega arith;
+  len = length-append added (x ∷ []) ∙ (let c = count_one marks x.number lt new in let l = search.len in omega arith);
+  is_added = λ t. (
+    (λ h. elim (cases_eq t x.number) [
+      | inl same ↦ rw same (added_here added x)
+      | inr other ↦ added_more added x t ((search.is_added t).0 (sym (get_or-set_other marks x.number t true false other) ∙ h))
+    ]),
+    (λ h. elim (at_cases added x h.1 h.0 h.2) [
+      | inl old ↦ marks_stay marks x.number lt t ((search.is_added t).1 (h.0, h.1, old, h.3))
+      | inr last ↦ rw (← h.3, ← last.1) (get_or-set_same marks x.number true false lt)
+    ]),
+  );
+  order = order_more clauses seeds added x (λ h. false≢true (sym new ∙ (search.is_added x.number).1 h)) why search.order;
+  sound = λ t h. elim (cases_eq t x.number) [
+    | inl same ↦ rw same (reason_follows clauses seeds (IsAdded added) (λ u k. search.sound u ((search.is_added u).1 k)) x.number x.reason why)
+    | inr other ↦ search.sound t (sym (get_or-set_other marks x.number t true false other) ∙ h)
   ];
   within = search.within;
-  marked = λ p d inside. list_all-within (is_marked marks) (is_marked (set marks u true)) (marks_stay marks u lt) (take (slice_index passed p) (get_or clauses p d).body) (search.marked p d inside);
+  marked = λ p d inside. list_all-within (is_marked marks) (is_marked (set marks x.number true)) (marks_stay marks x.number lt) (take (slice_index passed p) (get_or clauses p d).body) (search.marked p d inside);
 }
 
--- the head of a clause whose body is marked follows
-pub marked_follows : (clauses : List Clause) (seeds : List ℕ) (marks : List Bool) → ((t : ℕ) → is_marked marks t ≡ true → Follows clauses seeds t) → (p : ℕ) (d : Clause) → p < length clauses → list_all (is_marked marks) (get_or clauses p d).body ≡ true → Follows clauses seeds (get_or clauses p d).head
-marked_follows clauses seeds marks sound p d lt h = head_follows clauses seeds p (get_or clauses p d) (slice_get-get_or clauses p d lt) (λ k e inside. sound (get_or (get_or clauses p d).body k e) (AllPass-from_list_all (is_marked marks) (get_or clauses p d).body h k e inside))
+-- what is open stays so with one more
+pub grows_one : (marks : List Bool) (added : List Addition) (v : ℕ) (x : Addition) → x.number < length marks → v ≤ length added → Grows v marks added (set marks x.number true) (added ++ x ∷ [])
+grows_one marks added v x lt most = record {
+  count = length-set marks x.number true;
+  marked = marks_stay marks x.number lt;
+  open_stays = λ t h. elim h [
+    | inl unmarked ↦ elim (cases_eq t x.number) [
+      | inl same ↦ inr (length added, x, most, at_end added x, sym same)
+      | inr other ↦ inl (get_or-set_other marks x.number t true false other ∙ unmarked)
+    ]
+    | inr w ↦ inr (w.0, w.1, w.2, in_front added x w.1 w.0 w.3, w.4)
+  ];
+}
+
+-- a clause whose body is marked is a reason to add its head
+pub clause_reason : (clauses : List Clause) (seeds : List ℕ) (marks : List Bool) (added : List Addition) → ((t : ℕ) → is_marked marks t ≡ true ↔ IsAdded added t) → (p : ℕ) (d : Clause) → p < length clauses → list_all (is_marked marks) (get_or clauses p d).body ≡ true → IsReason clauses seeds (IsAdded added) (get_or clauses p d).head (reason.Clause p)
+clause_reason clauses seeds marks added is p d lt h =
+    (get_or clauses p d, slice_get-get_or clauses p d lt, refl, λ k e inside. (is (get_or (get_or clauses p d).body k e)).0 (AllPass-from_list_all (is_marked marks) (get_or clauses p d).body h k e inside))
 
 -- a settled clause stays so
-pub settled_stays : (marks : List Bool) (work : List ℕ) (marks' : List Bool) (work' : List ℕ) → Grows marks work marks' work' → (q : Clause) → IsSettled marks work q → IsSettled marks' work' q
-settled_stays marks work marks' work' grows q (inl h) = inl (grows.marked q.head h)
-settled_stays marks work marks' work' grows q (inr w) = inr (w.0, w.1, grows.open_stays w.0 w.2)
+pub settled_stays : (v : ℕ) (marks : List Bool) (added : List Addition) (marks' : List Bool) (added' : List Addition) → Grows v marks added marks' added' → (q : Clause) → IsSettled marks added v q → IsSettled marks' added' v q
+settled_stays v marks added marks' added' grows q (inl h) = inl (grows.marked q.head h)
+settled_stays v marks added marks' added' grows q (inr w) = inr (w.0, w.1, grows.open_stays w.0 w.2)
 
-pub grows_none : (marks : List Bool) (work : List ℕ) → Grows marks work marks work
-grows_none marks work = record { count = refl; marked = λ t h. h; open_stays = λ t h. h }
+pub grows_none : (v : ℕ) (marks : List Bool) (added : List Addition) → Grows v marks added marks added
+grows_none v marks added = record { count = refl; marked = λ t h. h; open_stays = λ t h. h }
 
-pub grows_on : (a : List Bool) (v : List ℕ) (b : List Bool) (w : List ℕ) (c : List Bool) (x : List ℕ) → Grows a v b w → Grows b w c x → Grows a v c x
-grows_on a v b w c x m n = record { count = n.count ∙ m.count; marked = λ t h. n.marked t (m.marked t h); open_stays = λ t h. n.open_stays t (m.open_stays t h) }
+pub grows_on : (v : ℕ) (a : List Bool) (x : List Addition) (b : List Bool) (y : List Addition) (c : List Bool) (z : List Addition) → Grows v a x b y → Grows v b y c z → Grows v a x c z
+grows_on v a x b y c z m n = record { count = n.count ∙ m.count; marked = λ t h. n.marked t (m.marked t h); open_stays = λ t h. n.open_stays t (m.open_stays t h) }
 
 -- one more seed is marked
 pub seeded_more : (marks marks' : List Bool) (seeds : List ℕ) (i : ℕ) → i < length seeds → ((t : ℕ) → is_marked marks t ≡ true → is_marked marks' t ≡ true) → ((t : ℕ) → Contains (take i seeds) t → is_marked marks t ≡ true) → is_marked marks' (get_or seeds i 0) ≡ true
@@ -77,30 +120,30 @@ seeded_more marks marks' seeds i lt kept before here t h = elim (Contains-push_c
 ]
 
 -- one more clause is visited
-pub settled_more : (B : Type 0) (marks : List Bool) (work : List ℕ) (marks' : List Bool) (work' : List ℕ) (q : Clause) (visited : List ℕ) (i p : ℕ) → i < length visited → Grows marks work marks' work'
-    → (B ⊎ Contains (take i visited) p → IsSettled marks work q) → (get_or visited i 0 ≡ p → IsSettled marks' work' q) → B ⊎ Contains (take (i + 1) visited) p → IsSettled marks' work' q
-settled_more B marks work marks' work' q visited i p lt grows before here (inl b) = settled_stays marks work marks' work' grows q (before (inl b))
-settled_more B marks work marks' work' q visited i p lt grows before here (inr h) = elim (Contains-push_cases (take i visited) (get_or visited i 0) p (rw (← take_more visited i 0 lt) h)) [
-  | inl old ↦ settled_stays marks work marks' work' grows q (before (inr old))
+pub settled_more : (B : Type 0) (v : ℕ) (marks : List Bool) (added : List Addition) (marks' : List Bool) (added' : List Addition) (q : Clause) (visited : List ℕ) (i p : ℕ) → i < length visited → Grows v marks added marks' added'
+    → (B ⊎ Contains (take i visited) p → IsSettled marks added v q) → (get_or visited i 0 ≡ p → IsSettled marks' added' v q) → B ⊎ Contains (take (i + 1) visited) p → IsSettled marks' added' v q
+settled_more B v marks added marks' added' q visited i p lt grows before here (inl b) = settled_stays v marks added marks' added' grows q (before (inl b))
+settled_more B v marks added marks' added' q visited i p lt grows before here (inr h) = elim (Contains-push_cases (take i visited) (get_or visited i 0) p (rw (← take_more visited i 0 lt) h)) [
+  | inl old ↦ settled_stays v marks added marks' added' grows q (before (inr old))
   | inr e ↦ here e
 ]
 
 -- where nothing is left to visit and all clauses are settled, the marks are closed under the clauses, and so have all that follows
-pub complete : (clauses : List Clause) (seeds : List ℕ) (marks : List Bool) (work : List ℕ) → length work ≡ 0 → ((p : ℕ) (d : Clause) → p < length clauses → IsSettled marks work (get_or clauses p d)) → ((t : ℕ) → Contains seeds t → is_marked marks t ≡ true)
+pub complete : (clauses : List Clause) (seeds : List ℕ) (marks : List Bool) (added : List Addition) (v : ℕ) → length added ≤ v → ((p : ℕ) (d : Clause) → p < length clauses → IsSettled marks added v (get_or clauses p d)) → ((t : ℕ) → Contains seeds t → is_marked marks t ≡ true)
     → (s : ℕ) → Follows clauses seeds s → is_marked marks s ≡ true
-complete clauses seeds marks work none settled seeded = follows_in clauses seeds (λ t. is_marked marks t ≡ true) seeded (λ p q e all. elim (rw (get_or_from_slice_get clauses p q q e) at (settled p q (slice_get_within clauses p q e))) [
+complete clauses seeds marks added v most settled seeded = follows_in clauses seeds (λ t. is_marked marks t ≡ true) seeded (λ p q e all. elim (rw (get_or_from_slice_get clauses p q q e) at (settled p q (slice_get_within clauses p q e))) [
   | inl m ↦ m
   | inr w ↦ elim w.2 [
     | inl no_mark ↦ absurd (false≢true (sym no_mark ∙ All-contains (λ t. is_marked marks t ≡ true) q.body w.0 all w.1))
-    | inr among ↦ absurd (omega (arith, among.1, none))
+    | inr among ↦ absurd (let w = slice_get_within added among.0 among.1 among.3 in let l = among.2 in omega arith)
   ]
 ])
 
 -- a clause that has a body is settled where nothing is marked
-pub settled_first : (marks : List Bool) (work : List ℕ) (q : Clause) (facts : List ℕ) (p : ℕ) → ((t : ℕ) → is_marked marks t ≡ false) → (q.body ≡ [] → Contains facts p) → IsSettled marks work q ⊎ Contains facts p
-settled_first marks work q facts p blank noted = go q.body refl
+pub settled_first : (marks : List Bool) (added : List Addition) (v : ℕ) (q : Clause) (facts : List ℕ) (p : ℕ) → ((t : ℕ) → is_marked marks t ≡ false) → (q.body ≡ [] → Contains facts p) → IsSettled marks added v q ⊎ Contains facts p
+settled_first marks added v q facts p blank noted = go q.body refl
   where
-    go : (xs : List ℕ) → q.body ≡ xs → IsSettled marks work q ⊎ Contains facts p
+    go : (xs : List ℕ) → q.body ≡ xs → IsSettled marks added v q ⊎ Contains facts p
     go [] e = inr (noted e)
     go (x ∷ xs) e = inl (inr (x, rw e (Contains-get_or (x ∷ xs) 0 0 (omega arith)), inl (blank x)))
 
@@ -110,25 +153,39 @@ unmarked zero t = refl
 unmarked (suc n) zero = refl
 unmarked (suc n) (suc t) = unmarked n t
 
--- the last number of the work is taken
-pub search_taken : (clauses : List Clause) (seeds : List ℕ) (marks : List Bool) (work rest passed : List ℕ) (s : ℕ) → work ≡ rest ++ s ∷ [] → IsSearch clauses seeds marks work passed → IsSearch clauses seeds marks rest passed
-search_taken clauses seeds marks work rest passed s is search = record {
+-- what is marked is below the count
+pub marked_within : (marks : List Bool) (t : ℕ) → is_marked marks t ≡ true → t < length marks
+marked_within marks t h = elim (cases_lt t (length marks)) [
+  | inl lt ↦ lt
+  | inr past ↦ absurd (false≢true (sym (get_or-eq_default marks false past) ∙ h))
+]
+
+-- the next number to be visited is below the count
+pub next_within : (clauses : List Clause) (seeds : List ℕ) (marks : List Bool) (added : List Addition) (v : ℕ) (passed : List ℕ) (x : Addition) (count : ℕ) → length marks ≡ count → v < length added → x ≡ get_or added v x → IsSearch clauses seeds marks added v passed → x.number < count
+next_within clauses seeds marks added v passed x count len lt is search = rw (← len) (marked_within marks x.number ((search.is_added x.number).1 (v, x, slice_get_read added (length added) v x refl lt is, refl)))
+
+-- the next number is visited
+pub search_taken : (clauses : List Clause) (seeds : List ℕ) (marks : List Bool) (added : List Addition) (v : ℕ) (passed : List ℕ) → v < length added → IsSearch clauses seeds marks added v passed → IsSearch clauses seeds marks added (v + 1) passed
+search_taken clauses seeds marks added v passed lt search = record {
   below = search.below;
   count = search.count;
-  work_below = (All-pop (λ t. t < length marks) work rest (Some s) is search.work_below).0;
+  visited_within = omega arith;
+  len = search.len;
+  is_added = search.is_added;
+  order = search.order;
   sound = search.sound;
   within = search.within;
   marked = search.marked;
 }
 
 -- a clause that was settled still is, or the number stands in it
-pub settled_taken : (marks : List Bool) (work rest : List ℕ) (s p : ℕ) (q : Clause) (uses : List (List ℕ)) → work ≡ rest ++ s ∷ [] → ((t : ℕ) → Contains q.body t → Contains (row uses t) p)
-    → IsSettled marks work q → IsSettled marks rest q ⊎ Contains (row uses s) p
-settled_taken marks work rest s p q uses is noted (inl m) = inl (inl m)
-settled_taken marks work rest s p q uses is noted (inr w) = elim w.2 [
+pub settled_taken : (marks : List Bool) (added : List Addition) (v p : ℕ) (x : Addition) (q : Clause) (uses : List (List ℕ)) → slice_get added v ≡ Some x → ((t : ℕ) → Contains q.body t → Contains (row uses t) p)
+    → IsSettled marks added v q → IsSettled marks added (v + 1) q ⊎ Contains (row uses x.number) p
+settled_taken marks added v p x q uses is noted (inl m) = inl (inl m)
+settled_taken marks added v p x q uses is noted (inr w) = elim w.2 [
   | inl no_mark ↦ inl (inr (w.0, w.1, inl no_mark))
-  | inr among ↦ elim (Contains-push_cases rest s w.0 (rw (← is) among)) [
-    | inl old ↦ inl (inr (w.0, w.1, inr old))
-    | inr e ↦ inr (rw e (noted w.0 w.1))
+  | inr o ↦ elim (cases_eq o.0 v) [
+    | inl here ↦ inr (let e : Some o.1 ≡ Some x = sym o.3 ∙ rw here is in let f : o.1 ≡ x = cc in rw (← f, o.4) (noted w.0 w.1))
+    | inr other ↦ (let l = o.2 in inl (inr (w.0, w.1, inr (o.0, o.1, omega arith, o.3, o.4))))
   ]
 ]

@@ -1,3 +1,4 @@
+pub mod Additions
 pub mod Clauses
 pub mod Edges
 pub mod Following

@@ -1,12 +1,14 @@
 //! Clauses with what waits for each number, and what follows from them.
-ghost use Rattle.std.specs.Prelude.{◌≡◌, ◌<◌, length, All, IfOk};
+ghost use Rattle.std.specs.Prelude.{ℕ, true, ◌≡◌, ◌<◌, ◌↔◌, length, All, IfOk};
+ghost use Rattle.closure.specs.Additions.{IsAdded, AreInOrder};
 ghost use Rattle.closure.specs.Clauses.{IsClauseBelow};
 ghost use Rattle.closure.specs.Edges.{over, IsEdgeBelow};
-ghost use Rattle.closure.specs.Following.{AreClosure};
+ghost use Rattle.closure.specs.Following.{is_marked, AreClosure};
 
+use crate::addition::Found;
 use crate::clause::Clause;
 use crate::edges::{Edge, clauses_along};
-use crate::search::closure;
+use crate::search::find;
 use crate::waiting::{facts, uses};
 use ag_value::NoMemory;
 use std::alloc::Global;
@@ -70,7 +72,28 @@ impl Clauses {
         ensures len { IfOk result (λ marks. length marks.items ≡ self.now.count) }
         ensures marks { IfOk result (λ marks. AreClosure self.now.clauses seeds.now marks.items) }
     {
-        closure(
+        Ok(self.find(alloc, seeds)?.marks)
+    }
+
+    /// What follows from the clauses and seeds, in the order in which it is found: each number once,
+    /// with the seed or the clause by which it follows, and all numbers of that clause's body in
+    /// front of it. Marks tell of each number whether it is there.
+    ///
+    /// The order is that of a queue: the heads of clauses without a body, by their indices, the
+    /// seeds, by theirs, and then of each number in its turn the heads of the clauses that wait for
+    /// it, by their indices. Takes memory, and time linear in the lengths of the clauses and the
+    /// seeds, and in the count.
+    pub fn find(&self, alloc: Global, seeds: &[usize]) -> Result<Found, NoMemory>
+        requires { All (λ t. t < self.now.count) seeds.now }
+        ensures len { IfOk result (λ found. length found.marks.items ≡ self.now.count) }
+        ensures marks { IfOk result (λ found. AreClosure self.now.clauses seeds.now
+            found.marks.items) }
+        ensures added { IfOk result (λ found. (t : ℕ) → is_marked found.marks.items t ≡ true
+            ↔ IsAdded found.added.items t) }
+        ensures order { IfOk result (λ found. AreInOrder self.now.clauses seeds.now
+            found.added.items) }
+    {
+        find(
             alloc,
             self.clauses.as_slice(),
             self.uses.as_slice(),

@@ -2,6 +2,7 @@
 //! clause its head.
 #![tactic(auto)]
 
+mod addition;
 mod clause;
 mod clauses;
 mod edges;
@@ -9,6 +10,7 @@ pub mod samples;
 mod search;
 mod waiting;
 
+pub use addition::{Addition, Found, Reason};
 pub use clause::Clause;
 pub use clauses::Clauses;
 pub use edges::Edge;

@@ -1,12 +1,14 @@
 //! The search for what follows: each clause is passed over once, number by number.
-ghost use Rattle.std.specs.Prelude.{◌≡◌, ◌<◌, ◌≤◌, ◌⊎◌, ℕ, true, false, length, take, All};
+ghost use Rattle.std.specs.Prelude.{◌≡◌, ◌<◌, ◌≤◌, ◌⊎◌, ◌↔◌, ℕ, true, false, length, take, All};
 ghost use Rattle.std.specs.Prelude.{Contains, IfOk, OnOk, slice_index_or};
 ghost use Rattle.std.specs.List.{list_all};
+ghost use Rattle.closure.specs.Additions.{IsAdded, IsReason, AreInOrder};
 ghost use Rattle.closure.specs.Clauses.{IsClauseBelow};
-ghost use Rattle.closure.specs.Following.{is_marked, Follows, AreClosure};
-ghost use Rattle.closure.specs.Search.{IsSearch, IsSettled, Grows, turns_left};
+ghost use Rattle.closure.specs.Following.{is_marked, AreClosure};
+ghost use Rattle.closure.specs.Search.{IsSearch, IsSettled, Grows};
 ghost use Rattle.closure.specs.Waiting.{rows, AreWaiting};
 
+use crate::addition::{Addition, Found, Reason};
 use crate::clause::Clause;
 use ag_value::NoMemory;
 use std::alloc::Global;
@@ -35,14 +37,15 @@ fn known_in_front(marks: &[bool], body: &[usize], from: usize) -> usize
     body.len()
 }
 
-/// A search: the numbers that are marked, those of them whose clauses are still to be visited,
-/// and of each clause how many numbers in front are marked.
+/// A search: the numbers that are marked, these in the order in which they are added, how many of
+/// them have been visited, and of each clause how many numbers in front are marked.
 #[derive(Drop)]
 struct Search<'g> {
     clauses: &'g [Clause],
     seeds: &'g [usize],
     marks: Vec<bool>,
-    work: Vec<usize>,
+    added: Vec<Addition>,
+    visited: usize,
     passed: Vec<usize>,
 }
 
@@ -51,17 +54,18 @@ impl<'g> Search<'g> {
     fn advance(&mut self, clause: usize) -> bool
         requires clause { clause < length self.old.clauses.now }
         requires search { IsSearch self.old.clauses.now self.old.seeds.now self.old.marks.items
-            self.old.work.items self.old.passed.items }
+            self.old.added.items self.old.visited self.old.passed.items }
         ensures clauses { self.new.clauses.now ≡ self.old.clauses.now }
         ensures seeds { self.new.seeds.now ≡ self.old.seeds.now }
         ensures marks { self.new.marks.items ≡ self.old.marks.items }
-        ensures work { self.new.work.items ≡ self.old.work.items }
+        ensures added { self.new.added.items ≡ self.old.added.items }
+        ensures visited { self.new.visited ≡ self.old.visited }
         ensures search { IsSearch self.new.clauses.now self.new.seeds.now self.new.marks.items
-            self.new.work.items self.new.passed.items }
+            self.new.added.items self.new.visited self.new.passed.items }
         ensures whole { (d : Clause) → result ≡ true → list_all (is_marked self.old.marks.items)
             (slice_index_or self.old.clauses.now clause d).body ≡ true }
         ensures stops { (d : Clause) → result ≡ false → IsSettled self.old.marks.items
-            self.old.work.items (slice_index_or self.old.clauses.now clause d) }
+            self.old.added.items self.old.visited (slice_index_or self.old.clauses.now clause d) }
     {
         let body = self.clauses[clause].body.as_slice();
         let passed = known_in_front(self.marks.as_slice(), body, self.passed[clause]);
@@ -69,24 +73,24 @@ impl<'g> Search<'g> {
         passed == body.len()
     }
 
-    /// Marks a number, unless it is marked.
-    fn mark(&mut self, number: usize) -> Result<(), NoMemory>
+    /// Adds a number for a reason, and marks it, unless it is marked.
+    fn mark(&mut self, number: usize, reason: Reason) -> Result<(), NoMemory>
         requires number { number < length self.old.marks.items }
-        requires follows { Follows self.old.clauses.now self.old.seeds.now number }
+        requires reason { IsReason self.old.clauses.now self.old.seeds.now
+            (IsAdded self.old.added.items) number reason }
         requires search { IsSearch self.old.clauses.now self.old.seeds.now self.old.marks.items
-            self.old.work.items self.old.passed.items }
+            self.old.added.items self.old.visited self.old.passed.items }
         ensures clauses { OnOk result (self.new.clauses.now ≡ self.old.clauses.now) }
         ensures seeds { OnOk result (self.new.seeds.now ≡ self.old.seeds.now) }
         ensures search { OnOk result (IsSearch self.new.clauses.now self.new.seeds.now
-            self.new.marks.items self.new.work.items self.new.passed.items) }
-        ensures grows { OnOk result (Grows self.old.marks.items self.old.work.items
-            self.new.marks.items self.new.work.items) }
+            self.new.marks.items self.new.added.items self.new.visited self.new.passed.items) }
+        ensures visited { OnOk result (self.new.visited ≡ self.old.visited) }
+        ensures grows { OnOk result (Grows self.old.visited self.old.marks.items
+            self.old.added.items self.new.marks.items self.new.added.items) }
         ensures marked { OnOk result (is_marked self.new.marks.items number ≡ true) }
-        ensures turns { OnOk result (turns_left self.new.marks.items self.new.work.items ≤
-            turns_left self.old.marks.items self.old.work.items) }
     {
         if !self.marks[number] {
-            self.work.push(number)?;
+            self.added.push(Addition { number, reason })?;
             self.marks[number] = true;
         }
         Ok(())
@@ -96,19 +100,20 @@ impl<'g> Search<'g> {
     fn mark_seeds(&mut self) -> Result<(), NoMemory>
         requires seeds { All (λ t. t < length self.old.marks.items) self.old.seeds.now }
         requires search { IsSearch self.old.clauses.now self.old.seeds.now self.old.marks.items
-            self.old.work.items self.old.passed.items }
+            self.old.added.items self.old.visited self.old.passed.items }
         ensures clauses { OnOk result (self.new.clauses.now ≡ self.old.clauses.now) }
         ensures seeds { OnOk result (self.new.seeds.now ≡ self.old.seeds.now) }
         ensures search { OnOk result (IsSearch self.new.clauses.now self.new.seeds.now
-            self.new.marks.items self.new.work.items self.new.passed.items) }
-        ensures grows { OnOk result (Grows self.old.marks.items self.old.work.items
-            self.new.marks.items self.new.work.items) }
+            self.new.marks.items self.new.added.items self.new.visited self.new.passed.items) }
+        ensures visited { OnOk result (self.new.visited ≡ self.old.visited) }
+        ensures grows { OnOk result (Grows self.old.visited self.old.marks.items
+            self.old.added.items self.new.marks.items self.new.added.items) }
         ensures marked { OnOk result ((t : ℕ) → Contains self.old.seeds.now t → is_marked
             self.new.marks.items t ≡ true) }
     {
         let seeds = self.seeds;
-        for seed in seeds {
-            self.mark(*seed)?;
+        for (index, seed) in seeds.iter().enumerate() {
+            self.mark(*seed, Reason::Seed(index))?;
         }
         Ok(())
     }
@@ -117,76 +122,83 @@ impl<'g> Search<'g> {
     fn visit(&mut self, clause: usize) -> Result<(), NoMemory>
         requires clause { clause < length self.old.clauses.now }
         requires search { IsSearch self.old.clauses.now self.old.seeds.now self.old.marks.items
-            self.old.work.items self.old.passed.items }
+            self.old.added.items self.old.visited self.old.passed.items }
         ensures clauses { OnOk result (self.new.clauses.now ≡ self.old.clauses.now) }
         ensures seeds { OnOk result (self.new.seeds.now ≡ self.old.seeds.now) }
         ensures search { OnOk result (IsSearch self.new.clauses.now self.new.seeds.now
-            self.new.marks.items self.new.work.items self.new.passed.items) }
-        ensures grows { OnOk result (Grows self.old.marks.items self.old.work.items
-            self.new.marks.items self.new.work.items) }
+            self.new.marks.items self.new.added.items self.new.visited self.new.passed.items) }
+        ensures visited { OnOk result (self.new.visited ≡ self.old.visited) }
+        ensures grows { OnOk result (Grows self.old.visited self.old.marks.items
+            self.old.added.items self.new.marks.items self.new.added.items) }
         ensures settles { (d : Clause) → OnOk result (IsSettled self.new.marks.items
-            self.new.work.items (slice_index_or self.old.clauses.now clause d)) }
-        ensures turns { OnOk result (turns_left self.new.marks.items self.new.work.items ≤
-            turns_left self.old.marks.items self.old.work.items) }
+            self.new.added.items self.new.visited (slice_index_or self.old.clauses.now clause d)) }
     {
         if self.advance(clause) {
             let clauses = self.clauses;
-            self.mark(clauses[clause].head)?;
+            self.mark(clauses[clause].head, Reason::Clause(clause))?;
         }
         Ok(())
     }
 
     /// Visits clauses, after which those are settled that were, or are among them.
-    fn visit_all(&mut self, visited: &[usize]) -> Result<(), NoMemory>
-        requires clauses { All (λ p. p < length self.old.clauses.now) visited.now }
+    fn visit_all(&mut self, waiting: &[usize]) -> Result<(), NoMemory>
+        requires clauses { All (λ p. p < length self.old.clauses.now) waiting.now }
         requires search { IsSearch self.old.clauses.now self.old.seeds.now self.old.marks.items
-            self.old.work.items self.old.passed.items }
+            self.old.added.items self.old.visited self.old.passed.items }
         ensures clauses { OnOk result (self.new.clauses.now ≡ self.old.clauses.now) }
         ensures seeds { OnOk result (self.new.seeds.now ≡ self.old.seeds.now) }
         ensures search { OnOk result (IsSearch self.new.clauses.now self.new.seeds.now
-            self.new.marks.items self.new.work.items self.new.passed.items) }
-        ensures grows { OnOk result (Grows self.old.marks.items self.old.work.items
-            self.new.marks.items self.new.work.items) }
+            self.new.marks.items self.new.added.items self.new.visited self.new.passed.items) }
+        ensures visited { OnOk result (self.new.visited ≡ self.old.visited) }
+        ensures grows { OnOk result (Grows self.old.visited self.old.marks.items
+            self.old.added.items self.new.marks.items self.new.added.items) }
         ensures settles { OnOk result ((p : ℕ) (d : Clause) → IsSettled self.old.marks.items
-            self.old.work.items (slice_index_or self.old.clauses.now p d) ⊎ Contains visited.now p →
-            IsSettled self.new.marks.items self.new.work.items
+            self.old.added.items self.old.visited (slice_index_or self.old.clauses.now p d) ⊎ Contains waiting.now p →
+            IsSettled self.new.marks.items self.new.added.items self.new.visited
             (slice_index_or self.old.clauses.now p
             d)) }
-        ensures turns { OnOk result (turns_left self.new.marks.items self.new.work.items ≤
-            turns_left self.old.marks.items self.old.work.items) }
     {
-        for clause in visited {
+        for clause in waiting {
             self.visit(*clause)?;
         }
         Ok(())
     }
 }
 
-/// Which numbers follow from clauses and seeds, by what waits for each number. It takes time linear
-/// in the lengths of the clauses, of the seeds and of the table.
-pub(crate) fn closure<'g>(
+/// What follows from clauses and seeds, by what waits for each number. It takes time linear in the
+/// lengths of the clauses, of the seeds and of the table.
+pub(crate) fn find<'g>(
     alloc: Global,
     clauses: &'g [Clause],
     uses: &[Vec<usize>],
     facts: &[usize],
     seeds: &'g [usize],
-) -> Result<Vec<bool>, NoMemory>
+) -> Result<Found, NoMemory>
     requires waiting { AreWaiting clauses.now (rows uses.now) facts.now }
     requires seeds { All (λ t. t < length uses.now) seeds.now }
-    ensures len { IfOk result (λ marks. length marks.items ≡ length uses.now) }
-    ensures marks { IfOk result (λ marks. AreClosure clauses.now seeds.now marks.items) }
+    ensures len { IfOk result (λ found. length found.marks.items ≡ length uses.now) }
+    ensures marks { IfOk result (λ found. AreClosure clauses.now seeds.now found.marks.items) }
+    ensures added { IfOk result (λ found. (t : ℕ) → is_marked found.marks.items t ≡ true
+        ↔ IsAdded found.added.items t) }
+    ensures order { IfOk result (λ found. AreInOrder clauses.now seeds.now found.added.items) }
 {
     let mut search = Search {
         clauses,
         seeds,
         marks: vec![in alloc; false; uses.len()]?,
-        work: Vec::new(alloc),
+        added: Vec::new(alloc),
+        visited: 0,
         passed: vec![in alloc; 0; clauses.len()]?,
     };
     search.visit_all(facts)?;
     search.mark_seeds()?;
-    while let Some(number) = search.work.pop() {
+    while search.visited < search.added.len() {
+        let number = search.added[search.visited].number;
+        search.visited += 1;
         search.visit_all(uses[number].as_slice())?;
     }
-    Ok(search.marks)
+    Ok(Found {
+        added: search.added,
+        marks: search.marks,
+    })
 }
