@@ -6,30 +6,13 @@ use Rattle.closure.specs.declared.addition.Addition.{Addition}
 use Rattle.closure.specs.declared.addition.Reason.{Reason}
 use Rattle.closure.specs.declared.addition.Reason.TheVariants as reason
 use Rattle.closure.specs.declared.clause.Clause.{Clause}
-
-pub in_front : {A : Type 0} (xs : List A) (y x : A) (i : ℕ) → slice_get xs i ≡ Some x → slice_get (xs ++ y ∷ []) i ≡ Some x
-in_front [] y x i e = absurd (let bad : ⊥ = cc in bad)
-in_front (z ∷ xs) y x zero e = e
-in_front (z ∷ xs) y x (suc i) e = in_front xs y x i e
-
-pub at_end : {A : Type 0} (xs : List A) (y : A) → slice_get (xs ++ y ∷ []) (length xs) ≡ Some y
-at_end [] y = refl
-at_end (z ∷ xs) y = at_end xs y
-
-pub at_cases : {A : Type 0} (xs : List A) (y x : A) (i : ℕ) → slice_get (xs ++ y ∷ []) i ≡ Some x → (slice_get xs i ≡ Some x) ⊎ ((i ≡ length xs) × (y ≡ x))
-at_cases [] y x zero e = inr (refl, cc)
-at_cases [] y x (suc i) e = absurd (let bad : ⊥ = cc in bad)
-at_cases (z ∷ xs) y x zero e = inl e
-at_cases (z ∷ xs) y x (suc i) e = elim (at_cases xs y x i e) [
-  | inl old ↦ inl old
-  | inr new ↦ inr (let f = new.0 in omega arith, new.1)
-]
+use Rattle.closure.proofs.Places.{get_push_cases, get_push_end, get_push_front}
 
 pub added_more : (xs : List Addition) (y : Addition) (t : ℕ) → IsAdded xs t → IsAdded (xs ++ y ∷ []) t
-added_more xs y t h = (h.0, h.1, in_front xs y h.1 h.0 h.2, h.3)
+added_more xs y t h = (h.0, h.1, get_push_front xs y h.1 h.0 h.2, h.3)
 
 pub added_here : (xs : List Addition) (y : Addition) → IsAdded (xs ++ y ∷ []) y.number
-added_here xs y = (length xs, y, at_end xs y, refl)
+added_here xs y = (length xs, y, get_push_end xs y, refl)
 
 -- a reason stays one where more is there
 pub reason_more : (clauses : List Clause) (seeds : List ℕ) (P Q : ℕ → Type 0) → ((t : ℕ) → P t → Q t) → (n : ℕ) (r : Reason) → IsReason clauses seeds P n r → IsReason clauses seeds Q n r
@@ -37,10 +20,10 @@ reason_more clauses seeds P Q more n (reason.Seed i) h = h
 reason_more clauses seeds P Q more n (reason.Clause p) h = (h.0, h.1, h.2, λ k d lt. more (get_or h.0.body k d) (h.3 k d lt))
 
 before_more : (xs : List Addition) (y : Addition) (n t : ℕ) → IsAddedBefore xs n t → IsAddedBefore (xs ++ y ∷ []) n t
-before_more xs y n t h = (h.0, h.1, h.2, in_front xs y h.1 h.0 h.3, h.4)
+before_more xs y n t h = (h.0, h.1, h.2, get_push_front xs y h.1 h.0 h.3, h.4)
 
 before_end : (xs : List Addition) (y : Addition) (t : ℕ) → IsAdded xs t → IsAddedBefore (xs ++ y ∷ []) (length xs) t
-before_end xs y t h = (h.0, h.1, slice_get_within xs h.0 h.1 h.2, in_front xs y h.1 h.0 h.2, h.3)
+before_end xs y t h = (h.0, h.1, slice_get_within xs h.0 h.1 h.2, get_push_front xs y h.1 h.0 h.2, h.3)
 
 -- one more number is added, which was not
 pub order_more : (clauses : List Clause) (seeds : List ℕ) (xs : List Addition) (y : Addition) → (IsAdded xs y.number → ⊥) → IsReason clauses seeds (IsAdded xs) y.number y.reason → AreInOrder clauses seeds xs → AreInOrder clauses seeds (xs ++ y ∷ [])
@@ -50,19 +33,19 @@ order_more clauses seeds xs y fresh why order = record { once = once; reasoned =
     is_new i x e same = fresh (i, x, e, same)
 
     once : (i j : ℕ) (x z : Addition) → slice_get (xs ++ y ∷ []) i ≡ Some x → slice_get (xs ++ y ∷ []) j ≡ Some z → x.number ≡ z.number → i ≡ j
-    once i j x z e f same = elim (at_cases xs y x i e) [
-      | inl old ↦ elim (at_cases xs y z j f) [
+    once i j x z e f same = elim (get_push_cases xs y x i e) [
+      | inl old ↦ elim (get_push_cases xs y z j f) [
         | inl older ↦ order.once i j x z old older same
         | inr last ↦ absurd (is_new i x old (rw last.1 same))
       ]
-      | inr last ↦ elim (at_cases xs y z j f) [
+      | inr last ↦ elim (get_push_cases xs y z j f) [
         | inl older ↦ absurd (is_new j z older (rw last.1 (sym same)))
         | inr again ↦ (let a = last.0 in let b = again.0 in omega arith)
       ]
     ]
 
     reasoned : (i : ℕ) (x : Addition) → slice_get (xs ++ y ∷ []) i ≡ Some x → IsReason clauses seeds (IsAddedBefore (xs ++ y ∷ []) i) x.number x.reason
-    reasoned i x e = elim (at_cases xs y x i e) [
+    reasoned i x e = elim (get_push_cases xs y x i e) [
       | inl old ↦ reason_more clauses seeds (IsAddedBefore xs i) (IsAddedBefore (xs ++ y ∷ []) i) (before_more xs y i) x.number x.reason (order.reasoned i x old)
       | inr last ↦ rw (last.0, ← last.1) (reason_more clauses seeds (IsAdded xs) (IsAddedBefore (xs ++ y ∷ []) (length xs)) (before_end xs y) y.number y.reason why)
     ]

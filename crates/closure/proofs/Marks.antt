@@ -17,8 +17,9 @@ use Rattle.closure.specs.declared.clause.Clause.{Clause}
 use Rattle.closure.specs.Following.{Follows, seed, is_marked}
 use Rattle.closure.specs.Search.{IsSearch, IsSettled, Grows}
 use Rattle.closure.specs.Waiting.{row}
-use Rattle.closure.proofs.Additions.{added_here, added_more, at_cases, at_end, in_front, order_more}
+use Rattle.closure.proofs.Additions.{added_here, added_more, order_more}
 use Rattle.closure.proofs.Following.{follows_in, head_follows}
+use Rattle.closure.proofs.Places.{get_push_cases, get_push_end, get_push_front}
 
 both : (a b : Bool) → (a && b) ≡ true → (a ≡ true) × (b ≡ true)
 both true b h = (refl, h)
@@ -67,7 +68,7 @@ marked_more clauses seeds marks added v passed x lt new why search = record {
       | inl same ↦ rw same (added_here added x)
       | inr other ↦ added_more added x t ((search.is_added t).0 (sym (get_or-set_other marks x.number t true false other) ∙ h))
     ]),
-    (λ h. elim (at_cases added x h.1 h.0 h.2) [
+    (λ h. elim (get_push_cases added x h.1 h.0 h.2) [
       | inl old ↦ marks_stay marks x.number lt t ((search.is_added t).1 (h.0, h.1, old, h.3))
       | inr last ↦ rw (← h.3, ← last.1) (get_or-set_same marks x.number true false lt)
     ]),
@@ -88,10 +89,10 @@ grows_one marks added v x lt most = record {
   marked = marks_stay marks x.number lt;
   open_stays = λ t h. elim h [
     | inl unmarked ↦ elim (cases_eq t x.number) [
-      | inl same ↦ inr (length added, x, most, at_end added x, sym same)
+      | inl same ↦ inr (length added, x, most, get_push_end added x, sym same)
       | inr other ↦ inl (get_or-set_other marks x.number t true false other ∙ unmarked)
     ]
-    | inr w ↦ inr (w.0, w.1, w.2, in_front added x w.1 w.0 w.3, w.4)
+    | inr w ↦ inr (w.0, w.1, w.2, get_push_front added x w.1 w.0 w.3, w.4)
   ];
 }
 

@@ -1,5 +1,5 @@
 -- Elements of lists by their places.
-use Rattle.std.proofs.Common.{ℕ, zero, suc, ◌≡◌, List, [], ◌∷◌, map, Contains, Some, slice_get, refl, ap, ◌∙◌}
+use Rattle.std.proofs.Common.{ℕ, zero, suc, ◌≡◌, ◌⊎◌, List, [], ◌∷◌, ◌++◌, map, length, Contains, Some, slice_get, refl, ap, ◌∙◌, inl, inr, arith}
 use Rattle.std.proofs.lemmas.Option.{slice_get-get_or, slice_get_within, get_or_from_slice_get}
 
 -- what stands in a mapped list is made of what stands at the same place, and the other way round
@@ -19,3 +19,22 @@ place_of_element xs x h = (h.0, slice_get-get_or xs h.0 x h.1 ∙ ap Some h.2)
 
 pub element_at : {X : Type 0} (xs : List X) (p : ℕ) (x : X) → slice_get xs p ≡ Some x → Contains xs x
 element_at xs p x h = (p, slice_get_within xs p x h, get_or_from_slice_get xs p x x h)
+
+-- what stands in a list that was pushed to
+pub get_push_front : {A : Type 0} (xs : List A) (y x : A) (i : ℕ) → slice_get xs i ≡ Some x → slice_get (xs ++ y ∷ []) i ≡ Some x
+get_push_front [] y x i e = absurd (let bad : ⊥ = cc in bad)
+get_push_front (z ∷ xs) y x zero e = e
+get_push_front (z ∷ xs) y x (suc i) e = get_push_front xs y x i e
+
+pub get_push_end : {A : Type 0} (xs : List A) (y : A) → slice_get (xs ++ y ∷ []) (length xs) ≡ Some y
+get_push_end [] y = refl
+get_push_end (z ∷ xs) y = get_push_end xs y
+
+pub get_push_cases : {A : Type 0} (xs : List A) (y x : A) (i : ℕ) → slice_get (xs ++ y ∷ []) i ≡ Some x → (slice_get xs i ≡ Some x) ⊎ ((i ≡ length xs) × (y ≡ x))
+get_push_cases [] y x zero e = inr (refl, cc)
+get_push_cases [] y x (suc i) e = absurd (let bad : ⊥ = cc in bad)
+get_push_cases (z ∷ xs) y x zero e = inl e
+get_push_cases (z ∷ xs) y x (suc i) e = elim (get_push_cases xs y x i e) [
+  | inl old ↦ inl old
+  | inr new ↦ inr (let f = new.0 in omega arith, new.1)
+]

@@ -1,5 +1,4 @@
 -- The table of attributes, and the rows of dependencies.
-pub mod DependentRows
 pub mod Few
 pub mod Linked
 pub mod Lists

@@ -1,8 +1,8 @@
 -- Lists of strikes: how they grow, and when they are good.
 pub mod Adding
 pub mod BothWays
-pub mod Finishing
 pub mod Following
 pub mod Growing
 pub mod Reasons
 pub mod Sample
+pub mod Told

@@ -1,6 +1,5 @@
 -- What depends on what in a production: its rules' targets on their arguments (Knuth 1968).
-use Rattle.std.specs.Prelude.{ℕ, ◌≡◌, ◌<◌, ◌⊎◌, ◌↔◌, List, [], Option, Some, None, map, slice_get, slice_index_or, length}
-use Rattle.std.specs.Global.{Vec}
+use Rattle.std.specs.Prelude.{ℕ, ◌≡◌, ◌<◌, ◌⊎◌, ◌↔◌, List, Option, Some, None, slice_get}
 use Rattle.ag_grammar.specs.Lists.{Has}
 use Rattle.ag_grammar.specs.declared.grammar.Item.TheVariants as item
 use Rattle.ag_grammar.specs.declared.grammar.Item.{Item}
@@ -40,15 +39,9 @@ abbrev pub table_slot : Option ℕ → ℕ → Option ℕ
 table_slot None a = None
 table_slot (Some s) a = Some (slot_of s a)
 
--- the dependency on argument i of a rule's target, which stands at place j
-abbrev pub dependency_of : List Item → Strike → ℕ → ℕ → Target → Dependency
-dependency_of places head j i o = record {
-  strike = record head { arg = i };
-  target = slot_of head.symbol head.attr;
-  place = j;
-  argument = table_slot (symbol_of (slice_get places o.place)) o.attr;
-  from = o.place;
-}
+-- the dependency of a rule's target, which stands at place j, on argument i, which has slot k and stands at another place
+abbrev pub dependency_of : Strike → (j i k from : ℕ) → Dependency
+dependency_of head j i k from = record { strike = record head { arg = i }; place = j; argument = k; from = from }
 
 -- y stands in a relation with some element and its index
 abbrev pub OfEach : {X Y : Type 0} → (ℕ → X → Y → Type 0) → List X → Y → Type 0
@@ -64,8 +57,9 @@ pub record Adds {X : Type 0} (P : X → Type 0) (old new : List X) : Type 0 wher
   pub all : (x : X) → P x → Has new x
   pub only : (x : X) → Has new x → Has old x ⊎ P x
 
+-- a dependency on argument i, which is an attribute of a symbol
 abbrev pub IsByArgument : List Item → Strike → ℕ → ℕ → Target → Dependency → Type 0
-IsByArgument places head j i o u = u ≡ dependency_of places head j i o
+IsByArgument places head j i o u = (k : ℕ) × (table_slot (symbol_of (slice_get places o.place)) o.attr ≡ Some k) × (u ≡ dependency_of head j i k o.place)
 
 -- a strike of a rule's target, where this symbol stands at its place, by argument 0
 abbrev pub head_of : ℕ → ℕ → Rule → ℕ → Strike
@@ -86,23 +80,3 @@ IsDependency productions u = OfEach IsByProduction productions u
 -- a list has the dependencies of some productions, and nothing else
 abbrev pub AreDependencies : List Production → List Dependency → Type 0
 AreDependencies productions all = (u : Dependency) → Has all u ↔ IsDependency productions u
-
--- the row of a slot
-abbrev pub row_at : List (Vec Dependency) → ℕ → List Dependency
-row_at rows k = slice_index_or (map (λ row. row.items) rows) k []
-
--- the rows have the dependencies on what each slot has
-abbrev pub AreRows : List Dependency → List (Vec Dependency) → Type 0
-AreRows all rows = (k : ℕ) → k < length rows → (u : Dependency) → Has (row_at rows k) u ↔ (Has all u × (u.argument ≡ Some k))
-
--- a dependency is put into the row of slot j, and into no other
-abbrev pub PutsAt : ℕ → Dependency → List (Vec Dependency) → List (Vec Dependency) → Type 0
-PutsAt j one old new = (k : ℕ) → k < length old → Adds (λ u. (u ≡ one) × (k ≡ j)) (row_at old k) (row_at new k)
-
--- a dependency is put into the row of its argument, and into no other
-abbrev pub Puts : Dependency → List (Vec Dependency) → List (Vec Dependency) → Type 0
-Puts one old new = (k : ℕ) → k < length old → Adds (λ u. (u ≡ one) × (one.argument ≡ Some k)) (row_at old k) (row_at new k)
-
--- the rows have the dependencies on what each slot has, of those in front of index n
-abbrev pub AreRowsOfFront : List Dependency → ℕ → List (Vec Dependency) → Type 0
-AreRowsOfFront all n rows = (k : ℕ) → k < length rows → (u : Dependency) → Has (row_at rows k) u ↔ ((i : ℕ) × (i < n) × (slice_get all i ≡ Some u) × (u.argument ≡ Some k))

@@ -1,5 +1,5 @@
 -- What holds between two passes.
-use Rattle.std.specs.Prelude.{ℕ, ◌≡◌, ◌<◌, List, count_by, length}
+use Rattle.std.specs.Prelude.{ℕ, ◌≡◌, ◌<◌, List, count_by}
 use Rattle.ag_grammar.specs.declared.grammar.Production.{Production}
 use Rattle.ag_grammar.specs.declared.grammar.Symbol.{Symbol}
 use Rattle.ag_grammar.specs.grammars.Accepted.{IsAccepted}
@@ -7,13 +7,11 @@ use Rattle.ag_grammar.specs.grammars.AttributeGrammar.{Grammar}
 use Rattle.ag_grammar.specs.grammars.Passes.{direction_of}
 use Rattle.passassign.specs.declared.assigning.Progress.{Progress}
 use Rattle.passassign.specs.declared.dependency.Dependency.{Dependency}
-use Rattle.passassign.specs.declared.search.Dependencies.{Dependencies}
 use Rattle.passassign.specs.declared.stuck.Strike.{Strike}
 use Rattle.passassign.specs.declared.table.State.{State}
 use Rattle.passassign.specs.declared.table.State.TheVariants.{Open}
-use Rattle.passassign.specs.Dependencies.{AreRows}
 use Rattle.passassign.specs.Making.{IsMade, IsPass}
-use Rattle.passassign.specs.Searching.{AreOf, ArePlaced}
+use Rattle.passassign.specs.Searching.{AreOf}
 use Rattle.passassign.specs.Tables.{state_at, is_open, table_passes}
 
 -- an accepted grammar with these symbols and productions
@@ -21,12 +19,6 @@ pub record IsWith (symbols : List Symbol) (productions : List Production) (g : G
   pub accepted : IsAccepted g
   pub symbols_are : g.symbols ≡ symbols
   pub productions_are : g.productions ≡ productions
-
--- The rows of dependencies are those for a table of this many places.
-pub record AreReady (found : Dependencies) (count : ℕ) : Type 0 where
-  pub len : length found.rows.items ≡ count
-  pub rows : AreRows found.all.items found.rows.items
-  pub placed : ArePlaced found.all.items
 
 -- What passes have made of a grammar: a table of its attributes, for which the next pass has the direction that is told.
 pub record IsProgress (g : Grammar) (all : List Dependency) (p : Progress) : Type 0 where

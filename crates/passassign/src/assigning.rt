@@ -6,11 +6,11 @@ ghost use Rattle.ag_grammar.specs.grammars.Accepted.{most_attributes, most_symbo
 ghost use Rattle.ag_grammar.specs.grammars.AttributeGrammar.{Grammar as Plain, attribute_names};
 ghost use Rattle.passassign.specs.Answer.{IsInDeclaredOrder, IsFault};
 ghost use Rattle.passassign.specs.Certificate.{stuck_of};
-ghost use Rattle.passassign.specs.Dependencies.{AreAccepted};
 ghost use Rattle.passassign.specs.Least.{IsLeast};
-ghost use Rattle.passassign.specs.Progress.{AreOpenIn, AreReady, IsLeft, IsNext, IsProgress};
+ghost use Rattle.passassign.specs.Progress.{AreOpenIn, IsLeft, IsNext, IsProgress};
 ghost use Rattle.passassign.specs.Progress.{IsWith, open_count};
 ghost use Rattle.passassign.specs.Rows.{passes_of, AreFew};
+ghost use Rattle.passassign.specs.Searching.{AreReady};
 ghost use Rattle.passassign.specs.Tables.{most_slots, slot_of, state_at};
 ghost use Rattle.passassign.specs.declared.assigning.AssignFault.TheVariants as fault;
 ghost use Rattle.passassign.specs.declared.table.State.TheVariants.{Open};
@@ -151,7 +151,7 @@ pub(crate) fn assign_all(
     symbols: &[Symbol],
     productions: &[Production],
 ) -> Result<Assignment, AssignFault>
-    requires accepted { AreAccepted productions.now }
+    requires accepted { (g : Plain) × IsWith symbols.now productions.now g }
     requires count { length symbols.now ≤ most_symbols }
     requires attributes { Each (λ s. length (attribute_names s) ≤ most_attributes) symbols.now }
     ensures least { IfOk result (λ m. (g : Plain)

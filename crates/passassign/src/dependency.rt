@@ -1,14 +1,11 @@
-//! What the targets of a production's rules depend on, and which of them depend on an attribute.
+//! What the targets of a production's rules depend on.
 
-ghost use Rattle.std.specs.Prelude.{◌≡◌, ◌<◌, ◌≤◌, ◌↔◌, ◌++◌, ◌∷◌, [], ℕ, length, IfOk, OnOk, slice_get};
-ghost use Rattle.ag_grammar.specs.Lists.{Has};
+ghost use Rattle.std.specs.Prelude.{◌≡◌, ◌≤◌, length, IfOk, OnOk, slice_get};
 ghost use Rattle.ag_grammar.specs.expressions.Occurrences.{AreDifferent};
 ghost use Rattle.ag_grammar.specs.grammars.Accepted.{most_rules};
-ghost use Rattle.ag_grammar.specs.grammars.AttributeGrammar.{places_of};
-ghost use Rattle.passassign.specs.Dependencies.{symbol_of, table_slot, dependency_of};
+ghost use Rattle.passassign.specs.Dependencies.{symbol_of, table_slot};
 ghost use Rattle.passassign.specs.Dependencies.{OfEach, Adds, IsByArgument, IsByRule};
 ghost use Rattle.passassign.specs.Dependencies.{IsByProduction, AreDependencies};
-ghost use Rattle.passassign.specs.Dependencies.{AreRows, Puts, PutsAt, row_at};
 ghost use Rattle.passassign.specs.Dependencies.{AreAccepted, IsAcceptedProduction};
 ghost use Rattle.passassign.specs.Dependencies.{AreOfAccepted, IsOfAccepted};
 
@@ -18,17 +15,16 @@ use ag_grammar::{Item, Production, Rule, Target, occurrences};
 use ag_value::NoMemory;
 use std::alloc::Global;
 
-/// A dependency of a rule's target on one of its arguments (Knuth 1968).
+/// A dependency of a rule's target on one of its arguments that is an attribute of a declared symbol
+/// (Knuth 1968).
 #[derive(Clone, Copy, Debug, PartialEq, Eq)]
 pub(crate) struct Dependency {
     /// The strike of the target by this argument.
     pub strike: Strike,
-    /// The slot in which a table has the target.
-    pub target: usize,
     /// The target's place.
     pub place: u16,
-    /// The slot in which a table has the argument, if that is an attribute of a declared symbol.
-    pub argument: Option<usize>,
+    /// The slot in which a table has the argument.
+    pub argument: usize,
     /// The argument's place.
     pub from: u16,
 }
@@ -57,22 +53,36 @@ fn slot_at(places: &[Item], attribute: Target) -> Option<usize>
     }
 }
 
-/// The dependency of a rule's target at a place on an argument.
-fn by_argument(places: &[Item], head: Strike, place: u16, arg: u16, argument: Target) -> Dependency
-    ensures { result ≡ dependency_of places.now head place arg argument }
+/// Puts the dependency of a rule's target at a place on an argument at the end of a list, if the
+/// argument is an attribute of a symbol.
+fn put_argument(
+    found: &mut Vec<Dependency>,
+    places: &[Item],
+    head: Strike,
+    place: u16,
+    arg: u16,
+    argument: Target,
+) -> Result<(), NoMemory>
+    ensures { OnOk result (Adds (IsByArgument places.now head place arg argument)
+        found.old.items found.new.items) }
 {
-    Dependency {
-        strike: Strike {
-            symbol: head.symbol,
-            attr: head.attr,
-            production: head.production,
-            rule: head.rule,
-            arg,
-        },
-        target: slot(head.symbol, head.attr),
-        place,
-        argument: slot_at(places, argument),
-        from: argument.place,
+    match slot_at(places, argument) {
+        Some(slot) => {
+            found.push(Dependency {
+                strike: Strike {
+                    symbol: head.symbol,
+                    attr: head.attr,
+                    production: head.production,
+                    rule: head.rule,
+                    arg,
+                },
+                place,
+                argument: slot,
+                from: argument.place,
+            })?;
+            Ok(())
+        }
+        None => Ok(()),
     }
 }
 
@@ -89,7 +99,7 @@ fn put_arguments(
         found.old.items found.new.items) }
 {
     for (index, argument) in args.iter().enumerate() {
-        found.push(by_argument(places, head, place, index as u16, *argument))?;
+        put_argument(found, places, head, place, index as u16, *argument)?;
     }
     Ok(())
 }
@@ -184,57 +194,4 @@ pub(crate) fn all_dependencies(
         put_production(alloc, &mut found, index as u16, production)?;
     }
     Ok(found)
-}
-
-/// Puts a dependency at the end of the row of a slot, if there is such a row.
-fn put_at(rows: &mut Vec<Vec<Dependency>>, slot: usize, one: Dependency) -> Result<(), NoMemory>
-    ensures len { OnOk result (length rows.new.items ≡ length rows.old.items) }
-    ensures put { OnOk result (PutsAt slot one rows.old.items rows.new.items) }
-{
-    if slot < rows.len() {
-        rows[slot].push(one)?;
-    }
-    Ok(())
-}
-
-/// Puts a dependency at the end of the row of its argument, if there is such a row.
-fn put_dependent(rows: &mut Vec<Vec<Dependency>>, one: Dependency) -> Result<(), NoMemory>
-    ensures len { OnOk result (length rows.new.items ≡ length rows.old.items) }
-    ensures put { OnOk result (Puts one rows.old.items rows.new.items) }
-{
-    match one.argument {
-        Some(slot) => {
-            put_at(rows, slot, one)?;
-            Ok(())
-        }
-        None => Ok(()),
-    }
-}
-
-/// So many empty rows.
-fn empty_rows(alloc: Global, count: usize) -> Result<Vec<Vec<Dependency>>, NoMemory>
-    ensures len { IfOk result (λ rows. length rows.items ≡ count) }
-    ensures empty { IfOk result (λ rows. (k : ℕ) → row_at rows.items k ≡ []) }
-{
-    let mut rows = Vec::new(alloc);
-    for _ in 0..count {
-        rows.push(Vec::new(alloc))?;
-    }
-    Ok(rows)
-}
-
-/// For each of so many slots of a table the dependencies on what it has.
-pub(crate) fn rows_of(
-    alloc: Global,
-    count: usize,
-    all: &[Dependency],
-) -> Result<Vec<Vec<Dependency>>, NoMemory>
-    ensures len { IfOk result (λ rows. length rows.items ≡ count) }
-    ensures rows { IfOk result (λ rows. AreRows all.now rows.items) }
-{
-    let mut rows = empty_rows(alloc, count)?;
-    for one in all {
-        put_dependent(&mut rows, *one)?;
-    }
-    Ok(rows)
 }

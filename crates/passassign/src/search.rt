@@ -1,91 +1,76 @@
 //! What a pass can't give: attributes are struck one after the other, until no other can be.
 
-ghost use Rattle.std.specs.Prelude.{ℕ, ◌≡◌, ◌↔◌, [], false, IfOk, IsTrue, OnOk, length};
-ghost use Rattle.ag_grammar.specs.Lists.{Has};
+ghost use Rattle.std.specs.Prelude.{ℕ, ◌≡◌, ◌*◌, ◌↔◌, Some, IfOk, IsTrue, OnOk, length, map};
+ghost use Rattle.ag_grammar.specs.Lists.{Each};
+ghost use Rattle.ag_grammar.specs.grammars.Accepted.{IsAccepted, most_attributes};
+ghost use Rattle.ag_grammar.specs.grammars.AttributeGrammar.{Grammar as Plain};
 ghost use Rattle.passassign.specs.Certificate.{IsAhead};
-ghost use Rattle.passassign.specs.Dependencies.{AreAccepted, AreDependencies, AreRows, row_at};
-ghost use Rattle.passassign.specs.Searching.{is_due, IsOpenAt, IsBarred, GoesOn};
-ghost use Rattle.passassign.specs.Searching.{IsSearched, IsFinished, ArePlaced};
-ghost use Rattle.passassign.specs.Tables.{is_marked};
+ghost use Rattle.passassign.specs.Dependencies.{Adds, AreDependencies};
+ghost use Rattle.passassign.specs.Searching.{edge_of, target_of, dependency_by, IsBarred, AreBarred};
+ghost use Rattle.passassign.specs.Searching.{AreReady, AreStrikesOf, IsSearched};
+ghost use Rattle.passassign.specs.declared.dependency.Dependency.{Dependency as PlainDependency};
 
-use crate::dependency::{Dependency, all_dependencies, rows_of};
+use crate::dependency::{Dependency, all_dependencies};
 use crate::stuck::Strike;
-use crate::table::{State, has_mark, has_none, look_up, slot};
+use crate::table::{State, has_none, look_up, slot};
 use ag_grammar::{Direction, Production};
 use ag_value::NoMemory;
+use closure::{Addition, Clauses, Edge, Reason};
 use std::alloc::Global;
 
-/// All dependencies of a grammar, and for each slot of a table those on what it has.
-#[derive(Debug, Drop)]
+/// All dependencies of a grammar, and the same as edges between the slots of a table: where an
+/// argument is struck, the target is.
+#[derive(Drop)]
 pub(crate) struct Dependencies {
     pub all: Vec<Dependency>,
-    pub rows: Vec<Vec<Dependency>>,
+    pub edges: Clauses,
+}
+
+/// The slot in which a table has the target of a dependency.
+fn target(one: Dependency) -> usize
+    ensures { result ≡ target_of one }
+{
+    slot(one.strike.symbol, one.strike.attr)
+}
+
+/// Dependencies as edges.
+fn edges(alloc: Global, all: &[Dependency]) -> Result<Vec<Edge>, NoMemory>
+    ensures { IfOk result (λ edges. edges.items ≡ map edge_of all.now) }
+{
+    let mut edges = Vec::new(alloc);
+    for one in all {
+        edges.push(Edge {
+            from: one.argument,
+            to: target(*one),
+        })?;
+    }
+    Ok(edges)
 }
 
 impl Dependencies {
-    /// The dependencies of some productions, for a table of so many slots.
+    /// The dependencies of the productions of an accepted grammar, for a table of so many slots.
     pub(crate) fn of(
         alloc: Global,
         productions: &[Production],
         count: usize,
     ) -> Result<Dependencies, NoMemory>
-        requires accepted { AreAccepted productions.now }
+        requires accepted { (g : Plain) × IsAccepted g × (g.productions ≡ productions.now)
+            × (count ≡ length g.symbols * most_attributes) }
         ensures all { IfOk result (λ found. AreDependencies productions.now found.all.items) }
-        ensures len { IfOk result (λ found. length found.rows.items ≡ count) }
-        ensures rows { IfOk result (λ found. AreRows found.all.items found.rows.items) }
-        ensures placed { IfOk result (λ found. ArePlaced found.all.items) }
+        ensures ready { IfOk result (λ found. AreReady found count) }
     {
         let all = all_dependencies(alloc, productions)?;
-        let rows = rows_of(alloc, count, all.as_slice())?;
-        Ok(Dependencies { all, rows })
+        let edges = edges(alloc, all.as_slice())?;
+        let edges = Clauses::of_edges(alloc, edges.as_slice(), count)?;
+        Ok(Dependencies { all, edges })
     }
 }
 
-/// The strikes of a pass so far, and marks of what they strike.
+/// The strikes of a pass, and marks of what they strike.
 #[derive(Debug, Drop)]
 pub(crate) struct Struck {
     pub strikes: Vec<Strike>,
     pub marks: Vec<bool>,
-}
-
-/// The dependencies on what a slot of the table has.
-fn row(rows: &[Vec<Dependency>], slot: usize) -> &[Dependency]
-    ensures { result.now ≡ row_at rows.now slot }
-{
-    if slot < rows.len() {
-        rows[slot].as_slice()
-    } else {
-        &[]
-    }
-}
-
-/// What a slot has can be struck: it has no pass yet, and is not struck.
-fn can_be_struck(states: &[State], marks: &[bool], slot: usize) -> bool
-    ensures { result ≡ is_due states.now marks.now slot }
-{
-    has_none(look_up(states, slot)) && !has_mark(marks, slot)
-}
-
-/// Strikes the target of a dependency, unless it has a pass or is struck.
-fn strike(states: &[State], one: Dependency, struck: &mut Struck) -> Result<(), NoMemory>
-    requires { length struck.old.marks.items ≡ length states.now }
-    ensures { OnOk result (GoesOn states.now (λ u. u ≡ one) struck.old struck.new) }
-{
-    if can_be_struck(states, struck.marks.as_slice(), one.target) {
-        struck.strikes.push(one.strike)?;
-        struck.marks[one.target] = true;
-    }
-    Ok(())
-}
-
-/// What a table may have has no pass yet.
-fn is_without_pass(states: &[State], slot: Option<usize>) -> bool
-    ensures { IsTrue result ↔ IsOpenAt states.now slot }
-{
-    match slot {
-        Some(slot) => has_none(look_up(states, slot)),
-        None => false,
-    }
 }
 
 /// Whether the child at a second place is the one at the first, or a pass in a direction visits it
@@ -104,95 +89,100 @@ pub fn is_ahead(direction: Direction, first: u16, second: u16) -> bool
 fn is_barred(direction: Direction, states: &[State], one: Dependency) -> bool
     ensures { IsTrue result ↔ IsBarred direction states.now one }
 {
-    is_ahead(direction, one.place, one.from) && is_without_pass(states, one.argument)
+    is_ahead(direction, one.place, one.from) && has_none(look_up(states, one.argument))
 }
 
-/// Strikes the target of a dependency that keeps it out of a pass.
-fn strike_barred(
+/// Puts a dependency at the end of a list if it keeps its target out of a pass.
+fn put_barred(
+    barred: &mut Vec<Dependency>,
     direction: Direction,
     states: &[State],
     one: Dependency,
-    struck: &mut Struck,
 ) -> Result<(), NoMemory>
-    requires { length struck.old.marks.items ≡ length states.now }
-    ensures { OnOk result (GoesOn states.now
-        (λ u. (u ≡ one) × IsBarred direction states.now u) struck.old struck.new) }
+    ensures { OnOk result (Adds (λ u. (u ≡ one) × IsBarred direction states.now u)
+        barred.old.items barred.new.items) }
 {
     if is_barred(direction, states, one) {
-        strike(states, one, struck)?;
+        barred.push(one)?;
     }
     Ok(())
 }
 
-/// Strikes the targets of dependencies that keep them out of a pass.
-fn strike_all_barred(
+/// Those of the dependencies that keep their targets out of a pass, in the same order.
+fn barred_ones(
+    alloc: Global,
     direction: Direction,
     states: &[State],
     all: &[Dependency],
-    struck: &mut Struck,
-) -> Result<(), NoMemory>
-    requires { length struck.old.marks.items ≡ length states.now }
-    ensures { OnOk result (GoesOn states.now
-        (λ u. Has all.now u × IsBarred direction states.now u) struck.old struck.new) }
+) -> Result<Vec<Dependency>, NoMemory>
+    ensures { IfOk result (λ barred. AreBarred direction states.now all.now barred.items) }
 {
+    let mut barred = Vec::new(alloc);
     for one in all {
-        strike_barred(direction, states, *one, struck)?;
+        put_barred(&mut barred, direction, states, *one)?;
     }
-    Ok(())
+    Ok(barred)
 }
 
-/// Strikes the targets of some dependencies.
-fn strike_all(
-    states: &[State],
-    dependents: &[Dependency],
-    struck: &mut Struck,
-) -> Result<(), NoMemory>
-    requires { length struck.old.marks.items ≡ length states.now }
-    ensures { OnOk result (GoesOn states.now (Has dependents.now) struck.old struck.new) }
+/// The slots of the targets of dependencies.
+fn targets(alloc: Global, dependencies: &[Dependency]) -> Result<Vec<usize>, NoMemory>
+    ensures { IfOk result (λ targets. targets.items ≡ map target_of dependencies.now) }
 {
-    for one in dependents {
-        strike(states, *one, struck)?;
+    let mut targets = Vec::new(alloc);
+    for one in dependencies {
+        targets.push(target(*one))?;
     }
-    Ok(())
+    Ok(targets)
 }
 
-/// No strikes, for a table of so many slots.
-fn no_strikes(alloc: Global, count: usize) -> Result<Struck, NoMemory>
-    ensures strikes { IfOk result (λ struck. struck.strikes.items ≡ []) }
-    ensures len { IfOk result (λ struck. length struck.marks.items ≡ count) }
-    ensures marks { IfOk result (λ struck. (k : ℕ) → is_marked struck.marks.items k ≡ false) }
+/// The dependency by which a target is struck.
+fn by_reason(all: &[Dependency], barred: &[Dependency], reason: Reason) -> Dependency
+    requires { (u : PlainDependency) × (dependency_by all.now barred.now reason ≡ Some u) }
+    ensures { dependency_by all.now barred.now reason ≡ Some result }
 {
-    let marks = vec![in alloc; false; count]?;
-    Ok(Struck {
-        strikes: Vec::new(alloc),
-        marks,
-    })
+    match reason {
+        Reason::Seed(index) => barred[index],
+        Reason::Clause(index) => all[index],
+    }
 }
 
-/// The strikes of a pass in a direction over a table. The list of strikes is the work list: the
-/// dependencies on each struck attribute are looked at once.
+/// The strikes by the dependencies that are the reasons of additions.
+fn strikes_of(
+    alloc: Global,
+    all: &[Dependency],
+    barred: &[Dependency],
+    added: &[Addition],
+) -> Result<Vec<Strike>, NoMemory>
+    requires { Each (λ x. (u : PlainDependency) × (dependency_by all.now barred.now x.reason ≡ Some u))
+        added.now }
+    ensures { IfOk result (λ xs. AreStrikesOf all.now barred.now added.now xs.items) }
+{
+    let mut strikes = Vec::new(alloc);
+    for one in added {
+        strikes.push(by_reason(all, barred, one.reason).strike)?;
+    }
+    Ok(strikes)
+}
+
+/// The strikes of a pass in a direction over a table: first of the targets that are kept out of it
+/// whatever is struck, in the order of the dependencies, and then of those that depend on what is
+/// struck, as that is in its turn.
 pub(crate) fn search(
     alloc: Global,
     dependencies: &Dependencies,
     states: &[State],
     direction: Direction,
 ) -> Result<Struck, NoMemory>
-    requires len { length dependencies.now.rows.items ≡ length states.now }
-    requires rows { AreRows dependencies.now.all.items dependencies.now.rows.items }
-    requires placed { ArePlaced dependencies.now.all.items }
-    ensures search { IfOk result
-        (IsSearched dependencies.now.all.items direction states.now) }
-    ensures finished { IfOk result (λ struck.
-        IsFinished dependencies.now.all.items direction states.now struck.strikes.items) }
+    requires { AreReady dependencies.now (length states.now) }
+    ensures { IfOk result (IsSearched dependencies.now.all.items direction states.now) }
 {
-    let mut struck = no_strikes(alloc, states.len())?;
-    strike_all_barred(direction, states, dependencies.all.as_slice(), &mut struck)?;
-    let mut at = 0;
-    while at < struck.strikes.len() {
-        let last = struck.strikes[at];
-        let dependents = row(dependencies.rows.as_slice(), slot(last.symbol, last.attr));
-        strike_all(states, dependents, &mut struck)?;
-        at += 1;
-    }
-    Ok(struck)
+    let all = dependencies.all.as_slice();
+    let barred = barred_ones(alloc, direction, states, all)?;
+    let seeds = targets(alloc, barred.as_slice())?;
+    let found = dependencies.edges.find(alloc, seeds.as_slice())?;
+    let strikes = strikes_of(alloc, all, barred.as_slice(), found.added.as_slice())?;
+    Ok(Struck {
+        strikes,
+        marks: found.marks,
+    })
 }

@@ -18,7 +18,7 @@ use Rattle.passassign.specs.declared.assigning.Progress.{Progress}
 use Rattle.passassign.specs.declared.dependency.Dependency.{Dependency}
 use Rattle.passassign.specs.declared.table.State.{State}
 use Rattle.passassign.specs.declared.table.State.TheVariants.{Absent, Open, Given}
-use Rattle.passassign.proofs.slots.Linked.{kinds_names, attribute_within, state_in}
+use Rattle.passassign.proofs.slots.Linked.{kinds_names, attribute_within, state_in, parts, target_is}
 use Rattle.passassign.proofs.making.Made.{made_before}
 use Rattle.passassign.proofs.making.Refusing.{open_step}
 use Rattle.passassign.proofs.making.Whole.{whole_least}
@@ -92,10 +92,15 @@ module _ (symbols : List Symbol) (states : List State) (first : IsFirstTable sym
 pub with_of : (symbols : List Symbol) (productions : List Production) (g : Grammar) (all : List Dependency) (states : List State) → IsWith symbols productions g → AreDependencies productions all → IsFirstTable symbols states → AreOf g all states
 with_of symbols productions g all states w are first =
     let f : IsFirstTable g.symbols states = subst (λ symbols. IsFirstTable symbols states) (sym w.symbols_are) first in
+    let of_g : AreDependencies g.productions all = subst (λ productions. AreDependencies productions all) (sym w.productions_are) are in
     record {
       accepted = w.accepted;
-      dependencies = subst (λ productions. AreDependencies productions all) (sym w.productions_are) are;
+      dependencies = of_g;
       table = first_is_table g.symbols states f (λ s a is. attribute_within g s a w.accepted is);
+      led = λ u h e.
+          let is = target_is g u w.accepted (parts g u ((of_g u).0 h)) in
+          let within = attribute_within g u.strike.symbol u.strike.attr w.accepted is in
+          f.at u.strike.symbol u.strike.attr within.0 within.1 ∙ first_state_open (attribute_count (slice_get g.symbols u.strike.symbol)) u.strike.attr (declared_within g.symbols u.strike.symbol u.strike.attr is);
     }
 
 pub first_made : (g : Grammar) (symbols : List Symbol) (states : List State) → IsFirstTable symbols states → IsMade g 1 (table_passes states)

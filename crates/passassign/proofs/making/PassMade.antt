@@ -6,7 +6,7 @@ use Rattle.ag_grammar.specs.grammars.Passes.{direction_of, other}
 use Rattle.passassign.specs.Least.{IsOver}
 use Rattle.passassign.specs.Making.{IsOpen, IsMade, IsPass, AreMarks, given_by, passed}
 use Rattle.passassign.specs.Progress.{IsProgress, IsNext, AreOpenIn}
-use Rattle.passassign.specs.Searching.{AreOf, IsSearch, IsFinished}
+use Rattle.passassign.specs.Searching.{AreOf, IsSearch, target_of}
 use Rattle.passassign.specs.Tables.{slot_of, state_at, state_of, given, after_pass, is_marked, table_passes}
 use Rattle.passassign.specs.declared.assigning.Progress.{Progress}
 use Rattle.passassign.specs.declared.dependency.Dependency.{Dependency}
@@ -35,6 +35,13 @@ open_after k Absent b e = e
 open_after k Open b e = refl
 open_after k (Given p) b e = e
 
+-- only what is marked is left open
+marked_after : (k : ℕ) (x : State) (b : Bool) → after_pass k x b ≡ Open → b ≡ true
+marked_after k Absent b e = absurd (let bad : ⊥ = cc in bad)
+marked_after k Open true e = refl
+marked_after k Open false e = absurd (let bad : ⊥ = cc in bad)
+marked_after k (Given p) b e = absurd (let bad : ⊥ = cc in bad)
+
 given_there : (x : State) (p : ℕ) → given x ≡ Some p → x ≡ Absent → ⊥
 given_there x p e f = let bad : Some p ≡ None = sym e ∙ ap given f in cc
 
@@ -53,7 +60,7 @@ module _ (old new : List State) (marks : List Bool) (k : ℕ) (after : (i : ℕ)
   pub open_in : AreOpenIn new old
   open_in i e = open_after k (state_at old i) (is_marked marks i) (sym (after i) ∙ e)
 
-  module _ (g : Grammar) (all : List Dependency) (of : AreOf g all old) (len : length new ≡ length old) where
+  module _ (g : Grammar) (all : List Dependency) (of : AreOf g all old) (len : length new ≡ length old) (xs : List Strike) (s : IsSearch all (direction_of k) old xs marks) where
     pub of_new : AreOf g all new
     of_new = record {
       accepted = of.accepted;
@@ -65,45 +72,48 @@ module _ (old new : List State) (marks : List Bool) (k : ℕ) (after : (i : ℕ)
           (λ d e. (of.table.there s a).1 d ((absent_after k (state_of old s a) (is_marked marks (slot_of s a))).0 (sym (after_of s a) ∙ e))),
         );
       };
+      led = λ u h e.
+          let m = marked_after k (state_at old u.argument) (is_marked marks u.argument) (sym (after u.argument) ∙ e) in
+          after (target_of u) ∙ ap (λ x. after_pass k x (is_marked marks (target_of u))) (of.led u h (open_in u.argument e)) ∙ ap (after_pass k Open) (s.closed u h m);
     }
 
-    module _ (xs : List Strike) (s : IsSearch all (direction_of k) old xs marks) (f : IsFinished all (direction_of k) old xs) where
-      hit_in : (s a : ℕ) → a < 16 → (nat_lt a 16 && is_marked marks (slot_of s a)) ≡ is_marked marks (slot_of s a)
-      hit_in s a lt = ap (λ b. b && is_marked marks (slot_of s a)) (lt-ltb a 16 lt)
+    hit_in : (s a : ℕ) → a < 16 → (nat_lt a 16 && is_marked marks (slot_of s a)) ≡ is_marked marks (slot_of s a)
+    hit_in s a lt = ap (λ b. b && is_marked marks (slot_of s a)) (lt-ltb a 16 lt)
 
-      hit_small : (s a : ℕ) → (nat_lt a 16 && is_marked marks (slot_of s a)) ≡ true → a < 16
-      hit_small s a e = go (nat_lt a 16) refl
-        where
-          go : (b : Bool) → nat_lt a 16 ≡ b → a < 16
-          go true h = ltb-true a 16 h
-          go false h = absurd (false≢true (sym (ap (λ b. b && is_marked marks (slot_of s a)) h) ∙ e))
+    hit_small : (s a : ℕ) → (nat_lt a 16 && is_marked marks (slot_of s a)) ≡ true → a < 16
+    hit_small s a e = go (nat_lt a 16) refl
+      where
+        go : (b : Bool) → nat_lt a 16 ≡ b → a < 16
+        go true h = ltb-true a 16 h
+        go false h = absurd (false≢true (sym (ap (λ b. b && is_marked marks (slot_of s a)) h) ∙ e))
 
-      are_marks : AreMarks (λ s a. nat_lt a 16 && is_marked marks (slot_of s a)) xs
-      are_marks u a = (
-        (λ e. (let lt = hit_small u a e in at_struck g all (direction_of k) old xs of (s.good g of) u a lt ((s.marked (slot_of u a)).0 (sym (hit_in u a lt) ∙ e)))),
-        (λ h. (
-            let lt = (open_state g all old of u a (strikes_open g (direction_of k) (IsOpen g (table_passes old)) [] xs (s.good g of) u a h)).0 in
-            hit_in u a lt ∙ (s.marked (slot_of u a)).1 (struck_at g all (direction_of k) old xs of (s.good g of) u a h))),
-      )
+    are_marks : AreMarks (λ s a. nat_lt a 16 && is_marked marks (slot_of s a)) xs
+    are_marks u a = (
+      (λ e. (let lt = hit_small u a e in at_struck g all (direction_of k) old xs of (s.good g of) u a lt ((s.marked (slot_of u a)).0 (sym (hit_in u a lt) ∙ e)))),
+      (λ h. (
+          let lt = (open_state g all old of u a (strikes_open g (direction_of k) (IsOpen g (table_passes old)) [] xs (s.good g of) u a h)).0 in
+          hit_in u a lt ∙ (s.marked (slot_of u a)).1 (struck_at g all (direction_of k) old xs of (s.good g of) u a h))),
+    )
 
-      pub is_pass : IsPass g k (table_passes old) (table_passes new) xs
-      is_pass =
-          pass_by_marks g k (table_passes old) (table_passes new) xs (λ s a. nat_lt a 16 && is_marked marks (slot_of s a)) (over g all old of) (over g all new of_new) (s.good g of) (f g of) are_marks
-          (λ u a i.
-          let lt = (attribute_within g u a of.accepted i).0 in
-          ap given (after_of u a) ∙ given_after k (state_of old u a) (is_marked marks (slot_of u a)) ((of.table.there u a).1 i) ∙ ap (given_by k (given (state_of old u a))) (sym (hit_in u a lt)))
+    pub is_pass : IsPass g k (table_passes old) (table_passes new) xs
+    is_pass =
+        pass_by_marks g k (table_passes old) (table_passes new) xs (λ s a. nat_lt a 16 && is_marked marks (slot_of s a)) (over g all old of) (over g all new of_new) (s.good g of) (s.finished g of) are_marks
+        (λ u a i.
+        let lt = (attribute_within g u a of.accepted i).0 in
+        ap given (after_of u a) ∙ given_after k (state_of old u a) (is_marked marks (slot_of u a)) ((of.table.there u a).1 i) ∙ ap (given_by k (given (state_of old u a))) (sym (hit_in u a lt)))
 
 pub next_made : (g : Grammar) (all : List Dependency) (old new : Progress) (xs : List Strike) (marks : List Bool) → ((i : ℕ) → state_at new.states.items i ≡ after_pass old.next (state_at old.states.items i) (is_marked marks i)) → length new.states.items ≡ length old.states.items → new.next ≡ old.next + 1
-    → new.direction ≡ other old.direction → IsSearch all old.direction old.states.items xs marks → IsFinished all old.direction old.states.items xs → IsProgress g all old → IsNext g all old new xs
-next_made g all old new xs marks after len next turned s f p = record { progress = record { of = now; made = made; turned = turn }; pass = pass }
+    → new.direction ≡ other old.direction → IsSearch all old.direction old.states.items xs marks → IsProgress g all old → IsNext g all old new xs
+next_made g all old new xs marks after len next turned s p = record { progress = record { of = now; made = made; turned = turn }; pass = pass }
   where
+    found : IsSearch all (direction_of old.next) old.states.items xs marks
+    found = subst (λ d. IsSearch all d old.states.items xs marks) p.turned s
+
     now : AreOf g all new.states.items
-    now = of_new old.states.items new.states.items marks old.next after g all p.of len
+    now = of_new old.states.items new.states.items marks old.next after g all p.of len xs found
 
     pass : IsPass g old.next (table_passes old.states.items) (table_passes new.states.items) xs
-    pass =
-        is_pass old.states.items new.states.items marks old.next after g all p.of len xs (subst (λ d. IsSearch all d old.states.items xs marks) p.turned s)
-        (subst (λ d. IsFinished all d old.states.items xs) p.turned f)
+    pass = is_pass old.states.items new.states.items marks old.next after g all p.of len xs found
 
     one_more : new.next ≡ suc old.next
     one_more = next ∙ add-one old.next

@@ -1,9 +1,10 @@
 -- How the slots of a table and the dependencies in a list stand for a grammar's attributes and arguments.
-use Rattle.std.proofs.Common.{ℕ, zero, suc, ◌≡◌, ◌<◌, cond, List, Option, Some, None, slice_get, length, map, refl, ap, ◌∙◌, sym, subst, arith}
+use Rattle.std.proofs.Common.{ℕ, zero, suc, ◌≡◌, ◌<◌, ◌*◌, cond, List, Option, Some, None, slice_get, length, map, refl, ap, ◌∙◌, sym, subst, arith}
 use Rattle.std.proofs.lemmas.Bool.{lt-ltb}
 use Rattle.std.proofs.lemmas.Option.{slice_get_within}
 use Rattle.std.proofs.lemmas.List.{length-map}
 use Rattle.std.proofs.Math.ListN.{length-append}
+use Rattle.ag_grammar.specs.Lists.{Has}
 use Rattle.ag_grammar.specs.declared.grammar.Item.TheVariants as item
 use Rattle.ag_grammar.specs.declared.grammar.Item.{Item}
 use Rattle.ag_grammar.specs.declared.grammar.Production.{Production}
@@ -15,7 +16,7 @@ use Rattle.ag_grammar.specs.grammars.AttributeGrammar.{Grammar, Synthesized, Inh
 use Rattle.passassign.specs.Dependencies.{symbol_of, table_slot, IsDependency, AreDependencies}
 use Rattle.passassign.specs.Least.{IsAttribute}
 use Rattle.passassign.specs.Making.{IsOpen}
-use Rattle.passassign.specs.Searching.{AreOf, ArePlaced, struck_slot}
+use Rattle.passassign.specs.Searching.{AreOf, target_of}
 use Rattle.passassign.specs.Tables.{slot_of, state_at, state_of, given, table_passes}
 use Rattle.passassign.specs.declared.dependency.Dependency.{Dependency}
 use Rattle.passassign.specs.declared.table.State.{State}
@@ -83,52 +84,66 @@ symbol_is None s e = absurd (let bad : ⊥ = cc in bad)
 symbol_is (Some (item.Symbol t)) s e = let f : t ≡ s = cc in ap (λ t. Some (item.Symbol t)) f
 symbol_is (Some (item.Terminal t)) s e = absurd (let bad : ⊥ = cc in bad)
 
+slot_symbol : (y : Option ℕ) (a k : ℕ) → table_slot y a ≡ Some k → (s : ℕ) × (y ≡ Some s) × (k ≡ slot_of s a)
+slot_symbol None a k e = absurd (let bad : ⊥ = cc in bad)
+slot_symbol (Some s) a k e = (s, refl, cc)
+
 -- What a dependency says of its grammar.
 pub record Parts (g : Grammar) (u : Dependency) : Type 0 where
   pub production : Production
   pub rule : Rule
   pub argument : Target
+  pub of : ℕ
   pub is_production : IsProduction g u.strike.production production
   pub is_rule : slice_get production.rules u.strike.rule ≡ Some rule
   pub is_argument : slice_get rule.args u.strike.arg ≡ Some argument
   pub symbol : item_at production rule.target.place ≡ Some (item.Symbol u.strike.symbol)
   pub attr : rule.target.attr ≡ u.strike.attr
-  pub target : u.target ≡ slot_of u.strike.symbol u.strike.attr
   pub place : u.place ≡ rule.target.place
   pub from : u.from ≡ argument.place
-  pub at : u.argument ≡ table_slot (symbol_of (item_at production argument.place)) argument.attr
+  pub is_symbol : item_at production argument.place ≡ Some (item.Symbol of)
+  pub at : u.argument ≡ slot_of of argument.attr
 
 pub parts : (g : Grammar) (u : Dependency) → IsDependency g.productions u → Parts g u
-parts g u (p, q, is_q, (r, rule, is_rule, (s, is_s, (i, o, is_o, e)))) =
+parts g u (p, q, is_q, (r, rule, is_rule, (s, is_s, (i, o, is_o, (k, is_k, e))))) =
+    let w = slot_symbol (symbol_of (slice_get (places_of q) o.place)) o.attr k is_k in
     subst (Parts g) (sym e) (record {
       production = q;
       rule = rule;
       argument = o;
+      of = w.0;
       is_production = is_q;
       is_rule = is_rule;
       is_argument = is_o;
       symbol = sym (places_item q rule.target.place) ∙ symbol_is (slice_get (places_of q) rule.target.place) s is_s;
       attr = refl;
-      target = refl;
       place = refl;
       from = refl;
-      at = ap (λ x. table_slot (symbol_of x) o.attr) (places_item q o.place);
+      is_symbol = sym (places_item q o.place) ∙ symbol_is (slice_get (places_of q) o.place) w.0 w.1;
+      at = w.2;
     })
 
--- the attribute that an argument is of a symbol is there
-pub argument_within : (g : Grammar) (p r i : ℕ) (q : Production) (rule : Rule) (o : Target) (s : ℕ) → IsAccepted g → IsProduction g p q → slice_get q.rules r ≡ Some rule → slice_get rule.args i ≡ Some o → item_at q o.place ≡ Some (item.Symbol s) → o.attr < 16
-argument_within g p r i q rule o s accepted is_q is_rule is_o e =
-    (attribute_within g s o.attr accepted (found_kind o.place, subst (λ x. slice_get (item_kinds g x) o.attr ≡ Some (found_kind o.place)) e (accepted.normal p q is_q r rule is_rule i o is_o))).0
+module _ (g : Grammar) (u : Dependency) (accepted : IsAccepted g) (p : Parts g u) where
+  -- the target of a dependency is an attribute, and so is its argument
+  pub target_is : IsAttribute g u.strike.symbol u.strike.attr
+  target_is =
+      let k = (accepted.complete u.strike.production p.production p.is_production).no_other u.strike.rule p.rule p.is_rule in
+      (given_kind p.rule.target.place, subst (λ a. slice_get (symbol_kinds (slice_get g.symbols u.strike.symbol)) a ≡ Some (given_kind p.rule.target.place)) p.attr (subst (λ x. slice_get (item_kinds g x) p.rule.target.attr ≡ Some (given_kind p.rule.target.place)) p.symbol k))
 
--- the target of a dependency is an attribute
-pub target_within : (g : Grammar) (u : Dependency) → IsAccepted g → Parts g u → u.strike.attr < 16
-target_within g u accepted p =
-    let k = (accepted.complete u.strike.production p.production p.is_production).no_other u.strike.rule p.rule p.is_rule in
-    (attribute_within g u.strike.symbol u.strike.attr accepted
-    (given_kind p.rule.target.place, subst (λ a. slice_get (symbol_kinds (slice_get g.symbols u.strike.symbol)) a ≡ Some (given_kind p.rule.target.place)) p.attr (subst (λ x. slice_get (item_kinds g x) p.rule.target.attr ≡ Some (given_kind p.rule.target.place)) p.symbol k))).0
+  argument_is : IsAttribute g p.of p.argument.attr
+  argument_is =
+      (found_kind p.argument.place, subst (λ x. slice_get (item_kinds g x) p.argument.attr ≡ Some (found_kind p.argument.place)) p.is_symbol (accepted.normal u.strike.production p.production p.is_production u.strike.rule p.rule p.is_rule u.strike.arg p.argument p.is_argument))
 
-pub placed : (productions : List Production) (all : List Dependency) → AreDependencies productions all → ArePlaced all
-placed productions all are u h = place_by productions u ((are u).0 h)
-  where
-    place_by : (productions : List Production) (u : Dependency) → IsDependency productions u → u.target ≡ struck_slot u.strike
-    place_by productions u (p, q, is_q, (r, rule, is_rule, (s, is_s, (i, o, is_o, e)))) = subst (λ (u : Dependency). u.target ≡ struck_slot u.strike) (sym e) refl
+  pub argument_within : p.argument.attr < 16
+  argument_within = (attribute_within g p.of p.argument.attr accepted argument_is).0
+
+  -- both are in a table of all attributes
+  pub in_table : (count : ℕ) → count ≡ length g.symbols * 16 → (u.argument < count) × (target_of u < count)
+  in_table count e =
+      let t = attribute_within g u.strike.symbol u.strike.attr accepted target_is in
+      let a = attribute_within g p.of p.argument.attr accepted argument_is in
+      let at = p.at in
+      (omega (arith, t.0, t.1, a.0, a.1, at, e), omega (arith, t.0, t.1, e))
+
+pub all_in_table : (g : Grammar) (all : List Dependency) → IsAccepted g → AreDependencies g.productions all → (count : ℕ) → count ≡ length g.symbols * 16 → (u : Dependency) → Has all u → (u.argument < count) × (target_of u < count)
+all_in_table g all accepted are count e u h = in_table g u accepted (parts g u ((are u).0 h)) count e

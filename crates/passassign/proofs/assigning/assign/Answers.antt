@@ -6,7 +6,7 @@ use Rattle.passassign.specs.Rows.{AreFew}
 use Rattle.passassign.proofs.assigning.assign.Goals as goal
 
 pub assign_all-requires-clause-accepted : goal.assign_all-requires-clause-accepted
-assign_all-requires-clause-accepted c = (c.args.grammar.now, c.symbols.ensures.accepted, sym c.productions.ensures.lent)
+assign_all-requires-clause-accepted c = (c.args.grammar.now, record { accepted = c.symbols.ensures.accepted; symbols_are = sym c.symbols.ensures.lent; productions_are = sym c.productions.ensures.lent })
 
 pub returns-clause-few : goal.returns-clause-few
 returns-clause-few c = IfOk-weaker c.assign_all.result (λ m. (g : Grammar) → IsWith c.symbols.result.now c.productions.result.now g → AreFew m) AreFew

@@ -1,11 +1,18 @@
 use Rattle.std.proofs.Common.{◌≡◌, ◌≤◌, length, ap, ◌∙◌, sym, subst, refl, arith}
 use Rattle.std.proofs.lemmas.List.Sums.{count_by-le-length}
 use Rattle.passassign.specs.Progress.{open_count}
+use Rattle.passassign.specs.Searching.{AreReady}
 use Rattle.passassign.specs.Rows.{numbers_of, passes_of, AreFew}
 use Rattle.passassign.specs.Least.{IsLeast}
 use Rattle.passassign.specs.Tables.{is_open, AreRowsOfTable}
 use Rattle.passassign.proofs.making.Finally.{with_of, first_made, least, few}
 use Rattle.passassign.proofs.assigning.assign_all.Goals as goal
+
+pub of-requires : goal.of-requires
+of-requires c =
+    let w = c.requires.accepted in
+    let same : length w.0.symbols ≡ length c.args.symbols.now = ap length w.1.symbols_are in
+    record { accepted = (w.0, w.1.accepted, w.1.productions_are, (let first = c.in_ok-states.ensures.len in omega (arith, c.len.ensures, first, same))) }
 
 pub loop-open_now-init : goal.loop-open_now-init
 loop-open_now-init c =
@@ -14,7 +21,7 @@ loop-open_now-init c =
     let len : length c.in_ok-states.states.items ≤ 4096 = let l = first.len in let r = c.requires.count in omega (arith, l, r) in
     let most = count_by-le-length is_open c.in_ok-states.states.items in
     record {
-      ready = record { len = omega (arith, c.in_ok-dependencies.ensures.len, c.len.ensures); rows = c.in_ok-dependencies.ensures.rows; placed = c.in_ok-dependencies.ensures.placed };
+      ready = subst (AreReady c.in_ok-dependencies.dependencies) (omega (arith, c.len.ensures)) c.in_ok-dependencies.ensures.ready;
       len = len;
       count = count;
       next = omega (arith, count, most, len);

@@ -1,7 +1,8 @@
 use Rattle.std.proofs.Common.{◌≡◌, ◌+◌, ◌*◌, ◌≤◌, length}
 use Rattle.ag_grammar.specs.grammars.AttributeGrammar.{Grammar}
-use Rattle.passassign.specs.Progress.{AreReady, IsProgress, IsWith, open_count}
+use Rattle.passassign.specs.Progress.{IsProgress, IsWith, open_count}
 use Rattle.ag_grammar.specs.grammars.Accepted.{most_passes}
+use Rattle.passassign.specs.Searching.{AreReady}
 use Rattle.passassign.proofs.assigning.assign_all.Given as goal
 
 abbrev pub invariant-loop-open_now : goal.invariant-loop-open_now

@@ -1,5 +1,5 @@
 use Rattle.std.proofs.Common.{◌+◌, subst, ap, ◌∙◌, refl}
-use Rattle.passassign.specs.Searching.{IsSearch, IsFinished}
+use Rattle.passassign.specs.Searching.{IsSearch}
 use Rattle.passassign.specs.Tables.{is_marked, after_pass, state_at}
 use Rattle.passassign.proofs.making.PassMade.{next_made}
 use Rattle.passassign.proofs.assigning.make_pass.Goals as goal
@@ -8,5 +8,4 @@ pub returns-clause-made : goal.returns-clause-made
 returns-clause-made c = λ g p.
     next_made g c.args.dependencies.now.all.items c.args.progress.now (record { states = c.give.new.states; next = c.args.progress.now.next + 1; direction = c.turned-progress.result }) c.in_ok-struck.struck.strikes.items c.in_ok-struck.struck.marks.items
     (λ i. c.give.ensures.after i ∙ ap (λ marks. after_pass c.args.progress.now.next (state_at c.args.progress.now.states.items i) (is_marked marks i)) c.as_slice-2.ensures.value) c.give.ensures.len refl c.turned-progress.ensures
-    (subst (λ states. IsSearch c.args.dependencies.now.all.items c.args.progress.now.direction states c.in_ok-struck.struck.strikes.items c.in_ok-struck.struck.marks.items) c.as_slice.ensures.value c.in_ok-struck.ensures.search)
-    (subst (λ states. IsFinished c.args.dependencies.now.all.items c.args.progress.now.direction states c.in_ok-struck.struck.strikes.items) c.as_slice.ensures.value c.in_ok-struck.ensures.finished) p
+    (subst (λ states. IsSearch c.args.dependencies.now.all.items c.args.progress.now.direction states c.in_ok-struck.struck.strikes.items c.in_ok-struck.struck.marks.items) c.as_slice.ensures.value c.in_ok-struck.ensures) p
