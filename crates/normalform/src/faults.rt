@@ -1,5 +1,6 @@
 //! The search for the first fault of a raw grammar.
 
+pub mod asking;
 pub mod clause;
 pub mod lacking;
 pub mod limits;

@@ -6,7 +6,12 @@ use Rattle.std.specs.List.{range_with_len}
 use Rattle.std.specs.Option.{option_map, option_or}
 use Rattle.normalform.specs.declared.fault.NormalFault.{NormalFault}
 use Rattle.ag_grammar.specs.declared.raw.Named.{Named}
-use Rattle.normalform.specs.faults.Faults.{Place, first_wrong, places_along, doubled_names, new_place, with_name}
+use Rattle.ag_grammar.specs.declared.grammar.Symbol.{Symbol}
+use Rattle.ag_grammar.specs.declared.raw.RawProduction.{RawProduction}
+use Rattle.normalform.specs.declared.faults.asking.Question.TheVariants as question
+use Rattle.normalform.specs.faults.Asking.{asked}
+use Rattle.normalform.specs.faults.Faults.{Place, first_wrong, places_along, doubled_names, new_place, with_name, given_place, not_given}
+use Rattle.normalform.specs.numbers.Numbers.{placed}
 
 map_or : {X Y : Type 0} (f : X → Y) (a b : Option X) → option_map f (option_or a b) ≡ option_or (option_map f a) (option_map f b)
 map_or f None b = refl
@@ -107,3 +112,13 @@ within f xs i lt = rw (length-map xs f) lt
 
 pub none_of : (xs ys : List Place) → None ≡ first_wrong xs → None ≡ first_wrong ys → None ≡ first_wrong (xs ++ ys)
 none_of xs ys e f = f ∙ rest_of xs ys e
+
+-- a list that gives one place each
+each_alone : {X : Type 0} (f : X → Place) (xs : List X) → flat_map (λ x. f x ∷ []) xs ≡ map f xs
+each_alone f [] = refl
+each_alone f (x ∷ xs) = ap (λ ys. f x ∷ ys) (each_alone f xs)
+
+-- what is asked of targets alone
+pub given_asked : (ss : List Symbol) (qs : List RawProduction) → asked question.Given ss qs ≡ not_given ss qs
+given_asked ss [] = refl
+given_asked ss (q ∷ qs) = ap (λ xs. xs ++ asked question.Given ss qs) (each_alone (given_place ss (placed ss q)) q.rules) ∙ ap (λ ys. map (given_place ss (placed ss q)) q.rules ++ ys) (given_asked ss qs)

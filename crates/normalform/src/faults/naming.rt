@@ -1,17 +1,16 @@
 //! Names that are not declared, and names that are declared twice.
-ghost use Rattle.std.specs.Prelude.{◌≡◌, ◌++◌, ◌∷◌, [], map, fold, None, IfOk, OnOk, flat_map};
+ghost use Rattle.std.specs.Prelude.{◌≡◌, ◌++◌, ◌∷◌, [], fold, None, IfOk, OnOk, flat_map};
 ghost use Rattle.normalform.specs.faults.Faults as spec;
 ghost use Rattle.normalform.specs.faults.Faults.{first_wrong, name_place, item_places, new_place};
-ghost use Rattle.normalform.specs.faults.Faults.{occurrence_place, rule_places, unknown_in};
+ghost use Rattle.normalform.specs.faults.Faults.{unknown_in};
 ghost use Rattle.normalform.specs.faults.Faults.{symbol_places, with_name, with_symbol};
 ghost use Rattle.normalform.specs.numbers.Numbers.{symbol_names, with_text};
-ghost use Rattle.normalform.specs.faults.Placed.{item_placed};
 
 use crate::fault::NormalFault;
-use crate::faults::placed::{Placed, places_of};
+use crate::faults::asking::{Question, first_in_production};
 use crate::numbers::declared::Declared;
 use crate::numbers::names::Names;
-use ag_grammar::{Named, Occ, RawItem, RawProduction, RawRule, RawSymbol, occurrences};
+use ag_grammar::{Named, RawItem, RawProduction, RawSymbol};
 use ag_value::NoMemory;
 use std::alloc::Global;
 
@@ -49,67 +48,6 @@ fn unknown_in_items(declared: &Declared<'_>, items: &[RawItem]) -> Option<Normal
     None
 }
 
-/// The fault of an occurrence whose attribute is not there.
-fn unknown_occurrence(
-    declared: &Declared<'_>,
-    items: &[Placed],
-    occurrence: &Occ,
-) -> Option<NormalFault>
-    ensures { result ≡ first_wrong (occurrence_place declared.now (map item_placed items.now)
-        occurrence.now ∷ []) }
-{
-    if declared.has_attribute(items, occurrence) {
-        None
-    } else {
-        Some(NormalFault::UnknownName(occurrence.at))
-    }
-}
-
-/// The first fault of occurrences.
-fn unknown_among(
-    declared: &Declared<'_>,
-    items: &[Placed],
-    occurrences: &[Occ],
-) -> Option<NormalFault>
-    ensures { result ≡ first_wrong (map (occurrence_place declared.now
-        (map item_placed items.now)) occurrences.now) }
-{
-    for occurrence in occurrences {
-        if let Some(fault) = unknown_occurrence(declared, items, occurrence) {
-            return Some(fault);
-        }
-    }
-    None
-}
-
-/// The first fault of a rule.
-fn unknown_in_rule(declared: &Declared<'_>, items: &[Placed], rule: &RawRule) -> Option<NormalFault>
-    ensures { result
-        ≡ first_wrong (rule_places declared.now (map item_placed items.now) rule.now) }
-{
-    if let Some(fault) = unknown_occurrence(declared, items, &rule.target) {
-        return Some(fault);
-    }
-    unknown_among(declared, items, occurrences(&rule.expr))
-}
-
-/// The first fault of rules.
-fn unknown_in_rules(
-    declared: &Declared<'_>,
-    items: &[Placed],
-    rules: &[RawRule],
-) -> Option<NormalFault>
-    ensures { result ≡ first_wrong (flat_map (rule_places declared.now
-        (map item_placed items.now)) rules.now) }
-{
-    for rule in rules {
-        if let Some(fault) = unknown_in_rule(declared, items, rule) {
-            return Some(fault);
-        }
-    }
-    None
-}
-
 /// The first fault of a production.
 fn unknown_in_production(
     alloc: Global,
@@ -124,8 +62,7 @@ fn unknown_in_production(
     if let Some(fault) = unknown_in_items(declared, production.items.as_slice()) {
         return Ok(Some(fault));
     }
-    let items = places_of(alloc, declared, production)?;
-    Ok(unknown_in_rules(declared, items.as_slice(), production.rules.as_slice()))
+    first_in_production(alloc, Question::Known, declared, production)
 }
 
 /// N1: the first symbol of a production that is not declared, or occurrence whose place or

@@ -1,18 +1,18 @@
 //! Rules that are missing, doubled, or not defined here, and arguments that are not normal.
-ghost use Rattle.std.specs.Prelude.{◌≡◌, ◌∷◌, [], map, flat_map, IfOk, OnOk, not};
+ghost use Rattle.std.specs.Prelude.{◌≡◌, [], map, IfOk, OnOk, not};
 ghost use Rattle.std.specs.List.{list_any};
 ghost use Rattle.normalform.specs.faults.Faults as spec;
 ghost use Rattle.normalform.specs.faults.Faults.{first_wrong, places_along, after, with_rule, new_target};
-ghost use Rattle.normalform.specs.faults.Faults.{given_place, found_place, same_target, doubled_in};
-ghost use Rattle.normalform.specs.faults.Faults.{not_given_in, not_found_in};
+ghost use Rattle.normalform.specs.faults.Faults.{same_target, doubled_in};
 ghost use Rattle.normalform.specs.numbers.Numbers.{target_of};
 ghost use Rattle.normalform.specs.faults.Placed.{item_placed};
 
 use crate::fault::NormalFault;
+use crate::faults::asking::{Question, first_in_productions};
 use crate::faults::placed::{Placed, places_of};
 use crate::faults::targets::Targets;
 use crate::numbers::declared::Declared;
-use ag_grammar::{Occ, RawProduction, RawRule, occurrences};
+use ag_grammar::{RawProduction, RawRule};
 use ag_value::NoMemory;
 use std::alloc::Global;
 
@@ -200,47 +200,6 @@ pub fn doubled_rules(
     Ok(None)
 }
 
-/// The fault of a rule whose target the rules of its production do not give.
-fn not_given_rule(declared: &Declared<'_>, items: &[Placed], rule: &RawRule) -> Option<NormalFault>
-    ensures { result ≡ first_wrong (given_place declared.now (map item_placed items.now) rule.now
-        ∷ []) }
-{
-    if declared.is_given(items, &rule.target) {
-        None
-    } else {
-        Some(NormalFault::NotDefinedHere(rule.target.at))
-    }
-}
-
-/// The first fault of the targets of rules.
-fn not_given_among(
-    declared: &Declared<'_>,
-    items: &[Placed],
-    rules: &[RawRule],
-) -> Option<NormalFault>
-    ensures { result ≡ first_wrong (map (given_place declared.now (map item_placed items.now))
-        rules.now) }
-{
-    for rule in rules {
-        if let Some(fault) = not_given_rule(declared, items, rule) {
-            return Some(fault);
-        }
-    }
-    None
-}
-
-/// The first such fault of a production.
-fn not_given_in_production(
-    alloc: Global,
-    declared: &Declared<'_>,
-    production: &RawProduction,
-) -> Result<Option<NormalFault>, NoMemory>
-    ensures { IfOk result (λ f. f ≡ first_wrong (not_given_in declared.now production.now)) }
-{
-    let items = places_of(alloc, declared, production)?;
-    Ok(not_given_among(declared, items.as_slice(), production.rules.as_slice()))
-}
-
 /// N8: the first target that is inherited at place 0, or synthesized at a later place.
 pub fn not_given(
     alloc: Global,
@@ -249,74 +208,7 @@ pub fn not_given(
 ) -> Result<Option<NormalFault>, NoMemory>
     ensures { IfOk result (λ f. f ≡ first_wrong (spec.not_given declared.now productions.now)) }
 {
-    for production in productions {
-        if let Some(fault) = not_given_in_production(alloc, declared, production)? {
-            return Ok(Some(fault));
-        }
-    }
-    Ok(None)
-}
-
-/// The fault of an occurrence that the rules of its production do not find.
-fn not_found_occurrence(
-    declared: &Declared<'_>,
-    items: &[Placed],
-    occurrence: &Occ,
-) -> Option<NormalFault>
-    ensures { result ≡ first_wrong (found_place declared.now (map item_placed items.now)
-        occurrence.now ∷ []) }
-{
-    if declared.is_found(items, occurrence) {
-        None
-    } else {
-        Some(NormalFault::NotNormal(occurrence.at))
-    }
-}
-
-/// The first fault of occurrences.
-fn not_found_among(
-    declared: &Declared<'_>,
-    items: &[Placed],
-    occurrences: &[Occ],
-) -> Option<NormalFault>
-    ensures { result ≡ first_wrong (map (found_place declared.now (map item_placed items.now))
-        occurrences.now) }
-{
-    for occurrence in occurrences {
-        if let Some(fault) = not_found_occurrence(declared, items, occurrence) {
-            return Some(fault);
-        }
-    }
-    None
-}
-
-/// The first fault of the arguments of rules.
-fn not_found_in_rules(
-    declared: &Declared<'_>,
-    items: &[Placed],
-    rules: &[RawRule],
-) -> Option<NormalFault>
-    ensures { result ≡ first_wrong (flat_map (λ r. map (found_place declared.now
-        (map item_placed items.now)) r.expr.1) rules.now) }
-{
-    for rule in rules {
-        if let Some(fault) = not_found_among(declared, items, occurrences(&rule.expr)) {
-            return Some(fault);
-        }
-    }
-    None
-}
-
-/// The first such fault of a production.
-fn not_found_in_production(
-    alloc: Global,
-    declared: &Declared<'_>,
-    production: &RawProduction,
-) -> Result<Option<NormalFault>, NoMemory>
-    ensures { IfOk result (λ f. f ≡ first_wrong (not_found_in declared.now production.now)) }
-{
-    let items = places_of(alloc, declared, production)?;
-    Ok(not_found_in_rules(declared, items.as_slice(), production.rules.as_slice()))
+    first_in_productions(alloc, Question::Given, declared, productions)
 }
 
 /// N9: the first argument that is synthesized at place 0, or inherited at a later place.
@@ -327,10 +219,5 @@ pub fn not_found(
 ) -> Result<Option<NormalFault>, NoMemory>
     ensures { IfOk result (λ f. f ≡ first_wrong (spec.not_found declared.now productions.now)) }
 {
-    for production in productions {
-        if let Some(fault) = not_found_in_production(alloc, declared, production)? {
-            return Ok(Some(fault));
-        }
-    }
-    Ok(None)
+    first_in_productions(alloc, Question::Found, declared, productions)
 }

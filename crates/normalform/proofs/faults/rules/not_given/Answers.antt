@@ -1,11 +1,8 @@
--- The goals of `not_given` that are left.
-use Rattle.std.proofs.Common.{sym, ◌∙◌}
-use Rattle.normalform.specs.faults.Faults.{not_given_in}
-use Rattle.normalform.proofs.found.Wrong.{wrong_here, wrong_past}
+-- Targets stand alone in their rules.
+use Rattle.std.proofs.Common.{IfOk, ◌≡◌, subst}
+use Rattle.normalform.specs.faults.Faults.{first_wrong}
+use Rattle.normalform.proofs.found.Wrong.{given_asked}
 use Rattle.normalform.proofs.faults.rules.not_given.Goals as goal
 
-pub returns-in-Some : goal.returns-in-Some
-returns-in-Some c = wrong_here (not_given_in c.args.declared.now) _ _ _ _ _ c.loop-production-test.true c.production-item.is (sym c.in-Some.is ∙ c.in_ok-fault.ensures) c.loop-production.invariant
-
-pub loop-production-preserved : goal.loop-production-preserved
-loop-production-preserved c = wrong_past (not_given_in c.args.declared.now) _ _ _ _ c.loop-production-test.true c.production-item.is (sym c.in_default.is ∙ c.in_ok-fault.ensures) c.loop-production.invariant
+pub returns : goal.returns
+returns c = subst (λ places. IfOk c.first_in_productions.result (λ f. f ≡ first_wrong places)) (given_asked c.args.declared.now c.args.productions.now) c.first_in_productions.ensures

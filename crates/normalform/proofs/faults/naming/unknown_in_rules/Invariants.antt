@@ -1,8 +1,0 @@
--- What the loop of `unknown_in_rules` keeps.
-use Rattle.std.proofs.Common.{◌≡◌, drop, map, flat_map}
-use Rattle.normalform.specs.faults.Faults.{first_wrong, rule_places}
-use Rattle.normalform.specs.faults.Placed.{item_placed}
-use Rattle.normalform.proofs.faults.naming.unknown_in_rules.Given as goal
-
-abbrev pub invariant-loop-rule : goal.invariant-loop-rule
-invariant-loop-rule l = first_wrong (flat_map (rule_places l.declared (map item_placed l.items)) (drop l.rule-index l.rules)) ≡ first_wrong (flat_map (rule_places l.declared (map item_placed l.items)) l.rules)

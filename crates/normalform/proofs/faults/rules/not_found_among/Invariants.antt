@@ -1,8 +1,0 @@
--- What the loop of `not_found_among` keeps.
-use Rattle.std.proofs.Common.{◌≡◌, drop, map}
-use Rattle.normalform.specs.faults.Placed.{item_placed}
-use Rattle.normalform.specs.faults.Faults.{first_wrong, found_place}
-use Rattle.normalform.proofs.faults.rules.not_found_among.Given as goal
-
-abbrev pub invariant-loop-occurrence : goal.invariant-loop-occurrence
-invariant-loop-occurrence l = first_wrong (map (found_place l.declared (map item_placed l.items)) (drop l.occurrence-index l.occurrences)) ≡ first_wrong (map (found_place l.declared (map item_placed l.items)) l.occurrences)

@@ -1,0 +1,151 @@
+//! One walk along the rules of productions, for what is asked of the attributes that they name.
+ghost use Rattle.std.specs.Prelude.{◌≡◌, ◌∷◌, [], map, flat_map, IfOk};
+ghost use Rattle.normalform.specs.faults.Asking.{asked_place, asked_places, asked_in, asked};
+ghost use Rattle.normalform.specs.faults.Faults.{first_wrong};
+ghost use Rattle.normalform.specs.faults.Placed.{item_placed};
+
+use crate::fault::NormalFault;
+use crate::faults::placed::{Placed, places_of};
+use crate::numbers::declared::Declared;
+use ag_grammar::{Occ, RawProduction, RawRule, occurrences};
+use ag_value::NoMemory;
+use std::alloc::Global;
+
+/// What is asked of the attributes that rules name.
+#[derive(Clone, Copy, Debug, PartialEq, Eq)]
+pub enum Question {
+    /// That targets and arguments are there.
+    Known,
+    /// That targets are attributes that rules give.
+    Given,
+    /// That arguments are attributes that rules find.
+    Found,
+}
+
+/// A fault, unless something holds.
+fn unless(holds: bool, fault: NormalFault) -> Option<NormalFault>
+    ensures { result ≡ first_wrong ((fault, holds) ∷ []) }
+{
+    if holds { None } else { Some(fault) }
+}
+
+/// The fault of an occurrence.
+fn fault_of(
+    question: Question,
+    declared: &Declared<'_>,
+    items: &[Placed],
+    occurrence: &Occ,
+) -> Option<NormalFault>
+    ensures { result ≡ first_wrong (asked_place question declared.now (map item_placed items.now)
+        occurrence.now ∷ []) }
+{
+    let at = occurrence.at;
+    match question {
+        Question::Known => unless(
+            declared.has_attribute(items, occurrence),
+            NormalFault::UnknownName(at),
+        ),
+        Question::Given => unless(
+            declared.is_given(items, occurrence),
+            NormalFault::NotDefinedHere(at),
+        ),
+        Question::Found => unless(
+            declared.is_found(items, occurrence),
+            NormalFault::NotNormal(at),
+        ),
+    }
+}
+
+/// The first fault of occurrences.
+fn first_among(
+    question: Question,
+    declared: &Declared<'_>,
+    items: &[Placed],
+    occurrences: &[Occ],
+) -> Option<NormalFault>
+    ensures { result ≡ first_wrong (map (asked_place question declared.now
+        (map item_placed items.now)) occurrences.now) }
+{
+    for occurrence in occurrences {
+        if let Some(fault) = fault_of(question, declared, items, occurrence) {
+            return Some(fault);
+        }
+    }
+    None
+}
+
+/// The first fault of a rule: of its target, and then of its arguments.
+fn first_in_rule(
+    question: Question,
+    declared: &Declared<'_>,
+    items: &[Placed],
+    rule: &RawRule,
+) -> Option<NormalFault>
+    ensures { result ≡ first_wrong (asked_places question declared.now (map item_placed items.now)
+        rule.now) }
+{
+    match question {
+        Question::Known => {
+            if let Some(fault) = fault_of(question, declared, items, &rule.target) {
+                return Some(fault);
+            }
+            first_among(question, declared, items, occurrences(&rule.expr))
+        }
+        Question::Given => fault_of(question, declared, items, &rule.target),
+        Question::Found => first_among(question, declared, items, occurrences(&rule.expr)),
+    }
+}
+
+/// The first fault of rules.
+fn first_in_rules(
+    question: Question,
+    declared: &Declared<'_>,
+    items: &[Placed],
+    rules: &[RawRule],
+) -> Option<NormalFault>
+    ensures { result ≡ first_wrong (flat_map (asked_places question declared.now
+        (map item_placed items.now)) rules.now) }
+{
+    for rule in rules {
+        if let Some(fault) = first_in_rule(question, declared, items, rule) {
+            return Some(fault);
+        }
+    }
+    None
+}
+
+/// The first fault of the rules of a production.
+pub fn first_in_production(
+    alloc: Global,
+    question: Question,
+    declared: &Declared<'_>,
+    production: &RawProduction,
+) -> Result<Option<NormalFault>, NoMemory>
+    ensures { IfOk result (λ f. f
+        ≡ first_wrong (asked_in question declared.now production.now)) }
+{
+    let items = places_of(alloc, declared, production)?;
+    Ok(first_in_rules(
+        question,
+        declared,
+        items.as_slice(),
+        production.rules.as_slice(),
+    ))
+}
+
+/// The first fault of the rules of productions.
+pub fn first_in_productions(
+    alloc: Global,
+    question: Question,
+    declared: &Declared<'_>,
+    productions: &[RawProduction],
+) -> Result<Option<NormalFault>, NoMemory>
+    ensures { IfOk result (λ f. f ≡ first_wrong (asked question declared.now productions.now)) }
+{
+    for production in productions {
+        if let Some(fault) = first_in_production(alloc, question, declared, production)? {
+            return Ok(Some(fault));
+        }
+    }
+    Ok(None)
+}
