@@ -19,7 +19,7 @@ use Rattle.aggen.specs.Building.{IsLeastPlan}
 use Rattle.aggen.specs.Sentences.{IsTreeOfSentence}
 use Rattle.agoutput.specs.Writing.{AppendsBeginning}
 use Rattle.passrun.specs.declared.passing.ends.Passed.{Passed}
-use Rattle.aggen.specs.declared.report.Report.{Report}
+use Rattle.aggen.specs.declared.translations.report.Report.{Report}
 use Rattle.passrun.specs.declared.run_fault.RunFault.{RunFault}
 use Rattle.passrun.specs.declared.run_fault.RunFault.TheVariants as run
 use Rattle.roottext.specs.declared.fault.OutFault.{OutFault}

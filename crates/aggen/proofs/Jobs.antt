@@ -9,7 +9,7 @@ use Rattle.aggen.specs.Status.{build_fault_of}
 use Rattle.aggen.specs.Translating.{IsTranslationFault}
 use Rattle.aggen.specs.declared.build_fault.BuildFault.{BuildFault}
 use Rattle.aggen.specs.declared.fault.Fault.{Fault}
-use Rattle.aggen.specs.declared.report.Report.{Report}
+use Rattle.aggen.specs.declared.translations.report.Report.{Report}
 
 module _ (known : Option (List ℕ)) (text sentence : List ℕ) (ha hb : Bool) (old new : Option (List ℕ)) (job : HasJob known text sentence) where
   -- the text makes no translator

@@ -18,7 +18,7 @@ use Rattle.aggen.specs.Translating.{ArePassesOf}
 use Rattle.aggen.specs.Translation.{BeginsTranslation, Evaluates, HasNoText, IsOneTree, IsReport, IsTreeInFile, LeavesSolution, before_last}
 use Rattle.aggen.specs.declared.fault.Fault.{Fault}
 use Rattle.aggen.specs.declared.fault.Fault.TheVariants as fault
-use Rattle.aggen.specs.declared.report.Report.{Report}
+use Rattle.aggen.specs.declared.translations.report.Report.{Report}
 
 -- the translation theorem for the file of a tree: its passes are those of the least plan
 abbrev pub EvaluatesTree : Grammar → (honest_tree honest_a honest_b : Bool) → (content a b : List ℕ) → (old new : Option (List ℕ)) → Report → Type 0

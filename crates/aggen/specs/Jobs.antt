@@ -12,7 +12,7 @@ use Rattle.aggen.specs.Translating.{IsTranslationFault, TranslatesSentence}
 use Rattle.aggen.specs.declared.build_fault.BuildFault.{BuildFault}
 use Rattle.aggen.specs.declared.fault.Fault.{Fault}
 use Rattle.aggen.specs.declared.fault.Fault.TheVariants as fault
-use Rattle.aggen.specs.declared.report.Report.{Report}
+use Rattle.aggen.specs.declared.translations.report.Report.{Report}
 
 -- What a reader gives, where that is known, is a job with this text of a grammar and this sentence.
 abbrev pub HasJob : Option (List ℕ) → (text sentence : List ℕ) → Type 0

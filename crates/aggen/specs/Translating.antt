@@ -14,7 +14,7 @@ use Rattle.aggen.specs.Sentences.{IsParseFaultOf, IsScanFaultOf, IsTreeOfSentenc
 use Rattle.aggen.specs.Translation.{BeginsTranslation, HasNoText, IsOneTree, IsReport, LeavesSolution, Translates}
 use Rattle.aggen.specs.declared.fault.Fault.{Fault}
 use Rattle.aggen.specs.declared.fault.Fault.TheVariants as fault
-use Rattle.aggen.specs.declared.report.Report.{Report}
+use Rattle.aggen.specs.declared.translations.report.Report.{Report}
 
 -- The passes are those of a least plan, and so many: its greatest number.
 pub record ArePassesOf (g : Grammar) (m : Passes) (passes : ℕ) : Type 0 where

@@ -17,7 +17,7 @@ use Rattle.roottext.specs.Roots.{IsNoText}
 use Rattle.treefile.specs.devices.Device.{WhenHonest}
 use Rattle.treefile.specs.records.Records.{IsFileOfTree}
 use Rattle.treefile.specs.records.TreeFile.{version_two}
-use Rattle.aggen.specs.declared.report.Report.{Report}
+use Rattle.aggen.specs.declared.translations.report.Report.{Report}
 
 -- Of trees of a kind there is exactly one, and it is within the limits.
 pub record IsOneTree (IsTree : Tree → Type 0) (t : Tree) : Type 0 where

@@ -5,26 +5,22 @@
 
 mod build_fault;
 mod checking;
-mod evaluating;
 mod fault;
-mod job;
 pub mod laws;
 mod listing;
-mod report;
 mod source;
 mod stuck_grammar;
-mod translating;
+mod translations;
 mod translator;
-mod value;
-mod value_file;
+mod values;
 
 pub use build_fault::BuildFault;
 pub use checking::{grammar_of, print_counts};
 pub use fault::{Fault, status};
-pub use job::run_job;
 pub use listing::{print_code, print_plan};
-pub use report::Report;
 pub use source::{bytes_of, source_of};
 pub use stuck_grammar::StuckGrammar;
+pub use translations::job::run_job;
+pub use translations::report::Report;
 pub use translator::Translator;
-pub use value::show_value;
+pub use values::value::show_value;

@@ -25,11 +25,11 @@ ghost use Rattle.passrun.specs.Upgrading.{IsUpgraded};
 
 use crate::build_fault::BuildFault;
 use crate::checking::grammar_of;
-use crate::evaluating::run_tree;
+use crate::translations::evaluating::run_tree;
 use crate::fault::Fault;
-use crate::report::Report;
+use crate::translations::report::Report;
 use crate::stuck_grammar::StuckGrammar;
-use crate::translating::{last_text, leave_files};
+use crate::translations::translating::{last_text, leave_files};
 use ag_grammar::Grammar;
 use ag_scan::scan;
 use ag_value::NoMemory;

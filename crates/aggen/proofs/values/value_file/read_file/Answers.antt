@@ -3,7 +3,7 @@ use Rattle.std.proofs.lemmas.Result.{err_from_is_err_and}
 use Rattle.treefile.specs.ways.Ending.{last_body_of}
 use Rattle.treefile.specs.records.TreeFile.{version_two}
 use Rattle.aggen.proofs.Reading.{body_told, last_of, place_told, value_told, want_told}
-use Rattle.aggen.proofs.value_file.read_file.Goals as goal
+use Rattle.aggen.proofs.values.value_file.read_file.Goals as goal
 
 pub returns-in_err-body-clause-read : goal.returns-in_err-body-clause-read
 returns-in_err-body-clause-read g c = λ honest value well is.

@@ -6,7 +6,7 @@ use Rattle.aggen.specs.Building.{IsBuildFault}
 use Rattle.aggen.specs.Checking.{IsGrammarOf}
 use Rattle.aggen.specs.Translating.{IsTranslationFault}
 use Rattle.aggen.proofs.Jobs.{no_translation, no_translator}
-use Rattle.aggen.proofs.job.run_job.Goals as goal
+use Rattle.aggen.proofs.translations.job.run_job.Goals as goal
 
 pub returns-in_err-translator-clause-refused : goal.returns-in_err-translator-clause-refused
 returns-in_err-translator-clause-refused g c =

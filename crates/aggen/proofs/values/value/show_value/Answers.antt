@@ -1,6 +1,6 @@
 use Rattle.std.proofs.lemmas.Result.{err_from_is_err_and}
 use Rattle.aggen.proofs.Closed.{no_value}
-use Rattle.aggen.proofs.value.show_value.Goals as goal
+use Rattle.aggen.proofs.values.value.show_value.Goals as goal
 
 pub returns-in_err-value-clause-refused : goal.returns-in_err-value-clause-refused
 returns-in_err-value-clause-refused g c =

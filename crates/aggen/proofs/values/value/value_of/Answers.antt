@@ -1,5 +1,5 @@
 use Rattle.std.proofs.lemmas.Result.{err_from_is_err_and}
-use Rattle.aggen.proofs.value.value_of.Goals as goal
+use Rattle.aggen.proofs.values.value.value_of.Goals as goal
 
 pub returns-in_err-expr-clause-occurs : goal.returns-in_err-expr-clause-occurs
 returns-in_err-expr-clause-occurs c = λ at occurs.

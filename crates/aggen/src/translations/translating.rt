@@ -11,7 +11,7 @@ ghost use Rattle.roottext.specs.Roots.{TellsRoot};
 ghost use Rattle.treefile.specs.devices.Device.{HasRisen, LeavesContent, Persists, WhenHonest};
 
 use crate::fault::Fault;
-use crate::report::Report;
+use crate::translations::report::Report;
 use crate::translator::Translator;
 use ag_eval::Meter;
 use ag_grammar::Grammar;

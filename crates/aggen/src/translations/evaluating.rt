@@ -7,7 +7,7 @@ ghost use Rattle.passrun.specs.Rounds.{other_last};
 ghost use Rattle.treefile.specs.devices.Device.{HasRisen, LeavesContent, Persists};
 
 use crate::fault::Fault;
-use crate::report::Report;
+use crate::translations::report::Report;
 use crate::translator::Translator;
 use ag_eval::Meter;
 use passrun::{Last, run_all, run_pass};

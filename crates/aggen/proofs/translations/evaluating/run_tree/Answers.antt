@@ -9,7 +9,7 @@ use Rattle.passrun.specs.Rounds.{HasRunAll}
 use Rattle.passrun.proofs.Totals.{greatest_is_last}
 use Rattle.aggen.proofs.Composed.{some_pass}
 use Rattle.aggen.proofs.Evaluated.{are_left_of_tree, first_refused, never_later}
-use Rattle.aggen.proofs.evaluating.run_tree.Goals as goal
+use Rattle.aggen.proofs.translations.evaluating.run_tree.Goals as goal
 
 -- there is a pass
 pub run_pass-requires-clause-last : goal.run_pass-requires-clause-last

@@ -1,7 +1,7 @@
 use Rattle.std.proofs.Common.{inr, sym, ◌∙◌}
 use Rattle.std.proofs.lemmas.Result.{err_from_is_err_and}
 use Rattle.aggen.proofs.Closed.{explained, no_value, refused_none, same_place, wanted}
-use Rattle.aggen.proofs.value.read_closed.Goals as goal
+use Rattle.aggen.proofs.values.value.read_closed.Goals as goal
 
 pub returns-in_err-expr-clause-refused : goal.returns-in_err-expr-clause-refused
 returns-in_err-expr-clause-refused c =

@@ -10,7 +10,7 @@ ghost use Rattle.aggen.specs.Showing.{OccursAt, Shows};
 ghost use Rattle.aggen.specs.Showing.{ShowsBeginning, WritesLine, first_place};
 
 use crate::fault::Fault;
-use crate::value_file::{read_file, write_file};
+use crate::values::value_file::{read_file, write_file};
 use ag_eval::{Environment, Meter, eval};
 use ag_expr::{ExprFault, read_expr};
 use ag_grammar::{Expr, occurrences};

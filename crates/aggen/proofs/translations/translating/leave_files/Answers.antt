@@ -6,7 +6,7 @@ use Rattle.planchecker.specs.courses.Settings.{setting_of}
 use Rattle.passrun.specs.Rounds.{HasRunAll}
 use Rattle.passrun.specs.passing.Ahead.{IsRunFault}
 use Rattle.aggen.proofs.Composed.{are_left, never_refused, one_tree}
-use Rattle.aggen.proofs.translating.leave_files.Goals as goal
+use Rattle.aggen.proofs.translations.translating.leave_files.Goals as goal
 
 -- honest devices give back a file that no pass refuses
 pub returns-in_err-last-clause-refused : goal.returns-in_err-last-clause-refused

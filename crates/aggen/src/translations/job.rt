@@ -6,7 +6,7 @@ ghost use Rattle.aggen.specs.Translation.{BeginsText};
 ghost use Rattle.treefile.specs.devices.Device.{HasRisen, Persists};
 
 use crate::fault::Fault;
-use crate::report::Report;
+use crate::translations::report::Report;
 use crate::translator::Translator;
 use ag_job::Job;
 use std::alloc::Global;
