@@ -25,10 +25,10 @@ ghost use Rattle.passrun.specs.Upgrading.{IsUpgraded};
 
 use crate::build_fault::BuildFault;
 use crate::checking::grammar_of;
-use crate::translations::evaluating::run_tree;
 use crate::fault::Fault;
-use crate::translations::report::Report;
 use crate::stuck_grammar::StuckGrammar;
+use crate::translations::evaluating::run_tree;
+use crate::translations::report::Report;
 use crate::translations::translating::{last_text, leave_files};
 use ag_grammar::Grammar;
 use ag_scan::scan;

@@ -9,7 +9,6 @@
 #![tactic(auto)]
 
 mod command;
-mod faults;
 mod translations;
 
 use aggen::{
@@ -17,7 +16,7 @@ use aggen::{
 };
 use agoutput::{nodes_line, write_text};
 use command::{Paths, Request, UpgradePaths, request_of};
-use faults::{tell, tell_expression, tell_file, tell_grammar, tell_old_tree, tell_sentence};
+use messages::Report;
 use std::alloc::{AllocError, Global};
 use std::process::ExitCode;
 use std::rt::{Env, Files};
@@ -31,37 +30,57 @@ const FOLDER: &str = "/";
 /// Where a standard stream is closed, the system gives its number to the file that is opened next. So
 /// folders are opened first, and kept for as long as the program runs: what is read from a closed
 /// stream, or printed there, is refused, and never goes to a tree file.
+///
+/// A refusal is told here and nowhere else, in one line on standard error; where that can't be written,
+/// the status still tells.
 fn main(rt: HostRuntime) -> ExitCode {
     let _input = fs::open(&rt, FOLDER);
     let _output = fs::open(&rt, FOLDER);
     let _errors = fs::open(&rt, FOLDER);
     match run(&rt) {
-        Ok(()) => ExitCode::SUCCESS,
-        Err(fault) => ExitCode::from(status(&fault)),
+        Ok(code) => code,
+        Err(report) => {
+            let _ = rt.eprintln(&report);
+            ExitCode::from(status(&report.number))
+        }
     }
 }
 
-/// Does what the words of the command line ask for. A fault has been told on standard error.
-fn run<R: Env + Files + Input + Print + Eprint + AllocGlobal>(rt: &R) -> Result<(), Fault> {
+/// Does what the words of the command line ask for.
+fn run<R: Env + Files + Input + Print + Eprint + AllocGlobal>(rt: &R) -> Result<ExitCode, Report> {
     let alloc = rt.alloc();
     let words = match words_of(rt, alloc) {
         Ok(words) => words,
-        Err(fault) => return Err(tell(rt, fault)),
+        Err(fault) => return Err(Report::new(alloc, fault)),
     };
     match request_of(rt, alloc, words.as_slice()) {
-        Ok(Request::Nothing) => Ok(()),
-        Ok(Request::Job) => run_input(rt, alloc),
-        Ok(Request::Run(paths)) => run_files(rt, alloc, &paths),
-        Ok(Request::Eval(paths)) => evaluate_file(rt, alloc, &paths),
-        Ok(Request::Value(text)) => print_value(rt, alloc, text),
-        Ok(Request::Check(path)) => print_of(rt, alloc, path, Part::Counts),
-        Ok(Request::Plan(path)) => print_of(rt, alloc, path, Part::Plan),
-        Ok(Request::Code(path)) => print_of(rt, alloc, path, Part::Code),
-        Ok(Request::Parse(paths)) => parse_file(rt, alloc, &paths),
-        Ok(Request::Upgrade(paths)) => upgrade_file(rt, alloc, &paths),
-        // the fault of the command line was told already
-        Err(Fault::Usage) => Err(Fault::Usage),
-        Err(fault) => Err(tell(rt, fault)),
+        Ok(request) => {
+            answer(rt, alloc, request)?;
+            Ok(ExitCode::SUCCESS)
+        }
+        // what is wrong with the words was printed, in lines of its own
+        Err(Fault::Usage) => Ok(ExitCode::from(status(&Fault::Usage))),
+        Err(fault) => Err(Report::new(alloc, fault)),
+    }
+}
+
+/// Does what is asked for.
+fn answer<R: Files + Input + Print>(
+    rt: &R,
+    alloc: Global,
+    request: Request<'_>,
+) -> Result<(), Report> {
+    match request {
+        Request::Nothing => Ok(()),
+        Request::Job => run_input(rt, alloc),
+        Request::Run(paths) => run_files(rt, alloc, &paths),
+        Request::Eval(paths) => evaluate_file(rt, alloc, &paths),
+        Request::Value(text) => print_value(rt, alloc, text),
+        Request::Check(path) => print_of(rt, alloc, path, Part::Counts),
+        Request::Plan(path) => print_of(rt, alloc, path, Part::Plan),
+        Request::Code(path) => print_of(rt, alloc, path, Part::Code),
+        Request::Parse(paths) => parse_file(rt, alloc, &paths),
+        Request::Upgrade(paths) => upgrade_file(rt, alloc, &paths),
     }
 }
 
@@ -77,12 +96,12 @@ fn words_of<R: Env + AllocGlobal>(rt: &R, alloc: Global) -> Result<Vec<String>, 
 }
 
 /// Prints the value of an expression, by way of a tree file in memory.
-fn print_value<R: Print + Eprint>(rt: &R, alloc: Global, text: &str) -> Result<(), Fault> {
+fn print_value<R: Print>(rt: &R, alloc: Global, text: &str) -> Result<(), Report> {
     let mut device = MemDevice::new(alloc);
     let mut out = io::writer(rt);
     match show_value(alloc, text, &mut device, &mut out) {
         Ok(()) => Ok(()),
-        Err(fault) => Err(tell_expression(rt, alloc, fault, text)),
+        Err(fault) => Err(Report::of_expression(alloc, fault, text)),
     }
 }
 
@@ -98,15 +117,10 @@ enum Part {
 }
 
 /// Prints a part of the grammar in a file.
-fn print_of<R: Files + Print + Eprint>(
-    rt: &R,
-    alloc: Global,
-    path: &str,
-    part: Part,
-) -> Result<(), Fault> {
+fn print_of<R: Files + Print>(rt: &R, alloc: Global, path: &str, part: Part) -> Result<(), Report> {
     let bytes = match source_of(rt, alloc, path) {
         Ok(bytes) => bytes,
-        Err(fault) => return Err(tell_file(rt, fault, path)),
+        Err(fault) => return Err(Report::of_file(alloc, fault, path)),
     };
     let text = bytes.as_slice();
     let mut out = io::writer(rt);
@@ -117,24 +131,22 @@ fn print_of<R: Files + Print + Eprint>(
     };
     match printed {
         Ok(()) => Ok(()),
-        Err(fault) => Err(tell_grammar(rt, alloc, fault, bytes.as_slice())),
+        Err(fault) => Err(Report::of_grammar(alloc, fault, text)),
     }
 }
 
 /// Makes the tree file of the sentence in a file, and prints how many nodes its tree has. The
 /// grammar is read first, then the sentence, and only then is the tree file made.
-fn parse_file<R: Files + Print + Eprint>(
-    rt: &R,
-    alloc: Global,
-    paths: &Paths<'_>,
-) -> Result<(), Fault> {
+fn parse_file<R: Files + Print>(rt: &R, alloc: Global, paths: &Paths<'_>) -> Result<(), Report> {
     let translator = translator_in(rt, alloc, paths.grammar)?;
     let sentence = sentence_in(rt, alloc, paths.sentence)?;
     let sentence = sentence.as_slice();
     match write_tree(rt, alloc, &translator, sentence, paths.tree) {
         Ok(()) => Ok(()),
-        Err(fault @ (Fault::File | Fault::Device)) => Err(tell_file(rt, fault, paths.tree)),
-        Err(fault) => Err(tell_sentence(rt, alloc, fault, &translator, sentence)),
+        Err(fault @ (Fault::File | Fault::Device)) => Err(Report::of_file(
+            alloc, fault, paths.tree,
+        )),
+        Err(fault) => Err(Report::of_sentence(alloc, fault, &translator, sentence)),
     }
 }
 
@@ -162,19 +174,26 @@ fn print_nodes<R: Print>(rt: &R, alloc: Global, count: u32) -> Result<(), Fault>
 
 /// Makes the tree file of version 2 of the tree in a file of version 1, and prints how many nodes it
 /// has. The grammar is read first, then the old file is opened, and only then is the other one made.
-fn upgrade_file<R: Files + Print + Eprint>(
+fn upgrade_file<R: Files + Print>(
     rt: &R,
     alloc: Global,
     paths: &UpgradePaths<'_>,
-) -> Result<(), Fault> {
+) -> Result<(), Report> {
     let translator = translator_in(rt, alloc, paths.grammar)?;
     let mut old = match FileDevice::existing(rt, alloc, paths.old) {
         Ok(old) => old,
-        Err(fault) => return Err(tell_file(rt, Fault::from(fault), paths.old)),
+        Err(fault) => return Err(Report::of_file(alloc, Fault::from(fault), paths.old)),
     };
     match write_upgraded(rt, alloc, &translator, &mut old, paths.tree) {
         Ok(()) => Ok(()),
-        Err(fault) => Err(tell_old_tree(rt, alloc, fault, &translator, &mut old, paths)),
+        Err(fault) => Err(Report::of_old_tree(
+            alloc,
+            fault,
+            &translator,
+            &mut old,
+            paths.old,
+            paths.tree,
+        )),
     }
 }
 

@@ -1,10 +1,9 @@
-//! The commands that translate: `run`, `eval`, and the job on standard input. Each has told a fault
-//! on standard error.
+//! The commands that translate: `run`, `eval`, and the job on standard input.
 
 use crate::command::{EvalPaths, RunPaths};
-use crate::faults::{tell, tell_file, tell_grammar, tell_sentence, tell_tree};
 use ag_job::Job;
 use aggen::{Fault, Translator, source_of};
+use messages::Report;
 use std::alloc::Global;
 use std::io;
 use std::rt::Files;
@@ -12,11 +11,11 @@ use treefile::{FileDevice, MemDevice};
 
 /// Translates the sentence in a file by the grammar in a file, and prints the translation. The
 /// grammar is read first, then the sentence, and only then are tree files made.
-pub fn run_files<R: Files + Print + Eprint>(
+pub fn run_files<R: Files + Print>(
     rt: &R,
     alloc: Global,
     paths: &RunPaths<'_>,
-) -> Result<(), Fault> {
+) -> Result<(), Report> {
     let translator = translator_in(rt, alloc, paths.grammar)?;
     let sentence = sentence_in(rt, alloc, paths.sentence)?;
     match paths.work {
@@ -26,92 +25,88 @@ pub fn run_files<R: Files + Print + Eprint>(
 }
 
 /// Translates the job on standard input, with its trees in memory, and prints the translation.
-pub fn run_input<R: Input + Print + Eprint>(rt: &R, alloc: Global) -> Result<(), Fault> {
+pub fn run_input<R: Input + Print>(rt: &R, alloc: Global) -> Result<(), Report> {
     let job = match Job::read(alloc, rt.reader()) {
         Ok(job) => job,
-        Err(fault) => return Err(tell(rt, Fault::from(fault))),
+        Err(fault) => return Err(Report::new(alloc, Fault::from(fault))),
     };
-    let translator = translator_of(rt, alloc, job.grammar())?;
+    let translator = translator_of(alloc, job.grammar())?;
     run_in_memory(rt, alloc, &translator, job.sentence())
 }
 
 /// Translates the tree in a tree file, which stays as it is, and prints the translation. The grammar
 /// is read first; what the passes leave is in memory.
-pub fn evaluate_file<R: Files + Print + Eprint>(
+pub fn evaluate_file<R: Files + Print>(
     rt: &R,
     alloc: Global,
     paths: &EvalPaths<'_>,
-) -> Result<(), Fault> {
+) -> Result<(), Report> {
     let translator = translator_in(rt, alloc, paths.grammar)?;
     let mut tree = match FileDevice::existing(rt, alloc, paths.tree) {
         Ok(tree) => tree,
-        Err(fault) => return Err(tell_file(rt, Fault::from(fault), paths.tree)),
+        Err(fault) => return Err(Report::of_file(alloc, Fault::from(fault), paths.tree)),
     };
     let mut a = MemDevice::new(alloc);
     let mut b = MemDevice::new(alloc);
     let mut out = io::writer(rt);
     match translator.evaluate_tree(&mut tree, &mut a, &mut b, &mut out) {
         Ok(_) => Ok(()),
-        Err(fault) => Err(tell_tree(rt, alloc, fault, &translator, &mut tree, paths.tree)),
+        Err(fault) => Err(Report::of_tree(alloc, fault, &translator, &mut tree, paths.tree)),
     }
 }
 
 /// The translator of the grammar in a file.
-pub fn translator_in<R: Files + Eprint>(
-    rt: &R,
-    alloc: Global,
-    path: &str,
-) -> Result<Translator, Fault> {
+pub fn translator_in<R: Files>(rt: &R, alloc: Global, path: &str) -> Result<Translator, Report> {
     match source_of(rt, alloc, path) {
-        Ok(bytes) => translator_of(rt, alloc, bytes.as_slice()),
-        Err(fault) => Err(tell_file(rt, fault, path)),
+        Ok(bytes) => translator_of(alloc, bytes.as_slice()),
+        Err(fault) => Err(Report::of_file(alloc, fault, path)),
     }
 }
 
 /// The bytes of the sentence in a file.
-pub fn sentence_in<R: Files + Eprint>(rt: &R, alloc: Global, path: &str) -> Result<Vec<u8>, Fault> {
+pub fn sentence_in<R: Files>(rt: &R, alloc: Global, path: &str) -> Result<Vec<u8>, Report> {
     match source_of(rt, alloc, path) {
         Ok(bytes) => Ok(bytes),
-        Err(fault) => Err(tell_file(rt, fault, path)),
+        Err(fault) => Err(Report::of_file(alloc, fault, path)),
     }
 }
 
 /// The translator of a grammar's text.
-fn translator_of<R: Eprint>(rt: &R, alloc: Global, text: &[u8]) -> Result<Translator, Fault> {
+fn translator_of(alloc: Global, text: &[u8]) -> Result<Translator, Report> {
     match Translator::build(alloc, text) {
         Ok(translator) => Ok(translator),
-        Err(fault) => Err(tell_grammar(rt, alloc, Fault::from(fault), text)),
+        Err(fault) => Err(Report::of_grammar(alloc, Fault::from(fault), text)),
     }
 }
 
 /// Translates a sentence with its trees in memory.
-fn run_in_memory<R: Print + Eprint>(
+fn run_in_memory<R: Print>(
     rt: &R,
     alloc: Global,
     translator: &Translator,
     sentence: &[u8],
-) -> Result<(), Fault> {
+) -> Result<(), Report> {
     let mut a = MemDevice::new(alloc);
     let mut b = MemDevice::new(alloc);
     let mut out = io::writer(rt);
     match translator.translate(sentence, &mut a, &mut b, &mut out) {
         Ok(_) => Ok(()),
-        Err(fault) => Err(tell_sentence(rt, alloc, fault, translator, sentence)),
+        Err(fault) => Err(Report::of_sentence(alloc, fault, translator, sentence)),
     }
 }
 
 /// Translates a sentence with its trees in the files a.agt and b.agt of a folder, which stay.
-fn run_in_folder<R: Files + Print + Eprint>(
+fn run_in_folder<R: Files + Print>(
     rt: &R,
     alloc: Global,
     translator: &Translator,
     sentence: &[u8],
     folder: &str,
-) -> Result<(), Fault> {
+) -> Result<(), Report> {
     match translate_in(rt, alloc, translator, sentence, folder) {
         Ok(()) => Ok(()),
-        Err(fault @ (Fault::File | Fault::Device)) => Err(tell_file(rt, fault, folder)),
-        Err(fault) => Err(tell_sentence(rt, alloc, fault, translator, sentence)),
+        Err(fault @ (Fault::File | Fault::Device)) => Err(Report::of_file(alloc, fault, folder)),
+        Err(fault) => Err(Report::of_sentence(alloc, fault, translator, sentence)),
     }
 }
 

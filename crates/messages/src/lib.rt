@@ -1,39 +1,23 @@
-//! Messages: what is told of a refusal behind its number, for a reader. Each has the position by line
-//! and column, what stands there and what could, or what is wrong and what to do, with the names of
-//! the grammar.
+//! What is told of a refusal, for a reader: `Report` has the refusal with its number, where it is by
+//! file, line and column, what was found, what could stand there, and what helps, with the names of the
+//! grammar; and it prints as one line.
 //!
-//! The refusals are those of the libraries below, so nothing here knows of the program. A `Report` is
-//! the line that begins with a refusal as it prints itself, `N8 at 100`, and goes on with the position
-//! that its message knows, ` (line 4, column 52)`, and with the message, `: ..`. Characters that control
-//! a terminal are written by their numbers.
+//! Of each refusal one call makes the report, by what was refused: `of_expression`, `of_grammar`,
+//! `of_sentence`, `of_tree`, `of_old_tree`, and `of_file` and `new` for what is in no text. They take
+//! memory, and leave out what it is refused for. Characters that control a terminal are written by their
+//! numbers.
 #![tactic(auto)]
 
-mod conflict_message;
-mod expression_message;
-mod limit_message;
-mod normal_message;
-mod parse_message;
-mod path_message;
+mod again;
+mod expressions;
+mod grammars;
 mod position;
+mod refusals;
 mod report;
-mod scan_message;
-mod sites;
-mod standing;
-mod stuck_message;
-mod telling;
+mod sentences;
+mod shown;
 mod terminals;
-mod text_message;
-mod tree_message;
-mod value_message;
+mod trees;
 
-pub use conflict_message::ConflictMessage;
-pub use expression_message::ExpressionMessage;
-pub use normal_message::NormalMessage;
-pub use parse_message::ParseMessage;
-pub use path_message::PathMessage;
-pub use report::{Message, Report};
-pub use scan_message::ScanMessage;
-pub use stuck_message::StuckMessage;
-pub use text_message::TextMessage;
-pub use tree_message::TreeMessage;
-pub use value_message::ValueMessage;
+pub use position::Position;
+pub use report::{Report, Spot, Words};

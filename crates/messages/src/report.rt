@@ -1,103 +1,107 @@
 //! The one line that is told of a refusal.
 
-use crate::conflict_message::ConflictMessage;
-use crate::expression_message::ExpressionMessage;
-use crate::normal_message::NormalMessage;
-use crate::parse_message::ParseMessage;
-use crate::path_message::PathMessage;
 use crate::position::Position;
-use crate::scan_message::ScanMessage;
-use crate::stuck_message::StuckMessage;
-use crate::text_message::TextMessage;
-use crate::tree_message::TreeMessage;
-use crate::value_message::ValueMessage;
+use crate::shown::Plain;
+use aggen::Fault;
+use std::alloc::{AllocError, Global};
 use std::fmt;
 
-/// What is told of a refusal behind its number and its position, by what it is a refusal of: what was
-/// found, what could stand there or is wrong, and what helps.
-#[derive(Drop)]
-pub enum Message<'a> {
-    /// Nothing more.
-    Nothing,
-    /// Of a file.
-    Path(PathMessage<'a>),
-    /// Of an expression.
-    Expression(ExpressionMessage<'a>),
-    /// Of a text that reads as no grammar.
-    Text(TextMessage<'a>),
-    /// Of a grammar that is not accepted.
-    Normal(NormalMessage<'a>),
-    /// Of a grammar with a conflict.
-    Conflict(ConflictMessage<'a>),
-    /// Of a grammar that no passes serve.
-    Stuck(StuckMessage<'a>),
-    /// Of a sentence without tokens.
-    Scan(ScanMessage<'a>),
-    /// Of a sentence without a tree.
-    Parse(ParseMessage<'a>),
-    /// Of a tree file.
-    Tree(TreeMessage<'a>),
-    /// Of a value that is no translation.
-    Value(ValueMessage),
+/// Where a refusal is.
+#[derive(Clone, Copy, Debug, PartialEq, Eq)]
+pub enum Spot {
+    /// In the whole of a text or a file: its number stands alone.
+    Whole,
+    /// Where the number is followed by it, as by an offset or by names.
+    Told,
+    /// At a line and a column too.
+    At(Position),
 }
 
-impl Message<'_> {
-    /// The position that is told, where the refusal has one in its text.
-    fn position(&self) -> Option<Position> {
-        match self {
-            Message::Expression(message) => message.position(),
-            Message::Text(message) => message.position(),
-            Message::Normal(message) => message.position(),
-            Message::Conflict(message) => message.position(),
-            Message::Scan(message) => message.position(),
-            Message::Parse(message) => message.position(),
-            Message::Nothing
-            | Message::Path(_)
-            | Message::Stuck(_)
-            | Message::Tree(_)
-            | Message::Value(_) => None,
+/// What is told of a refusal. What is empty is not told.
+#[derive(Drop)]
+pub struct Words {
+    /// What was found, or is wrong.
+    pub found: String,
+    /// What could stand there.
+    pub expected: String,
+    /// What helps.
+    pub help: String,
+}
+
+/// All that is told of a refusal.
+#[derive(Drop)]
+pub struct Report {
+    /// The refusal, which prints its number first.
+    pub number: Fault,
+    /// Where it is.
+    pub spot: Spot,
+    /// The name of the file that it is of, where it is of one.
+    pub file: Option<String>,
+    /// What is told of it.
+    pub words: Words,
+}
+
+impl Report {
+    /// A report that tells its number alone. Takes no memory.
+    pub fn new(alloc: Global, number: Fault) -> Report {
+        Report {
+            number,
+            spot: Spot::Told,
+            file: None,
+            words: Words {
+                found: String::new(alloc),
+                expected: String::new(alloc),
+                help: String::new(alloc),
+            },
         }
     }
-}
 
-impl fmt::Display for Message<'_> {
-    fn fmt<W: fmt::Write>(&self, f: &mut fmt::Formatter<W>) -> fmt::Result {
-        match self {
-            Message::Nothing => Ok(()),
-            Message::Path(message) => write!(f, "{message}"),
-            Message::Expression(message) => write!(f, "{message}"),
-            Message::Text(message) => write!(f, "{message}"),
-            Message::Normal(message) => write!(f, "{message}"),
-            Message::Conflict(message) => write!(f, "{message}"),
-            Message::Stuck(message) => write!(f, "{message}"),
-            Message::Scan(message) => write!(f, "{message}"),
-            Message::Parse(message) => write!(f, "{message}"),
-            Message::Tree(message) => write!(f, "{message}"),
-            Message::Value(message) => write!(f, "{message}"),
+    /// The report of a file of this name. Takes memory; where that is refused, the name is left out.
+    pub fn named(mut self, alloc: Global, path: &str) -> Report {
+        self.file = Plain(path).to_string(alloc).ok();
+        self
+    }
+
+    /// The report, once its words are written: none of them where memory for that was refused.
+    pub fn once(mut self, told: Result<(), AllocError>) -> Report {
+        if told.is_err() {
+            self.words.found.clear();
+            self.words.expected.clear();
+            self.words.help.clear();
         }
+        self
     }
 }
 
-/// A refusal with all that is told of it.
-#[derive(Drop)]
-pub struct Report<'a, F> {
-    refusal: &'a F,
-    message: Message<'a>,
-}
-
-impl<'a, F> Report<'a, F> {
-    /// What is told of a refusal that prints its number first.
-    pub fn new(refusal: &'a F, message: Message<'a>) -> Report<'a, F> {
-        Report { refusal, message }
-    }
-}
-
-impl<F: fmt::Display> fmt::Display for Report<'_, F> {
+/// `N8 at 95 (line 4, column 47): ..`: the number, the position, and behind a colon what was found, what
+/// could stand there and what helps, with commas between, and the file. Behind a number that stands alone
+/// is no colon.
+impl fmt::Display for Report {
     fn fmt<W: fmt::Write>(&self, f: &mut fmt::Formatter<W>) -> fmt::Result {
-        write!(f, "{}", self.refusal)?;
-        if let Some(position) = self.message.position() {
+        write!(f, "{}", self.number)?;
+        if let Spot::At(position) = self.spot {
             write!(f, " {position}")?;
         }
-        write!(f, "{}", self.message)
+        let first = if self.spot == Spot::Whole { " " } else { ": " };
+        let joint = tell_part(f, first, self.words.found.as_str())?;
+        let joint = tell_part(f, joint, self.words.expected.as_str())?;
+        tell_part(f, joint, self.words.help.as_str())?;
+        match &self.file {
+            Some(path) => write!(f, ": {}", path.as_str()),
+            None => Ok(()),
+        }
     }
+}
+
+/// A part behind what joins it to the one before; what joins the next one.
+fn tell_part<W: fmt::Write>(
+    f: &mut fmt::Formatter<W>,
+    joint: &'static str,
+    part: &str,
+) -> Result<&'static str, fmt::Error> {
+    if part.is_empty() {
+        return Ok(joint);
+    }
+    write!(f, "{joint}{part}")?;
+    Ok(", ")
 }

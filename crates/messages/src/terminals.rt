@@ -1,27 +1,22 @@
-//! The terminals of a grammar, in words.
+//! The terminals of a grammar, by their names.
 
-use crate::telling::{NAMED, tell_word};
+use crate::shown::{NAMED, Plain, joint_before};
 use ag_grammar::limits::{NAME, NUMBER};
 use ag_grammar::{Grammar, Terminal};
 use llparse::Ahead;
-use std::fmt;
+use std::alloc::AllocError;
 
 /// A terminal, or the end of the sentence: a literal by its text, a class by its name.
-pub fn tell_ahead<W: fmt::Write>(
-    f: &mut fmt::Formatter<W>,
-    grammar: &Grammar,
-    ahead: Ahead,
-) -> fmt::Result {
+pub fn tell_ahead(out: &mut String, grammar: &Grammar, ahead: Ahead) -> Result<(), AllocError> {
     match ahead {
         Ahead::Terminal(Terminal::Literal(number)) => {
-            write!(f, "`")?;
-            if let Some(text) = grammar.literals().get(usize::from(number)) {
-                tell_word(f, text.as_str())?;
+            match grammar.literals().get(usize::from(number)) {
+                Some(text) => write!(out, "`{}`", Plain(text.as_str())),
+                None => Ok(()),
             }
-            write!(f, "`")
         }
-        Ahead::Terminal(Terminal::Class(number)) => write!(f, "a {}", class_name(number)),
-        Ahead::End => write!(f, "the end"),
+        Ahead::Terminal(Terminal::Class(number)) => write!(out, "a {}", class_name(number)),
+        Ahead::End => write!(out, "the end"),
     }
 }
 
@@ -35,55 +30,46 @@ pub fn class_name(number: u16) -> &'static str {
 }
 
 /// Look-aheads one after another, the first twelve at most: `0`, `1` or the end.
-pub fn tell_aheads<W: fmt::Write>(
-    f: &mut fmt::Formatter<W>,
+pub fn tell_aheads(
+    out: &mut String,
     grammar: &Grammar,
     aheads: &[Ahead],
-) -> fmt::Result {
+) -> Result<(), AllocError> {
     let mut left = aheads.len();
     for ahead in aheads.iter().take(NAMED) {
-        tell_ahead(f, grammar, *ahead)?;
+        tell_ahead(out, grammar, *ahead)?;
         left = left.saturating_sub(1);
-        tell_joint(f, left)?;
+        write!(out, "{}", joint_before(left))?;
     }
-    tell_rest(f, left)
-}
-
-/// What stands between the parts of a list, where so many are left.
-fn tell_joint<W: fmt::Write>(f: &mut fmt::Formatter<W>, left: usize) -> fmt::Result {
-    match left {
-        0 => Ok(()),
-        1 => write!(f, " or "),
-        _ => write!(f, ", "),
-    }
+    tell_rest(out, left)
 }
 
 /// What stands for those that are not named.
-fn tell_rest<W: fmt::Write>(f: &mut fmt::Formatter<W>, left: usize) -> fmt::Result {
+fn tell_rest(out: &mut String, left: usize) -> Result<(), AllocError> {
     match left {
         0 => Ok(()),
-        1 => write!(f, "one more"),
-        _ => write!(f, "one of {left} more"),
+        1 => write!(out, "one more"),
+        _ => write!(out, "one of {left} more"),
     }
 }
 
 /// What a token of the grammar can be: its literals, and the classes that it uses; or that it has
 /// none.
-pub fn tell_terminals<W: fmt::Write>(f: &mut fmt::Formatter<W>, grammar: &Grammar) -> fmt::Result {
+pub fn tell_terminals(out: &mut String, grammar: &Grammar) -> Result<(), AllocError> {
     let literals = grammar.literals().len();
     let mut left = literals.saturating_add(grammar.classes().len());
     if left == 0 {
-        return write!(f, "the grammar has no literal and no class");
+        return write!(out, "the grammar has no literal and no class");
     }
-    write!(f, "a token is ")?;
+    write!(out, "a token is ")?;
     for index in 0..left.min(NAMED) {
         if let Some(terminal) = terminal_at(grammar, index) {
-            tell_ahead(f, grammar, Ahead::Terminal(terminal))?;
+            tell_ahead(out, grammar, Ahead::Terminal(terminal))?;
         }
         left = left.saturating_sub(1);
-        tell_joint(f, left)?;
+        write!(out, "{}", joint_before(left))?;
     }
-    tell_rest(f, left)
+    tell_rest(out, left)
 }
 
 /// The terminal of an index, where the classes in use stand behind the literals.

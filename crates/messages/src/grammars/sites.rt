@@ -1,6 +1,17 @@
 //! What stands where in a grammar's text: names, occurrences, and what has a place.
 
 use ag_grammar::{Named, Occ, RawGrammar, RawItem, RawProduction, RawRule, RawSymbol, occurrences};
+use std::fmt;
+
+/// An occurrence, which prints as it is written.
+#[derive(Clone, Copy)]
+pub struct Occurs<'a>(pub &'a Occ);
+
+impl fmt::Display for Occurs<'_> {
+    fn fmt<W: fmt::Write>(&self, f: &mut fmt::Formatter<W>) -> fmt::Result {
+        write!(f, "${}.{}", self.0.place, self.0.attr.as_str())
+    }
+}
 
 /// An occurrence, and the production in which it stands.
 #[derive(Drop)]

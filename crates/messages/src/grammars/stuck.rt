@@ -1,48 +1,26 @@
-//! Why no order of passes serves a grammar, in words.
+//! Why no order of passes serves a grammar.
 
+use crate::again::Again;
+use crate::grammars::sites::Occurs;
 use crate::position::Position;
-use crate::telling::front_of;
+use crate::report::Words;
 use ag_grammar::{Direction, Occ, RawGrammar, occurrences};
-use ag_text::read_grammar;
 use passassign::{Strike, Stuck};
-use std::alloc::Global;
-use std::fmt;
+use std::alloc::AllocError;
 
-/// What is told behind A1 and the attributes that no pass can have, why no order of passes serves a
-/// grammar, with one of these attributes as an example:
-/// `: no order of whole passes serves, .. S.a waits from right to left, since ..`.
-#[derive(Drop)]
-pub struct StuckMessage<'a> {
-    stuck: &'a Stuck,
-    text: &'a str,
-    raw: Option<RawGrammar>,
-}
-
-impl<'a> StuckMessage<'a> {
-    /// The message of the grammar's text with these bytes. Takes memory, and reads the text again;
-    /// where memory is refused, the message is empty.
-    pub fn new(alloc: Global, stuck: &'a Stuck, bytes: &'a [u8]) -> StuckMessage<'a> {
-        StuckMessage {
-            stuck,
-            text: front_of(bytes),
-            raw: read_grammar(alloc, bytes).ok(),
-        }
-    }
-}
-
-impl fmt::Display for StuckMessage<'_> {
-    fn fmt<W: fmt::Write>(&self, f: &mut fmt::Formatter<W>) -> fmt::Result {
-        let Some(raw) = &self.raw else {
-            return Ok(());
-        };
-        write!(
-            f,
-            ": no order of whole passes serves, in either direction all of these wait"
-        )?;
-        match example_of(self.stuck, raw) {
-            Some(example) => tell_example(f, &example, self.text, raw),
-            None => Ok(()),
-        }
+/// Tells of A1, behind the attributes that no pass can have, why no order of passes serves the grammar,
+/// with one of these attributes as an example. Nothing where memory for reading the text again is refused.
+pub fn tell_stuck(words: &mut Words, stuck: &Stuck, again: &Again<'_>) -> Result<(), AllocError> {
+    let Some(raw) = &again.raw else {
+        return Ok(());
+    };
+    write!(
+        words.found,
+        "no order of whole passes serves, in either direction all of these wait"
+    )?;
+    match example_of(stuck, raw) {
+        Some(example) => tell_example(words, &example, again.text, raw),
+        None => Ok(()),
     }
 }
 
@@ -138,63 +116,46 @@ fn example_of<'a>(stuck: &Stuck, raw: &'a RawGrammar) -> Option<Example<'a>> {
     example_with(*strikes.first()?, stuck, raw)
 }
 
-/// An attribute that waits in both directions, and what to do.
-fn tell_example<W: fmt::Write>(
-    f: &mut fmt::Formatter<W>,
+/// Tells how an attribute waits in both directions, and what to do.
+fn tell_example(
+    words: &mut Words,
     example: &Example<'_>,
     text: &str,
     raw: &RawGrammar,
-) -> fmt::Result {
-    write!(f, ". ")?;
-    tell_attribute(f, raw, example.strike)?;
-    write!(f, " waits from right to left, since ")?;
-    tell_delay(f, text, &example.odd)?;
-    write!(f, ", and from left to right, since ")?;
-    tell_delay(f, text, &example.even)?;
+) -> Result<(), AllocError> {
+    write!(words.found, ". ")?;
+    tell_attribute(&mut words.found, raw, example.strike)?;
+    write!(words.found, " waits from right to left, since ")?;
+    tell_delay(&mut words.found, text, &example.odd)?;
+    write!(words.found, ", and from left to right, since ")?;
+    tell_delay(&mut words.found, text, &example.even)?;
     write!(
-        f,
-        ". Give each direction attributes of its own, and let no value wait for itself"
+        words.help,
+        "give each direction attributes of its own, and let no value wait for itself"
     )
 }
 
 /// The attribute of a strike by the names of its symbol and of itself: `L.p`.
-fn tell_attribute<W: fmt::Write>(
-    f: &mut fmt::Formatter<W>,
-    raw: &RawGrammar,
-    strike: Strike,
-) -> fmt::Result {
+fn tell_attribute(out: &mut String, raw: &RawGrammar, strike: Strike) -> Result<(), AllocError> {
     let Some(symbol) = raw.symbols.as_slice().get(usize::from(strike.symbol)) else {
         return Ok(());
     };
     match symbol.attribute_name(usize::from(strike.attr)) {
-        Some(name) => write!(f, "{}.{name}", symbol.name.name.as_str()),
+        Some(name) => write!(out, "{}.{name}", symbol.name.name.as_str()),
         None => Ok(()),
     }
 }
 
 /// What a rule takes that is not there in time.
-fn tell_delay<W: fmt::Write>(
-    f: &mut fmt::Formatter<W>,
-    text: &str,
-    delay: &Delay<'_>,
-) -> fmt::Result {
-    let Delay {
-        target,
-        argument,
-        ..
-    } = delay;
-    tell_occurrence(f, target)?;
-    write!(f, " {} takes ", Position::of(text, target.at))?;
-    tell_occurrence(f, argument)?;
-    let (first, second) = (target.place, argument.place);
+fn tell_delay(out: &mut String, text: &str, delay: &Delay<'_>) -> Result<(), AllocError> {
+    let target = Occurs(delay.target);
+    let argument = Occurs(delay.argument);
+    let position = Position::of(text, delay.target.at);
+    write!(out, "{target} {position} takes {argument}")?;
+    let (first, second) = (delay.target.place, delay.argument.place);
     match delay.reason() {
-        Reason::Later => write!(f, " and ${second} is visited after ${first}"),
-        Reason::Within => write!(f, ", which is known only behind the visit of ${first}"),
-        Reason::Waiting => write!(f, ", which waits too"),
+        Reason::Later => write!(out, " and ${second} is visited after ${first}"),
+        Reason::Within => write!(out, ", which is known only behind the visit of ${first}"),
+        Reason::Waiting => write!(out, ", which waits too"),
     }
-}
-
-/// An occurrence as it is written.
-fn tell_occurrence<W: fmt::Write>(f: &mut fmt::Formatter<W>, occurrence: &Occ) -> fmt::Result {
-    write!(f, "${}.{}", occurrence.place, occurrence.attr.as_str())
 }

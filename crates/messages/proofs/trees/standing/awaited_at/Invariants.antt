@@ -1,5 +1,5 @@
 use Rattle.treefile.specs.devices.Device.{LeavesContent, Persists}
-use Rattle.messages.proofs.standing.awaited_at.Given as goal
+use Rattle.messages.proofs.trees.standing.awaited_at.Given as goal
 
 abbrev pub invariant-loop : goal.invariant-loop
 invariant-loop g l = record {

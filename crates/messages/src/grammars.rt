@@ -1,0 +1,8 @@
+//! What is wrong with a grammar.
+
+pub mod conflicts;
+pub mod limits;
+pub mod normal;
+pub mod sites;
+pub mod stuck;
+pub mod texts;

@@ -1,0 +1,4 @@
+//! What is wrong with a sentence.
+
+pub mod cutting;
+pub mod parsing;
