@@ -6,14 +6,14 @@ use Rattle.ag_grammar.specs.declared.grammar.Item.{Item}
 use Rattle.ag_grammar.specs.declared.grammar.Terminal.TheVariants.{Class}
 use Rattle.ag_grammar.specs.grammars.Accepted.{IsAccepted}
 use Rattle.ag_grammar.specs.grammars.AttributeGrammar.{Grammar}
-use Rattle.ag_grammar.specs.grammars.Tree.{IsTokenText, leaf, none, more}
+use Rattle.ag_grammar.specs.grammars.Tree.{IsTokenText, Tree, leaf, none, more, depth_of, node_count}
 use Rattle.ag_grammar.specs.grammars.Yield.{Lexeme}
 use Rattle.treefile.specs.devices.Device.{WhenHonest}
 use Rattle.llparse.specs.Ahead.{ahead_of}
-use Rattle.llparse.specs.sentence.Opened.{joined, open_at}
+use Rattle.llparse.specs.sentence.Opened.{joined, Completes, Open, open_at, opened}
 use Rattle.treefile.specs.records.FirstFile.{leaf_texts}
 use Rattle.llparse.specs.sentence.Parsing.{Task, Made, kept, written, Reading, IsTooDeep, IsTooLarge, leaf_frame, posts}
-use Rattle.llparse.specs.sentence.Sentences.{IsTreeWith, IsStuckAt}
+use Rattle.llparse.specs.sentence.Sentences.{IsTreeWith, IsStuckAt, LeavesOnly}
 use Rattle.llparse.specs.declared.ahead.Ahead.TheVariants as ahead
 use Rattle.llparse.specs.declared.sentence.parser.OpenNode.{OpenNode}
 use Rattle.llparse.proofs.steps.Begins.{begins_leaf, begins_reading}
@@ -69,10 +69,13 @@ module _ (k : Task) where
         other (sym e ∙ ap ahead_of w.2);
   }
 
-  pub deep_leaf : IsAccepted k.grammar → (p base c : ℕ) (ys : List Item) (fs : List OpenNode) (i n : ℕ) (rs : Made) → k.depth ≤ suc (length fs) → Reading k p base (item.Terminal (Class c) ∷ ys) fs i n rs → IsTooDeep k
-  deep_leaf accepted p base c ys fs i n rs full r =
+  -- where a leaf comes next and a limit is reached, it is passed by each tree that has the leaf with what is open
+  beyond_leaf : (size : Tree → ℕ) (begun : List Open → ℕ) (limit : ℕ) → IsAccepted k.grammar → (p base c : ℕ) (ys : List Item) (fs : List OpenNode) (i n : ℕ) (rs : Made)
+      → (r : Reading k p base (item.Terminal (Class c) ∷ ys) fs i n rs) → limit ≤ begun (open_at p r.done ys ∷ r.under)
+      → ((x : List ℕ) (ws : List Lexeme) (t : Tree) → Completes k.grammar (open_at p (joined r.done (more (leaf c x) none)) ys) r.under ws t → limit < size t)
+      → LeavesOnly k.grammar k.words size begun limit
+  beyond_leaf size begun limit accepted p base c ys fs i n rs r full passed =
       let b = begins_leaf k accepted p base c ys fs i n rs r in
-      let same = length-shows g r.under fs r.shows in
       record {
         index = i;
         within = r.held.within;
@@ -81,30 +84,22 @@ module _ (k : Task) where
         begins = b.2;
         above = open_at p r.done ys ∷ r.under;
         cut = b.3;
-        full = omega arith;
-        only = λ others t e h.
-            let w = step.class_next k.grammar p r.done c ys r.under others t (r.complete others t e h) in
-            let d = size.depth_open k.grammar (open_at p (joined r.done (more (leaf c w.0) none)) ys) r.under w.1 t w.3 in
-            let levels = size.deepest-joined r.done (more (leaf c w.0) none) in
-            omega arith;
+        full = full;
+        only = λ others t e h. let w = step.class_next k.grammar p r.done c ys r.under others t (r.complete others t e h) in passed w.0 w.1 t w.3;
       }
+
+  pub deep_leaf : IsAccepted k.grammar → (p base c : ℕ) (ys : List Item) (fs : List OpenNode) (i n : ℕ) (rs : Made) → k.depth ≤ suc (length fs) → Reading k p base (item.Terminal (Class c) ∷ ys) fs i n rs → IsTooDeep k
+  deep_leaf accepted p base c ys fs i n rs full r =
+      let same = length-shows g r.under fs r.shows in
+      beyond_leaf depth_of (λ above. length above) k.depth accepted p base c ys fs i n rs r (omega arith) (λ x ws t h.
+      let d = size.depth_open k.grammar (open_at p (joined r.done (more (leaf c x) none)) ys) r.under ws t h in
+      let levels = size.deepest-joined r.done (more (leaf c x) none) in
+      omega arith)
 
   pub large_leaf : IsAccepted k.grammar → (p base c : ℕ) (ys : List Item) (fs : List OpenNode) (i n : ℕ) (rs : Made) → k.nodes ≤ n → Reading k p base (item.Terminal (Class c) ∷ ys) fs i n rs → IsTooLarge k
   large_leaf accepted p base c ys fs i n rs full r =
-      let b = begins_leaf k accepted p base c ys fs i n rs r in
       let counted = r.held.counted in
-      record {
-        index = i;
-        within = r.held.within;
-        rest = b.0;
-        tree = b.1;
-        begins = b.2;
-        above = open_at p r.done ys ∷ r.under;
-        cut = b.3;
-        full = omega arith;
-        only = λ others t e h.
-            let w = step.class_next k.grammar p r.done c ys r.under others t (r.complete others t e h) in
-            let d = size.count_open k.grammar (open_at p (joined r.done (more (leaf c w.0) none)) ys) r.under w.1 t w.3 in
-            let counts = size.node_counts-joined r.done (more (leaf c w.0) none) in
-            omega arith;
-      }
+      beyond_leaf node_count opened k.nodes accepted p base c ys fs i n rs r (omega arith) (λ x ws t h.
+      let d = size.count_open k.grammar (open_at p (joined r.done (more (leaf c x) none)) ys) r.under ws t h in
+      let counts = size.node_counts-joined r.done (more (leaf c x) none) in
+      omega arith)

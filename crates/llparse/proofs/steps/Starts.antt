@@ -5,13 +5,13 @@ use Rattle.ag_grammar.specs.declared.grammar.Item.{Item}
 use Rattle.ag_grammar.specs.declared.grammar.Production.{Production}
 use Rattle.ag_grammar.specs.grammars.Accepted.{IsAccepted}
 use Rattle.ag_grammar.specs.grammars.AttributeGrammar.{Grammar}
-use Rattle.ag_grammar.specs.grammars.Tree.{none, depth_of, node_count}
+use Rattle.ag_grammar.specs.grammars.Tree.{Tree, none, depth_of, node_count}
 use Rattle.ag_grammar.specs.grammars.Yield as yields
-use Rattle.ag_grammar.specs.grammars.Yield.{Lexeme, yield_of}
+use Rattle.ag_grammar.specs.grammars.Yield.{Lexeme}
 use Rattle.llparse.specs.Ahead.{ahead_of}
-use Rattle.llparse.specs.sentence.Opened.{open_at, IsStack}
+use Rattle.llparse.specs.sentence.Opened.{Continues, IsStack, Open, open_at, opened}
 use Rattle.llparse.specs.sentence.Parsing.{Task, Made, kept, written, Reading, Asked, IsTooDeep, IsTooLarge, right_side}
-use Rattle.llparse.specs.sentence.Sentences.{IsStuckAt}
+use Rattle.llparse.specs.sentence.Sentences.{IsStuckAt, LeavesOnly}
 use Rattle.llparse.specs.table.Tables.{Choices, FitsGrammar, choice_of}
 use Rattle.llparse.specs.declared.sentence.parser.OpenNode.{OpenNode}
 use Rattle.llparse.proofs.steps.Begins.{begins_asked}
@@ -72,43 +72,37 @@ module _ (k : Task) where
       begins = let b = begins_asked k accepted s fs i n rs a in (b.0, b.1, b.2);
     }
 
+  -- where a node is to be opened and a limit is reached, it is passed by each tree that has the node below what is open
+  beyond_node : (size : Tree → ℕ) (begun : List Open → ℕ) (limit : ℕ) → IsAccepted k.grammar → (s : ℕ) (fs : List OpenNode) (i n : ℕ) (rs : Made)
+      → (a : Asked k s fs i n rs) → limit ≤ begun a.under → ((c : Tree) (ws : List Lexeme) (t : Tree) → Continues k.grammar a.under c ws t → limit < size t)
+      → LeavesOnly k.grammar k.words size begun limit
+  beyond_node size begun limit accepted s fs i n rs a full passed =
+      let b = begins_asked k accepted s fs i n rs a in
+      record {
+        index = i;
+        within = a.held.within;
+        rest = b.0;
+        tree = b.1;
+        begins = b.2;
+        above = a.under;
+        cut = b.3;
+        full = full;
+        only = λ others t e p. let w = a.complete others t e p in passed w.0 w.1 t w.4;
+      }
+
   -- a node that is opened counts, and stands below the others
   pub deep_node : IsAccepted k.grammar → (s : ℕ) (fs : List OpenNode) (i n : ℕ) (rs : Made) → k.depth ≤ length fs → Asked k s fs i n rs → IsTooDeep k
   deep_node accepted s fs i n rs full a =
-      let b = begins_asked k accepted s fs i n rs a in
       let same = length-shows g a.under fs a.shows in
-      record {
-        index = i;
-        within = a.held.within;
-        rest = b.0;
-        tree = b.1;
-        begins = b.2;
-        above = a.under;
-        cut = b.3;
-        full = omega arith;
-        only = λ others t e p.
-            let w = a.complete others t e p in
-            let d = size.depth_under k.grammar a.under w.0 w.1 t w.4 in
-            let one : 1 ≤ depth_of w.0 = size.depth_some w.0 in
-            omega arith;
-      }
+      beyond_node depth_of (λ above. length above) k.depth accepted s fs i n rs a (omega arith) (λ c ws t h.
+      let d = size.depth_under k.grammar a.under c ws t h in
+      let one : 1 ≤ depth_of c = size.depth_some c in
+      omega arith)
 
   pub large_node : IsAccepted k.grammar → (s : ℕ) (fs : List OpenNode) (i n : ℕ) (rs : Made) → k.nodes ≤ n → Asked k s fs i n rs → IsTooLarge k
   large_node accepted s fs i n rs full a =
-      let b = begins_asked k accepted s fs i n rs a in
       let counted = a.held.counted in
-      record {
-        index = i;
-        within = a.held.within;
-        rest = b.0;
-        tree = b.1;
-        begins = b.2;
-        above = a.under;
-        cut = b.3;
-        full = omega arith;
-        only = λ others t e p.
-            let w = a.complete others t e p in
-            let d = size.count_under k.grammar a.under w.0 w.1 t w.4 in
-            let one : 1 ≤ node_count w.0 = size.count_some w.0 in
-            omega arith;
-      }
+      beyond_node node_count opened k.nodes accepted s fs i n rs a (omega arith) (λ c ws t h.
+      let d = size.count_under k.grammar a.under c ws t h in
+      let one : 1 ≤ node_count c = size.count_some c in
+      omega arith)

@@ -1,16 +1,15 @@
 -- How many bodies were read and put, and how many rules were run.
-use Rattle.std.proofs.Common.{ℕ, suc, ◌≡◌, ◌+◌, ◌*◌, ◌<◌, ◌≤◌, List, [], ◌∷◌, Option, Some, None, slice_get, length, drop, refl, ap, arith, length-append}
+use Rattle.std.proofs.Common.{ℕ, suc, ◌≡◌, ◌+◌, ◌*◌, ◌<◌, ◌≤◌, List, [], ◌∷◌, Option, Some, None, slice_get, length, drop, refl, ap, ◌∙◌, arith, length-append}
 use Rattle.ag_value.specs.declared.value.Value.{Value}
 use Rattle.ag_grammar.specs.declared.grammar.Production.{Production}
 use Rattle.ag_grammar.specs.declared.direction.Direction.{Direction}
-use Rattle.ag_grammar.specs.declared.direction.Direction.TheVariants.{LeftToRight, RightToLeft}
 use Rattle.ag_grammar.specs.grammars.Accepted.{most_rules}
 use Rattle.ag_grammar.specs.grammars.AttributeGrammar.{Grammar, stored_items}
 use Rattle.ag_grammar.specs.grammars.Passes.{Passes}
-use Rattle.ag_grammar.specs.grammars.Solution.{Valuation, children, rest}
+use Rattle.ag_grammar.specs.grammars.Solution.{Valuation, children}
 use Rattle.ag_grammar.specs.grammars.Tree.{Tree, Forest, leaf, node, none, more, node_count, node_counts}
 use Rattle.ag_grammar.specs.grammars.Counts.{pass_rule_count, rules_of_pass, totals}
-use Rattle.treefile.specs.records.Orders.{BodyTree, branch, prefix, prefix_all, postfix, postfix_all}
+use Rattle.treefile.specs.records.Orders.{postfix, postfix_all, prefix, prefix_all}
 use Rattle.treefile.specs.ways.Awaited.{ToCome}
 use Rattle.treefile.specs.records.Records.{bodies_of, bodies_of_all, node_body}
 use Rattle.treefile.specs.records.TreeFile.{version_two}
@@ -22,31 +21,19 @@ use Rattle.planchecker.specs.courses.Sound.{IsSound}
 use Rattle.passrun.specs.declared.passing.open_node.OpenNode.{OpenNode}
 use Rattle.passrun.specs.passing.Passing.{Tapes, Awaits, IsCurrent, Passing, IsRootReady, Stays, below, met, put_of}
 use Rattle.passrun.specs.passing.Places.{Table, copies, in_children}
-use Rattle.passrun.proofs.course.Finish.{count_of, count_of_all}
+use Rattle.treefile.proofs.records.Orders.{length-postfix, length-postfix_all, length-prefix_all}
+use Rattle.treefile.proofs.records.Records.{bodies_count, bodies_counts}
+use Rattle.passrun.proofs.course.Finish.{count_of}
 
-mutual
-  post_of : (d : Direction) (g : Grammar) (m : Passes) (k : ℕ) (t : Tree) (v : Valuation) → length (postfix d (bodies_of version_two g m k t v)) ≡ node_count t
-  post_of d g m k (leaf c x) v = refl
-  post_of d g m k (node p ts) v =
-      let a = post_of_all d g m k ts (children v) in
-      let e = length-append (postfix_all d (bodies_of_all version_two g m k ts (children v))) (root_of (bodies_of version_two g m k (node p ts) v) ∷ []) in
-      omega arith
-    where
-      root_of : BodyTree → List ℕ
-      root_of (branch body ts) = body
+-- a body is read for each node, and one is put
+count_of_all : (d : Direction) (g : Grammar) (m : Passes) (k : ℕ) (ts : Forest) (vs : ℕ → Valuation) → length (prefix_all d (bodies_of_all version_two g m k ts vs)) ≡ node_counts ts
+count_of_all d g m k ts vs = length-prefix_all d (bodies_of_all version_two g m k ts vs) ∙ bodies_counts version_two g m k ts vs
 
-  pub post_of_all : (d : Direction) (g : Grammar) (m : Passes) (k : ℕ) (ts : Forest) (vs : ℕ → Valuation) → length (postfix_all d (bodies_of_all version_two g m k ts vs)) ≡ node_counts ts
-  post_of_all d g m k none vs = refl
-  post_of_all LeftToRight g m k (more t ts) vs =
-      let a = post_of LeftToRight g m k t (vs 0) in
-      let b = post_of_all LeftToRight g m k ts (rest vs) in
-      let e = length-append (postfix LeftToRight (bodies_of version_two g m k t (vs 0))) (postfix_all LeftToRight (bodies_of_all version_two g m k ts (rest vs))) in
-      omega arith
-  post_of_all RightToLeft g m k (more t ts) vs =
-      let a = post_of RightToLeft g m k t (vs 0) in
-      let b = post_of_all RightToLeft g m k ts (rest vs) in
-      let e = length-append (postfix_all RightToLeft (bodies_of_all version_two g m k ts (rest vs))) (postfix RightToLeft (bodies_of version_two g m k t (vs 0))) in
-      omega arith
+post_of : (d : Direction) (g : Grammar) (m : Passes) (k : ℕ) (t : Tree) (v : Valuation) → length (postfix d (bodies_of version_two g m k t v)) ≡ node_count t
+post_of d g m k t v = length-postfix d (bodies_of version_two g m k t v) ∙ bodies_count version_two g m k t v
+
+post_of_all : (d : Direction) (g : Grammar) (m : Passes) (k : ℕ) (ts : Forest) (vs : ℕ → Valuation) → length (postfix_all d (bodies_of_all version_two g m k ts vs)) ≡ node_counts ts
+post_of_all d g m k ts vs = length-postfix_all d (bodies_of_all version_two g m k ts vs) ∙ bodies_counts version_two g m k ts vs
 
 -- the list of a tree without its root's body has one body fewer
 below_count : (d : Direction) (g : Grammar) (m : Passes) (k : ℕ) (t : Tree) (v : Valuation) → suc (length (below d (bodies_of version_two g m k t v))) ≡ node_count t

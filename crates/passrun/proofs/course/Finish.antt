@@ -1,45 +1,31 @@
 -- What a pass has done when its root is put and nothing is left to read.
 use Rattle.std.specs.List.{flat_map}
-use Rattle.std.proofs.Common.{ℕ, suc, ◌≡◌, ◌≤◌, List, [], ◌∷◌, ◌++◌, None, Ok, length, reverse, true, refl, ap, ◌∙◌, sym, arith, length-append}
+use Rattle.std.proofs.Common.{ℕ, ◌≡◌, ◌≤◌, List, [], ◌∷◌, ◌++◌, None, Ok, length, reverse, true, refl, ap, ◌∙◌, sym, arith}
 use Rattle.std.proofs.lemmas.List.{reverse-reverse}
 use Rattle.ag_value.specs.declared.value.Value.{Value}
 use Rattle.ag_grammar.specs.declared.direction.Direction.{Direction}
-use Rattle.ag_grammar.specs.declared.direction.Direction.TheVariants.{LeftToRight, RightToLeft}
 use Rattle.ag_grammar.specs.grammars.AttributeGrammar.{Grammar}
 use Rattle.ag_grammar.specs.grammars.Passes.{Passes, direction_of, other}
-use Rattle.ag_grammar.specs.grammars.Solution.{Valuation, children, rest, NoRule, OfPass, WellAt}
-use Rattle.ag_grammar.specs.grammars.Tree.{Tree, Forest, leaf, node, none, more, node_count, node_counts, most_nodes}
+use Rattle.ag_grammar.specs.grammars.Solution.{Valuation, NoRule, OfPass, WellAt}
+use Rattle.ag_grammar.specs.grammars.Tree.{Tree, node_count, most_nodes}
 use Rattle.ag_grammar.proofs.grammars.EachNode.{each_map, solves_wider}
 use Rattle.treefile.specs.ways.Backward.{ReadsTo, next_before, pass_of}
 use Rattle.treefile.specs.ways.Ending.{IsBytes, is_tree_file, version_two_usable}
-use Rattle.treefile.specs.records.Orders.{BodyTree, branch, prefix, prefix_all, postfix}
-use Rattle.treefile.specs.records.Records.{bodies_of, bodies_of_all}
+use Rattle.treefile.specs.records.Orders.{BodyTree, branch, prefix, postfix}
+use Rattle.treefile.specs.records.Records.{bodies_of}
 use Rattle.treefile.specs.records.TreeFile.{version_two, file, frame, header}
 use Rattle.treefile.proofs.ways.Backward.{back_is_file, reads_whole}
-use Rattle.treefile.proofs.records.Orders.{turned}
+use Rattle.treefile.proofs.records.Orders.{length-prefix, turned}
+use Rattle.treefile.proofs.records.Records.{bodies_count}
 use Rattle.planchecker.specs.courses.Settings.{Setting, way}
 use Rattle.planchecker.specs.courses.Sound.{IsSound}
 use Rattle.passrun.specs.Passed.{IsPassed}
 use Rattle.treefile.specs.ways.Awaited.{ToCome}
 use Rattle.passrun.specs.passing.Passing.{Tapes, IsRootReady, below, root_body}
 
-mutual
-  pub count_of : (d : Direction) (g : Grammar) (m : Passes) (k : ℕ) (t : Tree) (v : Valuation) → length (prefix d (bodies_of version_two g m k t v)) ≡ node_count t
-  count_of d g m k (leaf c x) v = refl
-  count_of d g m k (node p ts) v = ap suc (count_of_all d g m k ts (children v))
-
-  pub count_of_all : (d : Direction) (g : Grammar) (m : Passes) (k : ℕ) (ts : Forest) (vs : ℕ → Valuation) → length (prefix_all d (bodies_of_all version_two g m k ts vs)) ≡ node_counts ts
-  count_of_all d g m k none vs = refl
-  count_of_all LeftToRight g m k (more t ts) vs =
-      let a = count_of LeftToRight g m k t (vs 0) in
-      let b = count_of_all LeftToRight g m k ts (rest vs) in
-      let e = length-append (prefix LeftToRight (bodies_of version_two g m k t (vs 0))) (prefix_all LeftToRight (bodies_of_all version_two g m k ts (rest vs))) in
-      omega arith
-  count_of_all RightToLeft g m k (more t ts) vs =
-      let a = count_of RightToLeft g m k t (vs 0) in
-      let b = count_of_all RightToLeft g m k ts (rest vs) in
-      let e = length-append (prefix_all RightToLeft (bodies_of_all version_two g m k ts (rest vs))) (prefix RightToLeft (bodies_of version_two g m k t (vs 0))) in
-      omega arith
+-- a body is read for each node
+pub count_of : (d : Direction) (g : Grammar) (m : Passes) (k : ℕ) (t : Tree) (v : Valuation) → length (prefix d (bodies_of version_two g m k t v)) ≡ node_count t
+count_of d g m k t v = length-prefix d (bodies_of version_two g m k t v) ∙ bodies_count version_two g m k t v
 
 whole : (d : Direction) (b : BodyTree) → below d b ++ root_body b ∷ [] ≡ postfix d b
 whole d (branch body ts) = refl

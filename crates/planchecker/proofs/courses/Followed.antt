@@ -17,7 +17,7 @@ use Rattle.ag_grammar.proofs.grammars.Counting.{count_more}
 use Rattle.passcode.specs.declared.instr.Instr.{Instr}
 use Rattle.passcode.specs.declared.instr.Instr.TheVariants as instr
 use Rattle.passcode.specs.Agreement as agreement
-use Rattle.passcode.specs.Agreement.{StandsBefore, HasPlace, IsChild, IsListFor, IsPlaceOf, IsRuleAt, giving, instruction_of}
+use Rattle.passcode.specs.Agreement.{StandsBefore, HasPlace, IsChild, IsListFor, IsRuleAt, giving, instruction_of}
 use Rattle.passcode.specs.Counts.{is_giving}
 use Rattle.passcode.specs.Tables.{IsPlanned}
 use Rattle.passcode.proofs.Counting.{lists_evaluate_rules}
@@ -304,21 +304,16 @@ module _ (c : Setting) (q : Production) (planned : IsPlanned c.passes q) (few : 
         | inr le ↦ le
       ]
 
+  -- a turn that is no earlier and no later than that of the phase is that one
+  this_turn : (i j : ℕ) → (b : ℕ) × (b < arity q) × (j ≡ at_turn b) × (i ≤ b) × (b ≤ i) → (i < arity q) × (j ≡ at_turn i)
+  this_turn i j (b, within, is, low, high) = let now : b ≡ i = omega arith in (subst (λ b. b < arity q) now within, is ∙ ap at_turn now)
+
   -- so each instruction finds the phase in which it is followed
   get_step : (n : ℕ) (ph : Phase) (i : ℕ) (done : List ℕ) (j : ℕ) (rest : List Instr) → Come n ph i done (instr.Get j ∷ rest) → Onward n rest → Follows c q ph i done (instr.Get j ∷ rest)
-  get_step n Between i done j rest come next = (within, same, place.0, place.1.1, go place.0 place.1.1)
+  get_step n Between i done j rest come next = (turn.0, turn.1, place.0, place.1.1, go place.0 place.1.1)
     where
-      turn : (b : ℕ) × (b < arity q) × (j ≡ at_turn b) × (i ≤ b) × (b ≤ i)
-      turn = get_turn n Between i done j rest come
-
-      now : turn.0 ≡ i
-      now = let low = turn.3 in let high = turn.4 in omega arith
-
-      within : i < arity q
-      within = subst (λ b. b < arity q) now turn.1
-
-      same : j ≡ at_turn i
-      same = turn.2 ∙ ap at_turn now
+      turn : (i < arity q) × (j ≡ at_turn i)
+      turn = this_turn i j (get_turn n Between i done j rest come)
 
       at : slice_get xs n ≡ Some (instr.Get j)
       at = stands n Between i done (instr.Get j) rest come
@@ -327,36 +322,27 @@ module _ (c : Setting) (q : Production) (planned : IsPlanned c.passes q) (few : 
       place = (due n (instr.Get j) at).ready.0
 
       met : StandUpTo xs (suc n) (arity q) Always get_at (suc i)
-      met = stand_more xs n (instr.Get j) at (arity q) Always get_at i come.met (ap instr.Get same) (λ b less e. one_turn (way c) (arity q) i b within less (let f : at_turn i ≡ at_turn b = cc in f))
+      met = stand_more xs n (instr.Get j) at (arity q) Always get_at i come.met (ap instr.Get turn.1) (λ b less e. one_turn (way c) (arity q) i b turn.0 less (let f : at_turn i ≡ at_turn b = cc in f))
 
       back : StandUpTo xs (suc n) (arity q) Always put_at i
       back = stand_on xs n (instr.Get j) at (arity q) Always put_at i come.back (λ b e. let bad : ⊥ = cc in bad)
 
       go : (x : Item) → item_at q j ≡ Some x → Follows c q (after_get x) i done rest
       go (item.Symbol s) stands = next Got i done (quiet n Between i done (instr.Get j) rest come Got i refl (λ e. let bad : ⊥ = cc in bad) met
-          (stand_on xs n (instr.Get j) at (arity q) has_child go_at i come.gone (λ b e. let bad : ⊥ = cc in bad)) back (within, subst (IsChild q) same (s, (place.1.0, stands))))
+          (stand_on xs n (instr.Get j) at (arity q) has_child go_at i come.gone (λ b e. let bad : ⊥ = cc in bad)) back (turn.0, subst (IsChild q) turn.1 (s, (place.1.0, stands))))
       go (item.Terminal t) stands = next Gone i done (quiet n Between i done (instr.Get j) rest come Gone i refl (λ e. let bad : ⊥ = cc in bad) met
           (stand_past xs n (instr.Get j) at (arity q) has_child go_at i come.gone
-          (λ child. let both : Some (item.Terminal t) ≡ Some (item.Symbol child.0) = sym stands ∙ ap (item_at q) same ∙ child.1.1 in let bad : ⊥ = cc in bad)
-          (λ b e. let bad : ⊥ = cc in bad)) back within)
+          (λ child. let both : Some (item.Terminal t) ≡ Some (item.Symbol child.0) = sym stands ∙ ap (item_at q) turn.1 ∙ child.1.1 in let bad : ⊥ = cc in bad)
+          (λ b e. let bad : ⊥ = cc in bad)) back turn.0)
   get_step n Got i done j rest come next = let turn = get_turn n Got i done j rest come in let low = turn.3 in let high = turn.4 in absurd (omega arith)
   get_step n Gone i done j rest come next = let turn = get_turn n Gone i done j rest come in let low = turn.3 in let high = turn.4 in absurd (omega arith)
 
   go_step : (n : ℕ) (ph : Phase) (i : ℕ) (done : List ℕ) (j : ℕ) (rest : List Instr) → Come n ph i done (instr.Go j ∷ rest) → Onward n rest → Follows c q ph i done (instr.Go j ∷ rest)
   go_step n Between i done j rest come next = let turn = go_turn n Between i done j rest come in let low = turn.3 in let high = turn.4 in absurd (omega arith)
-  go_step n Got i done j rest come next = (within, same, child.0, child.1.1, next Gone i done (quiet n Got i done (instr.Go j) rest come Gone i refl (λ e. let bad : ⊥ = cc in bad) met gone back within))
+  go_step n Got i done j rest come next = (turn.0, turn.1, child.0, child.1.1, next Gone i done (quiet n Got i done (instr.Go j) rest come Gone i refl (λ e. let bad : ⊥ = cc in bad) met gone back turn.0))
     where
-      turn : (b : ℕ) × (b < arity q) × (j ≡ at_turn b) × (i ≤ b) × (b < suc i)
-      turn = go_turn n Got i done j rest come
-
-      now : turn.0 ≡ i
-      now = let low = turn.3 in let high = turn.4 in omega arith
-
-      within : i < arity q
-      within = subst (λ b. b < arity q) now turn.1
-
-      same : j ≡ at_turn i
-      same = turn.2 ∙ ap at_turn now
+      turn : (i < arity q) × (j ≡ at_turn i)
+      turn = let t = go_turn n Got i done j rest come in let low = t.3 in let high = t.4 in this_turn i j (t.0, t.1, t.2, low, omega arith)
 
       at : slice_get xs n ≡ Some (instr.Go j)
       at = stands n Got i done (instr.Go j) rest come
@@ -368,7 +354,7 @@ module _ (c : Setting) (q : Production) (planned : IsPlanned c.passes q) (few : 
       met = stand_on xs n (instr.Go j) at (arity q) Always get_at (suc i) come.met (λ b e. let bad : ⊥ = cc in bad)
 
       gone : StandUpTo xs (suc n) (arity q) has_child go_at (suc i)
-      gone = stand_more xs n (instr.Go j) at (arity q) has_child go_at i come.gone (ap instr.Go same) (λ b less e. one_turn (way c) (arity q) i b within less (let f : at_turn i ≡ at_turn b = cc in f))
+      gone = stand_more xs n (instr.Go j) at (arity q) has_child go_at i come.gone (ap instr.Go turn.1) (λ b less e. one_turn (way c) (arity q) i b turn.0 less (let f : at_turn i ≡ at_turn b = cc in f))
 
       back : StandUpTo xs (suc n) (arity q) Always put_at i
       back = stand_on xs n (instr.Go j) at (arity q) Always put_at i come.back (λ b e. let bad : ⊥ = cc in bad)
@@ -383,19 +369,10 @@ module _ (c : Setting) (q : Production) (planned : IsPlanned c.passes q) (few : 
       let now : turn.0 ≡ i = omega arith in
       let less : turn.0 < i = turn.5 (subst has_child (sym now) come.here.1) in
       absurd (omega arith)
-  put_step n Gone i done j rest come next = (within, same, next Between (suc i) done (quiet n Gone i done (instr.Put j) rest come Between (suc i) refl (λ e. let bad : ⊥ = cc in bad) met gone back (omega (arith, within))))
+  put_step n Gone i done j rest come next = (turn.0, turn.1, next Between (suc i) done (quiet n Gone i done (instr.Put j) rest come Between (suc i) refl (λ e. let bad : ⊥ = cc in bad) met gone back (omega (arith, turn.0))))
     where
-      turn : (b : ℕ) × (b < arity q) × (j ≡ at_turn b) × (i ≤ b) × (b < suc i) × (has_child b → b < suc i)
-      turn = put_turn n Gone i done j rest come
-
-      now : turn.0 ≡ i
-      now = let low = turn.3 in let high = turn.4 in omega arith
-
-      within : i < arity q
-      within = subst (λ b. b < arity q) now turn.1
-
-      same : j ≡ at_turn i
-      same = turn.2 ∙ ap at_turn now
+      turn : (i < arity q) × (j ≡ at_turn i)
+      turn = let t = put_turn n Gone i done j rest come in let low = t.3 in let high = t.4 in this_turn i j (t.0, t.1, t.2, low, omega arith)
 
       at : slice_get xs n ≡ Some (instr.Put j)
       at = stands n Gone i done (instr.Put j) rest come
@@ -407,19 +384,19 @@ module _ (c : Setting) (q : Production) (planned : IsPlanned c.passes q) (few : 
       gone = stand_on xs n (instr.Put j) at (arity q) has_child go_at (suc i) come.gone (λ b e. let bad : ⊥ = cc in bad)
 
       back : StandUpTo xs (suc n) (arity q) Always put_at (suc i)
-      back = stand_more xs n (instr.Put j) at (arity q) Always put_at i come.back (ap instr.Put same) (λ b less e. one_turn (way c) (arity q) i b within less (let f : at_turn i ≡ at_turn b = cc in f))
+      back = stand_more xs n (instr.Put j) at (arity q) Always put_at i come.back (ap instr.Put turn.1) (λ b less e. one_turn (way c) (arity q) i b turn.0 less (let f : at_turn i ≡ at_turn b = cc in f))
 
   set_step : (n : ℕ) (ph : Phase) (i : ℕ) (done : List ℕ) (j a r : ℕ) (rest : List Instr) → Come n ph i done (instr.Set j a r ∷ rest) → Onward n rest → Follows c q ph i done (instr.Set j a r ∷ rest)
   set_step n Between i done j a r rest come next = let turn = set_turn n Between i done j a r rest come in let low = turn.3 in let high = turn.4 in absurd (omega arith)
   set_step n Got i done j a r rest come next =
-      let turn = set_turn n Got i done j a r rest come in
-      let low = turn.3 in
-      let high = turn.4 in
-      let now : turn.0 ≡ i = omega arith in
+      let t = set_turn n Got i done j a r rest come in
+      let low = t.3 in
+      let high = t.4 in
+      let turn = this_turn i j (t.0, t.1, t.2, low, omega arith) in
       let d = due n (instr.Set j a r) (stands n Got i done (instr.Set j a r) rest come) in
       let e = sym (set_is j a r d.ready.0) in (
-        subst (λ b. b < arity q) now turn.1,
-        turn.2 ∙ ap at_turn now,
+        turn.0,
+        turn.1,
         gives n Got i done (instr.Set j a r) rest come j a r d.ready.3 e,
         next Got i (r ∷ done) (loud n Got i done (instr.Set j a r) rest come j a r d.ready.3 e),
       )

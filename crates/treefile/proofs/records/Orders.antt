@@ -1,10 +1,10 @@
--- The two orders of a tree's bodies, and that a list is that of one tree at most.
-use Rattle.std.proofs.Common.{◌≡◌, ℕ, List, [], ◌∷◌, ◌++◌, Option, Some, reverse, refl, ap, sym, ◌∙◌, append_assoc}
-use Rattle.std.proofs.lemmas.List.{reverse-append, reverse-reverse}
+-- The two orders of a tree's bodies, how many there are in a list, and that a list is that of one tree at most.
+use Rattle.std.proofs.Common.{◌≡◌, ℕ, suc, ◌+◌, List, [], ◌∷◌, ◌++◌, length, Option, Some, reverse, refl, ap, sym, ◌∙◌, append_assoc, length-append, arith}
+use Rattle.std.proofs.lemmas.List.{length-reverse, reverse-append, reverse-reverse}
 use Rattle.ag_grammar.specs.declared.direction.Direction.{Direction}
 use Rattle.ag_grammar.specs.declared.direction.Direction.TheVariants.{LeftToRight, RightToLeft}
 use Rattle.ag_grammar.specs.grammars.Passes.{other}
-use Rattle.treefile.specs.records.Orders.{AreRanked, BodyForest, BodyTree, IsRanked, branch, joined, more, none, postfix, postfix_all, prefix, prefix_all, tree_count}
+use Rattle.treefile.specs.records.Orders.{AreRanked, BodyForest, BodyTree, IsRanked, branch, joined, more, node_count, node_counts, none, postfix, postfix_all, prefix, prefix_all, tree_count}
 
 -- what is joined in one direction is joined the other way round after a reversal
 turn_joined : (d : Direction) (xs ys : List (List ℕ)) → reverse (joined d xs ys) ≡ joined (other d) (reverse xs) (reverse ys)
@@ -21,6 +21,25 @@ mutual
   turned_all : (d : Direction) (ts : BodyForest) → reverse (postfix_all d ts) ≡ prefix_all (other d) ts
   turned_all d none = refl
   turned_all d (more t ts) = turn_joined d (postfix d t) (postfix_all d ts) ∙ ap_joined (other d) (reverse (postfix d t)) (reverse (postfix_all d ts)) (prefix (other d) t) (prefix_all (other d) ts) (turned d t) (turned_all d ts)
+
+length-joined : (d : Direction) (xs ys : List (List ℕ)) → length (joined d xs ys) ≡ length xs + length ys
+length-joined LeftToRight xs ys = length-append xs ys
+length-joined RightToLeft xs ys = omega (arith, length-append ys xs)
+
+-- a list has a body for each node
+mutual
+  pub length-prefix : (d : Direction) (t : BodyTree) → length (prefix d t) ≡ node_count t
+  length-prefix d (branch body ts) = ap suc (length-prefix_all d ts)
+
+  pub length-prefix_all : (d : Direction) (ts : BodyForest) → length (prefix_all d ts) ≡ node_counts ts
+  length-prefix_all d none = refl
+  length-prefix_all d (more t ts) = omega (arith, length-joined d (prefix d t) (prefix_all d ts), length-prefix d t, length-prefix_all d ts)
+
+pub length-postfix : (d : Direction) (t : BodyTree) → length (postfix d t) ≡ node_count t
+length-postfix d t = sym (length-reverse (postfix d t)) ∙ ap length (turned d t) ∙ length-prefix (other d) t
+
+pub length-postfix_all : (d : Direction) (ts : BodyForest) → length (postfix_all d ts) ≡ node_counts ts
+length-postfix_all d ts = sym (length-reverse (postfix_all d ts)) ∙ ap length (turned_all d ts) ∙ length-prefix_all (other d) ts
 
 module _ (rank : List ℕ → Option ℕ) where
   mutual

@@ -1,5 +1,6 @@
--- The records of a tree's file have as many well values as a body may have, so that the file is read back.
-use Rattle.std.proofs.Common.{◌≡◌, ℕ, ◌≤◌, Bool, true, false, List, [], ◌∷◌, length, reverse, Some, slice_get, All, refl, ap, sym, subst, arith}
+-- The records of a tree's file: there is one for each node, and each has as many well values as a body may have, so that the
+-- file is read back.
+use Rattle.std.proofs.Common.{◌≡◌, ℕ, suc, ◌≤◌, Bool, true, false, List, [], ◌∷◌, length, reverse, Some, slice_get, All, refl, ap, sym, subst, arith}
 use Rattle.std.proofs.lemmas.List.{length-append}
 use Rattle.std.proofs.lemmas.List.Elements.{All-append, All-cons, All-nil}
 use Rattle.ag_value.specs.declared.value.Value.{Value, Text}
@@ -13,13 +14,14 @@ use Rattle.ag_grammar.specs.declared.direction.Direction.{Direction}
 use Rattle.ag_grammar.specs.declared.direction.Direction.TheVariants.{LeftToRight, RightToLeft}
 use Rattle.ag_grammar.specs.grammars.Passes.{Passes, direction_of, other}
 use Rattle.ag_grammar.specs.grammars.Solution.{AtEachNodeOf, IsWellOn, NoRule, Solves, SolvesAll, Valuation, WellAt, children, left_passes, rest}
-use Rattle.ag_grammar.specs.grammars.Tree.{Forest, Tree, Fits, FitsAll, IsTreeOf, leaf, more, node, none}
+use Rattle.ag_grammar.specs.grammars.Tree.{Forest, Tree, Fits, FitsAll, IsTreeOf, leaf, more, node, node_count, node_counts, none}
 use Rattle.std.specs.List.{flat_map}
 use Rattle.std.specs.Int.{w16, to_be_bytes}
 use Rattle.treefile.specs.declared.body.Kind.{Kind}
 use Rattle.treefile.specs.declared.body.Kind.TheVariants.{Node, Token}
 use Rattle.treefile.specs.ways.Backward.{ReadsBack}
 use Rattle.treefile.specs.ways.Ending.{IsBody, IsUsable}
+use Rattle.treefile.specs.records.Orders as orders
 use Rattle.treefile.specs.records.Orders.{joined, postfix, postfix_all, prefix}
 use Rattle.treefile.specs.records.Records.{FitsVersion, IsFileOfTree, bodies_of, bodies_of_all, copies_of, file_of_tree, most_stored_values, values_up_to, with_copies}
 use Rattle.treefile.specs.records.TreeFile.{Version, body_of}
@@ -41,6 +43,17 @@ stored_few version false g m k p q e ts vs there f few = omega (arith, values_fe
 stored_few version true g m k p q e ts vs there f few =
     let own = values_up_to k (left_passes m (slice_get g.productions p)) e in
     omega (arith, length-append own (copies_of g m k ts vs), values_few k (left_passes m (slice_get g.productions p)) e, ap (λ o. length (left_passes m o)) there, copies_few g m k (stored_items q.items) ts vs f)
+
+-- a body stands for each node of a tree
+module _ (version : Version) (g : Grammar) (m : Passes) (k : ℕ) where
+  mutual
+    pub bodies_count : (t : Tree) (v : Valuation) → orders.node_count (bodies_of version g m k t v) ≡ node_count t
+    bodies_count (leaf c x) v = refl
+    bodies_count (node p ts) v = ap suc (bodies_counts ts (children v))
+
+    pub bodies_counts : (ts : Forest) (vs : ℕ → Valuation) → orders.node_counts (bodies_of_all version g m k ts vs) ≡ node_counts ts
+    bodies_counts none vs = refl
+    bodies_counts (more t ts) vs = omega (arith, bodies_count t (vs 0), bodies_counts ts (rest vs))
 
 All-joined : (P : List ℕ → Type 0) (d : Direction) (xs ys : List (List ℕ)) → All P xs → All P ys → All P (joined d xs ys)
 All-joined P LeftToRight xs ys f g = All-append P xs ys f g

@@ -1,5 +1,5 @@
 -- On the way from the end of a file: the records of a tree are awaited, and what is found is one of them or breaks the way.
-use Rattle.std.proofs.Common.{◌≡◌, ℕ, suc, ◌+◌, ◌≤◌, inl, inr, Bool, List, [], ◌∷◌, ◌++◌, length, Option, Some, None, Result, Ok, Err, slice_get, refl, ap, sym, subst, ◌∙◌, append_assoc, append-nil, length-append, arith}
+use Rattle.std.proofs.Common.{◌≡◌, ℕ, suc, ◌+◌, ◌≤◌, inl, inr, Bool, List, [], ◌∷◌, ◌++◌, length, Option, Some, None, Result, Ok, Err, slice_get, refl, ap, sym, subst, ◌∙◌, append_assoc, append-nil, arith}
 use Rattle.std.specs.List.{flat_map}
 use Rattle.ag_value.specs.declared.value.Value.{Value}
 use Rattle.ag_grammar.specs.declared.direction.Direction.{Direction}
@@ -11,7 +11,7 @@ use Rattle.ag_grammar.specs.declared.grammar.Terminal.TheVariants.{Literal, Clas
 use Rattle.ag_grammar.specs.grammars.AttributeGrammar.{Grammar, stored_items, IsProduction}
 use Rattle.ag_grammar.specs.grammars.Passes.{Passes, direction_of, other}
 use Rattle.ag_grammar.specs.grammars.Solution.{AtEachNodeOf, IsWellOn, NoRule, Solves, SolvesAll, Valuation, WellAt, children, left_passes, rest}
-use Rattle.ag_grammar.specs.grammars.Tree.{Tree, Forest, Fits, deepest, depth_of, leaf, node, none, more, node_count, node_counts}
+use Rattle.ag_grammar.specs.grammars.Tree.{Tree, Forest, Fits, deepest, depth_of, leaf, node, none, more, node_count}
 use Rattle.treefile.specs.ways.Awaited.{Awaits, Breaks, Child, IsAsTold, IsNodeRecord, IsRecordOf, IsTooLarge, ToCome, before_others, root_to_come, told}
 use Rattle.treefile.specs.ways.Backward.{ReadsBack, before_frame, next_before, pass_of}
 use Rattle.treefile.specs.ways.Ending.{is_tree_file}
@@ -24,7 +24,8 @@ use Rattle.treefile.specs.declared.reading.FrameFault.{FrameFault}
 use Rattle.treefile.proofs.ways.Backward.{pass_of_file}
 use Rattle.treefile.proofs.records.Copies.{AreAsTold, are_as_told, are_copies, kept, kept_same, left_of}
 use Rattle.treefile.proofs.ways.Files.{begins}
-use Rattle.treefile.proofs.records.Records.{file_back}
+use Rattle.treefile.proofs.records.Orders.{length-prefix}
+use Rattle.treefile.proofs.records.Records.{bodies_count, file_back}
 use Rattle.treefile.proofs.records.Spelled.{same_node}
 
 -- the records of a tree are awaited where it is to come
@@ -65,17 +66,6 @@ module _ (version : Version) (g : Grammar) (m : Passes) (k most : ℕ) where
         let others = forest_awaited RightToLeft xs ts (rest vs) level ((level, x) ∷ todo) (prefix RightToLeft (bodies_of version g m k t (vs 0)) ++ behind) f.2 texts.1 well.1 (omega arith) first in
         subst (Awaits version g m k RightToLeft most (before_others RightToLeft level xs ((level, x) ∷ todo))) (sym (append_assoc (prefix_all RightToLeft (bodies_of_all version g m k ts (rest vs))) (prefix RightToLeft (bodies_of version g m k t (vs 0))) behind)) others
 
-  -- a record for each node
-  mutual
-    record_count : (d : Direction) (t : Tree) (v : Valuation) → length (prefix d (bodies_of version g m k t v)) ≡ node_count t
-    record_count d (leaf c x) v = refl
-    record_count d (node p ts) v = ap suc (record_counts d ts (children v))
-
-    record_counts : (d : Direction) (ts : Forest) (vs : ℕ → Valuation) → length (prefix_all d (bodies_of_all version g m k ts vs)) ≡ node_counts ts
-    record_counts d none vs = refl
-    record_counts LeftToRight (more t ts) vs = omega (arith, length-append (prefix LeftToRight (bodies_of version g m k t (vs 0))) (prefix_all LeftToRight (bodies_of_all version g m k ts (rest vs))), record_count LeftToRight t (vs 0), record_counts LeftToRight ts (rest vs))
-    record_counts RightToLeft (more t ts) vs = omega (arith, length-append (prefix_all RightToLeft (bodies_of_all version g m k ts (rest vs))) (prefix RightToLeft (bodies_of version g m k t (vs 0))), record_count RightToLeft t (vs 0), record_counts RightToLeft ts (rest vs))
-
 -- two records of one production tell the same children where they have the same copies
 same_children : (has : Bool) (g : Grammar) (m : Passes) (k p r : ℕ) (q s : Production) (cs ds : List Value) → IsProduction g p q → IsProduction g r s → p ≡ r → cs ≡ ds → told has g m k (stored_items q.items) cs ≡ told has g m k (stored_items s.items) ds
 same_children has g m k p r q s cs ds a b e copies =
@@ -95,7 +85,7 @@ way_begins version g m k content usable fits depth nodes t v tree within is =
     let d = other (direction_of k) in
     let bodies = prefix d (bodies_of version g m k t v) in
     let awaited : Awaits version g m k d depth (root_to_come g) (bodies ++ []) = tree_awaited version g m k depth d (item.Symbol g.start) None t v 1 [] [] tree tt is.texts is.well (omega (arith, within.deep)) tt in
-    (bodies, file_back version g m k t v content fits tree is usable, subst (Awaits version g m k d depth (root_to_come g)) (append-nil bodies) awaited, omega (arith, within.large, record_count version g m k depth d t v))
+    (bodies, file_back version g m k t v content fits tree is usable, subst (Awaits version g m k d depth (root_to_come g)) (append-nil bodies) awaited, omega (arith, within.large, length-prefix d (bodies_of version g m k t v), bodies_count version g m k t v))
 
 pub way_goes_on : WayGoesOn
 way_goes_on version g m k content body at count level x ys todo few way found is depth nodes t v tree within file =
