@@ -3,6 +3,7 @@
 ghost use Rattle.std.specs.Prelude.{◌≡◌, ◌≤◌, ◌+◌, ◌++◌, ◌⊎◌, [], length, slice_range};
 ghost use Rattle.std.specs.Prelude.{Ok, Err, IfErr, IfOk, IsErrOf, OnErr, OnOk};
 ghost use Rattle.std.specs.Io.KnownBytes.{Appends, Keeps};
+ghost use Rattle.treefile.specs.devices.Appending.{AppendsToFile};
 ghost use Rattle.treefile.specs.devices.Device.{Appends as DeviceAppends, Clears, HasRisen, LeavesContent};
 ghost use Rattle.treefile.specs.devices.Device.{Persists, TakesNoMemory, WhenHonest, most_failures};
 ghost use Rattle.treefile.specs.devices.Files.{FilePersists, IsNew, StaysBroken, content_of, taken};
@@ -163,15 +164,7 @@ impl<F: Write> FileDevice<F> {
         ensures content { WhenHonest self.old.is_honest
             (DeviceAppends bytes.now (content_of self.old) (content_of self.new) result) }
         ensures persists { FilePersists self.old self.new (IsErrOf result DeviceFault.Failed) }
-        ensures taken { OnOk result
-            (Appends (taken F.contents self.old) (taken F.contents self.new) bytes.now) }
-        ensures refused { IsErrOf result DeviceFault.NoMemory →
-            Keeps (taken F.contents self.old) (taken F.contents self.new) }
-        ensures reading { self.old.access ≡ Access.Reading → IsErrOf result DeviceFault.Failed }
-        ensures access { OnOk result (self.new.access ≡ self.old.access) }
-        ensures breaks { self.old.access ≡ Access.Writing →
-            IsErrOf result DeviceFault.Failed → self.new.access ≡ Access.Broken }
-        ensures broken { StaysBroken self.old self.new (IsErrOf result DeviceFault.Failed) }
+        ensures file { AppendsToFile F.contents bytes.now self.old self.new result }
     {
         if self.access != Access::Writing {
             return Err(self.fail());
@@ -257,15 +250,7 @@ impl<F: Read + Write + Seek + OpenFile> Device for FileDevice<F> {
         ensures content { WhenHonest self.old.is_honest
             (DeviceAppends bytes.now (content_of self.old) (content_of self.new) result) }
         ensures persists { FilePersists self.old self.new (IsErrOf result DeviceFault.Failed) }
-        ensures taken { OnOk result
-            (Appends (taken F.contents self.old) (taken F.contents self.new) bytes.now) }
-        ensures refused { IsErrOf result DeviceFault.NoMemory →
-            Keeps (taken F.contents self.old) (taken F.contents self.new) }
-        ensures reading { self.old.access ≡ Access.Reading → IsErrOf result DeviceFault.Failed }
-        ensures access { OnOk result (self.new.access ≡ self.old.access) }
-        ensures breaks { self.old.access ≡ Access.Writing →
-            IsErrOf result DeviceFault.Failed → self.new.access ≡ Access.Broken }
-        ensures broken { StaysBroken self.old self.new (IsErrOf result DeviceFault.Failed) }
+        ensures file { AppendsToFile F.contents bytes.now self.old self.new result }
     {
         let room = GATHERED_BYTES.saturating_sub(self.gathered.len());
         if self.access != Access::Writing || room <= bytes.len() {
