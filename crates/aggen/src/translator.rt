@@ -1,6 +1,6 @@
 //! Translators: made once of a grammar's text, and then used for any number of sentences.
 
-ghost use Rattle.std.specs.Prelude.{◌≡◌, ◌≢◌, ◌≤◌, ◌⊎◌, IfErr, IfOk, IsErrOf, OnOk};
+ghost use Rattle.std.specs.Prelude.{◌≡◌, ◌≢◌, ◌≤◌, IfErr, IfOk, IsErrOf, OnOk};
 ghost use Rattle.std.specs.Prelude.{OnErr, length};
 ghost use Rattle.ag_grammar.specs.grammars.Accepted.{IsAccepted as IsAcceptedGrammar};
 ghost use Rattle.ag_grammar.specs.grammars.Tree.{node_count, IsWithinLimits, Tree};
@@ -8,8 +8,9 @@ ghost use Rattle.ag_grammar.specs.grammars.Tree.{most_depth, most_nodes};
 ghost use Rattle.llparse.specs.Ahead.{HasNoConflict};
 ghost use Rattle.llparse.specs.table.Tables.{FitsGrammar};
 ghost use Rattle.treefile.specs.ways.Beginning.{LeavesBeginning};
-ghost use Rattle.treefile.specs.devices.Device.{HasRisen, LeavesContent, Persists, WhenHonest};
+ghost use Rattle.treefile.specs.devices.Device.{LeavesContent, Persists, WhenHonest};
 ghost use Rattle.treefile.specs.records.FirstFile.{IsFirstFile};
+ghost use Rattle.treefile.specs.devices.Several.{BothLast, ThreeLast};
 ghost use Rattle.treefile.specs.records.TreeFile.{version_two};
 ghost use Rattle.passassign.specs.Least.{IsAlternating, IsLeast};
 ghost use Rattle.passassign.specs.Rows.{passes_of, AreFew};
@@ -197,14 +198,9 @@ impl Translator {
             BeginsText (W.contents out.old) (W.contents out.new) }
         ensures untouched { IfErr result (λ e. IsScanFault e → a.new ≡ a.old) }
         ensures b_untouched { IfErr result (λ e. IsRefusedSentence e → b.new ≡ b.old) }
-        ensures a_persists { Persists (D.is_honest a.old) (D.is_honest a.new)
-            (D.failures a.old) (D.failures a.new) ⊥ }
-        ensures b_persists { Persists (D.is_honest b.old) (D.is_honest b.new)
-            (D.failures b.old) (D.failures b.new) ⊥ }
         // D1 only where the number of failures rose on one of the two
-        ensures cause { IsErrOf result Fault.Device →
-            HasRisen (D.failures a.old) (D.failures a.new)
-            ⊎ HasRisen (D.failures b.old) (D.failures b.new) }
+        ensures devices { BothLast D.is_honest D.failures a.old a.new
+            D.is_honest D.failures b.old b.new (IsErrOf result Fault.Device) }
     {
         let plan = self.plan();
         let report = leave_files(self.alloc, self, plan, sentence, a, b)?;
@@ -248,17 +244,10 @@ impl Translator {
             BeginsText (W.contents out.old) (W.contents out.new) }
         ensures content { LeavesContent (T.is_honest tree.old)
             (T.content tree.old) (T.content tree.new) }
-        ensures tree_persists { Persists (T.is_honest tree.old) (T.is_honest tree.new)
-            (T.failures tree.old) (T.failures tree.new) ⊥ }
-        ensures a_persists { Persists (D.is_honest a.old) (D.is_honest a.new)
-            (D.failures a.old) (D.failures a.new) ⊥ }
-        ensures b_persists { Persists (D.is_honest b.old) (D.is_honest b.new)
-            (D.failures b.old) (D.failures b.new) ⊥ }
         // D1 only where the number of failures rose on one of the three
-        ensures cause { IsErrOf result Fault.Device →
-            HasRisen (T.failures tree.old) (T.failures tree.new)
-            ⊎ (HasRisen (D.failures a.old) (D.failures a.new)
-            ⊎ HasRisen (D.failures b.old) (D.failures b.new)) }
+        ensures devices { ThreeLast T.is_honest T.failures tree.old tree.new
+            D.is_honest D.failures a.old a.new D.is_honest D.failures b.old b.new
+            (IsErrOf result Fault.Device) }
     {
         let plan = self.plan();
         let report = run_tree(self.alloc, self, plan, tree, a, b)?;
@@ -294,17 +283,10 @@ impl Translator {
             (LeavesBeginning 0 (F.content to.old) (F.content to.new))) }
         ensures content { LeavesContent (D.is_honest old.old)
             (D.content old.old) (D.content old.new) }
-        ensures old_persists { Persists (D.is_honest old.old) (D.is_honest old.new)
-            (D.failures old.old) (D.failures old.new) ⊥ }
-        ensures mid_persists { Persists (E.is_honest mid.old) (E.is_honest mid.new)
-            (E.failures mid.old) (E.failures mid.new) ⊥ }
-        ensures to_persists { Persists (F.is_honest to.old) (F.is_honest to.new)
-            (F.failures to.old) (F.failures to.new) ⊥ }
         // D1 only where the number of failures rose on one of the three
-        ensures cause { IsErrOf result Fault.Device →
-            HasRisen (D.failures old.old) (D.failures old.new)
-            ⊎ (HasRisen (E.failures mid.old) (E.failures mid.new)
-            ⊎ HasRisen (F.failures to.old) (F.failures to.new)) }
+        ensures devices { ThreeLast D.is_honest D.failures old.old old.new
+            E.is_honest E.failures mid.old mid.new F.is_honest F.failures to.old to.new
+            (IsErrOf result Fault.Device) }
     {
         let nodes = upgrade(self.alloc, &self.grammar, old, mid, to)?;
         Ok(nodes)

@@ -3,8 +3,8 @@
 ghost use Rattle.std.specs.Prelude.{◌≡◌, ◌≢◌, ◌≤◌, ◌+◌, None, Err, IfOk};
 ghost use Rattle.std.specs.Prelude.{IfSome, IsErrOf, length};
 ghost use Rattle.std.specs.Option.{option_map};
-ghost use Rattle.backreader.specs.Place.{HasRead, IsLarge, IsOver, Progress, lent_body};
-ghost use Rattle.backreader.specs.Place.{progress_after};
+ghost use Rattle.backreader.specs.Place.{HasRead, IsLarge, IsOver, IsStarted, Progress};
+ghost use Rattle.backreader.specs.Place.{lent_body, progress_after};
 ghost use Rattle.treefile.specs.ways.Backward.{next_before, pass_in};
 ghost use Rattle.treefile.specs.devices.Device.{LeavesContent, Persists, WhenHonest};
 ghost use Rattle.treefile.specs.ways.Ending.{IsBody, Told, length_bytes};
@@ -64,13 +64,8 @@ impl Back {
         // The number of the pass, and B1, exactly as the content has them
         ensures told { WhenHonest (D.is_honest device.old) (Told (λ back. back.progress.pass) result
             (pass_in version_two (D.content device.old))) }
-        ensures over { WhenHonest (D.is_honest device.old)
-            (IfOk result (λ back. IsOver (D.content device.old) back)) }
-        ensures end { WhenHonest (D.is_honest device.old)
-            (IfOk result (λ back. back.progress.at ≡ length (D.content device.old))) }
-        ensures version { IfOk result (λ back. back.progress.version ≡ version_two) }
-        ensures fresh { IfOk result (λ back. back.progress.records ≡ 0) }
-        ensures unbroken { IfOk result (λ back. back.progress.fault ≡ None) }
+        ensures started { IfOk result (IsStarted version_two (D.is_honest device.old)
+            (D.content device.old)) }
         ensures content { LeavesContent (D.is_honest device.old)
             (D.content device.old) (D.content device.new) }
         // D1 only where the number of failures rose
@@ -86,13 +81,8 @@ impl Back {
         // The number of the pass, and B1, exactly as the content has them
         ensures told { WhenHonest (D.is_honest device.old) (Told (λ back. back.progress.pass) result
             (pass_in version_one (D.content device.old))) }
-        ensures over { WhenHonest (D.is_honest device.old)
-            (IfOk result (λ back. IsOver (D.content device.old) back)) }
-        ensures end { WhenHonest (D.is_honest device.old)
-            (IfOk result (λ back. back.progress.at ≡ length (D.content device.old))) }
-        ensures version { IfOk result (λ back. back.progress.version ≡ version_one) }
-        ensures fresh { IfOk result (λ back. back.progress.records ≡ 0) }
-        ensures unbroken { IfOk result (λ back. back.progress.fault ≡ None) }
+        ensures started { IfOk result (IsStarted version_one (D.is_honest device.old)
+            (D.content device.old)) }
         ensures content { LeavesContent (D.is_honest device.old)
             (D.content device.old) (D.content device.new) }
         // D1 only where the number of failures rose
@@ -111,13 +101,8 @@ impl Back {
         // The number of the pass, and B1, exactly as the content has them
         ensures told { WhenHonest (D.is_honest device.old) (Told (λ back. back.progress.pass) result
             (pass_in (version_of version) (D.content device.old))) }
-        ensures over { WhenHonest (D.is_honest device.old)
-            (IfOk result (λ back. IsOver (D.content device.old) back)) }
-        ensures end { WhenHonest (D.is_honest device.old)
-            (IfOk result (λ back. back.progress.at ≡ length (D.content device.old))) }
-        ensures version { IfOk result (λ back. back.progress.version ≡ version_of version) }
-        ensures fresh { IfOk result (λ back. back.progress.records ≡ 0) }
-        ensures unbroken { IfOk result (λ back. back.progress.fault ≡ None) }
+        ensures started { IfOk result (IsStarted (version_of version) (D.is_honest device.old)
+            (D.content device.old)) }
         ensures content { LeavesContent (D.is_honest device.old)
             (D.content device.old) (D.content device.new) }
         // D1 only where the number of failures rose

@@ -1,6 +1,6 @@
 //! All passes over a tree file, one after the other, to and fro between two devices.
 
-ghost use Rattle.std.specs.Prelude.{◌≡◌, ◌⊎◌, ◌+◌, ◌-◌, ◌^◌, ◌<◌, ◌≤◌, ℕ, IfErr, IfOk, IsErrOf};
+ghost use Rattle.std.specs.Prelude.{◌≡◌, ◌+◌, ◌-◌, ◌^◌, ◌<◌, ◌≤◌, ℕ, IfErr, IfOk, IsErrOf};
 ghost use Rattle.std.specs.Prelude.{OnErr, OnOk};
 ghost use Rattle.ag_grammar.specs.grammars.Tree.{most_nodes};
 ghost use Rattle.passassign.specs.Rows.{IsGreatest, passes_of};
@@ -11,7 +11,8 @@ ghost use Rattle.passrun.specs.Rounds.{one_more as added};
 ghost use Rattle.planchecker.specs.Plans.{IsPlan};
 ghost use Rattle.planchecker.specs.courses.Settings.{setting_of};
 ghost use Rattle.treefile.specs.ways.Beginning.{LeavesBeginning};
-ghost use Rattle.treefile.specs.devices.Device.{HasRisen, Persists, WhenHonest};
+ghost use Rattle.treefile.specs.devices.Device.{WhenHonest};
+ghost use Rattle.treefile.specs.devices.Several.{BothLast};
 
 use crate::last::Last;
 use crate::passing::ends::Passed;
@@ -72,14 +73,9 @@ fn next_pass<D: Device>(
     ensures few { IfOk result (λ p. p.nodes ≤ most_nodes) }
     ensures rises { meter.old ≤ meter.new }
     ensures meter { OnOk result (meter.new ≤ meter.old + 2 ^ 36) }
-    ensures a_persists { Persists (D.is_honest a.old) (D.is_honest a.new)
-        (D.failures a.old) (D.failures a.new) ⊥ }
-    ensures b_persists { Persists (D.is_honest b.old) (D.is_honest b.new)
-        (D.failures b.old) (D.failures b.new) ⊥ }
     // D1 only where the number of failures rose on one of the two
-    ensures cause { IsErrOf result RunFault.Device →
-        HasRisen (D.failures a.old) (D.failures a.new)
-        ⊎ HasRisen (D.failures b.old) (D.failures b.new) }
+    ensures devices { BothLast D.is_honest D.failures a.old a.new
+        D.is_honest D.failures b.old b.new (IsErrOf result RunFault.Device) }
 {
     match last {
         Last::A => run_pass(alloc, grammar, plan, done + 1, a, b, meter),
@@ -153,14 +149,9 @@ pub fn run_all<D: Device>(
     // whatever the devices give back
     ensures rises { meter.old ≤ meter.new }
     ensures meter { OnOk result (meter.new ≤ meter.old + 2 ^ 52) }
-    ensures a_persists { Persists (D.is_honest a.old) (D.is_honest a.new)
-        (D.failures a.old) (D.failures a.new) ⊥ }
-    ensures b_persists { Persists (D.is_honest b.old) (D.is_honest b.new)
-        (D.failures b.old) (D.failures b.new) ⊥ }
     // D1 only where the number of failures rose on one of the two
-    ensures cause { IsErrOf result RunFault.Device →
-        HasRisen (D.failures a.old) (D.failures a.new)
-        ⊎ HasRisen (D.failures b.old) (D.failures b.new) }
+    ensures devices { BothLast D.is_honest D.failures a.old a.new
+        D.is_honest D.failures b.old b.new (IsErrOf result RunFault.Device) }
 {
     let _start = grammar.start();
     let passes = last_pass(plan);

@@ -1,6 +1,6 @@
 //! Bringing a tree file of version 1 over to version 2.
 
-ghost use Rattle.std.specs.Prelude.{◌≡◌, ◌+◌, ◌<◌, ◌^◌, length, ◌⊎◌, Bool, IfErr, IfOk, IfSome, IsErrOf, List};
+ghost use Rattle.std.specs.Prelude.{◌≡◌, ◌+◌, ◌<◌, ◌^◌, length, Bool, IfErr, IfOk, IfSome, IsErrOf, List};
 ghost use Rattle.std.specs.Prelude.{OnErr, OnOk, [], ◌∷◌, ◌++◌, ℕ};
 ghost use Rattle.ag_value.specs.Well.{IsWell};
 ghost use Rattle.ag_grammar.specs.grammars.Accepted.{IsAccepted};
@@ -10,7 +10,8 @@ ghost use Rattle.passrun.specs.Faults.{run_fault_of_turn};
 ghost use Rattle.passrun.specs.Upgrading.{Brought, HasTaken, IsBrought, IsReady, IsUnbrought};
 ghost use Rattle.passrun.specs.Upgrading.{IsUpgradeFault, IsUpgraded, stored_count, text_list};
 ghost use Rattle.treefile.specs.ways.Beginning.{LeavesBeginning};
-ghost use Rattle.treefile.specs.devices.Device.{HasRisen, LeavesContent, Persists, WhenHonest};
+ghost use Rattle.treefile.specs.devices.Device.{LeavesContent, Persists, WhenHonest};
+ghost use Rattle.treefile.specs.devices.Several.{BothLast, ThreeLast};
 
 use crate::passing::putting::put_record;
 use crate::reading::old_record::{OldRecord, old_record};
@@ -110,13 +111,8 @@ impl Upgrading {
             ≡ self.old.writer.written + self.new.back.progress.records) }
         ensures content { LeavesContent (D.is_honest from.old)
             (D.content from.old) (D.content from.new) }
-        ensures from_persists { Persists (D.is_honest from.old) (D.is_honest from.new)
-            (D.failures from.old) (D.failures from.new) ⊥ }
-        ensures to_persists { Persists (E.is_honest to.old) (E.is_honest to.new)
-            (E.failures to.old) (E.failures to.new) ⊥ }
-        ensures cause { IsErrOf result RunFault.Device →
-            HasRisen (D.failures from.old) (D.failures from.new)
-            ⊎ HasRisen (E.failures to.old) (E.failures to.new) }
+        ensures devices { BothLast D.is_honest D.failures from.old from.new
+            E.is_honest E.failures to.old to.new (IsErrOf result RunFault.Device) }
     {
         if !item.has_place() {
             return Ok(None);
@@ -177,13 +173,8 @@ fn bring<D: Device, E: Device>(
         (IsUpgradeFault grammar.now (D.content from.old) f)) }
     ensures content { LeavesContent (D.is_honest from.old)
         (D.content from.old) (D.content from.new) }
-    ensures from_persists { Persists (D.is_honest from.old) (D.is_honest from.new)
-        (D.failures from.old) (D.failures from.new) ⊥ }
-    ensures to_persists { Persists (E.is_honest to.old) (E.is_honest to.new)
-        (E.failures to.old) (E.failures to.new) ⊥ }
-    ensures cause { IsErrOf result RunFault.Device →
-        HasRisen (D.failures from.old) (D.failures from.new)
-        ⊎ HasRisen (E.failures to.old) (E.failures to.new) }
+    ensures devices { BothLast D.is_honest D.failures from.old from.new
+        E.is_honest E.failures to.old to.new (IsErrOf result RunFault.Device) }
 {
     let root = Item::Symbol(grammar.start());
     let back = Back::start_old(alloc, from)?;
@@ -266,17 +257,10 @@ pub fn upgrade<D: Device, E: Device, F: Device>(
     ensures left { IfErr result (λ _. WhenHonest (F.is_honest to.old)
         (LeavesBeginning 0 (F.content to.old) (F.content to.new))) }
     ensures content { LeavesContent (D.is_honest old.old) (D.content old.old) (D.content old.new) }
-    ensures old_persists { Persists (D.is_honest old.old) (D.is_honest old.new)
-        (D.failures old.old) (D.failures old.new) ⊥ }
-    ensures mid_persists { Persists (E.is_honest mid.old) (E.is_honest mid.new)
-        (E.failures mid.old) (E.failures mid.new) ⊥ }
-    ensures to_persists { Persists (F.is_honest to.old) (F.is_honest to.new)
-        (F.failures to.old) (F.failures to.new) ⊥ }
     // D1 only where the number of failures rose on one of the three
-    ensures cause { IsErrOf result RunFault.Device →
-        HasRisen (D.failures old.old) (D.failures old.new)
-        ⊎ (HasRisen (E.failures mid.old) (E.failures mid.new)
-        ⊎ HasRisen (F.failures to.old) (F.failures to.new)) }
+    ensures devices { ThreeLast D.is_honest D.failures old.old old.new
+        E.is_honest E.failures mid.old mid.new F.is_honest F.failures to.old to.new
+        (IsErrOf result RunFault.Device) }
 {
     bring(alloc, grammar, old, mid)?;
     let count = turn(alloc, mid, to, 0, &Stored { grammar })?;

@@ -4,3 +4,4 @@ pub mod Device
 pub mod Faults
 pub mod Files
 pub mod Fuse
+pub mod Several

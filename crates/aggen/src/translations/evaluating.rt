@@ -1,10 +1,11 @@
 //! The tree of a file is evaluated: pass 1 runs from that file, and the others to and fro.
 
-ghost use Rattle.std.specs.Prelude.{◌≡◌, ◌⊎◌, IfErr, IfOk, IsErrOf};
+ghost use Rattle.std.specs.Prelude.{◌≡◌, IfErr, IfOk, IsErrOf};
 ghost use Rattle.aggen.specs.Building.{IsLeastPlan};
 ghost use Rattle.aggen.specs.Evaluating.{IsPassesFault, LeavesFilesOfTree};
 ghost use Rattle.passrun.specs.Rounds.{other_last};
-ghost use Rattle.treefile.specs.devices.Device.{HasRisen, LeavesContent, Persists};
+ghost use Rattle.treefile.specs.devices.Device.{LeavesContent};
+ghost use Rattle.treefile.specs.devices.Several.{ThreeLast};
 
 use crate::fault::Fault;
 use crate::translations::report::Report;
@@ -43,16 +44,9 @@ pub(crate) fn run_tree<T: Device, D: Device>(
         (D.is_honest a.old) (D.is_honest b.old) (T.content tree.old) e) }
     ensures content { LeavesContent (T.is_honest tree.old)
         (T.content tree.old) (T.content tree.new) }
-    ensures tree_persists { Persists (T.is_honest tree.old) (T.is_honest tree.new)
-        (T.failures tree.old) (T.failures tree.new) ⊥ }
-    ensures a_persists { Persists (D.is_honest a.old) (D.is_honest a.new)
-        (D.failures a.old) (D.failures a.new) ⊥ }
-    ensures b_persists { Persists (D.is_honest b.old) (D.is_honest b.new)
-        (D.failures b.old) (D.failures b.new) ⊥ }
-    ensures cause { IsErrOf result Fault.Device →
-        HasRisen (T.failures tree.old) (T.failures tree.new)
-        ⊎ (HasRisen (D.failures a.old) (D.failures a.new)
-        ⊎ HasRisen (D.failures b.old) (D.failures b.new)) }
+    ensures devices { ThreeLast T.is_honest T.failures tree.old tree.new
+        D.is_honest D.failures a.old a.new D.is_honest D.failures b.old b.new
+        (IsErrOf result Fault.Device) }
 {
     let grammar = translator.grammar();
     let mut meter = Meter::new();

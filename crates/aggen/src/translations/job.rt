@@ -1,9 +1,9 @@
 //! A job is translated: its grammar makes a translator, which translates its sentence.
 
-ghost use Rattle.std.specs.Prelude.{◌≡◌, ◌≢◌, ◌⊎◌, IfErr, IfOk, IsErrOf};
+ghost use Rattle.std.specs.Prelude.{◌≡◌, ◌≢◌, IfErr, IfOk, IsErrOf};
 ghost use Rattle.aggen.specs.Jobs.{IsBeforePasses, IsBeforeTrees, IsJobRefusal, TranslatesJob};
 ghost use Rattle.aggen.specs.Translation.{BeginsText};
-ghost use Rattle.treefile.specs.devices.Device.{HasRisen, Persists};
+ghost use Rattle.treefile.specs.devices.Several.{BothLast};
 
 use crate::fault::Fault;
 use crate::translations::report::Report;
@@ -44,14 +44,9 @@ pub fn run_job<R: Read + Drop, D: Device, W: Write>(
         BeginsText (W.contents out.old) (W.contents out.new) }
     ensures untouched { IfErr result (λ e. IsBeforeTrees e → a.new ≡ a.old) }
     ensures b_untouched { IfErr result (λ e. IsBeforePasses e → b.new ≡ b.old) }
-    ensures a_persists { Persists (D.is_honest a.old) (D.is_honest a.new)
-        (D.failures a.old) (D.failures a.new) ⊥ }
-    ensures b_persists { Persists (D.is_honest b.old) (D.is_honest b.new)
-        (D.failures b.old) (D.failures b.new) ⊥ }
     // D1 only where the number of failures rose on one of the two
-    ensures cause { IsErrOf result Fault.Device →
-        HasRisen (D.failures a.old) (D.failures a.new)
-        ⊎ HasRisen (D.failures b.old) (D.failures b.new) }
+    ensures devices { BothLast D.is_honest D.failures a.old a.new
+        D.is_honest D.failures b.old b.new (IsErrOf result Fault.Device) }
 {
     let job = Job::read(alloc, reader)?;
     let translator = Translator::build(alloc, job.grammar())?;

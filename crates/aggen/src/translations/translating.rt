@@ -1,14 +1,15 @@
 //! A sentence is translated: its tree goes into a file, all passes run over it, and the text of the
 //! root is taken out of the last file.
 
-ghost use Rattle.std.specs.Prelude.{◌≡◌, ◌⊎◌, IfErr, IfOk, IsErrOf};
+ghost use Rattle.std.specs.Prelude.{◌≡◌, IfErr, IfOk, IsErrOf};
 ghost use Rattle.aggen.specs.Building.{IsLeastPlan};
 ghost use Rattle.aggen.specs.Sentences.{IsScanFault};
 ghost use Rattle.aggen.specs.Translating.{IsFilesFault, IsRefusedSentence, LeavesFiles};
 ghost use Rattle.passrun.specs.Rounds.{last_content};
 ghost use Rattle.planchecker.specs.Plans.{IsPlan};
 ghost use Rattle.roottext.specs.Roots.{TellsRoot};
-ghost use Rattle.treefile.specs.devices.Device.{HasRisen, LeavesContent, Persists, WhenHonest};
+ghost use Rattle.treefile.specs.devices.Device.{LeavesContent, WhenHonest};
+ghost use Rattle.treefile.specs.devices.Several.{BothLast};
 
 use crate::fault::Fault;
 use crate::translations::report::Report;
@@ -38,13 +39,8 @@ pub(crate) fn leave_files<D: Device>(
         (D.is_honest a.old) (D.is_honest b.old) e) }
     ensures untouched { IfErr result (λ e. IsScanFault e → a.new ≡ a.old) }
     ensures b_untouched { IfErr result (λ e. IsRefusedSentence e → b.new ≡ b.old) }
-    ensures a_persists { Persists (D.is_honest a.old) (D.is_honest a.new)
-        (D.failures a.old) (D.failures a.new) ⊥ }
-    ensures b_persists { Persists (D.is_honest b.old) (D.is_honest b.new)
-        (D.failures b.old) (D.failures b.new) ⊥ }
-    ensures cause { IsErrOf result Fault.Device →
-        HasRisen (D.failures a.old) (D.failures a.new)
-        ⊎ HasRisen (D.failures b.old) (D.failures b.new) }
+    ensures devices { BothLast D.is_honest D.failures a.old a.new
+        D.is_honest D.failures b.old b.new (IsErrOf result Fault.Device) }
 {
     let nodes = translator.parse_tree(sentence, a)?;
     let mut meter = Meter::new();
@@ -74,13 +70,8 @@ pub(crate) fn last_text<D: Device>(
         (last_content last (D.content a.old) (D.content b.old)) result)) }
     ensures a_content { LeavesContent (D.is_honest a.old) (D.content a.old) (D.content a.new) }
     ensures b_content { LeavesContent (D.is_honest b.old) (D.content b.old) (D.content b.new) }
-    ensures a_persists { Persists (D.is_honest a.old) (D.is_honest a.new)
-        (D.failures a.old) (D.failures a.new) ⊥ }
-    ensures b_persists { Persists (D.is_honest b.old) (D.is_honest b.new)
-        (D.failures b.old) (D.failures b.new) ⊥ }
-    ensures cause { IsErrOf result OutFault.Device →
-        HasRisen (D.failures a.old) (D.failures a.new)
-        ⊎ HasRisen (D.failures b.old) (D.failures b.new) }
+    ensures devices { BothLast D.is_honest D.failures a.old a.new
+        D.is_honest D.failures b.old b.new (IsErrOf result OutFault.Device) }
 {
     match last {
         Last::A => root_text(alloc, grammar, plan, a),

@@ -1,4 +1,6 @@
--- Which fault a refused write is (this project's).
+-- Which fault a refused write is, and what is broken then (this project's).
+use Rattle.std.specs.Prelude.{◌≡◌, ℕ, Bool, true}
+use Rattle.treefile.specs.devices.Device.{Persists}
 use Rattle.treefile.specs.declared.writing.WriteFault.{WriteFault}
 use Rattle.treefile.specs.declared.writing.WriteFault.TheVariants as write_fault
 use Rattle.llparse.specs.declared.sentence.parse_fault.ParseFault.{ParseFault}
@@ -14,3 +16,10 @@ abbrev pub IsWant : ParseFault → Type 0
 IsWant parse_fault.Device = Unit {0}
 IsWant parse_fault.NoMemory = Unit {0}
 IsWant fault = ⊥
+
+-- What a call that puts records leaves of the device besides its content, and of the writer over it: the writer is broken
+-- exactly where the call answers that the device failed, and it answers that only where failures rose.
+pub record BreaksWriter {D : Type 0} (honest : D → Bool) (failures : D → ℕ) (old new : D) (is_broken : Bool) (failed : Type 0) : Type 0 where
+  pub persists : Persists (honest old) (honest new) (failures old) (failures new) failed
+  pub breaks : failed → is_broken ≡ true
+  pub broken : is_broken ≡ true → failed

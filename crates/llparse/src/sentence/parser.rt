@@ -1,5 +1,5 @@
 //! How far a sentence is parsed, and the steps that go on with it.
-ghost use Rattle.std.specs.Prelude.{◌≡◌, ◌≤◌, ◌<◌, ◌+◌, ◌++◌, ◌∷◌, [], ℕ, true, false, All};
+ghost use Rattle.std.specs.Prelude.{◌≡◌, ◌≤◌, ◌<◌, ◌+◌, ◌++◌, ◌∷◌, [], ℕ, false, All};
 ghost use Rattle.std.specs.Prelude.{drop, length, Some, None};
 ghost use Rattle.std.specs.Prelude.{option_map, IfErr, IfOk, IfSome, IsErrOf, OnErr, OnOk};
 ghost use Rattle.ag_value.specs.Well.{IsWell};
@@ -9,11 +9,11 @@ ghost use Rattle.ag_grammar.specs.grammars.AttributeGrammar.{Grammar as AGrammar
 ghost use Rattle.ag_grammar.specs.grammars.Tree.{IsTokenText, most_depth, most_nodes};
 ghost use Rattle.ag_scan.specs.Handed.{handed, offset_at};
 ghost use Rattle.treefile.specs.ways.Beginning.{AddsFrames};
-ghost use Rattle.treefile.specs.devices.Device.{Persists, WhenHonest};
+ghost use Rattle.treefile.specs.devices.Device.{WhenHonest};
 ghost use Rattle.treefile.specs.records.TreeFile.{version_two};
 ghost use Rattle.llparse.specs.Ahead.{ahead_of};
 ghost use Rattle.llparse.specs.sentence.Parsing.{leaf_frame, node_frame, right_side};
-ghost use Rattle.llparse.specs.sentence.Refusals.{IsWant};
+ghost use Rattle.llparse.specs.sentence.Refusals.{BreaksWriter, IsWant};
 ghost use Rattle.llparse.specs.sentence.Sentences.{words_of};
 ghost use Rattle.llparse.specs.table.Tables.{choice_of};
 ghost use Rattle.llparse.specs.sentence.Turns.{left_of, Asks, Faces, IsFull, Leads, Advances, IsBetween};
@@ -119,10 +119,8 @@ fn put_leaf<D: Device>(
     ensures adds { WhenHonest (D.is_honest device.old)
         (AddsFrames (D.content device.old) (D.content device.new) result) }
     ensures refuses { IfErr result IsWant }
-    ensures breaks { IsErrOf result ParseFault.Device → writer.new.is_broken ≡ true }
-    ensures broken { writer.new.is_broken ≡ true → IsErrOf result ParseFault.Device }
-    ensures persists { Persists (D.is_honest device.old) (D.is_honest device.new)
-        (D.failures device.old) (D.failures device.new) (IsErrOf result ParseFault.Device) }
+    ensures device { BreaksWriter D.is_honest D.failures device.old device.new
+        writer.new.is_broken (IsErrOf result ParseFault.Device) }
 {
     let values = [Value::Text(Text::from_str(alloc, lex)?)];
     writer.put(device, Kind::Token, class, &values)?;
@@ -150,10 +148,8 @@ pub(crate) fn put_node<D: Device>(
     ensures adds { WhenHonest (D.is_honest device.old)
         (AddsFrames (D.content device.old) (D.content device.new) result) }
     ensures refuses { IfErr result IsWant }
-    ensures breaks { IsErrOf result ParseFault.Device → writer.new.is_broken ≡ true }
-    ensures broken { writer.new.is_broken ≡ true → IsErrOf result ParseFault.Device }
-    ensures persists { Persists (D.is_honest device.old) (D.is_honest device.new)
-        (D.failures device.old) (D.failures device.new) (IsErrOf result ParseFault.Device) }
+    ensures device { BreaksWriter D.is_honest D.failures device.old device.new
+        writer.new.is_broken (IsErrOf result ParseFault.Device) }
 {
     writer.put(device, Kind::Node, production, texts)?;
     Ok(())
@@ -286,10 +282,8 @@ impl<'t> Parser<'t> {
             ≡ record writer.old { written = writer.old.written + 1 }) }
         ensures adds { WhenHonest (D.is_honest device.old)
             (AddsFrames (D.content device.old) (D.content device.new) result) }
-        ensures breaks { IsErrOf result ParseFault.Device → writer.new.is_broken ≡ true }
-        ensures broken { writer.new.is_broken ≡ true → IsErrOf result ParseFault.Device }
-        ensures persists { Persists (D.is_honest device.old) (D.is_honest device.new)
-            (D.failures device.old) (D.failures device.new) (IsErrOf result ParseFault.Device) }
+        ensures device { BreaksWriter D.is_honest D.failures device.old device.new
+            writer.new.is_broken (IsErrOf result ParseFault.Device) }
     {
         let lex = expect(&self.tokens, Terminal::Class(class))?;
         self.has_room()?;
@@ -328,10 +322,8 @@ impl<'t> Parser<'t> {
         ensures fine { OnOk result (writer.new.is_broken ≡ false) }
         ensures adds { WhenHonest (D.is_honest device.old)
             (AddsFrames (D.content device.old) (D.content device.new) result) }
-        ensures breaks { IsErrOf result ParseFault.Device → writer.new.is_broken ≡ true }
-        ensures broken { writer.new.is_broken ≡ true → IsErrOf result ParseFault.Device }
-        ensures persists { Persists (D.is_honest device.old) (D.is_honest device.new)
-            (D.failures device.old) (D.failures device.new) (IsErrOf result ParseFault.Device) }
+        ensures device { BreaksWriter D.is_honest D.failures device.old device.new
+            writer.new.is_broken (IsErrOf result ParseFault.Device) }
     {
         match terminal {
             Terminal::Literal(literal) => self.take_literal(literal),

@@ -1,6 +1,6 @@
 //! Parsing a sentence: the records of the one tree of its tokens are written as it goes, by one
 //! token of look-ahead and with a stack of its own.
-ghost use Rattle.std.specs.Prelude.{◌≡◌, ◌+◌, ℕ, true, false, Err, IfErr, IfOk, IsErrOf, OnOk};
+ghost use Rattle.std.specs.Prelude.{◌≡◌, ◌+◌, ℕ, false, Err, IfErr, IfOk, IsErrOf, OnOk};
 ghost use Rattle.ag_grammar.specs.grammars.Tree.{node_count, IsWithinLimits, Tree};
 ghost use Rattle.ag_grammar.specs.grammars.Tree.{most_depth, most_nodes};
 ghost use Rattle.ag_scan.specs.Handed.{offset_at};
@@ -8,10 +8,11 @@ ghost use Rattle.ag_scan.specs.Tokens.{FitAll};
 ghost use Rattle.ag_scan.specs.Words.{vocabulary_of};
 ghost use Rattle.treefile.specs.records.FirstFile.{IsFirstFile};
 ghost use Rattle.treefile.specs.ways.Beginning.{AddsFrames, BeginsFile};
-ghost use Rattle.treefile.specs.devices.Device.{Persists, WhenHonest};
+ghost use Rattle.treefile.specs.devices.Device.{WhenHonest};
 ghost use Rattle.treefile.specs.records.TreeFile.{header, version_two};
 ghost use Rattle.treefile.specs.ways.Writing.{Progress};
 ghost use Rattle.llparse.specs.sentence.Parsing.{task_of, IsParsed, IsRefused};
+ghost use Rattle.llparse.specs.sentence.Refusals.{BreaksWriter};
 ghost use Rattle.llparse.specs.sentence.Sentences.{words_of, IsTreeWith};
 ghost use Rattle.llparse.specs.sentence.Sentences.{IsUnexpectedAt, LeavesOnlyDeeper, LeavesOnlyLarger};
 ghost use Rattle.llparse.specs.table.Tables.{FitsGrammar};
@@ -46,10 +47,8 @@ fn run<D: Device>(
         (D.is_honest device.old) (D.content device.old)) (offset_at sentence.now)) }
     ensures left { IfErr result (λ fault. WhenHonest (D.is_honest device.old)
         (AddsFrames (D.content device.old) (D.content device.new) (Err fault))) }
-    ensures breaks { IsErrOf result ParseFault.Device → writer.new.is_broken ≡ true }
-    ensures broken { writer.new.is_broken ≡ true → IsErrOf result ParseFault.Device }
-    ensures persists { Persists (D.is_honest device.old) (D.is_honest device.new)
-        (D.failures device.old) (D.failures device.new) (IsErrOf result ParseFault.Device) }
+    ensures device { BreaksWriter D.is_honest D.failures device.old device.new
+        writer.new.is_broken (IsErrOf result ParseFault.Device) }
 {
     let mut parser = Parser::new(alloc, sentence);
     let mut node = new_node(tables, &parser.tokens, grammar.start(), 0)?;
@@ -134,10 +133,8 @@ pub fn parse<D: Device>(
         (BeginsFile 0 (D.content device.new))) }
 
     // the writer is broken where the device failed, and for no other cause
-    ensures breaks { IsErrOf result ParseFault.Device → writer.new.is_broken ≡ true }
-    ensures broken { writer.new.is_broken ≡ true → IsErrOf result ParseFault.Device }
-    ensures persists { Persists (D.is_honest device.old) (D.is_honest device.new)
-        (D.failures device.old) (D.failures device.new) (IsErrOf result ParseFault.Device) }
+    ensures device { BreaksWriter D.is_honest D.failures device.old device.new
+        writer.new.is_broken (IsErrOf result ParseFault.Device) }
 {
     run(alloc, grammar, tables, sentence, device, writer)
 }

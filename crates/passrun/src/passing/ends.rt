@@ -1,6 +1,6 @@
 //! The beginning and the end of a pass.
 
-ghost use Rattle.std.specs.Prelude.{◌≡◌, ◌⊎◌, ◌-◌, ◌^◌, ◌≤◌, ℕ, None, Some, IfErr, IfOk, IsErrOf};
+ghost use Rattle.std.specs.Prelude.{◌≡◌, ◌-◌, ◌^◌, ◌≤◌, ℕ, None, Some, IfErr, IfOk, IsErrOf};
 ghost use Rattle.std.specs.Prelude.{OnErr, OnOk};
 ghost use Rattle.ag_grammar.specs.grammars.Tree.{most_nodes};
 ghost use Rattle.passrun.specs.passing.Ahead.{IsRunFault};
@@ -11,7 +11,8 @@ ghost use Rattle.passrun.specs.Passed.{IsPassed};
 ghost use Rattle.passrun.specs.passing.Putting.{LeavesFrames};
 ghost use Rattle.passrun.specs.passing.Running.{Runs};
 ghost use Rattle.treefile.specs.ways.Beginning.{LeavesBeginning};
-ghost use Rattle.treefile.specs.devices.Device.{HasRisen, LeavesContent, Persists, WhenHonest};
+ghost use Rattle.treefile.specs.devices.Device.{LeavesContent, WhenHonest};
+ghost use Rattle.treefile.specs.devices.Several.{BothLast};
 ghost use Rattle.treefile.specs.records.TreeFile.{header, version_two};
 
 use crate::laid::job::Job;
@@ -63,14 +64,9 @@ pub(crate) fn begin<D: Device, E: Device>(
     ensures begun { IfOk result (λ m. m.begun ≡ meter.now) }
     ensures content { LeavesContent (D.is_honest from.old)
         (D.content from.old) (D.content from.new) }
-    ensures from_persists { Persists (D.is_honest from.old) (D.is_honest from.new)
-        (D.failures from.old) (D.failures from.new) ⊥ }
-    ensures to_persists { Persists (E.is_honest to.old) (E.is_honest to.new)
-        (E.failures to.old) (E.failures to.new) ⊥ }
     // D1 only where the number of failures rose on one of the two
-    ensures cause { IsErrOf result RunFault.Device →
-        HasRisen (D.failures from.old) (D.failures from.new)
-        ⊎ HasRisen (E.failures to.old) (E.failures to.new) }
+    ensures devices { BothLast D.is_honest D.failures from.old from.new
+        E.is_honest E.failures to.old to.new (IsErrOf result RunFault.Device) }
 {
     let mut back = Back::start(alloc, from)?;
     if back.pass() != job.file_pass() {
@@ -114,14 +110,9 @@ pub(crate) fn finish<D: Device, E: Device>(
     ensures few { IfOk result (λ p. p.nodes ≤ most_nodes) }
     ensures content { LeavesContent (D.is_honest from.old)
         (D.content from.old) (D.content from.new) }
-    ensures from_persists { Persists (D.is_honest from.old) (D.is_honest from.new)
-        (D.failures from.old) (D.failures from.new) ⊥ }
-    ensures to_persists { Persists (E.is_honest to.old) (E.is_honest to.new)
-        (E.failures to.old) (E.failures to.new) ⊥ }
     // D1 only where the number of failures rose on one of the two
-    ensures cause { IsErrOf result RunFault.Device →
-        HasRisen (D.failures from.old) (D.failures from.new)
-        ⊎ HasRisen (E.failures to.old) (E.failures to.new) }
+    ensures devices { BothLast D.is_honest D.failures from.old from.new
+        E.is_honest E.failures to.old to.new (IsErrOf result RunFault.Device) }
 {
     let values = machine.values.as_slice();
     put_record(Kind::Node, machine.root, values, &mut machine.writer, to)?;

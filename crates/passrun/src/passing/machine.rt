@@ -1,6 +1,6 @@
 //! The steps of a pass, one for each kind of instruction.
 
-ghost use Rattle.std.specs.Prelude.{◌≡◌, ◌+◌, ◌^◌, ◌<◌, ◌≤◌, ◌∷◌, ◌++◌, ◌⊎◌, [], Some, IfErr, IfOk};
+ghost use Rattle.std.specs.Prelude.{◌≡◌, ◌+◌, ◌^◌, ◌<◌, ◌≤◌, ◌∷◌, ◌++◌, [], Some, IfErr, IfOk};
 ghost use Rattle.std.specs.Prelude.{IsErrOf, OnOk, length, reverse, slice_get};
 ghost use Rattle.passcode.specs.declared.instr.Instr.TheVariants as instr;
 ghost use Rattle.passrun.specs.passing.Passing.{IsPassing, GoesOn};
@@ -12,7 +12,8 @@ ghost use Rattle.passrun.specs.passing.Running.{GivesNext, Runs, RunsAt, RunsFro
 ghost use Rattle.passrun.specs.passing.Running.{TurnsAt, TurnsFrom, TurnsTo};
 ghost use Rattle.passrun.specs.passing.Working.{work};
 ghost use Rattle.planchecker.specs.courses.Settings.{list_at};
-ghost use Rattle.treefile.specs.devices.Device.{HasRisen, LeavesContent, Persists, WhenHonest};
+ghost use Rattle.treefile.specs.devices.Device.{LeavesContent, Persists, WhenHonest};
+ghost use Rattle.treefile.specs.devices.Several.{BothLast};
 
 use crate::laid::job::Job;
 use crate::passing::copying::{alone, behind, hand_over, is_as_told, keep_row};
@@ -302,14 +303,9 @@ impl Machine {
         ensures rises { meter.old ≤ meter.new }
         ensures content { LeavesContent (D.is_honest from.old)
             (D.content from.old) (D.content from.new) }
-        ensures from_persists { Persists (D.is_honest from.old) (D.is_honest from.new)
-            (D.failures from.old) (D.failures from.new) ⊥ }
-        ensures to_persists { Persists (E.is_honest to.old) (E.is_honest to.new)
-            (E.failures to.old) (E.failures to.new) ⊥ }
         // D1 only where the number of failures rose on one of the two
-        ensures cause { IsErrOf result RunFault.Device →
-            HasRisen (D.failures from.old) (D.failures from.new)
-            ⊎ HasRisen (E.failures to.old) (E.failures to.new) }
+        ensures devices { BothLast D.is_honest D.failures from.old from.new
+            E.is_honest E.failures to.old to.new (IsErrOf result RunFault.Device) }
     {
         match job.instruction(node) {
             Instr::Get(place) => Ok(Some(self.get(alloc, job, node, place, from)?)),

@@ -1,6 +1,6 @@
 //! One pass over a tree file.
 
-ghost use Rattle.std.specs.Prelude.{◌≡◌, ◌⊎◌, ◌+◌, ◌-◌, ◌^◌, ◌≤◌, ℕ, IfErr, IfOk, IsErrOf};
+ghost use Rattle.std.specs.Prelude.{◌≡◌, ◌+◌, ◌-◌, ◌^◌, ◌≤◌, ℕ, IfErr, IfOk, IsErrOf};
 ghost use Rattle.std.specs.Prelude.{OnErr, OnOk};
 ghost use Rattle.ag_grammar.specs.grammars.Tree.{most_nodes};
 ghost use Rattle.passassign.specs.Rows.{IsGreatest, passes_of};
@@ -11,8 +11,9 @@ ghost use Rattle.passrun.specs.Passed.{IsPassed};
 ghost use Rattle.planchecker.specs.courses.Settings.{setting_of};
 ghost use Rattle.planchecker.specs.Plans.{IsPlan};
 ghost use Rattle.treefile.specs.ways.Beginning.{LeavesBeginning};
-ghost use Rattle.treefile.specs.devices.Device.{HasRisen, LeavesContent, Persists, WhenHonest};
+ghost use Rattle.treefile.specs.devices.Device.{LeavesContent, WhenHonest};
 ghost use Rattle.treefile.specs.Runs.{RunsPass};
+ghost use Rattle.treefile.specs.devices.Several.{BothLast};
 ghost use Rattle.treefile.specs.records.TreeFile.{version_two};
 
 use crate::laid::job::Job;
@@ -54,14 +55,9 @@ pub(crate) fn run_job<D: Device, E: Device>(
     ensures meter { OnOk result (meter.new ≤ meter.old + 2 ^ 36) }
     ensures content { LeavesContent (D.is_honest from.old)
         (D.content from.old) (D.content from.new) }
-    ensures from_persists { Persists (D.is_honest from.old) (D.is_honest from.new)
-        (D.failures from.old) (D.failures from.new) ⊥ }
-    ensures to_persists { Persists (E.is_honest to.old) (E.is_honest to.new)
-        (E.failures to.old) (E.failures to.new) ⊥ }
     // D1 only where the number of failures rose on one of the two
-    ensures cause { IsErrOf result RunFault.Device →
-        HasRisen (D.failures from.old) (D.failures from.new)
-        ⊎ HasRisen (E.failures to.old) (E.failures to.new) }
+    ensures devices { BothLast D.is_honest D.failures from.old from.new
+        E.is_honest E.failures to.old to.new (IsErrOf result RunFault.Device) }
 {
     let mut machine = begin(alloc, job, from, to, &*meter)?;
     let root = OpenNode::first(machine.root);
@@ -121,14 +117,9 @@ pub fn run_pass<D: Device, E: Device>(
     ensures meter { OnOk result (meter.new ≤ meter.old + 2 ^ 36) }
     ensures content { LeavesContent (D.is_honest from.old)
         (D.content from.old) (D.content from.new) }
-    ensures from_persists { Persists (D.is_honest from.old) (D.is_honest from.new)
-        (D.failures from.old) (D.failures from.new) ⊥ }
-    ensures to_persists { Persists (E.is_honest to.old) (E.is_honest to.new)
-        (E.failures to.old) (E.failures to.new) ⊥ }
     // D1 only where the number of failures rose on one of the two
-    ensures cause { IsErrOf result RunFault.Device →
-        HasRisen (D.failures from.old) (D.failures from.new)
-        ⊎ HasRisen (E.failures to.old) (E.failures to.new) }
+    ensures devices { BothLast D.is_honest D.failures from.old from.new
+        E.is_honest E.failures to.old to.new (IsErrOf result RunFault.Device) }
 {
     let layout = lay_out(alloc, grammar, plan, pass)?;
     let job = Job {

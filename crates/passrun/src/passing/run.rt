@@ -1,11 +1,12 @@
 //! One pass over a tree file, with a stack of its own.
 
-ghost use Rattle.std.specs.Prelude.{◌≡◌, ◌≤◌, ◌⊎◌, None, Some, IfErr, IsErrOf, OnOk};
+ghost use Rattle.std.specs.Prelude.{◌≡◌, ◌≤◌, None, Some, IfErr, IsErrOf, OnOk};
 ghost use Rattle.passrun.specs.passing.Ahead.{IsRunFault};
 ghost use Rattle.passrun.specs.laid.Jobs.{CanRun, setting};
 ghost use Rattle.passrun.specs.passing.Putting.{AddsFrames, LeavesFrames};
 ghost use Rattle.passrun.specs.passing.Running.{Runs};
-ghost use Rattle.treefile.specs.devices.Device.{HasRisen, LeavesContent, Persists, WhenHonest};
+ghost use Rattle.treefile.specs.devices.Device.{LeavesContent, WhenHonest};
+ghost use Rattle.treefile.specs.devices.Several.{BothLast};
 
 use crate::laid::job::Job;
 use crate::passing::machine::Machine;
@@ -40,14 +41,9 @@ pub(crate) fn run<D: Device, E: Device>(
     ensures rises { meter.old ≤ meter.new }
     ensures content { LeavesContent (D.is_honest from.old)
         (D.content from.old) (D.content from.new) }
-    ensures from_persists { Persists (D.is_honest from.old) (D.is_honest from.new)
-        (D.failures from.old) (D.failures from.new) ⊥ }
-    ensures to_persists { Persists (E.is_honest to.old) (E.is_honest to.new)
-        (E.failures to.old) (E.failures to.new) ⊥ }
     // D1 only where the number of failures rose on one of the two
-    ensures cause { IsErrOf result RunFault.Device →
-        HasRisen (D.failures from.old) (D.failures from.new)
-        ⊎ HasRisen (E.failures to.old) (E.failures to.new) }
+    ensures devices { BothLast D.is_honest D.failures from.old from.new
+        E.is_honest E.failures to.old to.new (IsErrOf result RunFault.Device) }
 {
     let mut next = Some(root);
     while let Some(node) = next {

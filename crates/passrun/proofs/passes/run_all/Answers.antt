@@ -43,8 +43,8 @@ loop-done-preserved g c =
     record {
       low = omega arith;
       high = omega arith;
-      a_persists = persists_on _ _ _ _ _ _ old.a_persists c.in_ok-passed.ensures.a_persists;
-      b_persists = persists_on _ _ _ _ _ _ old.b_persists c.in_ok-passed.ensures.b_persists;
+      a_persists = persists_on _ _ _ _ _ _ old.a_persists c.in_ok-passed.ensures.devices.first;
+      b_persists = persists_on _ _ _ _ _ _ old.b_persists c.in_ok-passed.ensures.devices.second;
       meter_low = omega arith;
       meter_high = omega arith;
       nodes = rw sum few;

@@ -31,7 +31,7 @@ returns-in_err-tree-clause-refused g c =
     let start = c.in_ok-back.ensures in
     let content = g.D.Device.content c.args.from.now in
     rw (p.1, p.2) (λ honest.
-    let here = begins_at grammar c.start.ensures.accepted content c.in_ok-back.back.progress.pass c.in_ok-back.back.progress (start.told honest) (sym c.pass.ensures ∙ c.if-pass-ne0.false) (start.end honest) start.fresh in
+    let here = begins_at grammar c.start.ensures.accepted content c.in_ok-back.back.progress.pass c.in_ok-back.back.progress (start.told honest) (sym c.pass.ensures ∙ c.if-pass-ne0.false) (start.started.end honest) start.started.fresh in
     let refused = subst (λ (bytes : List ℕ). IsUnbrought grammar bytes (item.Symbol c.start.result ∷ []) 1 c.in_ok-back.back.progress c.in_err-tree.field-0.0) (start.content honest) (c.in_err-tree.ensures.refused (start.persists.honest ∙ honest)) in
     subst (λ (s : ℕ). IsUnbrought grammar content (item.Symbol s ∷ []) 1 c.in_ok-back.back.progress c.in_err-tree.field-0.0) c.start.ensures.value refused [] here)
 
@@ -51,8 +51,8 @@ returns-in_err-back-2-clause-refused g c =
     let same = tree.content is ∙ start.content honest in
     let brought = subst (λ (s : ℕ). Brought grammar content [] (item.Symbol s ∷ []) 1 before now (g.E.Device.is_honest c.begin.new.device) (g.E.Device.content c.begin.new.device) (g.E.Device.content c.tree.new.to) (text_list c.in_ok-tree.field-0)) c.start.ensures.value
     (subst (λ (bytes : List ℕ). Brought grammar bytes [] (item.Symbol c.start.result ∷ []) 1 before now (g.E.Device.is_honest c.begin.new.device) (g.E.Device.content c.begin.new.device) (g.E.Device.content c.tree.new.to) (text_list c.in_ok-tree.field-0)) (start.content honest) (tree.brought is)) in
-    let here = begins_at grammar c.start.ensures.accepted content before.pass before (start.told honest) (sym c.pass.ensures ∙ c.if-pass-ne0.false) (start.end honest) start.fresh in
-    let told = rw tree.ready.version at (c.in_err-back-2.ensures.told tree.ready.unbroken (tree.from_persists.honest ∙ is)) in
+    let here = begins_at grammar c.start.ensures.accepted content before.pass before (start.told honest) (sym c.pass.ensures ∙ c.if-pass-ne0.false) (start.started.end honest) start.started.fresh in
+    let told = rw tree.ready.version at (c.in_err-back-2.ensures.told tree.ready.unbroken (tree.devices.first.honest ∙ is)) in
     fault_behind grammar c.start.ensures.accepted body_of content now fault (brought.on [] here) (subst (λ (bytes : List ℕ). Told body_of (Err fault) (next_before version_one bytes now.at)) same told))
 
 -- a frame is left over
@@ -68,9 +68,9 @@ returns-then-is_some-clause-refused g c honest =
     let same = tree.content is ∙ start.content honest in
     let brought = subst (λ (s : ℕ). Brought grammar content [] (item.Symbol s ∷ []) 1 before now (g.E.Device.is_honest c.begin.new.device) (g.E.Device.content c.begin.new.device) (g.E.Device.content c.tree.new.to) (text_list c.in_ok-tree.field-0)) c.start.ensures.value
     (subst (λ (bytes : List ℕ). Brought grammar bytes [] (item.Symbol c.start.result ∷ []) 1 before now (g.E.Device.is_honest c.begin.new.device) (g.E.Device.content c.begin.new.device) (g.E.Device.content c.tree.new.to) (text_list c.in_ok-tree.field-0)) (start.content honest) (tree.brought is)) in
-    let here = begins_at grammar c.start.ensures.accepted content before.pass before (start.told honest) (sym c.pass.ensures ∙ c.if-pass-ne0.false) (start.end honest) start.fresh in
+    let here = begins_at grammar c.start.ensures.accepted content before.pass before (start.told honest) (sym c.pass.ensures ∙ c.if-pass-ne0.false) (start.started.end honest) start.started.fresh in
     let some = some_lent c.in_ok-back-2.field-0 (sym c.is_some.ensures ∙ c.if-is_some.true) in
-    let told = rw tree.ready.version at (c.in_ok-back-2.ensures.told tree.ready.unbroken (tree.from_persists.honest ∙ is)) in
+    let told = rw tree.ready.version at (c.in_ok-back-2.ensures.told tree.ready.unbroken (tree.devices.first.honest ∙ is)) in
     left_over grammar c.start.ensures.accepted content now c.end-end.result some.0 c.end-end.ensures (brought.on [] here) (subst (λ (bytes : List ℕ). next_before version_one bytes now.at ≡ Ok (Some some.0)) same (told ∙ ap Ok some.1))
 
 -- all of the tree
@@ -91,8 +91,8 @@ returns-clause-brought g c honest =
     let same = tree.content is ∙ start.content honest in
     let there = subst (λ (bytes : List ℕ). Brought grammar bytes [] (item.Symbol c.start.result ∷ []) 1 before place.progress (g.E.Device.is_honest c.begin.new.device) out_old out texts) (start.content honest) (tree.brought is) in
     let brought = subst (λ (b : Bool). Brought grammar content [] (item.Symbol grammar.start ∷ []) 1 before place.progress b out_old out texts) begin.persists.honest (subst (λ (s : ℕ). Brought grammar content [] (item.Symbol s ∷ []) 1 before place.progress (g.E.Device.is_honest c.begin.new.device) out_old out texts) c.start.ensures.value there) in
-    let here = begins_at grammar c.start.ensures.accepted content before.pass before (start.told honest) (sym c.pass.ensures ∙ c.if-pass-ne0.false) (start.end honest) start.fresh in
+    let here = begins_at grammar c.start.ensures.accepted content before.pass before (start.told honest) (sym c.pass.ensures ∙ c.if-pass-ne0.false) (start.started.end honest) start.started.fresh in
     let none = none_lent c.in_ok-back-2.field-0 (sym c.is_some.ensures ∙ c.if-is_some.false) in
-    let told = rw tree.ready.version at (c.in_ok-back-2.ensures.told tree.ready.unbroken (tree.from_persists.honest ∙ is)) in
-    whole_brought grammar c.start.ensures.accepted content before place to out_old out texts here (start.end honest) start.fresh brought (subst (λ (bytes : List ℕ). IsOver bytes place) (start.content honest) (tree.ready.over is)) tree.ready.few
+    let told = rw tree.ready.version at (c.in_ok-back-2.ensures.told tree.ready.unbroken (tree.devices.first.honest ∙ is)) in
+    whole_brought grammar c.start.ensures.accepted content before place to out_old out texts here (start.started.end honest) start.started.fresh brought (subst (λ (bytes : List ℕ). IsOver bytes place) (start.content honest) (tree.ready.over is)) tree.ready.few
     (subst (λ (bytes : List ℕ). next_before version_one bytes place.progress.at ≡ Ok None) same (told ∙ ap Ok none)) (λ h. begin.header h)

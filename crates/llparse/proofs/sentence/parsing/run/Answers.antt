@@ -75,7 +75,7 @@ loop-terminal-preserved-in-Continue-branch-2 g c =
       list = done.list ∙ inv.list;
       fine = done.fine;
       frames = λ h. added ParseFault k.front (g.D.Device.content c.loop-terminal.device) (g.D.Device.content c.take.new.device) (Ok tt) (inv.frames h) (done.adds (inv.persists.honest ∙ h));
-      persists = turn.persists_on _ _ _ _ _ _ inv.persists done.persists;
+      persists = turn.persists_on _ _ _ _ _ _ inv.persists done.device.persists;
     }
 
 pub returns-in_err-take-in-Some-Terminal-clause-refused : goal.returns-in_err-take-in-Some-Terminal-clause-refused
@@ -147,7 +147,7 @@ loop-terminal-preserved g c =
       list = inv.list;
       fine = ap (λ (w : Progress). w.is_broken) put.counted ∙ inv.fine;
       frames = λ h. added ParseFault k.front (g.D.Device.content c.loop-terminal.device) (g.D.Device.content c.put_node.new.device) (Ok tt) (inv.frames h) (put.adds (inv.persists.honest ∙ h));
-      persists = turn.persists_on _ _ _ _ _ _ inv.persists put.persists;
+      persists = turn.persists_on _ _ _ _ _ _ inv.persists put.device.persists;
     }
 
 -- at the end of the root

@@ -23,6 +23,6 @@ loop-next-preserved g c =
       meter = omega arith;
       begun = next.begun ∙ old.begun;
       content = λ h. next.content (old.from_persists.honest ∙ h) ∙ old.content h;
-      from_persists = persists_on _ _ _ _ _ _ old.from_persists next.from_persists;
-      to_persists = persists_on _ _ _ _ _ _ old.to_persists next.to_persists;
+      from_persists = persists_on _ _ _ _ _ _ old.from_persists next.devices.first;
+      to_persists = persists_on _ _ _ _ _ _ old.to_persists next.devices.second;
     }
