@@ -11,7 +11,7 @@ use Rattle.std.specs.declared.cmp.Ordering.{Ordering}
 use Rattle.std.specs.declared.cmp.Ordering.TheVariants.{Less, Equal, Greater}
 use Rattle.ag_value.specs.declared.value.Value.{Value}
 use Rattle.ag_value.specs.Well.{is_before, is_rising, key_of}
-use Rattle.ag_grammar.specs.values.Tables.{IsPlace, with_pair}
+use Rattle.ag_grammar.specs.values.Tables.{IsIndex, with_pair}
 
 abbrev Pair : Type 0
 Pair = List ℕ × Value
@@ -97,10 +97,10 @@ Fronts key pairs i = (k : ℕ) (d : Pair) → k < i → is_before (get_or pairs 
 abbrev Backs : List ℕ → List Pair → ℕ → Type 0
 Backs key pairs i = (k : ℕ) (d : Pair) → i ≤ k → k < length pairs → is_before (get_or pairs k d).0 key ≡ false
 
-placed : (key : List ℕ) (pairs : List Pair) (i : ℕ) → is_rising (map key_of pairs) ≡ true → i ≤ length pairs → Fronts key pairs i → Backs key pairs i → IsPlace key pairs i
-placed key [] zero rising le fronts backs = record { front = refl; stands = λ same. let bad : ⊥ = cc in absurd bad; belongs = λ differs. (refl, refl) }
-placed key [] (suc i) rising le fronts backs = absurd (omega arith)
-placed key (x ∷ xs) zero rising le fronts backs =
+index_found : (key : List ℕ) (pairs : List Pair) (i : ℕ) → is_rising (map key_of pairs) ≡ true → i ≤ length pairs → Fronts key pairs i → Backs key pairs i → IsIndex key pairs i
+index_found key [] zero rising le fronts backs = record { front = refl; stands = λ same. let bad : ⊥ = cc in absurd bad; belongs = λ differs. (refl, refl) }
+index_found key [] (suc i) rising le fronts backs = absurd (omega arith)
+index_found key (x ∷ xs) zero rising le fronts backs =
     let n : is_before x.0 key ≡ false = backs zero x (omega arith) (omega arith) in
     let rest = later key x.0 xs n rising in
     record {
@@ -112,9 +112,9 @@ placed key (x ∷ xs) zero rising le fronts backs =
           let behind : is_before key x.0 ≡ true = after key x.0 n is in
           (rw behind (ap (λ (ys : List Pair). x ∷ ys) rest.back), rw is rest.absent);
     }
-placed key (x ∷ xs) (suc i) rising le fronts backs =
+index_found key (x ∷ xs) (suc i) rising le fronts backs =
     let here : is_before x.0 key ≡ true = fronts zero x (omega arith) in
-    let rest = placed key xs i (rising_rest x.0 (map key_of xs) rising) (omega arith) (λ k d lt. fronts (suc k) d (omega arith)) (λ k d le lt. backs (suc k) d (omega arith) (omega arith)) in
+    let rest = index_found key xs i (rising_rest x.0 (map key_of xs) rising) (omega arith) (λ k d lt. fronts (suc k) d (omega arith)) (λ k d le lt. backs (suc k) d (omega arith) (omega arith)) in
     let n : is_before key x.0 ≡ false = not_back x.0 key here in
     let differs : bytes_eq x.0 key ≡ false = other x.0 key here in
     record {
@@ -138,9 +138,9 @@ partitioned key (x ∷ xs) rising zero (suc j) d le lt h = before_trans x.0 (get
 partitioned key (x ∷ xs) rising (suc i) zero d le lt h = absurd (omega arith)
 partitioned key (x ∷ xs) rising (suc i) (suc j) d le lt h = partitioned key xs (rising_rest x.0 (map key_of xs) rising) i j d (omega arith) (omega arith) h
 
--- where a search by halves ends is the place
-pub place : (key : List ℕ) (pairs : List Pair) (i : ℕ) → is_rising (map key_of pairs) ≡ true → i ≤ length pairs → IsPartitionPoint (λ (p : Pair). is_before p.0 key ≡ true) (λ (p : Pair). is_before p.0 key ≡ false) pairs i → IsPlace key pairs i
-place key pairs i rising le point = placed key pairs i rising le (λ k d lt. point.0 k d (omega arith) lt) (λ k d le lt. point.1 k d le lt)
+-- where a search by halves ends is the index
+pub index_is : (key : List ℕ) (pairs : List Pair) (i : ℕ) → is_rising (map key_of pairs) ≡ true → i ≤ length pairs → IsPartitionPoint (λ (p : Pair). is_before p.0 key ≡ true) (λ (p : Pair). is_before p.0 key ≡ false) pairs i → IsIndex key pairs i
+index_is key pairs i rising le point = index_found key pairs i rising le (λ k d lt. point.0 k d (omega arith) lt) (λ k d le lt. point.1 k d le lt)
 
 -- keys rise also with one more, or with one put in the place of itself
 rising_pair : (a b : List ℕ) (keys : List (List ℕ)) → is_before a b ≡ true → is_rising (b ∷ keys) ≡ true → is_rising (a ∷ b ∷ keys) ≡ true

@@ -13,7 +13,7 @@ use Rattle.ag_value.specs.declared.value.Value.TheVariants as v
 use Rattle.ag_value.specs.Measure.{depth_of, greatest, weight_of, weight_of_pair}
 use Rattle.ag_value.specs.Well.{IsWell, all_true, are_keys, is_before, is_item, is_item_pair, is_rising, key_of}
 use Rattle.ag_value.proofs.Layers.{depth-Table, item-Table, weight-Table}
-use Rattle.ag_grammar.specs.values.Tables.{IsPlace, has_key, with_pair}
+use Rattle.ag_grammar.specs.values.Tables.{IsIndex, has_key, with_pair}
 use Rattle.ag_grammar.proofs.values.Growing.{all_true-append}
 use Rattle.ag_eval.proofs.Keys.{rising_with}
 use Rattle.ag_grammar.proofs.values.Tables.{Pair, item_table, table_parts}
@@ -45,19 +45,19 @@ item_with key x pairs well utf8 item =
     let keys : are_keys (map key_of grown) ≡ true = rw (rising, texts) refl in
     item-Table grown ∙ rw (keys, items) refl
 
--- at its place
-pub inserts : (key : List ℕ) (x : Value) (pairs : List Pair) (i : ℕ) → IsPlace key pairs i → has_key key (slice_get pairs i) ≡ false → with_pair key x pairs ≡ insert pairs i (key, x)
-inserts key x pairs i place none = rw (place.front, (place.belongs none).0) refl
+-- at its index
+pub inserts : (key : List ℕ) (x : Value) (pairs : List Pair) (i : ℕ) → IsIndex key pairs i → has_key key (slice_get pairs i) ≡ false → with_pair key x pairs ≡ insert pairs i (key, x)
+inserts key x pairs i index_is none = rw (index_is.front, (index_is.belongs none).0) refl
 
 set_split : {A : Type 0} (xs : List A) (i : ℕ) (y : A) → i < length xs → set xs i y ≡ take i xs ++ y ∷ drop (suc i) xs
 set_split [] i y lt = absurd (omega arith)
 set_split (x ∷ xs) zero y lt = refl
 set_split (x ∷ xs) (suc i) y lt = ap (λ (zs : List _). x ∷ zs) (set_split xs i y (omega arith))
 
-pub replaces : (key : List ℕ) (x : Value) (pairs : List Pair) (i : ℕ) (p : Pair) → i < length pairs → IsPlace key pairs i → slice_get pairs i ≡ Some p → has_key key (slice_get pairs i) ≡ true → with_pair key x pairs ≡ set pairs i (p.0, x)
-replaces key x pairs i p lt place at here =
+pub replaces : (key : List ℕ) (x : Value) (pairs : List Pair) (i : ℕ) (p : Pair) → i < length pairs → IsIndex key pairs i → slice_get pairs i ≡ Some p → has_key key (slice_get pairs i) ≡ true → with_pair key x pairs ≡ set pairs i (p.0, x)
+replaces key x pairs i p lt index_is at here =
     let same : p.0 ≡ key = (bytes_eq-Decides p.0 key).0 (sym (ap (has_key key) at) ∙ here) in
-    rw (place.front, (place.stands here).0) (sym (set_split pairs i (p.0, x) lt ∙ ap (λ k. take i pairs ++ (k, x) ∷ drop (suc i) pairs) same))
+    rw (index_is.front, (index_is.stands here).0) (sym (set_split pairs i (p.0, x) lt ∙ ap (λ k. take i pairs ++ (k, x) ∷ drop (suc i) pairs) same))
 
 sum_insert : {A : Type 0} (f : A → ℕ) (xs : List A) (i : ℕ) (y : A) → sum (map f (insert xs i y)) ≡ sum (map f xs) + f y
 sum_insert f xs zero y = let e = sum_by-cons (λ n. n) (f y) (map f xs) in omega arith
@@ -105,14 +105,14 @@ item_set pairs changed i x lt is well item =
     let items = items_set pairs i p.0 x item parts.1 in
     ap (λ (ps : List Pair). is_item (v.Table ps)) (is p at) ∙ item-Table (set pairs i (p.0, x)) ∙ rw (keys_set pairs i p x at, parts.0, items) refl
 
-pub replaced_is : (pairs changed : List Pair) (i : ℕ) (x : Value) → i < length pairs → ((p : Pair) → slice_get pairs i ≡ Some p → changed ≡ set pairs i (p.0, x)) → (key : List ℕ) → IsPlace key pairs i → has_key key (slice_get pairs i) ≡ true → changed ≡ with_pair key x pairs
-replaced_is pairs changed i x lt is key place here =
+pub replaced_is : (pairs changed : List Pair) (i : ℕ) (x : Value) → i < length pairs → ((p : Pair) → slice_get pairs i ≡ Some p → changed ≡ set pairs i (p.0, x)) → (key : List ℕ) → IsIndex key pairs i → has_key key (slice_get pairs i) ≡ true → changed ≡ with_pair key x pairs
+replaced_is pairs changed i x lt is key index_is here =
     let d : Pair = ([], v.Num (pos 0)) in
     let p : Pair = get_or pairs i d in
     let at : slice_get pairs i ≡ Some p = slice_get-get_or pairs i d lt in
-    is p at ∙ sym (replaces key x pairs i p lt place at here)
+    is p at ∙ sym (replaces key x pairs i p lt index_is at here)
 
--- a place with a pair that has the key is one of the table's
+-- an index of a pair that has the key is one of the table's
 pub within : (key : List ℕ) (pairs : List Pair) (i : ℕ) → has_key key (slice_get pairs i) ≡ true → i < length pairs
 within key [] i here = let bad : ⊥ = cc in absurd bad
 within key (q ∷ qs) zero here = omega arith

@@ -6,7 +6,7 @@ pub mod Listing
 pub mod Manner
 pub mod Numbered
 pub mod Parts
-pub mod Places
+pub mod Offsets
 pub mod Scopes
 pub mod States
 pub mod Texts

@@ -5,7 +5,7 @@ pub mod Laws
 pub mod Names
 pub mod Numbers
 pub mod Occurrences
-pub mod Places
+pub mod Offsets
 pub mod Reading
 pub mod State
 pub mod Syntax

@@ -7,7 +7,7 @@ use ag_tokens::{Cursor, Token};
 use ag_value::NoMemory;
 use std::alloc::Global;
 
-/// What could stand at a place of a text.
+/// What could stand at an offset of a text.
 #[derive(Clone, Copy, Debug, PartialEq, Eq)]
 pub enum Expected {
     /// An expression, a `let` or an `if` too.
@@ -61,7 +61,7 @@ pub fn expected_at(alloc: Global, text: &str, at: usize) -> Result<Vec<Expected>
     Ok(found)
 }
 
-/// What is said of a place where an operand can stand.
+/// What is said where an operand can stand.
 fn operand_at(alloc: Global, text: &str, before: &str) -> Result<Expected, NoMemory> {
     if let Some(rest) = text.get(before.len()..) {
         if let Some(Token::Name(name)) = Cursor::new(rest).peek() {

@@ -5,7 +5,7 @@ ghost use Rattle.ag_grammar.specs.expressions.Trees.{is_below};
 ghost use Rattle.ag_expr.specs.language.Expression.{ReadsAsExpr, IsRefused, IsAt, Says};
 ghost use Rattle.std.specs.Str.{IsCharBoundary};
 ghost use Rattle.ag_expr.specs.language.State.{IsReadEnded, IsReadToEnd};
-ghost use Rattle.ag_expr.specs.language.Places.{IsFirstOf, IsRead};
+ghost use Rattle.ag_expr.specs.language.Offsets.{IsFirstOf, IsRead};
 ghost use Rattle.ag_expr.specs.language.Until.{IsFirstUntil, IsReadUntil, IsRefusedUntil};
 ghost use Rattle.ag_expr.specs.language.Until.{ReadsUntil};
 
@@ -27,7 +27,7 @@ pub fn read_expr(alloc: Global, text: &str) -> Result<Expr, ExprFault>
     ensures first { IfErr result (λ e. IsFirstOf text.now e) }
     ensures reads { IfOk result (λ e. ReadsAsExpr text.now e) }
     ensures refuses { IfErr result (λ e. IsRefused text.now e) }
-    ensures places { IfErr result (λ e. IsAt text.now e) }
+    ensures offsets { IfErr result (λ e. IsAt text.now e) }
 {
     whole(Reader::new(alloc, Cursor::new(text), false))
 }
@@ -44,7 +44,7 @@ pub fn read_until(alloc: Global, text: &str, from: usize) -> Result<(Expr, usize
     ensures first { IfErr result (λ e. IsFirstUntil text.now from e) }
     ensures reads { IfOk result (λ x. ReadsUntil text.now from x) }
     ensures refuses { IfErr result (λ e. IsRefusedUntil text.now from e) }
-    ensures places { IfErr result (λ e. Says from (chars (drop from text.now)) e) }
+    ensures offsets { IfErr result (λ e. Says from (chars (drop from text.now)) e) }
 {
     let mut cursor = Cursor::at(text, from);
     read_ended(alloc, &mut cursor)
@@ -63,7 +63,7 @@ pub fn read_ended<'t>(alloc: Global, cursor: &mut Cursor<'t>) -> Result<(Expr, u
         return Err(reader.refusal());
     }
     let (occurrences, rest) = reader.into_parts();
-    let at = rest.place();
+    let at = rest.offset();
     *cursor = rest;
     cursor.bump();
     Ok((Expr::new(node, occurrences), at))

@@ -7,7 +7,7 @@ ghost use Rattle.ag_expr.specs.language.Laws.{ReadingAgrees};
 ghost use Rattle.ag_expr.specs.language.Laws.{OneExpression};
 ghost use Rattle.ag_expr.specs.language.Laws.{RefusesAtTheFirst};
 ghost use Rattle.ag_tokens.specs.Tokens.{AreTokens};
-ghost use Rattle.ag_expr.specs.language.Names.{is_reserved, place_in};
+ghost use Rattle.ag_expr.specs.language.Names.{is_reserved, number_in};
 ghost use Rattle.ag_tokens.specs.Placed.{tokens};
 ghost use Rattle.ag_expr.specs.language.Syntax.{IsExpr};
 ghost use Rattle.ag_expr.specs.language.Until.{first_semicolon, semicolon};
@@ -22,7 +22,7 @@ pub fn reading_agrees_with_the_syntax()
 {}
 
 /// What is refused is refused at the first token that can't be taken.
-#[tactic(auto, using(crate::proofs::language::Places::refuses_at_the_first))]
+#[tactic(auto, using(crate::proofs::language::Offsets::refuses_at_the_first))]
 pub fn the_first_wrong_token_is_told()
     ensures { RefusesAtTheFirst }
 {}
@@ -50,10 +50,10 @@ pub fn worked_scope()
     ensures { IsExpr [] 2 (tokens let_and_compare) bound_and_compared }
 {}
 
-/// A name means its last place, the innermost binding; calls are reserved, and longer names are not.
+/// A name means its innermost binding; calls are reserved, and longer names are not.
 pub fn worked_names()
-    ensures hidden { place_in (codes "x" ∷ codes "y" ∷ codes "x" ∷ []) (codes "x") ≡ Some 2 }
-    ensures unbound { place_in (codes "x" ∷ []) (codes "y") ≡ None }
+    ensures hidden { number_in (codes "x" ∷ codes "y" ∷ codes "x" ∷ []) (codes "x") ≡ Some 2 }
+    ensures unbound { number_in (codes "x" ∷ []) (codes "y") ≡ None }
     ensures reserved { is_reserved (codes "len") ≡ true }
     ensures free { is_reserved (codes "lens") ≡ false }
 {}

@@ -1,4 +1,4 @@
-//! Which names are reserved, which are calls, and which are bound around a place.
+//! Which names are reserved, which are calls, and which are in scope.
 
 ghost use Rattle.std.specs.Prelude.{◌≡◌, ◌∷◌, ◌++◌, [], None, OnOk, bytes_eq};
 ghost use Rattle.ag_expr.specs.language.Names as names_spec;
@@ -95,8 +95,8 @@ pub fn is_reserved(name: &str) -> bool
     is_keyword(name) || call_of(name).is_some()
 }
 
-/// The last place of a name.
-fn last_place(names: &[&str], name: &str) -> Option<usize>
+/// The number of the last one with this name.
+fn last_number(names: &[&str], name: &str) -> Option<usize>
     ensures { result ≡ names_spec.last_from (λ y. bytes_eq y.now name.now) 0 None names.now }
 {
     let mut found = None;
@@ -108,7 +108,7 @@ fn last_place(names: &[&str], name: &str) -> Option<usize>
     found
 }
 
-/// The names that are bound around a place, the outermost first.
+/// The names in scope, the outermost first.
 #[derive(Drop)]
 pub struct Scope<'t> {
     names: Vec<&'t str>,
@@ -148,11 +148,11 @@ impl<'t> Scope<'t> {
         let _ = self.names.pop();
     }
 
-    /// The number of a bound name: its last place.
+    /// The number of a bound name: of its innermost binding.
     #[tactic(auto, using(crate::proofs::language::Scopes::last_lent))]
-    pub fn place_of(&self, name: &str) -> Option<usize>
-        ensures { result ≡ names_spec.place_in self.now name.now }
+    pub fn number_of(&self, name: &str) -> Option<usize>
+        ensures { result ≡ names_spec.number_in self.now name.now }
     {
-        last_place(self.names.as_slice(), name)
+        last_number(self.names.as_slice(), name)
     }
 }

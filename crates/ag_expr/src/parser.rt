@@ -5,7 +5,7 @@ ghost use Rattle.ag_expr.specs.language.Syntax as syntax;
 ghost use Rattle.ag_expr.specs.language.Syntax.{closer};
 ghost use Rattle.ag_expr.specs.language.State.{Reads, ReadsAs, input};
 ghost use Rattle.ag_tokens.specs.Lexing.{token_of};
-ghost use Rattle.ag_tokens.specs.Parsing.{front, further_from, sees, sign_of, place};
+ghost use Rattle.ag_tokens.specs.Parsing.{front, further_from, sees, sign_of, offset};
 ghost use Rattle.ag_expr.specs.language.Reading as reading;
 ghost use Rattle.ag_expr.specs.language.Reading.{atom_from, chain_from, expr_in, other_from};
 ghost use Rattle.ag_expr.specs.language.Reading.{ranked_from};
@@ -143,20 +143,20 @@ fn chained(alloc: Global, first: Node, others: Vec<(Operator, Node)>) -> Result<
 }
 
 /// Where a name is no reserved one, its operand by the number of its binding.
-fn bound(name: &str, place: Option<usize>) -> Option<Node>
-    ensures { result ≡ syntax.bound_operand name.now place }
+fn bound(name: &str, number: Option<usize>) -> Option<Node>
+    ensures { result ≡ syntax.bound_operand name.now number }
 {
     if is_reserved(name) {
         return None;
     }
-    Some(Node::Bound(place?))
+    Some(Node::Bound(number?))
 }
 
 impl<'t> Reader<'t> {
     /// The operator of a precedence that stands in front.
     fn next_operator(&self, precedence: Precedence) -> Option<Operator>
         ensures { result ≡ sign_of (λ _. syntax.operator_of precedence)
-            (place (input self.now)) (front (input self.now)) }
+            (offset (input self.now)) (front (input self.now)) }
     {
         match self.peek() {
             Some(token) => operator_of(precedence, token),
@@ -198,7 +198,7 @@ impl<'t> Reader<'t> {
     /// The call that stands in front.
     fn next_call(&self) -> Option<Call>
         ensures { result ≡ sign_of (λ _. syntax.call_in)
-            (place (input self.now)) (front (input self.now)) }
+            (offset (input self.now)) (front (input self.now)) }
     {
         match self.peek() {
             Some(Token::Name(name)) => call_of(name),
@@ -397,7 +397,7 @@ impl<'t> Reader<'t> {
         ensures { Reads (λ all names. reading.token_as (syntax.operand_of all names))
             self.old result self.new }
     {
-        match bound(name, self.place_of(name)) {
+        match bound(name, self.number_of(name)) {
             Some(node) => {
                 self.bump();
                 Ok(node)

@@ -56,7 +56,7 @@ impl<'t> Model for Reader<'t> {
 pub fn refusal(cursor: &Cursor<'_>) -> ExprFault
     ensures { result ≡ reading.refusal cursor.now }
 {
-    let at = cursor.place();
+    let at = cursor.offset();
     match cursor.fault() {
         Some(TokenFault::Nothing) => ExprFault::NoToken(at),
         Some(TokenFault::TooLarge) => ExprFault::NumberTooLarge(at),
@@ -81,7 +81,7 @@ fn begins_with(scope: &Scope<'_>, name: &str) -> bool
     name == "let"
         || name == "if"
         || call_of(name).is_some()
-        || !is_reserved(name) && scope.place_of(name).is_some()
+        || !is_reserved(name) && scope.number_of(name).is_some()
 }
 
 /// Whether an expression begins with the token, where these names are bound around it.
@@ -144,7 +144,7 @@ impl<'t> Reader<'t> {
     {
         match self.peek() {
             Some(token) if begins_expression(&self.scope, token) => ExprFault::TooDeep(
-                self.cursor.place(),
+                self.cursor.offset(),
             ),
             _ => self.refusal(),
         }
@@ -169,7 +169,7 @@ impl<'t> Reader<'t> {
         ensures tokens { OnOk result (input self.new ≡ next (input self.old)) }
         ensures keeps { OnOk result (Keeps self.old self.new) }
     {
-        let at = self.cursor.place();
+        let at = self.cursor.offset();
         let number = self.occurrences.intern(self.alloc, place, attr, at)?;
         self.cursor.bump();
         Ok(number)
@@ -193,11 +193,11 @@ impl<'t> Reader<'t> {
         self.scope.unbind();
     }
 
-    /// The number of a bound name: its last place.
-    pub fn place_of(&self, name: &str) -> Option<usize>
-        ensures { result ≡ names_spec.place_in self.now.scope name.now }
+    /// The number of a bound name: of its innermost binding.
+    pub fn number_of(&self, name: &str) -> Option<usize>
+        ensures { result ≡ names_spec.number_in self.now.scope name.now }
     {
-        self.scope.place_of(name)
+        self.scope.number_of(name)
     }
 
     /// Whether the tokens end here: at the end of the text, or at the `;` that ends them.

@@ -86,8 +86,8 @@ cut_is v clean cs o is = one_word v clean cs (word_from v cs) o (word_is v cs) i
 at_once : (v : Vocabulary) (n at : ℕ) (cs : List ℕ) → StartsPlain cs → taken_from v (suc n) at cs ≡ taken_at (taken_from v n) v at cs
 at_once v n at cs plain =
     let none = no_spaces cs plain in
-    let place : at + prefix_len is_separator cs ≡ at = omega (arith, none) in
-    λ i. taken_at (taken_from v n) v (place i) (drop (none i) cs)
+    let there : at + prefix_len is_separator cs ≡ at = omega (arith, none) in
+    λ i. taken_at (taken_from v n) v (there i) (drop (none i) cs)
 
 -- tokens that end where no more is taken are those that are taken
 taken_is : (v : Vocabulary) → IsClean v → (n : ℕ) {at : ℕ} {cs : List ℕ} {ts : List Token} {end : ℕ} {rest : List ℕ} → AreTokens v at cs ts end rest → AreShort ts → IsEnd v rest → length ts < n
@@ -96,15 +96,15 @@ taken_is v clean zero are short ends less = absurd (omega arith)
 taken_is v clean (suc n) (ended at cs) short ends less = at_once v n at cs ends.plain ∙ rw (taken_at, ends.none) refl
 taken_is v clean (suc n) (separator at c cs ts end rest h are) short ends less =
     let more : prefix_len is_separator (c ∷ cs) ≡ suc (prefix_len is_separator cs) = rw h (omega arith) in
-    let place : at + prefix_len is_separator (c ∷ cs) ≡ (at + 1) + prefix_len is_separator cs = omega (arith, more) in
-    (λ i. taken_at (taken_from v n) v (place i) (drop (more i) (c ∷ cs))) ∙ taken_is v clean (suc n) are short ends less
+    let there : at + prefix_len is_separator (c ∷ cs) ≡ (at + 1) + prefix_len is_separator cs = omega (arith, more) in
+    (λ i. taken_at (taken_from v n) v (there i) (drop (more i) (c ∷ cs))) ∙ taken_is v clean (suc n) are short ends less
 taken_is v clean (suc n) (word at cs w behind lex t ts end rest split is are) short ends less =
     let first : word_from v cs ≡ Some (record { kind = t; lex = lex; rest = behind }) = cut_is v clean cs (Some _) (record { word = w; split = split; token = is }) in
     let brief : length lex ≤ most_token_bytes = short 0 _ refl in
     let not_long : nat_lt most_token_bytes (length lex) ≡ false = grind (arith, nat_tests) in
-    let place : at + (width cs - width behind) ≡ at + width w = omega (arith, ap width split, width-append w behind) in
+    let there : at + (width cs - width behind) ≡ at + width w = omega (arith, ap width split, width-append w behind) in
     let more = taken_is v clean n are (λ i u e. short (suc i) u e) ends (omega arith) in
-    at_once v n at cs (token_plain v clean cs t lex w behind split is) ∙ rw (taken_at, first, not_long, place) (ap (behind_one (record { kind = t; lex = lex; at = at })) more)
+    at_once v n at cs (token_plain v clean cs t lex w behind split is) ∙ rw (taken_at, first, not_long, there) (ap (behind_one (record { kind = t; lex = lex; at = at })) more)
 
 -- ---- the answer
 
@@ -175,10 +175,10 @@ module _ (v : Vocabulary) (clean : IsClean v) (s : List ℕ) where
   is_answer (Ok ts) is = reached is.readable is.tokens (record { plain = tt; none = rw no_word_left refl })
   is_answer (Err fault.NoMemory) is = absurd is
   is_answer (Err fault.TooLong) is = let far : nat_lt most_sentence_bytes (length s) ≡ true = grind (arith, nat_tests) in rw far refl
-  is_answer (Err (fault.BadUtf8 at)) (short, refused, place) =
+  is_answer (Err (fault.BadUtf8 at)) (short, refused, there) =
       let not_far : nat_lt most_sentence_bytes (length s) ≡ false = grind (arith, nat_tests) in
       let no_text : is_utf8 s ≡ false = let is = IsUtf8-from_is_utf8 s in grind (arith, refused, is) in
-      rw (not_far, no_text, place) refl
+      rw (not_far, no_text, there) refl
   is_answer (Err (fault.NoToken at)) (readable, none) =
       let no_word : word_from v (none.first ∷ none.rest) ≡ None = cut_is v clean (none.first ∷ none.rest) None none.no_word in
       reached readable none.reaches (record { plain = none.no_separator; none = rw no_word refl }) ∙ rw no_word refl

@@ -81,8 +81,8 @@ pub one_more : (v : Vocabulary) (at : ℕ) (cs : List ℕ) (f : Front) (ts : Lis
     → AreTokens v at cs (record { kind = f.kind; lex = f.lex; at = at } ∷ ts) end rest
 one_more v at cs f ts end rest e are =
     let cut : CutsToken v cs f = subst (IsWordIn v cs) e (word_is v cs) in
-    let place : at + (width cs - width f.rest) ≡ at + width cut.word = omega (arith, ap width cut.split, width-append cut.word f.rest) in
-    word at cs cut.word f.rest f.lex f.kind ts end rest cut.split cut.token (rw place at are)
+    let there : at + (width cs - width f.rest) ≡ at + width cut.word = omega (arith, ap width cut.split, width-append cut.word f.rest) in
+    word at cs cut.word f.rest f.lex f.kind ts end rest cut.split cut.token (rw there at are)
 
 -- each token has a character
 pub fewer : {v : Vocabulary} {at : ℕ} {cs : List ℕ} {ts : List Token} {end : ℕ} {rest : List ℕ} → HasNoEmpty v.literals → AreTokens v at cs ts end rest → length ts ≤ length cs
@@ -128,8 +128,8 @@ module _ (v : Vocabulary) (clean : IsClean v) where
       let none = no_spaces cs (token_plain v clean cs t lex w behind split token) in
       let first : o ≡ Some (record { kind = t; lex = lex; rest = behind }) = one_word v clean cs _ _ (rw none at is) (record { word = w; split = split; token = token }) in
       let wide : width cs ≡ width w + width behind = ap width split ∙ width-append w behind in
-      let place : at + (width cs - width behind) ≡ at + width w = omega arith in
-      rw (first, none, place, ← e) (ts, ap (λ n. record { kind = t; lex = lex; at = n } ∷ ts) (omega arith), omega arith, are)
+      let there : at + (width cs - width behind) ≡ at + width w = omega arith in
+      rw (first, none, there, ← e) (ts, ap (λ n. record { kind = t; lex = lex; at = n } ∷ ts) (omega arith), omega arith, are)
 
   agrees : (n at : ℕ) (cs : List ℕ) (ts : List Token) (end : ℕ) → AreTokens v at cs ts end [] → length ts ≤ n → tokens_from v n at cs ≡ ts
   agrees zero at cs [] end are few = refl

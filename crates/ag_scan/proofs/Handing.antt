@@ -42,9 +42,9 @@ last_is (u ∷ []) (suc i) t e = let none = drop-nil {A = Token} i in absurd (cc
 last_is (u ∷ w ∷ ts) (suc i) t e = last_is (w ∷ ts) i t e
 
 -- the offset of the token in front, or of the last one
-place_told : (v : Vocabulary) (end : ℕ) (ts : List Token) (i at : ℕ) (o : Option Front) → IsFrontOf v end (drop i ts) o at → (o ≡ None → at ≡ last_offset ts) → at ≡ offset_at ts i
-place_told v end ts i at None none last = last refl ∙ rw ((ended ts i none).0, offset_at) refl
-place_told v end ts i at (Some f) (more, first, narrow, are) last = rw (there ts i _ more first, offset_at) refl
+offset_told : (v : Vocabulary) (end : ℕ) (ts : List Token) (i at : ℕ) (o : Option Front) → IsFrontOf v end (drop i ts) o at → (o ≡ None → at ≡ last_offset ts) → at ≡ offset_at ts i
+offset_told v end ts i at None none last = last refl ∙ rw ((ended ts i none).0, offset_at) refl
+offset_told v end ts i at (Some f) (more, first, narrow, are) last = rw (there ts i _ more first, offset_at) refl
 
 module _ (v : Vocabulary) (text : List ℕ) (has : HasTokens v text) where
   -- at the front of a text
@@ -53,7 +53,7 @@ module _ (v : Vocabulary) (text : List ℕ) (has : HasTokens v text) where
       let none : 0 ≡ length text - length text = omega arith in
       let left = told (tokens_in v text) (subst (λ n. AreTokens v n (chars text) (tokens_in v text) (length text) []) none has.tokens.tokens.are) in
       let last : o ≡ None → at ≡ last_offset (tokens_in v text) = λ none. end none ∙ sym (ap last_offset (rw none at left)) in
-      record { has = has; within = omega arith; left = left; place = place_told v (length text) (tokens_in v text) 0 at o left last }
+      record { has = has; within = omega arith; left = left; offset = offset_told v (length text) (tokens_in v text) 0 at o left last }
 
   -- behind the token in front
   pub goes_on : (i : ℕ) (f : Front) (at : ℕ) (rest : List ℕ) → IsAt v text i (Some f) at → f.rest ≡ chars rest → IsUtf8 rest → (o : Option Front) (next : ℕ)
@@ -66,7 +66,7 @@ module _ (v : Vocabulary) (text : List ℕ) (has : HasTokens v text) where
       let left = told more stand in
       let last : o ≡ None → next ≡ last_offset (tokens_in v text) = λ none. end none ∙ sym (last_is (tokens_in v text) i _ (first ∙ ap (λ us. record { kind = f.kind; lex = f.lex; at = at } ∷ us) (rw none at left))) in
       let behind_it = subst (λ us. IsFrontOf v (length text) us o next) (sym after.0) left in
-      record { has = has; within = after.1; left = behind_it; place = place_told v (length text) (tokens_in v text) (i + 1) next o behind_it last }
+      record { has = has; within = after.1; left = behind_it; offset = offset_told v (length text) (tokens_in v text) (i + 1) next o behind_it last }
 
 -- the token in front is the one of that index
 pub is_next : (v : Vocabulary) (text : List ℕ) (i at : ℕ) (f : Front) → IsAt v text i (Some f) at → slice_get (tokens_in v text) i ≡ Some (record { kind = f.kind; lex = f.lex; at = at })

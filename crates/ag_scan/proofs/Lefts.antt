@@ -2,7 +2,7 @@
 use Rattle.std.proofs.Common.{◌≡◌, ℕ, zero, suc, ◌+◌, ◌≤◌, List, [], ◌∷◌, length, drop, slice_get, Some, None, refl, ap, sym, ◌∙◌, add-one, arith}
 use Rattle.std.proofs.Math.Seq.{drop-nil}
 
--- the element at a place is the first of those left
+-- the element at an index is the first of those left
 pub rest_at : {A : Type 0} (xs : List A) (i : ℕ) (x : A) → slice_get xs i ≡ Some x → drop i xs ≡ x ∷ drop (i + 1) xs
 rest_at [] i x e = absurd (cc)
 rest_at (y ∷ ys) zero x e = let same : y ≡ x = cc in ap (λ z. z ∷ ys) same
@@ -22,7 +22,7 @@ behind {A} (y ∷ ys) (suc i) x rest e =
     let a : drop (suc i + 1) (y ∷ ys) ≡ drop (i + 1) ys = ap (λ j. drop j (y ∷ ys)) (add-one (suc i)) ∙ sym (ap (λ j. drop j ys) (add-one i)) in
     (a ∙ h.0, omega (arith, h.1))
 
--- the first of those left is the element at the place
+-- the first of those left is the element at the index
 pub there : {A : Type 0} (xs : List A) (i : ℕ) (x : A) (rest : List A) → drop i xs ≡ x ∷ rest → slice_get xs i ≡ Some x
 there {A} [] i x rest e = let none = drop-nil {A = A} i in absurd (cc)
 there (y ∷ ys) zero x rest e = cc

@@ -30,7 +30,7 @@ word_some v (Class (suc (suc (suc c)))) cs lex none is = absurd is.1
 
 -- a word that was cut is taken
 pub taken : (v : Vocabulary) (cs : List ℕ) (f : Front) (at : ℕ) → CutsToken v cs f → IsUtf8 f.lex → length f.lex ≤ most_token_bytes → TakesToken v cs at (record { kind = f.kind; lex = f.lex; at = at }) f.rest
-taken v cs f at cut utf8 short = record { word = cut.word; split = cut.split; token = cut.token; place = refl; short = short; fits = by f.kind cut.token.is }
+taken v cs f at cut utf8 short = record { word = cut.word; split = cut.split; token = cut.token; offset = refl; short = short; fits = by f.kind cut.token.is }
   where
     by : (t : Terminal) → IsWord v t cut.word f.lex → IsTokenOf v t f.lex
     by (Literal l) is = is.0 ∙ ap Some (sym is.1)
@@ -71,9 +71,9 @@ up_to v text rest scanned = scanned.whole [] _ _ (record { are = ended _ _; shor
 
 pub starts : (v : Vocabulary) (text rest : List ℕ) → IsUtf8 text → IsUtf8 rest → chars rest ≡ unspaced (chars text) → Scanned v text rest
 starts v text rest utf8 utf8' is =
-    let place : length text - length rest ≡ 0 + prefix_len is_separator (chars text) = omega (arith, left_width (chars text) rest utf8' is, width-chars text utf8) in
+    let there : length text - length rest ≡ 0 + prefix_len is_separator (chars text) = omega (arith, left_width (chars text) rest utf8' is, width-chars text utf8) in
     record {
-      whole = λ us end last stand. (us, record { are = spaced v 0 (chars text) us end last (rw (place, is) at stand.are); short = stand.short; fit = stand.fit });
+      whole = λ us end last stand. (us, record { are = spaced v 0 (chars text) us end last (rw (there, is) at stand.are); short = stand.short; fit = stand.fit });
       plain = rw is (plain_behind (chars text));
       within = omega (arith, left_width (chars text) rest utf8' is, width-chars text utf8);
     }
@@ -95,10 +95,10 @@ module _ (v : Vocabulary) (text rest next : List ℕ) (t : Token) (behind : List
   goes_on scanned =
       let at = length text - length rest in
       let within = scanned.within in
-      let place : length text - length next ≡ at + width takes.word + prefix_len is_separator behind = omega (arith, wide) in
+      let there : length text - length next ≡ at + width takes.word + prefix_len is_separator behind = omega (arith, wide) in
       record {
         whole = λ us end last stand. scanned.whole (record { kind = t.kind; lex = t.lex; at = at } ∷ us) end last (record {
-          are = word at (chars rest) takes.word behind t.lex t.kind us end last takes.split takes.token (spaced v (at + width takes.word) behind us end last (rw (place, is) at stand.are));
+          are = word at (chars rest) takes.word behind t.lex t.kind us end last takes.split takes.token (spaced v (at + width takes.word) behind us end last (rw (there, is) at stand.are));
           short = each_more _ _ _ takes.short stand.short;
           fit = each_more _ _ _ takes.fits stand.fit;
         });
@@ -121,13 +121,13 @@ pub stops : (v : Vocabulary) (text rest : List ℕ) (e : ScanFault) → IsUtf8 t
 stops v text rest fault.TooLong utf8 utf8' short scanned some stopped = absurd stopped
 stops v text rest (fault.BadUtf8 k) utf8 utf8' short scanned some stopped = absurd stopped
 stops v text rest fault.NoMemory utf8 utf8' short scanned some stopped = tt
-stops v text rest (fault.LongToken k) utf8 utf8' short scanned some (place, long) =
+stops v text rest (fault.LongToken k) utf8 utf8' short scanned some (there, long) =
     let (ts, stand) = up_to v text rest scanned in
-    let reaches : Reaches v (chars text) ts k (long.word ++ long.rest) = record { are = rw (← place, long.split) at stand.are; short = stand.short } in
+    let reaches : Reaches v (chars text) ts k (long.word ++ long.rest) = record { are = rw (← there, long.split) at stand.are; short = stand.short } in
     (record { short = short; utf8 = utf8 }, record { before = ts; kind = long.kind; lex = long.lex; word = long.word; rest = long.rest; reaches = reaches; token = long.token; long = long.long })
-stops v text rest (fault.NoToken k) utf8 utf8' short scanned some (place, none) =
+stops v text rest (fault.NoToken k) utf8 utf8' short scanned some (there, none) =
     let (ts, stand) = up_to v text rest scanned in
-    (record { short = short; utf8 = utf8 }, go ts (chars rest) (width-chars rest utf8') scanned.plain none (rw (← place) at stand.are) stand.short)
+    (record { short = short; utf8 = utf8 }, go ts (chars rest) (width-chars rest utf8') scanned.plain none (rw (← there) at stand.are) stand.short)
   where
     go : (ts : List Token) (cs : List ℕ) → width cs ≡ length rest → StartsPlain cs → BeginsNone (IsAnyWord v) cs → AreTokens v 0 (chars text) ts k cs → AreShort ts → NoTokenAt v (chars text) k
     go ts [] bytes plain none are few = absurd (omega arith)

@@ -40,7 +40,7 @@ IsFrontOf v end left None at = left ≡ []
 IsFrontOf v end left (Some f) at =
     (more : List Token) × (left ≡ record { kind = f.kind; lex = f.lex; at = at } ∷ more) × (width f.rest ≤ end) × AreTokens v (end - width f.rest) f.rest more end []
 
--- What is in front of the tokens that stand behind a place of a text, up to the text's end.
+-- What is in front of the tokens that stand behind an offset of a text, up to the text's end.
 abbrev pub IsLookedAt : Vocabulary → List ℕ → List ℕ → Option Front → ℕ → Type 0
 IsLookedAt v text behind front at =
     (ts : List Token) → AreTokens v (length text - length behind) (chars behind) ts (length text) [] → IsFrontOf v (length text) ts front at
@@ -50,4 +50,4 @@ pub record IsAt (v : Vocabulary) (text : List ℕ) (taken : ℕ) (front : Option
   pub has : HasTokens v text
   pub within : taken ≤ length (tokens_in v text)
   pub left : IsFrontOf v (length text) (drop taken (tokens_in v text)) front at
-  pub place : at ≡ offset_at (tokens_in v text) taken
+  pub offset : at ≡ offset_at (tokens_in v text) taken

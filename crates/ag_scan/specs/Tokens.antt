@@ -91,7 +91,7 @@ pub record TakesToken (v : Vocabulary) (cs : List ℕ) (at : ℕ) (t : Token) (r
   pub word : List ℕ
   pub split : cs ≡ word ++ rest
   pub token : IsToken v t.kind t.lex word rest
-  pub place : t.at ≡ at
+  pub offset : t.at ≡ at
   pub short : length t.lex ≤ most_token_bytes
   pub fits : IsTokenOf v t.kind t.lex
 

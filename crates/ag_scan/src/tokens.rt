@@ -1,4 +1,4 @@
-//! A place in the tokens of a sentence, which are cut one by one.
+//! The tokens of a sentence from one on, cut one by one.
 
 ghost use Rattle.std.specs.Prelude.{◌≡◌, ◌+◌, ◌<◌, ◌≤◌, None, length, option_map, slice_get};
 ghost use Rattle.ag_scan.specs.Cutting.{front_of, tokens_in};
@@ -12,7 +12,7 @@ use crate::token::Token;
 use ag_tokens::skip_separators;
 use std::marker::Model;
 
-/// A place in the tokens of a sentence: how many are taken, and the one that is next. Contracts see it
+/// A reader of the tokens of a sentence: how many are taken, and the one that is next. Contracts see it
 /// as the list of all tokens and the number of those that are taken.
 #[derive(Drop)]
 pub struct Tokens<'t> {
@@ -39,7 +39,7 @@ impl<'t> Model for Tokens<'t> {
         (option_map (λ f. front_of f) t.front) t.at };
 }
 
-/// The word in front of what stands behind a place of a text, and where it begins; at the end of the
+/// The word in front of what stands behind an offset of a text, and where it begins; at the end of the
 /// text no word, and where the one before began.
 #[inline(always)]
 fn look<'t>(

@@ -4,11 +4,11 @@ use Rattle.ag_tokens.specs.Ending.{Ending}
 use Rattle.ag_tokens.specs.Ending as ending
 use Rattle.ag_tokens.specs.Placed.{Placed, Input}
 use Rattle.ag_tokens.specs.Parsing as reading
-use Rattle.ag_tokens.specs.Parsing.{is_end, place}
+use Rattle.ag_tokens.specs.Parsing.{is_end, offset}
 use Rattle.ag_tokens.proofs.Lexes.{one_input}
 use Rattle.ag_grammar.specs.declared.raw.RawGrammar.{RawGrammar}
 use Rattle.ag_text.specs.Laws.{ReadingAgrees, RefusesAtTheFirst, OneGrammar}
-use Rattle.ag_text.specs.Places.{NoneGoesOn, IsFirstWrong}
+use Rattle.ag_text.specs.Offsets.{NoneGoesOn, IsFirstWrong}
 use Rattle.ag_text.specs.Reading.{Outcome, grammar_from, grammar_of}
 use Rattle.ag_text.specs.declared.stop.Stop.TheVariants.{WrongAt}
 use Rattle.ag_text.specs.Syntax.{IsGrammar}
@@ -30,7 +30,7 @@ unfolding grammar_of
 whole_of i j raw h =
     let one = opened (grammar_from i) _ _ h in
     let read = one.1 in
-    let closed : reading.and_then {A = Unit {0}} (if is_end one.0.1.ending one.0.1.left then Ok (tt {0}, one.0.1) else Err (WrongAt (place one.0.1))) (λ u. reading.pure one.0.0) ≡ Ok (raw, j) = one.2 in
+    let closed : reading.and_then {A = Unit {0}} (if is_end one.0.1.ending one.0.1.left then Ok (tt {0}, one.0.1) else Err (WrongAt (offset one.0.1))) (λ u. reading.pure one.0.0) ≡ Ok (raw, j) = one.2 in
     record { read = grind arith; ends = grind arith }
 
 pub sound : (at : ℕ) (ps : List Placed) (j : Input) (raw : RawGrammar) → grammar_of (record { left = ps; ending = ending.EndsAt at }) ≡ Ok (raw, j) → IsGrammar ps raw
@@ -83,7 +83,7 @@ refused i at x = go x.how
     go : Stuck manner grammar_from x.us x.j (WrongAt at) ⊎ Deep manner grammar_from x.us x.j (WrongAt at) x.rest → IsFirstWrong i at
     go (inr (p, ps, l, deep, heads, more)) = let bad : ⊥ = cc in absurd bad
     go (inl (says, stuck)) =
-        let there : at ≡ place x.j = cc in
+        let there : at ≡ offset x.j = cc in
         record {
           before = x.us;
           rest = x.j.left;
@@ -94,7 +94,7 @@ refused i at x = go x.how
         }
 
 -- a whole grammar, and more behind it
-followed : (i j : Input) (raw : RawGrammar) → grammar_from i ≡ Ok (raw, j) → is_end j.ending j.left ≡ false → IsFirstWrong i (place j)
+followed : (i j : Input) (raw : RawGrammar) → grammar_from i ≡ Ok (raw, j) → is_end j.ending j.left ≡ false → IsFirstWrong i (offset j)
 followed i j raw read open_end =
     let x = (grammar_steady.at i).ok j raw read in
     let ends : i.ending ≡ j.ending = ap (λ (k : Input). k.ending) x.1 in
@@ -116,5 +116,5 @@ unfolding grammar_of
 refuses_at_the_first i at h = go (grammar_from i) refl
   where
     go : (o : Outcome RawGrammar) → grammar_from i ≡ o → IsFirstWrong i at
-    go (Ok (raw, j)) read = let open_end : is_end j.ending j.left ≡ false = grind arith in let same : place j ≡ at = grind arith in subst (IsFirstWrong i) same (followed i j raw read open_end)
+    go (Ok (raw, j)) read = let open_end : is_end j.ending j.left ≡ false = grind arith in let same : offset j ≡ at = grind arith in subst (IsFirstWrong i) same (followed i j raw read open_end)
     go (Err s) read = let same : s ≡ WrongAt at = grind arith in refused i at ((grammar_steady.at i).err (WrongAt at) refl (read ∙ ap Err same))

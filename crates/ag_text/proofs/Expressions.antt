@@ -10,7 +10,7 @@ use Rattle.ag_value.specs.declared.value.Value.TheVariants as value
 use Rattle.ag_tokens.specs.Ending.{Ending}
 use Rattle.ag_tokens.specs.Ending as ending
 use Rattle.ag_tokens.specs.Placed.{Placed, Input}
-use Rattle.ag_expr.specs.language.Places.{read_from}
+use Rattle.ag_expr.specs.language.Offsets.{read_from}
 use Rattle.ag_tokens.specs.Parsing.{many_from}
 use Rattle.ag_expr.specs.language.Reading.{expr_of, expr_in, whole_from, ranked_from, chain_from, atom_from}
 use Rattle.ag_tokens.specs.Token.{Token}

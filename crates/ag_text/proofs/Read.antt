@@ -15,7 +15,7 @@ use Rattle.ag_tokens.proofs.Lexes.{ends_wide, one_input, same_input}
 use Rattle.ag_text.specs.Answers.{fault_of, answer_of, read_text, line_of, IsRead, IsReadText, IsFirstOf, IsRefused}
 use Rattle.ag_grammar.specs.grammars.Accepted.{most_text_bytes}
 use Rattle.ag_text.specs.Grammar.{ReadsAsGrammar, ReadsAsNone}
-use Rattle.ag_text.specs.Places.{IsFirstWrong}
+use Rattle.ag_text.specs.Offsets.{IsFirstWrong}
 use Rattle.ag_text.specs.Reading.{Outcome, grammar_of}
 use Rattle.ag_text.specs.declared.fault.TextFault.{TextFault}
 use Rattle.ag_text.specs.declared.fault.TextFault.TheVariants as fault

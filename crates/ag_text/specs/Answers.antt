@@ -14,7 +14,7 @@ use Rattle.ag_text.specs.declared.stop.Stop.{Stop}
 use Rattle.ag_text.specs.declared.stop.Stop.TheVariants as stop
 use Rattle.ag_grammar.specs.grammars.Accepted.{most_text_bytes}
 use Rattle.ag_text.specs.Grammar.{ReadsAsNone}
-use Rattle.ag_text.specs.Places.{IsFirstWrong}
+use Rattle.ag_text.specs.Offsets.{IsFirstWrong}
 use Rattle.ag_text.specs.Reading.{Outcome, grammar_of}
 
 abbrev pub line_feeds : List ℕ → ℕ

@@ -4,7 +4,7 @@ use Rattle.ag_tokens.specs.Ending as ending
 use Rattle.ag_tokens.specs.Placed.{Placed, Input}
 use Rattle.ag_grammar.specs.declared.raw.RawGrammar.{RawGrammar}
 use Rattle.ag_text.specs.Grammar.{ReadsAsGrammar}
-use Rattle.ag_text.specs.Places.{IsFirstWrong}
+use Rattle.ag_text.specs.Offsets.{IsFirstWrong}
 use Rattle.ag_text.specs.Reading.{grammar_of}
 use Rattle.ag_text.specs.declared.stop.Stop.TheVariants.{WrongAt}
 use Rattle.ag_text.specs.Syntax.{IsGrammar}

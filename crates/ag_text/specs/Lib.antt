@@ -2,7 +2,7 @@ pub mod Answers
 pub mod Grammar
 pub mod Laws
 pub mod Passing
-pub mod Places
+pub mod Offsets
 pub mod Printed
 pub mod Reading
 pub mod Syntax

@@ -7,7 +7,7 @@ use Rattle.ag_tokens.specs.declared.token.Punctuation.{Punctuation}
 use Rattle.ag_tokens.specs.declared.token.Punctuation.TheVariants as punctuation
 use Rattle.ag_tokens.specs.Placed.{Input}
 use Rattle.ag_tokens.specs.Parsing as parsing
-use Rattle.ag_tokens.specs.Parsing.{◌>>=◌, ◌>>◌, pure, choose, further_from, end_from, place}
+use Rattle.ag_tokens.specs.Parsing.{◌>>=◌, ◌>>◌, pure, choose, further_from, end_from, offset}
 use Rattle.ag_expr.specs.language.Until.{Ended, behind_semicolon, read_until_from}
 use Rattle.ag_tokens.specs.Token.{Token}
 use Rattle.ag_grammar.specs.declared.raw.Named.{Named}
@@ -30,7 +30,7 @@ Parser = parsing.Parser Stop
 
 -- a token that can't be taken is told by its offset
 abbrev pub wrong : Input → Stop
-wrong i = WrongAt (place i)
+wrong i = WrongAt (offset i)
 
 abbrev pub one_from : {A : Type 0} → (ℕ → Token → Option A) → Parser A
 one_from = parsing.one_from wrong

@@ -8,7 +8,7 @@ use ag_tokens::{Cursor, Punctuation, Token};
 use ag_value::NoMemory;
 use std::alloc::Global;
 
-/// What could stand at a place of a grammar's text.
+/// What could stand at an offset of a grammar's text.
 #[derive(Clone, Copy, Debug, PartialEq, Eq)]
 pub enum Expected {
     /// A name that is not reserved: of a symbol or of an attribute.
@@ -31,7 +31,7 @@ const SIGNS: [&str; 9] = ["=", "{", "}", ",", ";", "start", "symbol", "syn", "in
 /// What could stand where a grammar's text is refused by this fault, in place of what stands there:
 /// each has been tried behind the text before it. Nothing for other faults than G2 and an X2 within
 /// G3, and where the levels of an expression are used up. Takes memory, and time for some readings
-/// of the text before the place.
+/// of the text before the offset.
 pub fn expected_at(alloc: Global, text: &str, fault: TextFault) -> Result<Vec<Expected>, NoMemory> {
     match fault {
         TextFault::Unexpected(_, at) => expected_outside(alloc, text, at),
@@ -89,7 +89,7 @@ fn expression_front(text: &str, at: usize) -> usize {
     let mut front = 0usize;
     let mut behind_occurrence = false;
     for _ in 0..text.len() {
-        if cursor.place() >= at {
+        if cursor.offset() >= at {
             break;
         }
         let Some(token) = cursor.peek() else {
@@ -97,7 +97,7 @@ fn expression_front(text: &str, at: usize) -> usize {
         };
         cursor.bump();
         if behind_occurrence && token == Token::Punctuation(Punctuation::Equal) {
-            front = cursor.place();
+            front = cursor.offset();
         }
         behind_occurrence = matches!(token, Token::Occurrence(..));
     }

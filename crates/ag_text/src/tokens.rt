@@ -3,7 +3,7 @@
 ghost use Rattle.std.specs.List.{list_any};
 ghost use Rattle.std.specs.Prelude.{◌≡◌, IfOk, chars};
 ghost use Rattle.ag_tokens.specs.Lexing.{token_of, unescaped as unescaped_bytes};
-ghost use Rattle.ag_tokens.specs.Parsing.{place, sees};
+ghost use Rattle.ag_tokens.specs.Parsing.{offset, sees};
 ghost use Rattle.ag_tokens.specs.Token as token;
 ghost use Rattle.ag_tokens.specs.Tokens.{is_separator};
 ghost use Rattle.ag_text.specs.Passing.{Reads};
@@ -33,9 +33,9 @@ fn is_reserved(name: &str) -> bool
 
 /// Why reading stops at the token in front, or where the tokens end.
 pub fn wrong(cursor: &Cursor<'_>) -> Stop
-    ensures { result ≡ stop.WrongAt (place cursor.now) }
+    ensures { result ≡ stop.WrongAt (offset cursor.now) }
 {
-    Stop::WrongAt(cursor.place())
+    Stop::WrongAt(cursor.offset())
 }
 
 /// Whether this punctuation stands in front.
@@ -114,7 +114,7 @@ pub fn name(alloc: Global, cursor: &mut Cursor<'_>) -> Result<Named, Stop>
 {
     match cursor.peek() {
         Some(Token::Name(name)) if !is_reserved(name) => {
-            let at = cursor.place();
+            let at = cursor.offset();
             let name = copied(alloc, name)?;
             cursor.bump();
             Ok(Named { name, at })
@@ -199,7 +199,7 @@ fn item_of(alloc: Global, token: Token<'_>, at: usize) -> Result<Option<RawItem>
 pub fn item(alloc: Global, cursor: &mut Cursor<'_>) -> Result<RawItem, Stop>
     ensures { Reads (reading.one_from words.item_in) cursor.old result cursor.new }
 {
-    let at = cursor.place();
+    let at = cursor.offset();
     if let Some(token) = cursor.peek() {
         if let Some(item) = item_of(alloc, token, at)? {
             cursor.bump();
@@ -215,7 +215,7 @@ pub fn target(alloc: Global, cursor: &mut Cursor<'_>) -> Result<Occ, Stop>
 {
     match cursor.peek() {
         Some(Token::Occurrence(place, attr)) => {
-            let at = cursor.place();
+            let at = cursor.offset();
             let attr = copied(alloc, attr)?;
             cursor.bump();
             Ok(Occ { place, attr, at })

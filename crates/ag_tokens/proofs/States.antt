@@ -12,7 +12,7 @@ use Rattle.ag_tokens.specs.declared.fault.TokenFault.TheVariants as fault
 use Rattle.ag_tokens.specs.Tokens.{width, Lexes}
 use Rattle.ag_tokens.specs.Lexing.{token_from, token_of, GivesToken}
 use Rattle.ag_tokens.specs.Left.{unspaced, none_left, one_before, ending_by, left_by, cut, input}
-use Rattle.ag_tokens.specs.Parsing.{ending_fault, place, is_end}
+use Rattle.ag_tokens.specs.Parsing.{ending_fault, offset, is_end}
 use Rattle.ag_tokens.proofs.Lexed.{is_behind, spaces, width-chars}
 use Rattle.ag_tokens.proofs.Lexes.{nothing_cut, same_cut, shorter, cut_at, cut_first}
 
@@ -39,8 +39,8 @@ module _ (len : ℕ) (cs : List ℕ) where
   front_is (Err fault.TooLarge) given = let read = token_from cs in grind arith
 
   -- it stands at the offset of what is left, and so do the tokens end there
-  pub place_is : (r : Front) → GivesToken r (token_from cs) → place (input len cs) ≡ len - width cs
-  place_is r given = let is = front_is r given in grind arith
+  pub offset_is : (r : Front) → GivesToken r (token_from cs) → offset (input len cs) ≡ len - width cs
+  offset_is r given = let is = front_is r given in grind arith
 
   -- and no text ends there where characters are left
   before_end : (r : Front) → GivesToken r (token_from cs) → 0 < width cs → is_end (input len cs).ending (input len cs).left ≡ false

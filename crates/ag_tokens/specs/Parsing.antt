@@ -28,12 +28,12 @@ abbrev pub next : Input → Input
 next i = record i { left = behind_front i.left }
 
 -- where it stands, or the tokens end
-abbrev pub place_of : Ending → List Placed → ℕ
-place_of e [] = offset_of e
-place_of e (p ∷ ps) = p.at
+abbrev pub front_offset : Ending → List Placed → ℕ
+front_offset e [] = offset_of e
+front_offset e (p ∷ ps) = p.at
 
-abbrev pub place : Input → ℕ
-place i = place_of i.ending i.left
+abbrev pub offset : Input → ℕ
+offset i = front_offset i.ending i.left
 
 -- whether the text ends here
 abbrev pub is_end : Ending → List Placed → Bool
@@ -99,7 +99,7 @@ sign_of sign at None = None
 sign_of sign at (Some t) = sign at t
 
 abbrev pub one_from : {Fault A : Type 0} → (Input → Fault) → (ℕ → Token → Option A) → Parser Fault A
-one_from wrong sign = λ i. taken wrong (sign_of sign (place i) (front i)) i
+one_from wrong sign = λ i. taken wrong (sign_of sign (offset i) (front i)) i
 
 abbrev pub choose : {Fault A : Type 0} → (Token → Bool) → Parser Fault A → Parser Fault A → Parser Fault A
 choose test one other = λ i. if sees test i then one i else other i

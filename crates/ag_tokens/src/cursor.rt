@@ -5,7 +5,7 @@ ghost use Rattle.std.specs.Str.{IsCharBoundary};
 ghost use Rattle.ag_tokens.specs.Lexing.{token_of};
 ghost use Rattle.ag_tokens.specs.Parsing as parsing;
 ghost use Rattle.ag_tokens.specs.Left.{ending_by};
-ghost use Rattle.ag_tokens.specs.Parsing.{ending_fault, fault_of, front, is_end, next, place};
+ghost use Rattle.ag_tokens.specs.Parsing.{ending_fault, fault_of, front, is_end, next, offset};
 ghost use Rattle.ag_tokens.specs.Tokens.{Lexes};
 
 use crate::fault::TokenFault;
@@ -13,7 +13,7 @@ use crate::lexer::{skip_separators, token_in_front};
 use crate::token::Token;
 use std::marker::Model;
 
-/// A reader's place in a text: what is left of it, from the front of a token on. Each token is cut
+/// A reader in a text: what is left of it, from the front of a token on. Each token is cut
 /// once, when the one before it is passed.
 ///
 /// Offsets are in bytes from the front of the text.
@@ -89,10 +89,10 @@ impl<'t> Cursor<'t> {
         }
     }
 
-    /// The offset of the token in front, or of the place where the tokens end. Takes no memory.
-    #[tactic(auto, using(crate::proofs::States::place_is))]
-    pub fn place(&self) -> usize
-        ensures { result ≡ place self.now }
+    /// The offset of the token in front, or the one where the tokens end. Takes no memory.
+    #[tactic(auto, using(crate::proofs::States::offset_is))]
+    pub fn offset(&self) -> usize
+        ensures { result ≡ offset self.now }
     {
         self.text.len() - self.rest.len()
     }

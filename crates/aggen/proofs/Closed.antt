@@ -7,7 +7,7 @@ use Rattle.ag_grammar.specs.declared.syntax.occurrence.Occ.{Occ}
 use Rattle.ag_expr.specs.language.Expression.{IsAt, IsRefused, ReadsAsExpr, ReadsAsNone}
 use Rattle.ag_expr.proofs.language.Texts.{one_expression}
 use Rattle.ag_value.specs.declared.value.Value.{Value}
-use Rattle.aggen.specs.Showing.{HasNone, HasValue, IsExplained, IsExprFault, IsUnexpectedAt, OccursAt, first_place}
+use Rattle.aggen.specs.Showing.{HasNone, HasValue, IsExplained, IsExprFault, IsUnexpectedAt, OccursAt, first_offset}
 use Rattle.aggen.specs.Status.{expr_fault_of}
 
 none_closed : (text : List ℕ) → ReadsAsNone text → HasNone text
@@ -37,9 +37,9 @@ wanted text (TooDeep k) at none occurs = absurd (none occurs.expr occurs.reads)
 wanted text NoMemory at none occurs = tt
 
 -- the first occurrence of the one expression of the text is the first of any
-pub same_place : (text : List ℕ) (e : Node × List Occ) (at : ℕ) → ReadsAsExpr text e → OccursAt text at → first_place e.1 ≡ Some at
-same_place text e at reads occurs = ap (λ (f : Node × List Occ). first_place f.1) (one_expression text e occurs.expr reads occurs.reads) ∙ occurs.place
+pub same_offset : (text : List ℕ) (e : Node × List Occ) (at : ℕ) → ReadsAsExpr text e → OccursAt text at → first_offset e.1 ≡ Some at
+same_offset text e at reads occurs = ap (λ (f : Node × List Occ). first_offset f.1) (one_expression text e occurs.expr reads occurs.reads) ∙ occurs.offset
 
 -- a text with occurrences has no value
 pub no_value : (text : List ℕ) (at : ℕ) (is : Value) → OccursAt text at → HasValue text is → ⊥
-no_value text at is occurs has = let bad : None ≡ Some at = same_place text (has.tree, []) at has.reads occurs in absurd cc
+no_value text at is occurs has = let bad : None ≡ Some at = same_offset text (has.tree, []) at has.reads occurs in absurd cc

@@ -62,7 +62,7 @@ module _ (g : Grammar) (rows : List (List ℕ)) (code : Lists) (accepted : IsAcc
 
   -- what a refusal of pass 1 says of the content
   pub first_refused : (content : List ℕ) (f : RunFault) (ht ha hb : Bool) → WhenHonest ht (IsRunFault (setting_of g (rows, code) 1) content f) → IsPassesFault g ht ha hb content (run_fault_of f)
-  first_refused content (run.Damaged at) ht ha hb told = λ x y z. ((λ t is. (told x).none t (texts_are_given g t).0 is.tree (file_in content t is)), ((rows, code), plan.legal.positive, (told x).place))
+  first_refused content (run.Damaged at) ht ha hb told = λ x y z. ((λ t is. (told x).none t (texts_are_given g t).0 is.tree (file_in content t is)), ((rows, code), plan.legal.positive, (told x).shown))
   first_refused content run.TooDeep ht ha hb told = λ x y z t is within. told x t (texts_are_given g t).0 is.tree within (file_in content t is)
   first_refused content run.TooManyNodes ht ha hb told = λ x y z t is within. told x t (texts_are_given g t).0 is.tree within (file_in content t is)
   first_refused content run.Device ht ha hb told = tt

@@ -32,11 +32,11 @@ want_told content body Device is told = tt
 want_told content body NoMemory is told = tt
 
 -- a fault of the last body that is B2 is at the end of the content
-pub place_told : (content : List ℕ) (e : FrameFault) → Told (λ (x : List ℕ). x) (Err e) (last_body_of version_two content) → (at : ℕ) → IsErrOf (let r : Result Value Fault = Err (frame_fault_of e) in r) (fault.Damaged at) → at ≡ length content
-place_told content NotATreeFile told at is = absurd cc
-place_told content (Damaged k) told at is = damaged_at_end version_two content at (told ∙ cc)
-place_told content Device told at is = absurd cc
-place_told content NoMemory told at is = absurd cc
+pub offset_told : (content : List ℕ) (e : FrameFault) → Told (λ (x : List ℕ). x) (Err e) (last_body_of version_two content) → (at : ℕ) → IsErrOf (let r : Result Value Fault = Err (frame_fault_of e) in r) (fault.Damaged at) → at ≡ length content
+offset_told content NotATreeFile told at is = absurd cc
+offset_told content (Damaged k) told at is = damaged_at_end version_two content at (told ∙ cc)
+offset_told content Device told at is = absurd cc
+offset_told content NoMemory told at is = absurd cc
 
 -- a value that was read, or want of memory
 pub value_told : (value : Value) (r : Result Value Fault) → MatchResult r (λ found. found ≡ value) (λ e. e ≡ fault.NoMemory) → MatchResult r (λ found. found ≡ value) IsWant

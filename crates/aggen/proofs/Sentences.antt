@@ -48,7 +48,7 @@ pub parse_told : (g : Grammar) → IsAccepted g → (sentence : List ℕ) (ts : 
     → (IsErrOf r parse.TooManyNodes → LeavesOnlyLarger most_nodes g (words_of ts))
     → IsSentenceFault g sentence (parse_fault_of f)
 parse_told g ok sentence ts cut r (parse.Unexpected at) e unexpected none deep large =
-    record { tokens = ts; cut = cut; place = unexpected at e; none = λ t is. none at t e (with_tokens g ok sentence ts cut t is) }
+    record { tokens = ts; cut = cut; offset = unexpected at e; none = λ t is. none at t e (with_tokens g ok sentence ts cut t is) }
 parse_told g ok sentence ts cut r parse.TooDeep e unexpected none deep large = record { tokens = ts; cut = cut; beyond = deep (subst (λ z. IsErrOf z parse.TooDeep) (sym e) refl) }
 parse_told g ok sentence ts cut r parse.TooManyNodes e unexpected none deep large = record { tokens = ts; cut = cut; beyond = large (subst (λ z. IsErrOf z parse.TooManyNodes) (sym e) refl) }
 parse_told g ok sentence ts cut r parse.Device e unexpected none deep large = tt

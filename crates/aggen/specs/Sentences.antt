@@ -32,7 +32,7 @@ pub record IsScanFaultOf (g : Grammar) (sentence : List ℕ) (f : ScanFault) : T
 pub record HasNoTreeFrom (g : Grammar) (sentence : List ℕ) (at : ℕ) : Type 0 where
   pub tokens : List Token
   pub cut : AreTokensOf (vocabulary_of g) sentence tokens
-  pub place : IsUnexpectedAt g tokens at
+  pub offset : IsUnexpectedAt g tokens at
   pub none : HasNoTree g sentence
 
 -- P2 and P3: the sentence has tokens, and their words leave only trees beyond a limit

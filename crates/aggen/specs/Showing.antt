@@ -33,15 +33,15 @@ abbrev pub HasNone : List ℕ → Type 0
 HasNone text = (is : Value) → HasValue text is → ⊥
 
 -- where the first of some occurrences stands, if there is one
-abbrev pub first_place : List Occ → Option ℕ
-first_place [] = None
-first_place (first ∷ others) = Some first.at
+abbrev pub first_offset : List Occ → Option ℕ
+first_offset [] = None
+first_offset (first ∷ others) = Some first.at
 
 -- the text reads as an expression with occurrences, and the `$` of the first one stands at the offset
 pub record OccursAt (text : List ℕ) (at : ℕ) : Type 0 where
   pub expr : Node × List Occ
   pub reads : ReadsAsExpr text expr
-  pub place : first_place expr.1 ≡ Some at
+  pub offset : first_offset expr.1 ≡ Some at
 
 -- What X1 to X4 tell of the text: it reads as no expression, and at the fault's offset stands what the fault says. X2
 -- may tell instead that it reads as an expression with occurrences, the first at the offset. Want of memory is no X.

@@ -13,7 +13,7 @@ type Fused = FuseDevice<MemDevice>;
 
 /// A device of a run.
 #[derive(Clone, Copy)]
-enum Place {
+enum RunDevice {
     /// The first device of `translate`.
     First,
     /// Its second device.
@@ -145,26 +145,26 @@ fn upgrades_without(
 fn is_whole_without(
     alloc: Global,
     translator: &Translator,
-    place: Place,
+    device: RunDevice,
     call: u64,
 ) -> Result<bool, Fail> {
-    match place {
-        Place::First => translates_without(alloc, translator, call, 0),
-        Place::Second => translates_without(alloc, translator, 0, call),
-        Place::Tree => evaluates_without(alloc, translator, call, 0, 0),
-        Place::A => evaluates_without(alloc, translator, 0, call, 0),
-        Place::B => evaluates_without(alloc, translator, 0, 0, call),
-        Place::Old => upgrades_without(alloc, translator, call, 0, 0),
-        Place::Mid => upgrades_without(alloc, translator, 0, call, 0),
-        Place::To => upgrades_without(alloc, translator, 0, 0, call),
+    match device {
+        RunDevice::First => translates_without(alloc, translator, call, 0),
+        RunDevice::Second => translates_without(alloc, translator, 0, call),
+        RunDevice::Tree => evaluates_without(alloc, translator, call, 0, 0),
+        RunDevice::A => evaluates_without(alloc, translator, 0, call, 0),
+        RunDevice::B => evaluates_without(alloc, translator, 0, 0, call),
+        RunDevice::Old => upgrades_without(alloc, translator, call, 0, 0),
+        RunDevice::Mid => upgrades_without(alloc, translator, 0, call, 0),
+        RunDevice::To => upgrades_without(alloc, translator, 0, 0, call),
     }
 }
 
 /// The first call of a device that no run makes, counted from 1. Each call before it fails where
 /// it is to.
-fn counted(alloc: Global, translator: &Translator, place: Place) -> Result<u64, Fail> {
+fn counted(alloc: Global, translator: &Translator, device: RunDevice) -> Result<u64, Fail> {
     for call in 1..1000 {
-        if is_whole_without(alloc, translator, place, call)? {
+        if is_whole_without(alloc, translator, device, call)? {
             return Ok(call);
         }
     }
@@ -172,31 +172,31 @@ fn counted(alloc: Global, translator: &Translator, place: Place) -> Result<u64, 
 }
 
 /// The same, of a translator of its own.
-fn calls_made(alloc: Global, place: Place) -> Result<u64, Fail> {
+fn calls_made(alloc: Global, device: RunDevice) -> Result<u64, Fail> {
     let translator = fractions(alloc)?;
-    counted(alloc, &translator, place)
+    counted(alloc, &translator, device)
 }
 
 #[test]
 fn each_call_of_a_device_of_translate_fails(rt: HostRuntime) -> Result<(), Fail> {
     // the seventh call of the first device appends the frame of the fifth node
-    assert!(rt; 7 < calls_made(rt.alloc(), Place::First)?);
-    assert!(rt; 1 < calls_made(rt.alloc(), Place::Second)?);
+    assert!(rt; 7 < calls_made(rt.alloc(), RunDevice::First)?);
+    assert!(rt; 1 < calls_made(rt.alloc(), RunDevice::Second)?);
     Ok(())
 }
 
 #[test]
 fn each_call_of_a_device_of_evaluate_tree_fails(rt: HostRuntime) -> Result<(), Fail> {
-    for place in [Place::Tree, Place::A, Place::B] {
-        assert!(rt; 1 < calls_made(rt.alloc(), place)?);
+    for device in [RunDevice::Tree, RunDevice::A, RunDevice::B] {
+        assert!(rt; 1 < calls_made(rt.alloc(), device)?);
     }
     Ok(())
 }
 
 #[test]
 fn each_call_of_a_device_of_upgrade_fails(rt: HostRuntime) -> Result<(), Fail> {
-    for place in [Place::Old, Place::Mid, Place::To] {
-        assert!(rt; 1 < calls_made(rt.alloc(), place)?);
+    for device in [RunDevice::Old, RunDevice::Mid, RunDevice::To] {
+        assert!(rt; 1 < calls_made(rt.alloc(), device)?);
     }
     Ok(())
 }

@@ -3,7 +3,7 @@ use Rattle.std.proofs.Common.{◌≡◌, ℕ, zero, suc, ◌+◌, ◌-◌, ◌�
 use Rattle.std.proofs.lemmas.List.{drop-drop, drop-take, take-append-drop, take-take}
 use Rattle.std.proofs.lemmas.List.Folds.{drop_split}
 use lib.Seq.{take-add}
-use Rattle.backreader.specs.Place.{IsOver, Place, StandBefore, buffer_bytes}
+use Rattle.backreader.specs.BackState.{IsOver, BackState, StandBefore, buffer_bytes}
 use Rattle.std.specs.Int.{w32, from_be_bytes}
 use Rattle.treefile.specs.ways.Ending.{IsBytes, Told, body_before, greatest_body, header_bytes, least_body, length_bytes, number_before}
 use Rattle.treefile.specs.records.TreeFile.{Version, version_of}
@@ -144,9 +144,9 @@ pub same_stand : (content xs ys : List ℕ) (at : ℕ) → ys ≡ xs → StandBe
 same_stand content xs ys at same s = subst (StandBefore content at) (sym same) s
 
 -- a content that was read up to its header is bytes
-pub all_bytes : (content : List ℕ) (place : Place) → IsOver content place → place.progress.at ≡ header_bytes → IsBytes content
-all_bytes content place over at =
-    let from = place.progress.at - length place.window in
+pub all_bytes : (content : List ℕ) (state : BackState) → IsOver content state → state.progress.at ≡ header_bytes → IsBytes content
+all_bytes content state over at =
+    let from = state.progress.at - length state.window in
     let behind : IsBytes (drop header_bytes content) = bytes_later content from header_bytes (omega (arith, at)) over.window.known in
     subst IsBytes (take-append-drop header_bytes content) (bytes_join (take header_bytes content) (drop header_bytes content) over.header behind)
 

@@ -3,8 +3,8 @@
 ghost use Rattle.std.specs.Prelude.{◌≡◌, ◌≢◌, ◌≤◌, ◌+◌, None, Err, IfOk};
 ghost use Rattle.std.specs.Prelude.{IfSome, IsErrOf, length};
 ghost use Rattle.std.specs.Option.{option_map};
-ghost use Rattle.backreader.specs.Place.{HasRead, IsLarge, IsOver, IsStarted, Progress};
-ghost use Rattle.backreader.specs.Place.{lent_body, progress_after};
+ghost use Rattle.backreader.specs.BackState.{HasRead, IsLarge, IsOver, IsStarted, Progress};
+ghost use Rattle.backreader.specs.BackState.{lent_body, progress_after};
 ghost use Rattle.treefile.specs.ways.Backward.{next_before, pass_in};
 ghost use Rattle.treefile.specs.devices.Device.{LeavesContent, Persists, WhenHonest};
 ghost use Rattle.treefile.specs.ways.Ending.{IsBody, Told, length_bytes};
@@ -16,8 +16,8 @@ use std::marker::Model;
 use treefile::{Device, FileVersion, FrameFault, pass_in};
 
 /// Reads the bodies of a tree file from the last to the first. It holds no device: each call takes
-/// the one that it was started on. It is seen as how far it has come, and the bytes before that
-/// place that it has read.
+/// the one that it was started on. It is seen as how far it has come, and the bytes that it has
+/// read before there.
 #[derive(Drop)]
 pub struct Back {
     window: Window,
@@ -28,11 +28,11 @@ pub struct Back {
 
 impl Model for Back {
     ghost use Rattle.std.specs.Prelude.{◌<◌, ◌+◌, ◌^◌};
-    ghost use Rattle.backreader.specs.Place.{Place};
+    ghost use Rattle.backreader.specs.BackState.{BackState};
     ghost use Rattle.backreader.specs.Windows.{unread};
     ghost use Rattle.treefile.specs.records.TreeFile.{version_of};
 
-    ghost Value = { Place };
+    ghost Value = { BackState };
 
     ghost view = { λ b. record {
       window = unread b.window;

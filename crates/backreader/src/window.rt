@@ -3,7 +3,7 @@
 ghost use Rattle.std.specs.Prelude.{◌≡◌, ◌≤◌, ◌<◌, ◌+◌, ◌-◌, ℕ, List, [], Ok, Err, length, min, vec_len};
 ghost use Rattle.std.specs.Prelude.{drop, slice_range, IfNone, IfOk, IfSome, IsErrOf, OnErr, OnOk};
 ghost use Rattle.std.specs.Option.{option_map};
-ghost use Rattle.backreader.specs.Place.{IsLarge, StandBefore, buffer_bytes};
+ghost use Rattle.backreader.specs.BackState.{IsLarge, StandBefore, buffer_bytes};
 ghost use Rattle.treefile.specs.ways.Backward.{next_before};
 ghost use Rattle.treefile.specs.devices.Device.{LeavesContent, Persists, TakesNoMemory, WhenHonest};
 ghost use Rattle.treefile.specs.ways.Ending.{IsBytes, Told, body_before, greatest_body, header_bytes};
@@ -27,7 +27,7 @@ const LENGTH: usize = LENGTH_BYTES as usize;
 const LEAST: usize = LEAST_BODY as usize;
 
 /// The bytes of a device that stand before an offset in a file of a version, as far as they were read:
-/// those of a buffer from one place to another. Before them the buffer is free, and behind them stand the bytes that
+/// those of a buffer from one index to another. Before them the buffer is free, and behind them stand the bytes that
 /// were taken last. The buffer has room for the least block, and for the greatest frame at most.
 #[derive(Drop)]
 pub(crate) struct Window {

@@ -6,7 +6,7 @@ use Rattle.closure.specs.declared.addition.Addition.{Addition}
 use Rattle.closure.specs.declared.addition.Reason.{Reason}
 use Rattle.closure.specs.declared.addition.Reason.TheVariants as reason
 use Rattle.closure.specs.declared.clause.Clause.{Clause}
-use Rattle.closure.proofs.Places.{get_push_cases, get_push_end, get_push_front}
+use Rattle.closure.proofs.Positions.{get_push_cases, get_push_end, get_push_front}
 
 pub added_more : (xs : List Addition) (y : Addition) (t : ℕ) → IsAdded xs t → IsAdded (xs ++ y ∷ []) t
 added_more xs y t h = (h.0, h.1, get_push_front xs y h.1 h.0 h.2, h.3)

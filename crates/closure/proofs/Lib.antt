@@ -2,6 +2,6 @@ pub mod Additions
 pub mod Following
 pub mod Marks
 pub mod Noted
-pub mod Places
+pub mod Positions
 pub mod Reached
 pub mod Sample

@@ -19,7 +19,7 @@ use Rattle.closure.specs.Search.{IsSearch, IsSettled, Grows}
 use Rattle.closure.specs.Waiting.{row}
 use Rattle.closure.proofs.Additions.{added_here, added_more, order_more}
 use Rattle.closure.proofs.Following.{follows_in, head_follows}
-use Rattle.closure.proofs.Places.{get_push_cases, get_push_end, get_push_front}
+use Rattle.closure.proofs.Positions.{get_push_cases, get_push_end, get_push_front}
 
 both : (a b : Bool) → (a && b) ≡ true → (a ≡ true) × (b ≡ true)
 both true b h = (refl, h)

@@ -7,11 +7,11 @@ use Rattle.closure.specs.Following.{Follows}
 use Rattle.closure.specs.declared.clause.Clause.{Clause}
 use Rattle.closure.specs.declared.edges.Edge.{Edge}
 use Rattle.closure.proofs.Following.{follows_in, head_follows}
-use Rattle.closure.proofs.Places.{at_mapped, element_at, mapped_at, place_of_element}
+use Rattle.closure.proofs.Positions.{at_mapped, element_at, mapped_at, position_of_element}
 
 -- what is reached goes on along edges
 pub step : (edges : List Edge) (seeds : List ℕ) (e : Edge) → Contains edges e → Follows (map along edges) seeds e.from → Follows (map along edges) seeds e.to
-step edges seeds e h from = let w = place_of_element edges e h in head_follows (map along edges) seeds w.0 (along e) (at_mapped along edges w.0 e w.1) (All-cons (Follows (map along edges) seeds) e.from [] from (All-nil (Follows (map along edges) seeds)))
+step edges seeds e h from = let w = position_of_element edges e h in head_follows (map along edges) seeds w.0 (along e) (at_mapped along edges w.0 e w.1) (All-cons (Follows (map along edges) seeds) e.from [] from (All-nil (Follows (map along edges) seeds)))
 
 -- Induction: what has the seeds and goes on along edges has all that is reached.
 pub reached_in : (edges : List Edge) (seeds : List ℕ) (P : ℕ → Type 0) → ((t : ℕ) → Contains seeds t → P t) → ((e : Edge) → Contains edges e → P e.from → P e.to) → (s : ℕ) → Follows (map along edges) seeds s → P s

@@ -6,7 +6,7 @@ use Rattle.closure.specs.Following.{Follows, seed, by_clause, nothing, one_more}
 use Rattle.closure.specs.Edges.{along}
 use Rattle.closure.specs.Samples.{sample, two_edges}
 use Rattle.closure.specs.declared.edges.Edge.{Edge}
-use Rattle.closure.proofs.Places.{element_at}
+use Rattle.closure.proofs.Positions.{element_at}
 use Rattle.closure.proofs.Reached.{reached_in, step}
 use Rattle.closure.proofs.Following.{follows_in}
 

@@ -6,7 +6,7 @@ ghost use Rattle.ag_grammar.specs.declared.grammar.Terminal.TheVariants.{Class, 
 ghost use Rattle.ag_grammar.specs.grammars.Sample.{sample};
 ghost use Rattle.llparse.specs.Ahead.{HasNoConflict, IsConflict};
 ghost use Rattle.llparse.specs.Laws.{OneTree, TextsAreGiven, WhatIsLeftIsSo};
-ghost use Rattle.llparse.specs.table.Nodes.{place_of};
+ghost use Rattle.llparse.specs.table.Nodes.{index_of};
 ghost use Rattle.llparse.specs.table.Tables.{choice_of, IsChoice, IsLeastConflict};
 ghost use Rattle.llparse.specs.Worked.{left_recursive, small_tables};
 ghost use Rattle.llparse.specs.declared.ahead.Ahead.TheVariants as ahead;
@@ -60,8 +60,8 @@ pub fn small_tables_are_read()
 {}
 
 /// The order of look-aheads where there are two literals.
-pub fn places_are_in_order()
-    ensures literals { place_of 2 (ahead.Terminal (Literal 1)) ≡ 1 }
-    ensures classes { place_of 2 (ahead.Terminal (Class 0)) ≡ 2 }
-    ensures end { place_of 2 ahead.End ≡ 5 }
+pub fn indices_are_in_order()
+    ensures literals { index_of 2 (ahead.Terminal (Literal 1)) ≡ 1 }
+    ensures classes { index_of 2 (ahead.Terminal (Class 0)) ≡ 2 }
+    ensures end { index_of 2 ahead.End ≡ 5 }
 {}

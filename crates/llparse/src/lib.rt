@@ -11,8 +11,8 @@ mod table;
 
 pub use ahead::Ahead;
 pub use laws::{
-    left_recursion_conflicts, left_recursion_is_a_choice, left_recursion_is_least, one_tree,
-    places_are_in_order, sample_is_free, small_tables_are_read, texts_are_given,
+    indices_are_in_order, left_recursion_conflicts, left_recursion_is_a_choice,
+    left_recursion_is_least, one_tree, sample_is_free, small_tables_are_read, texts_are_given,
 };
 pub use sentence::expected::{Stuck, expected_at};
 pub use sentence::parse_fault::ParseFault;

@@ -178,8 +178,14 @@ fn tell_value(alloc: Global, words: &mut Words, value: &Value) -> Result<(), All
         return Ok(());
     };
     write!(words.found, "found {}", Found(Some(shown.as_str())))?;
-    write!(
-        words.help,
-        "let the rule of the root's `out` give a text, as `text(..)` makes one of a number"
-    )
+    match value {
+        Value::Fault(_) => write!(
+            words.help,
+            "which a rule in the tree gave and others carried on, mend that rule, or write `orelse(v, w)` where v may be an error"
+        ),
+        _ => write!(
+            words.help,
+            "let the rule of the root's `out` give a text, as `text(..)` makes one of a number"
+        ),
+    }
 }

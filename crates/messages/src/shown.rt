@@ -104,7 +104,7 @@ pub fn found_at(text: &str, at: usize) -> Option<&str> {
         return word_in_front(rest);
     }
     cursor.bump();
-    Some(rest.get(..cursor.place()).unwrap_or(rest).trim_end())
+    Some(rest.get(..cursor.offset()).unwrap_or(rest).trim_end())
 }
 
 /// The characters in front up to the next separator, one at least. None of an empty text.

@@ -12,7 +12,7 @@ use Rattle.ag_grammar.specs.declared.raw.RawRule.{RawRule}
 use Rattle.ag_grammar.specs.declared.raw.RawSymbol.{RawSymbol}
 use Rattle.normalform.specs.declared.fault.NormalFault.{NormalFault}
 use Rattle.normalform.specs.declared.fault.NormalFault.TheVariants as fault
-use Rattle.normalform.specs.faults.Faults.{first_wrong, naming_places, further_places}
+use Rattle.normalform.specs.faults.Faults.{first_wrong, naming_checks, further_checks}
 
 abbrev name_at : ℕ → ℕ → Named
 name_at c at = record { name = c ∷ []; at = at }
@@ -47,10 +47,10 @@ rule_at e attr at occurrences = record { target = here attr at; expr = (e, occur
 
 -- What is told is told of the names, and else of the rules and limits.
 abbrev names_fault : RawGrammar → Option NormalFault
-names_fault raw = first_wrong (naming_places raw)
+names_fault raw = first_wrong (naming_checks raw)
 
 abbrev rules_fault : RawGrammar → Option NormalFault
-rules_fault raw = first_wrong (further_places raw)
+rules_fault raw = first_wrong (further_checks raw)
 
 -- N1: S = T {}, where no T is declared. N2: S is declared again. N3: the start symbol A has no `out`.
 abbrev pub WorkedNames : Type 0

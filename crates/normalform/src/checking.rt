@@ -1,8 +1,8 @@
 //! The check of a raw grammar: the grammar that it is, or the first of its faults.
 ghost use Rattle.std.specs.Prelude.{◌≡◌, map, All, Some, None, IfOk, IfErr, IfSome};
 ghost use Rattle.ag_grammar.specs.grammars.Accepted.{IsAccepted};
-ghost use Rattle.normalform.specs.faults.Faults.{first_wrong, start_places, naming_places, rule_kinds};
-ghost use Rattle.normalform.specs.faults.Faults.{further_places, IsReadable, HasNoFault, IsTrueOf};
+ghost use Rattle.normalform.specs.faults.Faults.{first_wrong, start_checks, naming_checks, rule_kinds};
+ghost use Rattle.normalform.specs.faults.Faults.{further_checks, IsReadable, HasNoFault, IsTrueOf};
 ghost use Rattle.normalform.specs.faults.Faults.{IsFirstFault};
 ghost use Rattle.ag_grammar.specs.grammars.Accepted.{IsProductive, IsReached};
 ghost use Rattle.normalform.specs.faults.Clauses as spec;
@@ -39,7 +39,7 @@ enum Found {
 
 /// N3: the start symbol is not declared, or may not be one.
 fn bad_start(declared: &Declared<'_>, name: &Named) -> Option<NormalFault>
-    ensures { result ≡ first_wrong (start_places declared.now name.now) }
+    ensures { result ≡ first_wrong (start_checks declared.now name.now) }
 {
     if declared.is_start(declared.number(name.name.as_str())) {
         None
@@ -55,7 +55,7 @@ fn naming_fault(
     declared: &Declared<'_>,
 ) -> Result<Option<NormalFault>, NoMemory>
     requires { declared.now ≡ map symbol_of raw.now.symbols }
-    ensures { IfOk result (λ f. f ≡ first_wrong (naming_places raw.now)) }
+    ensures { IfOk result (λ f. f ≡ first_wrong (naming_checks raw.now)) }
 {
     if let Some(fault) = unknown(alloc, declared, raw.productions.as_slice())? {
         return Ok(Some(fault));
@@ -93,7 +93,7 @@ fn further_fault(
     declared: &Declared<'_>,
 ) -> Result<Option<NormalFault>, NoMemory>
     requires { declared.now ≡ map symbol_of raw.now.symbols }
-    ensures { IfOk result (λ f. f ≡ first_wrong (further_places raw.now)) }
+    ensures { IfOk result (λ f. f ≡ first_wrong (further_checks raw.now)) }
 {
     let symbols = raw.symbols.as_slice();
     let productions = raw.productions.as_slice();
@@ -111,7 +111,7 @@ fn unproductive(
 ) -> Result<Option<usize>, NoMemory>
     requires clauses { clauses.items
         ≡ spec.clauses_of (map symbol_of raw.now.symbols) raw.now.productions }
-    requires names { first_wrong (naming_places raw.now) ≡ None }
+    requires names { first_wrong (naming_checks raw.now) ≡ None }
     ensures found { IfOk result (λ o. IfSome o (λ n. IsFoundAt raw.now
         (λ name. NormalFault.Unproductive name) n)) }
     ensures none { IfOk result (λ o. o ≡ None → AreAll (IsProductive (numbered raw.now)) raw.now) }
@@ -131,7 +131,7 @@ fn unreachable(
         (spec.clauses_of (map symbol_of raw.now.symbols) raw.now.productions) }
     requires start { start
         ≡ number_in (symbol_names (map symbol_of raw.now.symbols)) raw.now.start.name }
-    requires names { first_wrong (naming_places raw.now) ≡ None }
+    requires names { first_wrong (naming_checks raw.now) ≡ None }
     requires productive { AreAll (IsProductive (numbered raw.now)) raw.now }
     ensures found { IfOk result (λ o. IfSome o (λ n. IsFoundAt raw.now
         (λ name. NormalFault.Unreachable name) n)) }
@@ -148,7 +148,7 @@ fn structure_fault(
     declared: &Declared<'_>,
 ) -> Result<Option<Found>, NoMemory>
     requires declared { declared.now ≡ map symbol_of raw.now.symbols }
-    requires names { first_wrong (naming_places raw.now) ≡ None }
+    requires names { first_wrong (naming_checks raw.now) ≡ None }
     ensures { IfOk result (λ found. IsFound raw.now found) }
 {
     let clauses = clauses_of(alloc, declared, raw.productions.as_slice())?;
@@ -239,7 +239,7 @@ fn refusal(found: Found, raw: RawGrammar) -> NormalFault
 /// expressions are moved into it.
 ///
 /// A refusal is the first fault: of the kinds in the order of `NormalFault` the first that has one,
-/// and within a kind the first place in the order of the lists. Then the grammar by numbers is not
+/// and within a kind the first in the order of the lists. Then the grammar by numbers is not
 /// accepted, and the raw grammar is given up. `NoMemory` comes only where a growth was refused.
 /// Takes memory.
 #[tactic(auto, using(crate::proofs::numbered::Accepting::refused))]

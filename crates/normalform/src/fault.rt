@@ -25,7 +25,7 @@ pub enum LimitKind {
 }
 
 /// Why a raw grammar is refused. The kinds are looked for in this order, and within a kind the
-/// first place in the order of the lists is told.
+/// first in the order of the lists is told.
 #[derive(Debug, Drop)]
 pub enum NormalFault {
     /// N1: at this offset stands a symbol in a production that is not declared, or an occurrence

@@ -32,7 +32,7 @@ use Rattle.treefile.proofs.records.FirstFile.{first_body, unassigned_from_one}
 use Rattle.treefile.proofs.records.Fitting.{numbered}
 use Rattle.treefile.proofs.records.Texts.{texts_are_given}
 use Rattle.treefile.proofs.ways.Way.{way_is_too_long}
-use Rattle.backreader.specs.Place.{Progress}
+use Rattle.backreader.specs.BackState.{Progress}
 use Rattle.backreader.specs.Turning.{most_levels, most_records}
 use Rattle.passrun.specs.Faults.{run_fault_of_frame}
 use Rattle.passrun.specs.Upgrading.{Brought, IsAt, IsOf, IsUnbrought, IsUpgradeFault, body_in, coming, old_file, text_list, to_come}
@@ -68,7 +68,7 @@ coming_both g level xs ys others =
 
 -- one with a place
 pub coming_one : (g : Grammar) (level : ℕ) (x : Item) (others : ToCome) → stored_items (x ∷ []) ≡ x ∷ [] → coming g level (x ∷ []) others ≡ (level, (x, None)) ∷ others
-coming_one g level x others place = ap (λ zs. before_others RightToLeft level (told version_one.has_copies g unassigned 0 zs []) others) place
+coming_one g level x others progress = ap (λ zs. before_others RightToLeft level (told version_one.has_copies g unassigned 0 zs []) others) progress
 
 -- ---- records
 
@@ -119,15 +119,15 @@ module _ (g : Grammar) (accepted : IsAccepted g) where
   no_first_within content none t tree within is = let texts = texts_are_given g t in none t texts.0 tree within (is unassigned texts.0 unassigned_from_one texts.1)
 
   -- the way breaks
-  pub breaks_at : (content : List ℕ) (place : Progress) (todo : ToCome) → IsAt g content place todo → Breaks version_one g unassigned 0 todo (next_before version_one content place.at) → IsUpgradeFault g content (fault.Damaged place.at)
-  breaks_at content place todo is so =
-      let damaged = broken (old_file g) tellable content place.at is.readable (todo, is.way, so) in
-      (no_first content damaged.none, damaged.place)
+  pub breaks_at : (content : List ℕ) (progress : Progress) (todo : ToCome) → IsAt g content progress todo → Breaks version_one g unassigned 0 todo (next_before version_one content progress.at) → IsUpgradeFault g content (fault.Damaged progress.at)
+  breaks_at content progress todo is so =
+      let damaged = broken (old_file g) tellable content progress.at is.readable (todo, is.way, so) in
+      (no_first content damaged.none, damaged.shown)
 
   -- or goes on too far
-  pub too_large : (content : List ℕ) (place : Progress) (level : ℕ) (x : Child) (todo : ToCome) → IsAt g content place ((level, x) ∷ todo) → (most_levels < level) ⊎ (most_records ≤ place.records) → HasNoFirstTreeWithin most_levels most_records version_one g content
-  too_large content place level x todo is so =
-      no_first_within content (way_is_too_long version_one g unassigned 0 content place.at (length is.way.bodies) level most_levels most_records x todo (way_to (old_file g) tellable content place.at ((level, x) ∷ todo) is.way) (subst (λ n. (most_levels < level) ⊎ (most_records ≤ n)) is.counted so))
+  pub too_large : (content : List ℕ) (progress : Progress) (level : ℕ) (x : Child) (todo : ToCome) → IsAt g content progress ((level, x) ∷ todo) → (most_levels < level) ⊎ (most_records ≤ progress.records) → HasNoFirstTreeWithin most_levels most_records version_one g content
+  too_large content progress level x todo is so =
+      no_first_within content (way_is_too_long version_one g unassigned 0 content progress.at (length is.way.bodies) level most_levels most_records x todo (way_to (old_file g) tellable content progress.at ((level, x) ∷ todo) is.way) (subst (λ n. (most_levels < level) ⊎ (most_records ≤ n)) is.counted so))
 
   -- or a record more was read
   pub one_more : (content : List ℕ) (before now : Progress) (level : ℕ) (x : Item) (others : ToCome) (r : OldRecord) (is : IsOf g x r) → next_before version_one content before.at ≡ Ok (Some (body_in r)) → now.at ≡ before_frame before.at (body_in r) → now.records ≡ before.records + 1
@@ -146,29 +146,29 @@ module _ (g : Grammar) (accepted : IsAccepted g) where
 
   -- ---- an item whose record is to come
 
-  module _ (content : List ℕ) (x : Item) (level : ℕ) (place : Progress) (stored : stored_items (x ∷ []) ≡ x ∷ []) where
-    here : (others : ToCome) → IsAt g content place (coming g level (x ∷ []) others) → IsAt g content place ((level, (x, None)) ∷ others)
-    here others is = subst (IsAt g content place) (coming_one g level x others stored) is
+  module _ (content : List ℕ) (x : Item) (level : ℕ) (progress : Progress) (stored : stored_items (x ∷ []) ≡ x ∷ []) where
+    here : (others : ToCome) → IsAt g content progress (coming g level (x ∷ []) others) → IsAt g content progress ((level, (x, None)) ∷ others)
+    here others is = subst (IsAt g content progress) (coming_one g level x others stored) is
 
-    pub one_too_deep : most_levels < level → IsUnbrought g content (x ∷ []) level place fault.TooDeep
-    one_too_deep deep others is = too_large content place level (x, None) others (here others is) (inl deep)
+    pub one_too_deep : most_levels < level → IsUnbrought g content (x ∷ []) level progress fault.TooDeep
+    one_too_deep deep others is = too_large content progress level (x, None) others (here others is) (inl deep)
 
-    pub one_too_many : most_records ≤ place.records → IsUnbrought g content (x ∷ []) level place fault.TooManyNodes
-    one_too_many many others is = too_large content place level (x, None) others (here others is) (inr many)
+    pub one_too_many : most_records ≤ progress.records → IsUnbrought g content (x ∷ []) level progress fault.TooManyNodes
+    one_too_many many others is = too_large content progress level (x, None) others (here others is) (inr many)
 
     -- what ends there breaks the way
-    pub one_breaks : (at : ℕ) → at ≡ place.at → ((others : ToCome) → Breaks version_one g unassigned 0 ((level, (x, None)) ∷ others) (next_before version_one content place.at)) → IsUnbrought g content (x ∷ []) level place (fault.Damaged at)
-    one_breaks at same so others is = subst (λ n. IsUpgradeFault g content (fault.Damaged n)) (sym same) (breaks_at content place ((level, (x, None)) ∷ others) (here others is) (so others))
+    pub one_breaks : (at : ℕ) → at ≡ progress.at → ((others : ToCome) → Breaks version_one g unassigned 0 ((level, (x, None)) ∷ others) (next_before version_one content progress.at)) → IsUnbrought g content (x ∷ []) level progress (fault.Damaged at)
+    one_breaks at same so others is = subst (λ n. IsUpgradeFault g content (fault.Damaged n)) (sym same) (breaks_at content progress ((level, (x, None)) ∷ others) (here others is) (so others))
 
-    pub one_missing : (at : ℕ) → at ≡ place.at → next_before version_one content place.at ≡ Ok None → IsUnbrought g content (x ∷ []) level place (fault.Damaged at)
+    pub one_missing : (at : ℕ) → at ≡ progress.at → next_before version_one content progress.at ≡ Ok None → IsUnbrought g content (x ∷ []) level progress (fault.Damaged at)
     one_missing at same found = one_breaks at same (λ others. subst (Breaks version_one g unassigned 0 ((level, (x, None)) ∷ others)) (sym found) tt)
 
-    pub one_wrong : (at : ℕ) (body : List ℕ) → at ≡ place.at → next_before version_one content place.at ≡ Ok (Some body) → ((r : OldRecord) → IsOf g x r → body ≡ body_in r → ⊥) → IsUnbrought g content (x ∷ []) level place (fault.Damaged at)
+    pub one_wrong : (at : ℕ) (body : List ℕ) → at ≡ progress.at → next_before version_one content progress.at ≡ Ok (Some body) → ((r : OldRecord) → IsOf g x r → body ≡ body_in r → ⊥) → IsUnbrought g content (x ∷ []) level progress (fault.Damaged at)
     one_wrong at body same found nothing = one_breaks at same (λ others. subst (Breaks version_one g unassigned 0 ((level, (x, None)) ∷ others)) (sym found) (no_record g x body nothing))
 
-    pub one_fault : {X : Type 0} (view : X → Option (List ℕ)) (f : FrameFault) → Told view (Err f) (next_before version_one content place.at) → IsUnbrought g content (x ∷ []) level place (run_fault_of_frame f)
-    one_fault view frame_fault.NotATreeFile found = absurd (never_no_file version_one content place.at found)
-    one_fault view (frame_fault.Damaged at) found = one_breaks at (damage_is_there version_one content place.at at found) (λ others. subst (Breaks version_one g unassigned 0 ((level, (x, None)) ∷ others)) (sym found) tt)
+    pub one_fault : {X : Type 0} (view : X → Option (List ℕ)) (f : FrameFault) → Told view (Err f) (next_before version_one content progress.at) → IsUnbrought g content (x ∷ []) level progress (run_fault_of_frame f)
+    one_fault view frame_fault.NotATreeFile found = absurd (never_no_file version_one content progress.at found)
+    one_fault view (frame_fault.Damaged at) found = one_breaks at (damage_is_there version_one content progress.at at found) (λ others. subst (Breaks version_one g unassigned 0 ((level, (x, None)) ∷ others)) (sym found) tt)
     one_fault view frame_fault.Device found = λ others is. tt
     one_fault view frame_fault.NoMemory found = λ others is. tt
 
@@ -227,8 +227,8 @@ postfix_both version (tree.more u us) ts =
 
 module _ (g : Grammar) (accepted : IsAccepted g) (content : List ℕ) where
   -- nothing was, where no item has a place
-  pub none_brought : (front xs : List Item) (level : ℕ) (place : Progress) (honest : Bool) (out : List ℕ) → stored_items xs ≡ [] → Brought g content front xs level place place honest out out []
-  none_brought front xs level place honest out none =
+  pub none_brought : (front xs : List Item) (level : ℕ) (progress : Progress) (honest : Bool) (out : List ℕ) → stored_items xs ≡ [] → Brought g content front xs level progress progress honest out out []
+  none_brought front xs level progress honest out none =
       let same : (others : ToCome) → coming g level (front ++ xs) others ≡ coming g level front others =
       λ others. coming_both g level front xs others ∙ ap (λ zs. before_others RightToLeft level (told version_one.has_copies g unassigned 0 zs []) (coming g level front others)) none in
       record {
@@ -237,7 +237,7 @@ module _ (g : Grammar) (accepted : IsAccepted g) (content : List ℕ) where
         deep = omega arith;
         read = refl;
         nodes = omega arith;
-        on = λ others is. subst (IsAt g content place) (same others) is;
+        on = λ others is. subst (IsAt g content progress) (same others) is;
         written = λ h. sym (append-nil out);
         texts_are = refl;
       }

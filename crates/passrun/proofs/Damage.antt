@@ -96,7 +96,7 @@ module _ (s : Source) (sound : IsTellable s) where
   pub broken : (content : List ℕ) (at : ℕ) → IsReadable s content → BreaksAt s content at → IsDamaged s content at
   broken content at readable h = record {
     none = way_breaks s.version s.grammar s.passes s.pass content at (length h.1.bodies) h.0 (way_to content at h.0 h.1) h.2;
-    place = inr (inr (readable, h));
+    shown = inr (inr (readable, h));
   }
 
   -- where it begins as no tree file, as reading its header tells,
@@ -109,7 +109,7 @@ module _ (s : Source) (sound : IsTellable s) where
               let begun : is_tree_file s.version content ≡ true = ap (is_tree_file s.version) file.stands ∙ begins s.version s.pass (flat_map frame (postfix (direction_of s.pass) (bodies_of s.version s.grammar s.passes s.pass t v))) sound.usable in
               let not_true : false ≡ true = sym is.0 ∙ begun in
               cc;
-          place = inl (is.0, refl);
+          shown = inl (is.0, refl);
         },
       )
 
@@ -120,7 +120,7 @@ module _ (s : Source) (sound : IsTellable s) where
       let otherwise : pass_of content ≢ s.pass = λ same. not (sym is.1 ∙ same) in
       record {
         none = no_file_has_no_tree s.version s.grammar s.passes s.pass content sound.usable small (λ both. otherwise both.1);
-        place = inr (inl (is.0, otherwise, refl));
+        shown = inr (inl (is.0, otherwise, refl));
       }
 
   -- it can be read where it is that of the pass before

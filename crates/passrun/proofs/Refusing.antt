@@ -17,7 +17,7 @@ use Rattle.treefile.specs.records.TreeFile.{version_two}
 use Rattle.treefile.specs.ways.Awaited.{Breaks, ToCome}
 use Rattle.treefile.specs.records.Records.{values_up_to}
 use Rattle.treefile.proofs.ways.Backward.{damage_is_there, never_no_file}
-use Rattle.backreader.specs.Place.{Place}
+use Rattle.backreader.specs.BackState.{BackState}
 use Rattle.passcode.specs.declared.instr.Instr.TheVariants as instr
 use Rattle.planchecker.specs.courses.Settings.{Setting, list_at}
 use Rattle.planchecker.specs.courses.Sound.{IsSound}
@@ -90,7 +90,7 @@ module _ (c : Setting) (sound : IsSound c) where
       unfetched c sound row.item (Some (values_up_to c.read (copied_passes c row.item) z.values)) (length m.waiting.items + 1) content m.back z.left f z.readable z.here z.count (subst (λ n. IsUnfetched c row.item n content m.back f) count (h w))
 
   -- the record of a child does not agree with its copy
-  pub get_differs : (honest : Bool) (content : List ℕ) (m : Machine) (x : OpenNode) (j p n : ℕ) (row : PlaceRow) (back : Place) (read ours theirs : List Value) (from start : ℕ) (answer : Bool) → RunsFrom c honest content m (Some x) → slice_get (list_at c x.production) x.at ≡ Some (instr.Get j) → Answers c x j (Some row)
+  pub get_differs : (honest : Bool) (content : List ℕ) (m : Machine) (x : OpenNode) (j p n : ℕ) (row : PlaceRow) (back : BackState) (read ours theirs : List Value) (from start : ℕ) (answer : Bool) → RunsFrom c honest content m (Some x) → slice_get (list_at c x.production) x.at ≡ Some (instr.Get j) → Answers c x j (Some row)
       → HasFetched c row.item p n honest content m.back back m.values.items read → Agrees c row.item ours theirs answer → (IsTrue answer → ⊥) → ours ≡ drop from read → theirs ≡ drop start read → from ≡ x.base + row.start → start ≡ length m.values.items
       → WhenHonest honest (IsDamaged (source c) content m.back.progress.at)
   get_differs honest content m x j p n row back read ours theirs from start answer runs at is h agrees not_true ours_are theirs_are from_is start_is w =
@@ -103,16 +103,16 @@ module _ (c : Setting) (sound : IsSound c) where
       disagreed c sound row.item p (suc (length m.waiting.items + 1)) content h.body m.back.progress.at z.left m.values.items read h.taken z.values (λ same. not_true (other.1 same)) z.readable z.here (h.found w)
 
   -- the content does not begin as a tree file
-  pub not_started : (content : List ℕ) (view : Place → ℕ) (f : FrameFault) → Told view (Err f) (pass_in version_two content) → IsRunFault c content (run_fault_of_frame f)
+  pub not_started : (content : List ℕ) (view : BackState → ℕ) (f : FrameFault) → Told view (Err f) (pass_in version_two content) → IsRunFault c content (run_fault_of_frame f)
   not_started content view frame_fault.NotATreeFile told = (unstarted (source c) (tellable c sound) content frame_fault.NotATreeFile told).1
   not_started content view (frame_fault.Damaged at) told = absurd (let z = (unstarted (source c) (tellable c sound) content (frame_fault.Damaged at) told).0 in cc)
   not_started content view frame_fault.Device told = tt
   not_started content view frame_fault.NoMemory told = tt
 
-  pub root_unfetched : (start : ℕ) (content : List ℕ) (place : Place) (f : RunFault) → start ≡ c.grammar.start → IsReadable (source c) content → place.progress.at ≡ length content → place.progress.records ≡ 0 → IsUnfetched c (item.Symbol start) 0 content place f → IsRunFault c content f
-  root_unfetched start content place f is readable end fresh h =
-      let here : ComesTo (source c) content place.progress.at ((1, (item.Symbol c.grammar.start, None)) ∷ []) = record { bodies = []; read = sym end; records = refl } in
-      unfetched c sound (item.Symbol c.grammar.start) None 0 content place [] f readable here fresh (subst (λ s. IsUnfetched c (item.Symbol s) 0 content place f) is h)
+  pub root_unfetched : (start : ℕ) (content : List ℕ) (state : BackState) (f : RunFault) → start ≡ c.grammar.start → IsReadable (source c) content → state.progress.at ≡ length content → state.progress.records ≡ 0 → IsUnfetched c (item.Symbol start) 0 content state f → IsRunFault c content f
+  root_unfetched start content state f is readable end fresh h =
+      let here : ComesTo (source c) content state.progress.at ((1, (item.Symbol c.grammar.start, None)) ∷ []) = record { bodies = []; read = sym end; records = refl } in
+      unfetched c sound (item.Symbol c.grammar.start) None 0 content state [] f readable here fresh (subst (λ s. IsUnfetched c (item.Symbol s) 0 content state f) is h)
 
   -- nothing is to come, and something is there
   pub left_over : (content : List ℕ) (at : ℕ) (body : List ℕ) → IsReadable (source c) content → ComesTo (source c) content at [] → next_before version_two content at ≡ Ok (Some body) → IsDamaged (source c) content at

@@ -32,7 +32,7 @@ use Rattle.treefile.proofs.records.Fitting.{numbered}
 use Rattle.treefile.proofs.records.OneTree.{one_file}
 use Rattle.treefile.proofs.records.Records.{bodies_fit}
 use Rattle.treefile.proofs.records.Texts.{texts_are_given}
-use Rattle.backreader.specs.Place.{IsOver, Place, Progress}
+use Rattle.backreader.specs.BackState.{IsOver, BackState, Progress}
 use Rattle.backreader.specs.Ranks.{rank_of}
 use Rattle.backreader.specs.Turning.{IsFileOf, IsWithinLimits, TreeTurned, TurnTold, most_records}
 use Rattle.backreader.specs.declared.turning.TurnFault.{TurnFault}
@@ -52,7 +52,7 @@ module _ (g : Grammar) (accepted : IsAccepted g) where
   pub not_begun : {X : Type 0} (view : X → ℕ) (content : List ℕ) (f : FrameFault) → Told view (Err f) (pass_in version_one content) → IsUpgradeFault g content (run_fault_of_frame f)
   not_begun view content frame_fault.NotATreeFile found =
       let damaged = (unstarted (old_file g) (tellable g accepted) content frame_fault.NotATreeFile found).1 in
-      (no_first g accepted content damaged.none, damaged.place)
+      (no_first g accepted content damaged.none, damaged.shown)
   not_begun view content (frame_fault.Damaged at) found =
       let other = (unstarted (old_file g) (tellable g accepted) content (frame_fault.Damaged at) found).0 in
       absurd cc
@@ -62,10 +62,10 @@ module _ (g : Grammar) (accepted : IsAccepted g) where
   pub of_other_pass : (content : List ℕ) (pass : ℕ) → pass_in version_one content ≡ Ok pass → pass ≢ 0 → IsUpgradeFault g content (fault.Damaged 4)
   of_other_pass content pass found not =
       let damaged = other_pass (old_file g) (tellable g accepted) content pass (omega arith) found not in
-      (no_first g accepted content damaged.none, damaged.place)
+      (no_first g accepted content damaged.none, damaged.shown)
 
-  pub begins_at : (content : List ℕ) (pass : ℕ) (place : Progress) → pass_in version_one content ≡ Ok pass → pass ≡ 0 → place.at ≡ length content → place.records ≡ 0 → IsAt g content place ((1, (item.Symbol g.start, None)) ∷ [])
-  begins_at content pass place found first end fresh = record {
+  pub begins_at : (content : List ℕ) (pass : ℕ) (progress : Progress) → pass_in version_one content ≡ Ok pass → pass ≡ 0 → progress.at ≡ length content → progress.records ≡ 0 → IsAt g content progress ((1, (item.Symbol g.start, None)) ∷ [])
+  begins_at content pass progress found first end fresh = record {
     readable = readable (old_file g) (tellable g accepted) content pass found first;
     way = record { bodies = []; read = sym end; records = refl };
     counted = fresh;
@@ -73,19 +73,19 @@ module _ (g : Grammar) (accepted : IsAccepted g) where
 
   -- ---- the end
 
-  pub left_over : (content : List ℕ) (place : Progress) (at : ℕ) (body : List ℕ) → at ≡ place.at → IsAt g content place [] → next_before version_one content place.at ≡ Ok (Some body) → IsUpgradeFault g content (fault.Damaged at)
-  left_over content place at body same here found =
-      subst (λ n. IsUpgradeFault g content (fault.Damaged n)) (sym same) (breaks_at g accepted content place [] here (subst (Breaks version_one g unassigned 0 []) (sym found) tt))
+  pub left_over : (content : List ℕ) (progress : Progress) (at : ℕ) (body : List ℕ) → at ≡ progress.at → IsAt g content progress [] → next_before version_one content progress.at ≡ Ok (Some body) → IsUpgradeFault g content (fault.Damaged at)
+  left_over content progress at body same here found =
+      subst (λ n. IsUpgradeFault g content (fault.Damaged n)) (sym same) (breaks_at g accepted content progress [] here (subst (Breaks version_one g unassigned 0 []) (sym found) tt))
 
-  pub fault_behind : {X : Type 0} (view : X → Option (List ℕ)) (content : List ℕ) (place : Progress) (f : FrameFault) → IsAt g content place [] → Told view (Err f) (next_before version_one content place.at) → IsUpgradeFault g content (run_fault_of_frame f)
-  fault_behind view content place frame_fault.NotATreeFile here found = absurd (never_no_file version_one content place.at found)
-  fault_behind view content place (frame_fault.Damaged at) here found =
-      subst (λ n. IsUpgradeFault g content (fault.Damaged n)) (sym (damage_is_there version_one content place.at at found)) (breaks_at g accepted content place [] here (subst (Breaks version_one g unassigned 0 []) (sym found) tt))
-  fault_behind view content place frame_fault.Device here found = tt
-  fault_behind view content place frame_fault.NoMemory here found = tt
+  pub fault_behind : {X : Type 0} (view : X → Option (List ℕ)) (content : List ℕ) (progress : Progress) (f : FrameFault) → IsAt g content progress [] → Told view (Err f) (next_before version_one content progress.at) → IsUpgradeFault g content (run_fault_of_frame f)
+  fault_behind view content progress frame_fault.NotATreeFile here found = absurd (never_no_file version_one content progress.at found)
+  fault_behind view content progress (frame_fault.Damaged at) here found =
+      subst (λ n. IsUpgradeFault g content (fault.Damaged n)) (sym (damage_is_there version_one content progress.at at found)) (breaks_at g accepted content progress [] here (subst (Breaks version_one g unassigned 0 []) (sym found) tt))
+  fault_behind view content progress frame_fault.Device here found = tt
+  fault_behind view content progress frame_fault.NoMemory here found = tt
 
   -- the root's tree, and nothing behind it
-  pub whole_brought : (content : List ℕ) (before : Progress) (now : Place) (honest : Bool) (out_old out : List ℕ) (texts : List Value) → IsAt g content before ((1, (item.Symbol g.start, None)) ∷ []) → before.at ≡ length content → before.records ≡ 0
+  pub whole_brought : (content : List ℕ) (before : Progress) (now : BackState) (honest : Bool) (out_old out : List ℕ) (texts : List Value) → IsAt g content before ((1, (item.Symbol g.start, None)) ∷ []) → before.at ≡ length content → before.records ≡ 0
       → Brought g content [] (item.Symbol g.start ∷ []) 1 before now.progress honest out_old out texts → IsOver content now → now.progress.records ≤ most_records → next_before version_one content now.progress.at ≡ Ok None → WhenHonest honest (out_old ≡ header version_two 1)
       → IsBrought g content honest out
   whole_brought content before now honest out_old out texts here end fresh brought over few none begun = go brought.trees brought.fits brought.deep brought.read brought.nodes brought.written

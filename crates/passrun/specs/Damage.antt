@@ -59,7 +59,7 @@ ShowsAt s content at =
 -- R1: the content is the file of no tree, and it shows there.
 pub record IsDamaged (s : Source) (content : List ℕ) (at : ℕ) : Type 0 where
   pub none : HasNoTree s.version s.grammar s.passes s.pass content
-  pub place : ShowsAt s content at
+  pub shown : ShowsAt s content at
 
 -- the file of pass k of a tree of binary fractions
 abbrev pub fractions : ℕ → Source

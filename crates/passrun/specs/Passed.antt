@@ -13,7 +13,7 @@ use Rattle.treefile.specs.devices.Device.{WhenHonest}
 use Rattle.treefile.specs.records.Records.{IsFileOfTree}
 use Rattle.treefile.specs.records.TreeFile.{frame, header, version_two}
 use Rattle.treefile.specs.ways.Writing as writing
-use Rattle.backreader.specs.Place.{IsOver, Place}
+use Rattle.backreader.specs.BackState.{IsOver, BackState}
 use Rattle.planchecker.specs.courses.Settings.{Setting}
 use Rattle.passrun.specs.declared.passing.open_node.OpenNode.{OpenNode}
 use Rattle.passrun.specs.Damage.{AreRecords, IsReadable, source}
@@ -35,18 +35,18 @@ pub record IsPassed (c : Setting) (content to : List ℕ) (count evals : ℕ) : 
 
 -- A pass runs between two devices: what it has read and put is what the reader and the writer have. What was read are records of
 -- the grammar at their places, and of the open nodes these trees are still to come.
-pub record IsRunning (c : Setting) (root : ℕ) (honest : Bool) (content : List ℕ) (to_honest : Bool) (to : List ℕ) (place : Place) (out : writing.Progress) (values : List Value) (stack : List OpenNode) (evals : ℕ) : Type 0 where
+pub record IsRunning (c : Setting) (root : ℕ) (honest : Bool) (content : List ℕ) (to_honest : Bool) (to : List ℕ) (state : BackState) (out : writing.Progress) (values : List Value) (stack : List OpenNode) (evals : ℕ) : Type 0 where
   pub tapes : Tapes
   pub todo : ToCome
   pub passing : Passing c root stack values tapes evals todo
-  pub over : WhenHonest honest (IsOver content place)
-  pub read : WhenHonest honest (ReadsTo version_two content (length content) tapes.read place.progress.at)
-  pub records : place.progress.records ≡ length tapes.read
+  pub over : WhenHonest honest (IsOver content state)
+  pub read : WhenHonest honest (ReadsTo version_two content (length content) tapes.read state.progress.at)
+  pub records : state.progress.records ≡ length tapes.read
   pub few : length tapes.read ≤ most_nodes
   pub put : WhenHonest to_honest (to ≡ header version_two c.write ++ flat_map frame tapes.put)
   pub written : out.written ≡ length tapes.put
-  pub version : place.progress.version ≡ version_two
-  pub unbroken : place.progress.fault ≡ None
+  pub version : state.progress.version ≡ version_two
+  pub unbroken : state.progress.fault ≡ None
   pub whole : out.is_broken ≡ false
   pub well : All IsWell values
   pub readable : WhenHonest honest (IsReadable (source c) content)

@@ -19,7 +19,7 @@ use Rattle.treefile.specs.records.TreeFile.{body_of, file, frame, version_one, v
 use Rattle.treefile.specs.ways.Writing as writing
 use Rattle.treefile.specs.declared.body.Kind.{Kind}
 use Rattle.treefile.specs.declared.body.Kind.TheVariants.{Node, Token}
-use Rattle.backreader.specs.Place.{IsOver, Place, Progress}
+use Rattle.backreader.specs.BackState.{IsOver, BackState, Progress}
 use Rattle.backreader.specs.Turning.{most_levels, most_records}
 use Rattle.passrun.specs.Damage.{ComesTo, IsReadable, ShowsAt, Source}
 use Rattle.passrun.specs.declared.reading.old_record.OldRecord.{OldRecord}
@@ -71,27 +71,27 @@ abbrev pub coming : Grammar → ℕ → List Item → ToCome → ToCome
 coming g level xs others = before_others RightToLeft level (to_come g xs) others
 
 -- A reader has come so far in an old file: what it lent are records of the grammar at their places, and these are still to come.
-pub record IsAt (g : Grammar) (content : List ℕ) (place : Progress) (todo : ToCome) : Type 0 where
+pub record IsAt (g : Grammar) (content : List ℕ) (progress : Progress) (todo : ToCome) : Type 0 where
   pub readable : IsReadable (old_file g) content
-  pub way : ComesTo (old_file g) content place.at todo
-  pub counted : place.records ≡ length way.bodies
+  pub way : ComesTo (old_file g) content progress.at todo
+  pub counted : progress.records ≡ length way.bodies
 
 -- why trees of items at a level could not be brought over, whatever was to come behind them
 abbrev pub IsUnbrought : Grammar → List ℕ → List Item → (level : ℕ) → Progress → RunFault → Type 0
-IsUnbrought g content xs level place f = (others : ToCome) → IsAt g content place (coming g level xs others) → IsUpgradeFault g content f
+IsUnbrought g content xs level progress f = (others : ToCome) → IsAt g content progress (coming g level xs others) → IsUpgradeFault g content f
 
 -- The reader is one of an old file, and no refusal is answered for good; not more records were written than read, and not more read
 -- than may be.
-pub record IsReady (honest : Bool) (content : List ℕ) (place : Place) (out : writing.Progress) : Type 0 where
-  pub over : WhenHonest honest (IsOver content place)
-  pub version : place.progress.version ≡ version_one
-  pub unbroken : place.progress.fault ≡ None
+pub record IsReady (honest : Bool) (content : List ℕ) (state : BackState) (out : writing.Progress) : Type 0 where
+  pub over : WhenHonest honest (IsOver content state)
+  pub version : state.progress.version ≡ version_one
+  pub unbroken : state.progress.fault ≡ None
   pub whole : out.is_broken ≡ false
-  pub few : place.progress.records ≤ most_records
-  pub written : out.written ≤ place.progress.records
+  pub few : state.progress.records ≤ most_records
+  pub written : out.written ≤ state.progress.records
 
 -- a record of an item was read, whose tree stands at a level
-pub record HasTaken (g : Grammar) (x : Item) (level : ℕ) (honest : Bool) (content : List ℕ) (before now : Place) (r : OldRecord) : Type 0 where
+pub record HasTaken (g : Grammar) (x : Item) (level : ℕ) (honest : Bool) (content : List ℕ) (before now : BackState) (r : OldRecord) : Type 0 where
   pub is : IsOf g x r
   pub found : WhenHonest honest (next_before version_one content before.progress.at ≡ Ok (Some (body_in r)))
   pub over : WhenHonest honest (IsOver content now)

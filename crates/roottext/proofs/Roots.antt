@@ -165,7 +165,7 @@ found_tells_root g rows code content (Err out_fault.NotATreeFile) accepted plan 
     let tree = root_of_tree g rows code last t v content accepted plan fits is in
     let both : Ok tree.0 ≡ Err frame_fault.NotATreeFile = sym tree.3 ∙ found in
     cc
-found_tells_root g rows code content (Err (out_fault.Damaged place)) accepted plan found last greatest t v fits is =
+found_tells_root g rows code content (Err (out_fault.Damaged at)) accepted plan found last greatest t v fits is =
     let tree = tree_is_found g rows code last t v content accepted plan greatest fits is in
     found.none tree.0 tree.1
 found_tells_root g rows code content (Err out_fault.Device) accepted plan found last greatest t v fits is = tt
@@ -174,17 +174,17 @@ found_tells_root g rows code content (Err out_fault.NoMemory) accepted plan foun
 -- Where a content gives no body, this is what is found of it,
 pub body_refused : {A : Type 0} (g : Grammar) (rows : List (List ℕ)) (content : List ℕ) (view : A → List ℕ) (e : FrameFault) → Told view (Err e) (last_body_of version_two content) → FindsValue g rows content (Err e)
 body_refused g rows content view frame_fault.NotATreeFile told = told
-body_refused g rows content view (frame_fault.Damaged place) told = record {
-  end = damaged_at_end version_two content place told;
-  begins = λ other. let both : Err (frame_fault.Damaged place) ≡ Err frame_fault.NotATreeFile = sym told ∙ other in cc;
-  none = λ x found. let both : Ok found.body ≡ Err (frame_fault.Damaged place) = sym found.last ∙ told in cc;
+body_refused g rows content view (frame_fault.Damaged at) told = record {
+  end = damaged_at_end version_two content at told;
+  begins = λ other. let both : Err (frame_fault.Damaged at) ≡ Err frame_fault.NotATreeFile = sym told ∙ other in cc;
+  none = λ x found. let both : Ok found.body ≡ Err (frame_fault.Damaged at) = sym found.last ∙ told in cc;
 }
 body_refused g rows content view frame_fault.Device told = tt
 body_refused g rows content view frame_fault.NoMemory told = tt
 
 -- and where its last body is not the root's record.
-pub no_root_at_end : (g : Grammar) (rows : List (List ℕ)) (content body : List ℕ) (place : ℕ) → place ≡ length content → last_body_of version_two content ≡ Ok body → ((x : Value) → IsRootRecord g rows body x → ⊥) → EndsWithNoRoot g rows content place
-no_root_at_end g rows content body place end last nothing = record {
+pub no_root_at_end : (g : Grammar) (rows : List (List ℕ)) (content body : List ℕ) (at : ℕ) → at ≡ length content → last_body_of version_two content ≡ Ok body → ((x : Value) → IsRootRecord g rows body x → ⊥) → EndsWithNoRoot g rows content at
+no_root_at_end g rows content body at end last nothing = record {
   end = end;
   begins = λ other. let both : Ok body ≡ Err frame_fault.NotATreeFile = sym last ∙ other in cc;
   none = λ x found. let both : Ok found.body ≡ Ok body = sym found.last ∙ last in let same : found.body ≡ body = cc in nothing x (subst (λ b. IsRootRecord g rows b x) same found.root);
@@ -193,6 +193,6 @@ no_root_at_end g rows content body place end last nothing = record {
 -- a fault of reading says the same as the fault of the text
 pub fault_found : (g : Grammar) (rows : List (List ℕ)) (content : List ℕ) (e : FrameFault) → FindsValue g rows content (Err e) → FindsText g rows content (Err (out_fault_of e))
 fault_found g rows content frame_fault.NotATreeFile found = found
-fault_found g rows content (frame_fault.Damaged place) found = found
+fault_found g rows content (frame_fault.Damaged at) found = found
 fault_found g rows content frame_fault.Device found = tt
 fault_found g rows content frame_fault.NoMemory found = tt

@@ -7,6 +7,6 @@ use Rattle.roottext.specs.declared.fault.OutFault.TheVariants as out_fault
 -- the fault of taking the translation out where a tree file gives no body
 abbrev pub out_fault_of : FrameFault → OutFault
 out_fault_of frame_fault.NotATreeFile = out_fault.NotATreeFile
-out_fault_of (frame_fault.Damaged place) = out_fault.Damaged place
+out_fault_of (frame_fault.Damaged at) = out_fault.Damaged at
 out_fault_of frame_fault.Device = out_fault.Device
 out_fault_of frame_fault.NoMemory = out_fault.NoMemory

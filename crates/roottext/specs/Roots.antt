@@ -35,9 +35,9 @@ pub record EndsWithRoot (g : Grammar) (rows : List (List ℕ)) (content : List �
   pub last : last_body_of version_two content ≡ Ok body
   pub root : IsRootRecord g rows body x
 
--- A content that begins as a tree file has no root's record at its end, which is the place that is told.
-pub record EndsWithNoRoot (g : Grammar) (rows : List (List ℕ)) (content : List ℕ) (place : ℕ) : Type 0 where
-  pub end : place ≡ length content
+-- A content that begins as a tree file has no root's record at its end, which is the offset that is told.
+pub record EndsWithNoRoot (g : Grammar) (rows : List (List ℕ)) (content : List ℕ) (at : ℕ) : Type 0 where
+  pub end : at ≡ length content
   pub begins : last_body_of version_two content ≢ Err frame_fault.NotATreeFile
   pub none : (x : Value) → EndsWithRoot g rows content x → ⊥
 
@@ -46,7 +46,7 @@ pub record EndsWithNoRoot (g : Grammar) (rows : List (List ℕ)) (content : List
 abbrev pub FindsValue : Grammar → List (List ℕ) → List ℕ → Result Value FrameFault → Type 0
 FindsValue g rows content (Ok x) = EndsWithRoot g rows content x
 FindsValue g rows content (Err frame_fault.NotATreeFile) = last_body_of version_two content ≡ Err frame_fault.NotATreeFile
-FindsValue g rows content (Err (frame_fault.Damaged place)) = EndsWithNoRoot g rows content place
+FindsValue g rows content (Err (frame_fault.Damaged at)) = EndsWithNoRoot g rows content at
 FindsValue g rows content (Err frame_fault.Device) = Unit {0}
 FindsValue g rows content (Err frame_fault.NoMemory) = Unit {0}
 
@@ -59,7 +59,7 @@ abbrev pub FindsText : Grammar → List (List ℕ) → List ℕ → Result (List
 FindsText g rows content (Ok text) = FindsValue g rows content (Ok (Text text))
 FindsText g rows content (Err (out_fault.NoText x)) = FindsValue g rows content (Ok x) × IsNoText x
 FindsText g rows content (Err out_fault.NotATreeFile) = FindsValue g rows content (Err frame_fault.NotATreeFile)
-FindsText g rows content (Err (out_fault.Damaged place)) = FindsValue g rows content (Err (frame_fault.Damaged place))
+FindsText g rows content (Err (out_fault.Damaged at)) = FindsValue g rows content (Err (frame_fault.Damaged at))
 FindsText g rows content (Err out_fault.Device) = Unit {0}
 FindsText g rows content (Err out_fault.NoMemory) = Unit {0}
 
@@ -69,7 +69,7 @@ abbrev pub IsRootText : Grammar → Valuation → Result (List ℕ) OutFault →
 IsRootText g v (Ok text) = IsTranslation g v (Text text)
 IsRootText g v (Err (out_fault.NoText x)) = IsTranslation g v x × IsNoText x
 IsRootText g v (Err out_fault.NotATreeFile) = ⊥
-IsRootText g v (Err (out_fault.Damaged place)) = ⊥
+IsRootText g v (Err (out_fault.Damaged at)) = ⊥
 IsRootText g v (Err out_fault.Device) = Unit {0}
 IsRootText g v (Err out_fault.NoMemory) = Unit {0}
 

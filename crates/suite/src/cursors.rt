@@ -14,12 +14,12 @@ fn tokens_one_by_one(rt: HostRuntime) -> Result<(), Fail> {
         (Token::Punctuation(Punctuation::Semicolon), 15),
     ] {
         assert_eq!(rt; cursor.peek(), Some(token));
-        assert_eq!(rt; cursor.place(), at);
+        assert_eq!(rt; cursor.offset(), at);
         assert!(rt; !cursor.is_at_end());
         cursor.bump();
     }
     assert_eq!(rt; cursor.peek(), None);
-    assert_eq!(rt; cursor.place(), 16);
+    assert_eq!(rt; cursor.offset(), 16);
     assert!(rt; cursor.is_at_end());
     assert_eq!(rt; unescaped(rt.alloc(), "b\\n")?.as_str(), "b\n");
     Ok(())
@@ -32,7 +32,7 @@ fn no_token_in_front(rt: HostRuntime) -> Result<(), Fail> {
     cursor.bump();
     cursor.bump();
     assert_eq!(rt; cursor.peek(), None);
-    assert_eq!(rt; cursor.place(), 2);
+    assert_eq!(rt; cursor.offset(), 2);
     assert!(rt; !cursor.is_at_end());
     Ok(())
 }

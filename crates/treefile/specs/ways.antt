@@ -3,4 +3,5 @@ pub mod Awaited
 pub mod Backward
 pub mod Beginning
 pub mod Ending
+pub mod Puts
 pub mod Writing

@@ -45,7 +45,7 @@ pub fn last_is_read()
         last_body_of version (file version pass (bodies ++ body ∷ [])) ≡ Ok body }
     ensures none { (version : Version) (pass : ℕ) → IsUsable version →
         last_body_of version (file version pass []) ≡ Err (Damaged 6) }
-    ensures place { (version : Version) (content : List ℕ) (at : ℕ) →
+    ensures damaged { (version : Version) (content : List ℕ) (at : ℕ) →
         last_body_of version content ≡ Err (Damaged at) → at ≡ length content }
 {}
 

@@ -8,6 +8,7 @@ ghost use Rattle.ag_value.specs.Well.{IsWell};
 ghost use Rattle.treefile.specs.devices.Device.{AppendsFront, LeavesContent, Persists, WhenHonest};
 ghost use Rattle.treefile.specs.ways.Ending.{IsBody};
 ghost use Rattle.treefile.specs.devices.Faults.{write_fault_of};
+ghost use Rattle.treefile.specs.ways.Puts.{SettlesPut};
 ghost use Rattle.treefile.specs.records.TreeFile.{body_of, frame, header, version_two};
 ghost use Rattle.treefile.specs.declared.writing.WriteFault.TheVariants as write_fault;
 
@@ -177,22 +178,15 @@ impl Writer {
         requires room { self.old.written < 2 ^ 64 - 1 }
         ensures frame { OnOk result (WhenHonest (D.is_honest device.old)
             (D.content device.new ≡ D.content device.old ++ frame body.now)) }
-        ensures counted { OnOk result
-            (self.new ≡ record self.old { written = self.old.written + 1 }) }
+        ensures writer { SettlesPut device.old device.new self.old self.new result }
 
-        // D1: a beginning of the frame, and a broken writer
+        // D1: a beginning of the frame
         ensures device { IsErrOf result WriteFault.Device → WhenHonest (D.is_honest device.old)
             (AppendsFront (frame body.now) (D.content device.old) (D.content device.new)) }
-        ensures breaks { IsErrOf result WriteFault.Device →
-            self.new ≡ record self.old { is_broken = true } }
-        ensures broken { self.old.is_broken ≡ true →
-            IsErrOf result WriteFault.Device × (device.new ≡ device.old) }
 
         // no memory: nothing changes
         ensures memory { IsErrOf result WriteFault.NoMemory →
             LeavesContent (D.is_honest device.old) (D.content device.old) (D.content device.new) }
-        ensures unchanged { IsErrOf result WriteFault.NoMemory → self.new ≡ self.old }
-
         ensures persists { Persists (D.is_honest device.old) (D.is_honest device.new)
             (D.failures device.old) (D.failures device.new)
             (IsErrOf result WriteFault.Device × (self.old.is_broken ≡ false)) }

@@ -9,7 +9,7 @@ ghost use Rattle.ag_value.specs.declared.value.Value.TheVariants as value;
 ghost use Rattle.ag_eval.specs.Operands.{held_value};
 ghost use Rattle.ag_grammar.specs.values.Arguments.{fault_of};
 ghost use Rattle.ag_grammar.specs.values.Fitting.{fit};
-ghost use Rattle.ag_grammar.specs.values.Tables.{IsPlace, got_from, had_by, has_key, keys_of};
+ghost use Rattle.ag_grammar.specs.values.Tables.{IsIndex, got_from, had_by, has_key, keys_of};
 ghost use Rattle.ag_grammar.specs.values.Tables.{pair_with, put_in, with_pair};
 
 use crate::builtins::comparing::truth;
@@ -22,7 +22,7 @@ use std::alloc::Global;
 fn index_of(pairs: &[(Text, Value)], key: &str) -> usize
     requires { is_rising (map key_of pairs.now) ≡ true }
     ensures within { result ≤ length pairs.now }
-    ensures index { IsPlace key.now pairs.now result }
+    ensures index { IsIndex key.now pairs.now result }
 {
     pairs.partition_point(|pair| pair.0.as_str() < key)
 }
@@ -136,7 +136,7 @@ fn replaced(pairs: Items<(Text, Value)>, index: usize, item: Value) -> Measured
     requires table { IsWell (value.Table pairs) }
     requires item { is_item item ≡ true }
     requires within { index < length pairs }
-    ensures { (key : List ℕ) → IsPlace key pairs index
+    ensures { (key : List ℕ) → IsIndex key pairs index
         → has_key key (slice_get pairs index) ≡ true
         → result ≡ fit (value.Table (with_pair key item pairs)) }
 {

@@ -10,7 +10,7 @@ use Rattle.ag_grammar.specs.declared.syntax.node.Node.TheVariants as node
 use Rattle.ag_grammar.specs.declared.syntax.node.Node.TheOpen.{Node-F}
 use Rattle.ag_grammar.specs.declared.syntax.occurrence.Occ.{Occ}
 use Rattle.ag_expr.specs.declared.parser.Precedence.{Precedence}
-use Rattle.ag_expr.specs.language.Names.{Names, last_from, place_in, is_reserved}
+use Rattle.ag_expr.specs.language.Names.{Names, last_from, number_in, is_reserved}
 use Rattle.ag_expr.specs.language.Occurrences.{is_of, position_of}
 use Rattle.ag_tokens.specs.Words as syntax
 use Rattle.ag_tokens.specs.Words.{Many, none, more, further, gives, one, ◌or◌}
@@ -93,7 +93,7 @@ module _ (listed : List Occ) where
       operand : (t : Token) → IfSome (operand_of listed scope t) (Within n (length scope))
       operand (token.Number z) = literal_within n (length scope) _
       operand (token.Text bytes) = literal_within n (length scope) _
-      operand (token.Name x) = name (is_reserved x) (place_in scope x) (subst (λ m. IfSome (place_in scope x) (λ k. k < m)) (omega arith) (last_below (λ y. bytes_eq y x) 0 None scope tt))
+      operand (token.Name x) = name (is_reserved x) (number_in scope x) (subst (λ m. IfSome (number_in scope x) (λ k. k < m)) (omega arith) (last_below (λ y. bytes_eq y x) 0 None scope tt))
       operand (token.Occurrence place attr) = occurrence (position_of listed place attr) (within (is_of place attr) listed)
       operand (token.Punctuation m) = tt
 

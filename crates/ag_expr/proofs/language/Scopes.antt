@@ -1,14 +1,14 @@
--- The names that are bound around a place, as they are kept.
+-- The names in scope, as they are kept.
 use Rattle.std.proofs.lemmas.List.{map-append}
 use Rattle.std.proofs.Common.{◌∙◌, length, option_to_list, arith, append-nil, ◌≡◌, ℕ, ◌+◌, List, [], ◌∷◌, ◌++◌, map, Option, Some, None, Bor, bytes_eq, cond, refl, ap, sym}
-use Rattle.ag_expr.specs.language.Names.{Names, last_from, place_in, outer}
+use Rattle.ag_expr.specs.language.Names.{Names, last_from, number_in, outer}
 
 last_map : (name : List ℕ) (at : ℕ) (found : Option ℕ) (ys : List (Bor (List ℕ))) → last_from (λ y. bytes_eq y name) at found (map (λ y. y.now) ys) ≡ last_from (λ y. bytes_eq y.now name) at found ys
 last_map name at found [] = refl
 last_map name at found (y ∷ ys) = last_map name (at + 1) (cond (bytes_eq y.now name) (Some at) found) ys
 
--- the place of a name among lent ones
-pub last_lent : (name : List ℕ) (ys : List (Bor (List ℕ))) → place_in (map (λ y. y.now) ys) name ≡ last_from (λ y. bytes_eq y.now name) 0 None ys
+-- the number of a name among lent ones
+pub last_lent : (name : List ℕ) (ys : List (Bor (List ℕ))) → number_in (map (λ y. y.now) ys) name ≡ last_from (λ y. bytes_eq y.now name) 0 None ys
 last_lent name ys = last_map name 0 None ys
 
 -- what stands around the innermost name

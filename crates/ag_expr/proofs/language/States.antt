@@ -5,7 +5,7 @@ use Rattle.ag_tokens.specs.declared.fault.TokenFault.TheVariants as token_fault
 use Rattle.ag_tokens.specs.declared.token.Punctuation.TheVariants as punctuation
 use Rattle.ag_tokens.specs.Ending.{Ending}
 use Rattle.ag_tokens.specs.Left.{one_before}
-use Rattle.ag_tokens.specs.Parsing.{front, next, place, is_end, is_sign, fault_of}
+use Rattle.ag_tokens.specs.Parsing.{front, next, offset, is_end, is_sign, fault_of}
 use Rattle.ag_tokens.specs.Placed.{Placed, Input}
 use Rattle.ag_tokens.specs.Token.{Token, mark}
 use Rattle.ag_tokens.specs.Token as token
@@ -31,7 +31,7 @@ told None at = fault.Unexpected at
 told (Some token_fault.Nothing) at = fault.NoToken at
 told (Some token_fault.TooLarge) at = fault.NumberTooLarge at
 
-pub told_is : (i : Input) (f : Option TokenFault) → f ≡ fault_of i.ending i.left → told f (place i) ≡ refusal i
+pub told_is : (i : Input) (f : Option TokenFault) → f ≡ fault_of i.ending i.left → told f (offset i) ≡ refusal i
 told_is i f is = grind arith
 
 -- it is the same where the tokens end at a `;`
@@ -50,7 +50,7 @@ ends_is s = grind arith
 
 -- a token stands in front
 pub record Stands (s : State) (t : Token) : Type 0 where
-  pub is : input s ≡ one_before (place s.tokens) t (input (passed s))
+  pub is : input s ≡ one_before (offset s.tokens) t (input (passed s))
   pub behind : from_end s.is_statement (next s.tokens) ≡ from_end s.is_statement s.tokens
 
 pub stands : (s : State) (t : Token) → front (input s) ≡ Some t → Stands s t
@@ -64,7 +64,7 @@ module _ (s : State) (t : Token) (h : front (input s) ≡ Some t) where
   pub passed_input : input (passed s) ≡ next (input s)
   passed_input = sym (ap next (stands s t h).is)
 
-  all_is : everything s ≡ listed_with_all s.listed (occurrence_in t (place s.tokens) ++ all_occurrences (input (passed s)).left)
+  all_is : everything s ≡ listed_with_all s.listed (occurrence_in t (offset s.tokens) ++ all_occurrences (input (passed s)).left)
   unfolding everything
   all_is = ap (λ (i : Input). listed_with_all s.listed (all_occurrences i.left)) (stands s t h).is
 
@@ -73,29 +73,29 @@ module _ (s : State) (t : Token) (h : front (input s) ≡ Some t) where
   unfolding everything
   passed_keeps other = record { occurrences = sym (all_is ∙ ap (λ os. listed_with_all s.listed (os ++ all_occurrences (input (passed s)).left)) (none t (sym (ap is_occurrence h) ∙ other))); names = refl; kind = refl; behind = (stands s t h).behind }
     where
-      none : (t : Token) → is_occurrence (Some t) ≡ false → occurrence_in t (place s.tokens) ≡ []
+      none : (t : Token) → is_occurrence (Some t) ≡ false → occurrence_in t (offset s.tokens) ≡ []
       none t h = grind arith
 
   -- an expression begins with it where it begins with it among all occurrences
   begins_same : begins (everything s) s.scope t ≡ begins_here s.scope t
   begins_same = go t all_is
     where
-      go : (t : Token) → everything s ≡ listed_with_all s.listed (occurrence_in t (place s.tokens) ++ all_occurrences (input (passed s)).left) → begins (everything s) s.scope t ≡ begins_here s.scope t
+      go : (t : Token) → everything s ≡ listed_with_all s.listed (occurrence_in t (offset s.tokens) ++ all_occurrences (input (passed s)).left) → begins (everything s) s.scope t ≡ begins_here s.scope t
       go (token.Number n) all = refl
       go (token.Text bytes) all = refl
       go (token.Name name) all = refl
       go (token.Occurrence p attr) all =
-          let x : Occ = record { place = p; attr = attr; at = place s.tokens } in
+          let x : Occ = record { place = p; attr = attr; at = offset s.tokens } in
           let k = has_number s.listed x in
           let number = ap (λ os. position_of os p attr) all ∙ position_stays (listed_with s.listed x) p attr k.0 (all_occurrences (input (passed s)).left) k.1 in
           rw number refl
       go (token.Punctuation m) all = refl
 
   -- why none begins where no level is left
-  level_is : no_level s ≡ cond (begins_here s.scope t) (fault.TooDeep (place s.tokens)) (fault.Unexpected (place s.tokens))
+  level_is : no_level s ≡ cond (begins_here s.scope t) (fault.TooDeep (offset s.tokens)) (fault.Unexpected (offset s.tokens))
   level_is = ap (λ (i : Input). no_level_of (everything s) s.scope i.ending i.left) (stands s t h).is ∙ rw begins_same (grind arith)
 
-  pub too_deep : begins_here s.scope t ≡ true → no_level s ≡ fault.TooDeep (place s.tokens)
+  pub too_deep : begins_here s.scope t ≡ true → no_level s ≡ fault.TooDeep (offset s.tokens)
   too_deep b = level_is ∙ rw b refl
 
   pub not_begun : begins_here s.scope t ≡ false → no_level s ≡ refusal (input s)
@@ -105,7 +105,7 @@ pub none_begun : (s : State) → front (input s) ≡ None → no_level s ≡ ref
 none_begun s h = grind arith
 
 -- an occurrence that is passed is listed
-module _ (s : State) (p : ℕ) (attr : List ℕ) (listed : List Occ) (h : front (input s) ≡ Some (token.Occurrence p attr)) (is : listed ≡ listed_with s.listed (record { place = p; attr = attr; at = place s.tokens })) where
+module _ (s : State) (p : ℕ) (attr : List ℕ) (listed : List Occ) (h : front (input s) ≡ Some (token.Occurrence p attr)) (is : listed ≡ listed_with s.listed (record { place = p; attr = attr; at = offset s.tokens })) where
   all_listed : everything s ≡ listed_with_all listed (all_occurrences (input (passed s)).left)
   all_listed = all_is s (token.Occurrence p attr) h ∙ ap (λ os. listed_with_all os (all_occurrences (input (passed s)).left)) (sym is)
 

@@ -11,7 +11,7 @@ use Rattle.ag_expr.specs.language.Expression.{max_levels, ReadsAsExpr, ReadsAsNo
 use Rattle.ag_expr.specs.language.State.{State, IsReadToEnd, start, input, everything}
 use Rattle.ag_expr.specs.language.Occurrences.{all_occurrences, different}
 use Rattle.ag_tokens.specs.Placed.{Placed, Input, tokens}
-use Rattle.ag_expr.specs.language.Places.{IsFirstOf, IsRead, IsReadFrom, IsToldFirst, answer_of, occurrences_of, read_from}
+use Rattle.ag_expr.specs.language.Offsets.{IsFirstOf, IsRead, IsReadFrom, IsToldFirst, answer_of, occurrences_of, read_from}
 use Rattle.ag_tokens.specs.Parsing.{is_end}
 use Rattle.ag_expr.specs.language.Reading.{Outcome, expr_from, expr_in, expr_of, ending_fault, refusal, refusal_of}
 use Rattle.ag_expr.specs.language.Syntax.{IsExpr}
@@ -20,7 +20,7 @@ use Rattle.ag_expr.proofs.language.Agree.{whole_is, read_whole, read_to_end, rea
 use Rattle.ag_tokens.proofs.Lexed.{width-chars}
 use Rattle.ag_tokens.proofs.Lexes.{ends_wide, one_input, same_input}
 use Rattle.ag_expr.proofs.language.Listing.{listed_are_different}
-use Rattle.ag_expr.proofs.language.Places.{refuses_at_the_first}
+use Rattle.ag_expr.proofs.language.Offsets.{refuses_at_the_first}
 
 -- what reading the tokens of a text gives is the answer, since it has no others
 pub read_to : (text : List ℕ) (from : ℕ) (j : Input) → Lexes from (chars (drop from text)) j → (r : Result (Node × List Occ) ExprFault) → IsReadToEnd (start false j) r → IsReadFrom text from r
@@ -116,7 +116,7 @@ pub first_of : (text : List ℕ) (r : Result (Node × List Occ) ExprFault) → I
 first_of text (Ok x) is = tt
 first_of text (Err e) is = first_fault text e is
 
--- ---- what stands at the place
+-- ---- what stands at the offset
 
 placed_inner : (us : List Placed) (p : Placed) (ps : List Placed) → all_within (us ++ p ∷ ps) ≡ true → is_within p.token ≡ true
 placed_inner [] p ps h = grind arith
@@ -187,9 +187,9 @@ pub unless_memory : (from : ℕ) (cs : List ℕ) (e : ExprFault) → (e ≢ faul
 unless_memory from cs fault.NoMemory says = tt
 unless_memory from cs e says = says (λ e. cc)
 
-pub places_of : (text : List ℕ) (r : Result (Node × List Occ) ExprFault) → IsRead text r → IfErr r (IsAt text)
-places_of text (Ok x) is = tt
-places_of text (Err e) is =
+pub offsets_of : (text : List ℕ) (r : Result (Node × List Occ) ExprFault) → IsRead text r → IfErr r (IsAt text)
+offsets_of text (Ok x) is = tt
+offsets_of text (Err e) is =
     let i = one_input (chars text) in
     unless_memory 0 (chars text) e (λ memory. told_at 0 (chars text) i.0 i.1 (occurrences_of i.0) max_levels e (first_fault text e is i.0 i.1 memory))
 

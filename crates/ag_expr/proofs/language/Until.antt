@@ -4,7 +4,7 @@ use Rattle.std.specs.Result.{IsErrAnd}
 use Rattle.ag_tokens.specs.declared.token.Punctuation.TheVariants as punctuation
 use Rattle.ag_tokens.specs.Ending.{Ending}
 use Rattle.ag_tokens.specs.Ending as ending
-use Rattle.ag_tokens.specs.Parsing.{sees, is_sign, is_end, place, next}
+use Rattle.ag_tokens.specs.Parsing.{sees, is_sign, is_end, offset, next}
 use Rattle.ag_tokens.specs.Placed.{Placed, Input, tokens}
 use Rattle.ag_tokens.specs.Token.{Token, mark}
 use Rattle.ag_tokens.specs.Tokens.{Lexes}
@@ -15,7 +15,7 @@ use Rattle.ag_grammar.specs.declared.syntax.node.Node.{Node}
 use Rattle.ag_grammar.specs.declared.syntax.occurrence.Occ.{Occ}
 use Rattle.ag_expr.specs.language.Expression.{max_levels, Says}
 use Rattle.ag_expr.specs.language.Occurrences.{all_occurrences}
-use Rattle.ag_expr.specs.language.Places.{answer_of, read_from}
+use Rattle.ag_expr.specs.language.Offsets.{answer_of, read_from}
 use Rattle.ag_expr.specs.language.Reading.{ending_fault, expr_from, expr_of, refusal}
 use Rattle.ag_expr.specs.language.State.{IsReadEnded, Keeps, State, everything, from_end, input, start, up_to}
 use Rattle.ag_expr.specs.language.Syntax.{IsExpr}
@@ -87,7 +87,7 @@ module _ (i : Input) where
     ending_is : c.ending ≡ i.ending
     ending_is = ap (λ (k : Input). k.ending) same
 
-    pub ended : sees is_semicolon c ≡ true → (read_until_from i ≡ Ok ((e, all), place c)) × (next c ≡ record i { left = behind_semicolon i.left })
+    pub ended : sees is_semicolon c ≡ true → (read_until_from i ≡ Ok ((e, all), offset c)) × (next c ≡ record i { left = behind_semicolon i.left })
     ended h =
         let from = from_first i.left in
         let here = rest in
@@ -119,7 +119,7 @@ module _ (i : Input) (s : State) (e : Node) (read : expr_from (all i) max_levels
   behind : from_end true s.tokens ≡ from_end true i
   behind = sym (ap (λ b. from_end b s.tokens) kept.kind) ∙ kept.behind
 
-  pub ended_of : sees is_semicolon s.tokens ≡ true → (read_until_from i ≡ Ok ((e, all i), place s.tokens)) × (next s.tokens ≡ record i { left = behind_semicolon i.left })
+  pub ended_of : sees is_semicolon s.tokens ≡ true → (read_until_from i ≡ Ok ((e, all i), offset s.tokens)) × (next s.tokens ≡ record i { left = behind_semicolon i.left })
   ended_of h = ended i s.tokens e (read ∙ ap (λ j. Ok (e, j)) tokens_are) behind h
 
   pub refused_of : sees is_semicolon s.tokens ≡ false → read_until_from i ≡ Err (refusal (input s))
@@ -196,6 +196,6 @@ module _ (text : List ℕ) (from : ℕ) (j : Input) (lexes : Lexes from (chars (
       let clash = sym (is k reads.lexes (λ q. memory cc)) ∙ back in
       cc
 
-  pub places_until : (r : Result Ended ExprFault) → IsReadUntil text from r → IfErr r (Says from (chars (drop from text)))
-  places_until (Ok x) is = tt
-  places_until (Err f) is = unless_memory from (chars (drop from text)) f (λ memory. says_until j f from (chars (drop from text)) lexes (first_semicolon j.left) refl (first_until text from (Err f) is j lexes memory))
+  pub offsets_until : (r : Result Ended ExprFault) → IsReadUntil text from r → IfErr r (Says from (chars (drop from text)))
+  offsets_until (Ok x) is = tt
+  offsets_until (Err f) is = unless_memory from (chars (drop from text)) f (λ memory. says_until j f from (chars (drop from text)) lexes (first_semicolon j.left) refl (first_until text from (Err f) is j lexes memory))

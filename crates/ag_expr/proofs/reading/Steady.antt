@@ -5,7 +5,7 @@ use Rattle.ag_tokens.specs.Ending.{Ending}
 use Rattle.ag_tokens.specs.Placed.{Placed, Input}
 use Rattle.ag_tokens.specs.Token.{Token}
 use Rattle.ag_tokens.specs.Parsing as parsing
-use Rattle.ag_tokens.specs.Parsing.{front, sees, place, sign_of, Outcome, Parser, and_then, pure, taken, one_from, choose, many_from, further_from}
+use Rattle.ag_tokens.specs.Parsing.{front, sees, offset, sign_of, Outcome, Parser, and_then, pure, taken, one_from, choose, many_from, further_from}
 use Rattle.ag_tokens.specs.Words as words
 use Rattle.ag_tokens.specs.Words.{gives, one, Many, none, more, IsFew, further}
 use Rattle.ag_expr.proofs.reading.Exact.{Manner, before, before-append, first_is, opened, answered}
@@ -56,7 +56,7 @@ same_first (u ∷ us) j k e = refl
 pub same_front : (test : Token → Bool) (ps qs : List Placed) → first_of ps ≡ first_of qs → first_is test ps ≡ first_is test qs
 same_front test ps qs e = grind arith
 
-same_sign : {A : Type 0} (sign : ℕ → Token → Option A) (k i : Input) → first k ≡ first i → sign_of sign (place k) (front k) ≡ sign_of sign (place i) (front i)
+same_sign : {A : Type 0} (sign : ℕ → Token → Option A) (k i : Input) → first k ≡ first i → sign_of sign (offset k) (front k) ≡ sign_of sign (offset i) (front i)
 same_sign sign k i e = grind arith
 
 heads-append : {T : Type 0} (t : T) (us vs : List T) → Heads t us → Heads t (us ++ vs)
@@ -173,7 +173,7 @@ module _ {T Fault : Type 0} {m : Manner T Fault} where
 
       refused : (i : Input) (f : Fault) → read i ≡ Err f → Refused m (one meaning) read read i f
       refused i f h =
-          let same : (f ≡ m.wrong i) × (sign_of sign (place i) (front i) ≡ None) = (grind arith, grind arith) in
+          let same : (f ≡ m.wrong i) × (sign_of sign (offset i) (front i) ≡ None) = (grind arith, grind arith) in
           record { us = []; j = i; cut = refl; rest = w ∷ []; a = v; begins = (w, refl, means); how = inl (same.0, λ k e. rw (same_sign sign k i e ∙ same.1) refl) }
 
 -- ---- as often as there is a further one

@@ -6,7 +6,7 @@ use Rattle.ag_expr.specs.language.Expression.{ReadsAsExpr}
 use Rattle.ag_expr.specs.declared.fault.ExprFault.{ExprFault}
 use Rattle.ag_tokens.specs.Ending as ending
 use Rattle.ag_tokens.specs.Placed.{Placed, Input, tokens}
-use Rattle.ag_expr.specs.language.Places.{IsToldFirst}
+use Rattle.ag_expr.specs.language.Offsets.{IsToldFirst}
 use Rattle.ag_expr.specs.language.Reading.{expr_of}
 use Rattle.ag_expr.specs.language.Syntax.{IsExpr}
 

@@ -47,18 +47,18 @@ is_keyword name =
 abbrev pub is_reserved : List ℕ → Bool
 is_reserved name = is_keyword name || is_some (call_of name)
 
--- The names that are bound around a place, the outermost first.
+-- The names in scope, the outermost first.
 abbrev pub Names : Type 0
 Names = List (List ℕ)
 
--- the last place among names at which the test holds, behind so many others
+-- the number of the last name of which the test holds, behind so many others
 abbrev pub last_from : {A : Type 0} → (A → Bool) → ℕ → Option ℕ → List A → Option ℕ
 last_from test at found [] = found
 last_from test at found (y ∷ ys) = last_from test (at + 1) (cond (test y) (Some at) found) ys
 
--- the number of a bound name: its last place, so that an inner binding hides an outer one
-abbrev pub place_in : Names → List ℕ → Option ℕ
-place_in scope name = last_from (λ y. bytes_eq y name) 0 None scope
+-- the number of a bound name: of the last with this name, so that an inner binding hides an outer one
+abbrev pub number_in : Names → List ℕ → Option ℕ
+number_in scope name = last_from (λ y. bytes_eq y name) 0 None scope
 
 -- those around the innermost
 abbrev pub outer : Names → Names

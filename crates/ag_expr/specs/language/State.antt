@@ -13,7 +13,7 @@ use Rattle.ag_grammar.specs.declared.syntax.occurrence.Occ.{Occ}
 use Rattle.ag_expr.specs.language.Names.{Names}
 use Rattle.ag_expr.specs.language.Occurrences.{all_occurrences, listed_with_all, position_of}
 use Rattle.ag_expr.specs.language.Expression.{max_levels}
-use Rattle.ag_expr.specs.language.Places.{answer_of}
+use Rattle.ag_expr.specs.language.Offsets.{answer_of}
 use Rattle.ag_expr.specs.language.Reading.{Parser, begins, expr_of, no_level_of}
 use Rattle.ag_grammar.specs.declared.syntax.node.Node.{Node}
 use Rattle.ag_expr.specs.language.Until.{Ended, before_semicolon, behind_semicolon, first_semicolon, from_semicolon, read_until_from}

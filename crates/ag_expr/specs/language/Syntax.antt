@@ -18,7 +18,7 @@ use Rattle.ag_expr.specs.declared.names.Call.{Call}
 use Rattle.ag_expr.specs.declared.names.Call.TheVariants as call
 use Rattle.ag_grammar.specs.declared.syntax.node.UnaryCall.{UnaryCall}
 use Rattle.ag_grammar.specs.declared.syntax.node.BinaryCall.{BinaryCall}
-use Rattle.ag_expr.specs.language.Names.{Names, call_of, is_reserved, place_in}
+use Rattle.ag_expr.specs.language.Names.{Names, call_of, is_reserved, number_in}
 use Rattle.ag_expr.specs.language.Occurrences.{position_of}
 use Rattle.ag_tokens.specs.Words.{◌>>=◌, ◌>>◌, gives, one, ◌or◌, further}
 
@@ -83,14 +83,14 @@ new_name _ = None
 
 -- a name means its binding where it is not reserved
 abbrev pub bound_operand : List ℕ → Option ℕ → Option Node
-bound_operand name place = cond (is_reserved name) None (option_map node.Bound place)
+bound_operand name number = cond (is_reserved name) None (option_map node.Bound number)
 
 -- The operand that one token is: a number, a text, an occurrence by its number among the different ones of the whole text, and a name by that of
 -- its binding.
 abbrev pub operand_of : List Occ → Names → Token → Option Node
 operand_of listed scope (token.Number n) = Some (node.Literal (value.Num n))
 operand_of listed scope (token.Text bytes) = Some (node.Literal (value.Text bytes))
-operand_of listed scope (token.Name name) = bound_operand name (place_in scope name)
+operand_of listed scope (token.Name name) = bound_operand name (number_in scope name)
 operand_of listed scope (token.Occurrence place attr) = option_map node.Occurrence (position_of listed place attr)
 operand_of listed scope (token.Punctuation m) = None
 

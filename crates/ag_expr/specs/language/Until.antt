@@ -10,7 +10,7 @@ use Rattle.ag_tokens.specs.Ending as ending
 use Rattle.ag_expr.specs.language.Expression.{max_levels}
 use Rattle.ag_expr.specs.language.Occurrences.{all_occurrences, different}
 use Rattle.ag_tokens.specs.Placed.{Placed, Input, tokens}
-use Rattle.ag_expr.specs.language.Places.{IsToldFirst, occurrences_of, read_from}
+use Rattle.ag_expr.specs.language.Offsets.{IsToldFirst, occurrences_of, read_from}
 use Rattle.ag_tokens.specs.Parsing.{is_sign}
 use Rattle.ag_expr.specs.language.Reading.{ending_fault}
 use Rattle.ag_expr.specs.language.Syntax.{IsExpr}

@@ -62,7 +62,7 @@ has_key key (Some p) = bytes_eq p.0 key
 has_key key None = false
 
 -- the place of a key in a table: how many pairs have a key before it; the pair there has the key, or no pair has
-pub record IsPlace (key : List ℕ) (pairs : List (List ℕ × Value)) (i : ℕ) : Type 0 where
+pub record IsIndex (key : List ℕ) (pairs : List (List ℕ × Value)) (i : ℕ) : Type 0 where
   pub front : filter (λ p. is_before p.0 key) pairs ≡ take i pairs
   pub stands : has_key key (slice_get pairs i) ≡ true → (filter (λ q. is_before key q.0) pairs ≡ drop (suc i) pairs) × (pair_with key pairs ≡ slice_get pairs i)
   pub belongs : has_key key (slice_get pairs i) ≡ false → (filter (λ q. is_before key q.0) pairs ≡ drop i pairs) × (pair_with key pairs ≡ None)

@@ -7,7 +7,7 @@ ghost use Rattle.treefile.specs.devices.Device.{Persists, WhenHonest};
 ghost use Rattle.aggen.specs.Showing.{BeginsLine, HasNone, HasValue, IsDamage, IsExplained};
 ghost use Rattle.aggen.specs.Showing.{IsExprFault, IsShowFault, IsTextFault, IsUnexpectedAt};
 ghost use Rattle.aggen.specs.Showing.{OccursAt, Shows};
-ghost use Rattle.aggen.specs.Showing.{ShowsBeginning, WritesLine, first_place};
+ghost use Rattle.aggen.specs.Showing.{ShowsBeginning, WritesLine, first_offset};
 
 use crate::fault::Fault;
 use crate::values::value_file::{read_file, write_file};
@@ -44,7 +44,7 @@ pub fn show_value<D: Device, W: Write>(
     ensures untouched { IfErr result (λ e. IsExprFault e → device.new ≡ device.old) }
 
     // what X1 to X4 tell is true, and for occurrences it is X2 at the first `$`
-    ensures places { IfErr result (IsExplained text.now) }
+    ensures offsets { IfErr result (IsExplained text.now) }
     ensures occurs { (at : ℕ) → OccursAt text.now at → IsErrAnd result (IsUnexpectedAt at) }
 
     // an honest device gives back what was written; D1 only where it failed
@@ -78,7 +78,7 @@ fn value_of(alloc: Global, text: &str) -> Result<Value, Fault>
     ensures well { IfOk result (λ value. IsWell value) }
     ensures kind { IfErr result IsTextFault }
     ensures refused { IfErr result (λ e. IsExprFault e → HasNone text.now) }
-    ensures places { IfErr result (IsExplained text.now) }
+    ensures offsets { IfErr result (IsExplained text.now) }
     ensures occurs { (at : ℕ) → OccursAt text.now at → IsErrAnd result (IsUnexpectedAt at) }
 {
     let expr = read_closed(alloc, text)?;
@@ -95,7 +95,7 @@ fn read_closed(alloc: Global, text: &str) -> Result<Expr, Fault>
     ensures closed { IfOk result (λ expr. expr.1 ≡ []) }
     ensures kind { IfErr result IsTextFault }
     ensures refused { IfErr result (λ e. IsExprFault e → HasNone text.now) }
-    ensures places { IfErr result (IsExplained text.now) }
+    ensures offsets { IfErr result (IsExplained text.now) }
     ensures occurs { (at : ℕ) → OccursAt text.now at → IsErrAnd result (IsUnexpectedAt at) }
 {
     let expr = read_expr(alloc, text)?;
@@ -107,7 +107,7 @@ fn read_closed(alloc: Global, text: &str) -> Result<Expr, Fault>
 
 /// The offset of the first occurrence in an expression.
 fn first_occurrence(expr: &Expr) -> Option<usize>
-    ensures { result ≡ first_place expr.now.1 }
+    ensures { result ≡ first_offset expr.now.1 }
 {
     match occurrences(expr) {
         [first, ..] => Some(first.at),

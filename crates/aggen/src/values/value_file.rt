@@ -40,7 +40,7 @@ pub fn read_file<D: Device>(alloc: Global, device: &mut D) -> Result<Value, Faul
         ((value : AttributeValue) → IsWell value → D.content device.old ≡ file_of value →
         MatchResult result (λ found. found ≡ value) IsWant) }
     ensures err { IfErr result IsFileFault }
-    ensures place { WhenHonest (D.is_honest device.old)
+    ensures offset { WhenHonest (D.is_honest device.old)
         ((at : ℕ) → IsErrOf result (Fault.Damaged at) → at ≡ length (D.content device.old)) }
     ensures content { LeavesContent (D.is_honest device.old)
         (D.content device.old) (D.content device.new) }
@@ -60,7 +60,7 @@ fn value_in(alloc: Global, body: &[u8], end: u64) -> Result<Value, Fault>
         body.now ≡ body_of Kind.Token 0 (value ∷ []) →
         MatchResult result (λ found. found ≡ value) (λ e. e ≡ Fault.NoMemory) }
     ensures err { IfErr result (λ e. IsFileFault e) }
-    ensures place { (at : ℕ) → IsErrOf result (Fault.Damaged at) → at ≡ end }
+    ensures offset { (at : ℕ) → IsErrOf result (Fault.Damaged at) → at ≡ end }
     ensures device { ¬ (IsErrOf result Fault.Device) }
 {
     let Some((kind, number, spelling)) = split_body(body) else {

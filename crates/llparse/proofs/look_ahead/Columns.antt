@@ -14,7 +14,7 @@ use Rattle.ag_grammar.specs.grammars.Accepted.{IsAccepted, IsNamedItem}
 use Rattle.llparse.specs.Ahead.{InFirst, of_production, InFirstOf, here, inside, later, InFollow, at_end, next, last, Predicts, IsConflict, HasNoConflict}
 use Rattle.llparse.specs.table.Columns.{AreColumns, IsColumn, IsLeastAt, IsLeastBelow, IsSooner, at_ahead}
 use Rattle.llparse.specs.table.Edges.{IsKnownAhead}
-use Rattle.llparse.specs.table.Nodes.{place_of}
+use Rattle.llparse.specs.table.Nodes.{index_of}
 use Rattle.llparse.specs.table.Predicted.{choice_at, AreFirstFrom, ArePredicted, IsClash, IsLeastFrom, IsMarkedOf}
 use Rattle.closure.specs.Waiting.{rows}
 use Rattle.llparse.specs.table.Tables.{choice_of, is_known, Choices, FitsGrammar, IsChoice, IsLeastConflict}
@@ -22,9 +22,9 @@ use Rattle.llparse.specs.declared.ahead.Ahead.{Ahead}
 use Rattle.llparse.specs.declared.ahead.Ahead.TheVariants as ahead
 use Rattle.llparse.specs.declared.table.choosing.Pair.{Pair}
 use Rattle.llparse.specs.declared.table.filling.Conflict.{Conflict}
-use Rattle.closure.proofs.Places.{element_at}
+use Rattle.closure.proofs.Positions.{element_at}
 use Rattle.llparse.proofs.look_ahead.Edges.{contains_here, contains_there}
-use Rattle.llparse.proofs.look_ahead.Firsts.{known_terminal, named_in, place_below, same_ahead}
+use Rattle.llparse.proofs.look_ahead.Firsts.{known_terminal, named_in, index_below, same_ahead}
 use Rattle.llparse.proofs.look_ahead.Follows.{rest_named}
 
 module _ (g : Grammar) (x : Ahead) (marks : List Bool) (predicted : ArePredicted g x marks) where
@@ -83,22 +83,22 @@ rows_long (v ∷ table) = ap suc (rows_long table)
 
 module _ (g : Grammar) (ok : IsAccepted g) where
   -- one column more
-  pub columns_more : (n : ℕ) (x : Ahead) (table : List (Vec (Option ℕ))) (v : Vec (Option ℕ)) → length table ≡ n → IsKnownAhead g x → place_of (length g.literals) x ≡ n → IsColumn g x v.items → AreColumns g n (rows table) → AreColumns g (n + 1) (rows (table ++ v ∷ []))
-  columns_more n x table v count known at_n column before = λ y k lt. elim (cases_eq (place_of (length g.literals) y) n) [
+  pub columns_more : (n : ℕ) (x : Ahead) (table : List (Vec (Option ℕ))) (v : Vec (Option ℕ)) → length table ≡ n → IsKnownAhead g x → index_of (length g.literals) x ≡ n → IsColumn g x v.items → AreColumns g n (rows table) → AreColumns g (n + 1) (rows (table ++ v ∷ []))
+  columns_more n x table v count known at_n column before = λ y k lt. elim (cases_eq (index_of (length g.literals) y) n) [
     | inl same ↦
         let one : y ≡ x = same_ahead g ok y x k known (same ∙ sym at_n) in
-        let here : get_or (rows (table ++ v ∷ [])) (place_of (length g.literals) y) [] ≡ v.items = ap (λ zs. get_or zs (place_of (length g.literals) y) []) (rows_more table v) ∙ last_column (rows table) v.items (place_of (length g.literals) y) (same ∙ sym count ∙ sym (rows_long table)) in
+        let here : get_or (rows (table ++ v ∷ [])) (index_of (length g.literals) y) [] ≡ v.items = ap (λ zs. get_or zs (index_of (length g.literals) y) []) (rows_more table v) ∙ last_column (rows table) v.items (index_of (length g.literals) y) (same ∙ sym count ∙ sym (rows_long table)) in
         subst (IsColumn g y) (sym here) (subst (λ z. IsColumn g z v.items) (sym one) column)
     | inr other ↦
-        let inner : place_of (length g.literals) y < n = omega arith in
-        let within : place_of (length g.literals) y < length (rows table) = omega (arith, rows_long table) in
-        let there : get_or (rows (table ++ v ∷ [])) (place_of (length g.literals) y) [] ≡ get_or (rows table) (place_of (length g.literals) y) [] = ap (λ zs. get_or zs (place_of (length g.literals) y) []) (rows_more table v) ∙ column_before (rows table) v.items (place_of (length g.literals) y) within in
+        let inner : index_of (length g.literals) y < n = omega arith in
+        let within : index_of (length g.literals) y < length (rows table) = omega (arith, rows_long table) in
+        let there : get_or (rows (table ++ v ∷ [])) (index_of (length g.literals) y) [] ≡ get_or (rows table) (index_of (length g.literals) y) [] = ap (λ zs. get_or zs (index_of (length g.literals) y) []) (rows_more table v) ∙ column_before (rows table) v.items (index_of (length g.literals) y) within in
         subst (IsColumn g y) (sym there) (before y k inner)
   ]
 
-  module _ (n : ℕ) (x : Ahead) (known : IsKnownAhead g x) (at_n : place_of (length g.literals) x ≡ n) where
-    this_or : (y : Ahead) → IsKnownAhead g y → place_of (length g.literals) y < n + 1 → (y ≡ x) ⊎ (place_of (length g.literals) y < n)
-    this_or y k lt = elim (cases_eq (place_of (length g.literals) y) n) [
+  module _ (n : ℕ) (x : Ahead) (known : IsKnownAhead g x) (at_n : index_of (length g.literals) x ≡ n) where
+    this_or : (y : Ahead) → IsKnownAhead g y → index_of (length g.literals) y < n + 1 → (y ≡ x) ⊎ (index_of (length g.literals) y < n)
+    this_or y k lt = elim (cases_eq (index_of (length g.literals) y) n) [
       | inl same ↦ inl (same_ahead g ok y x k known (same ∙ sym at_n))
       | inr other ↦ inr (omega arith)
     ]
@@ -115,11 +115,11 @@ module _ (g : Grammar) (ok : IsAccepted g) where
       omega (arith, old.1),
       λ a b y k lt d. elim (this_or y k lt) [
         | inl same ↦
-            let place : place_of (length g.literals) y ≡ n = ap (place_of (length g.literals)) same ∙ at_n in
+            let at_index : index_of (length g.literals) y ≡ n = ap (index_of (length g.literals)) same ∙ at_n in
             elim (later_ones a b (subst (IsConflict g a b) same d)) [
               | inl less ↦ inl less
               | inr equal ↦ elim (cases_eq c.second b) [
-                | inl second ↦ inr (equal.0, inr (second, omega (arith, old.1, place)))
+                | inl second ↦ inr (equal.0, inr (second, omega (arith, old.1, at_index)))
                 | inr other ↦ inr (equal.0, inl (omega (arith, equal.1, other)))
               ]
             ]
@@ -127,17 +127,17 @@ module _ (g : Grammar) (ok : IsAccepted g) where
       ],
     )
 
-    new_comes : (p : Pair) → IsLeastAt g x (Some p) → ((a b : ℕ) (y : Ahead) → IsKnownAhead g y → place_of (length g.literals) y < n → IsConflict g a b y → (p.first < a) ⊎ ((p.first ≡ a) × (p.second < b))) → IsLeastBelow g (n + 1) (Some (at_ahead p x))
+    new_comes : (p : Pair) → IsLeastAt g x (Some p) → ((a b : ℕ) (y : Ahead) → IsKnownAhead g y → index_of (length g.literals) y < n → IsConflict g a b y → (p.first < a) ⊎ ((p.first ≡ a) × (p.second < b))) → IsLeastBelow g (n + 1) (Some (at_ahead p x))
     new_comes p new later_ones = (
       new.0,
       omega (arith, at_n),
       λ a b y k lt d. elim (this_or y k lt) [
         | inl same ↦
-            let place : place_of (length g.literals) x ≡ place_of (length g.literals) y = ap (place_of (length g.literals)) (sym same) in
+            let at_index : index_of (length g.literals) x ≡ index_of (length g.literals) y = ap (index_of (length g.literals)) (sym same) in
             elim (new.1 a b (subst (IsConflict g a b) same d)) [
               | inl less ↦ inl less
               | inr equal ↦ elim (cases_eq p.second b) [
-                | inl second ↦ inr (equal.0, inr (second, omega (arith, place)))
+                | inl second ↦ inr (equal.0, inr (second, omega (arith, at_index)))
                 | inr other ↦ inr (equal.0, inl (omega (arith, equal.1, other)))
               ]
             ]
@@ -212,22 +212,22 @@ module _ (g : Grammar) (ok : IsAccepted g) where
   pub free_of : IsLeastBelow g (length g.literals + 4) None → HasNoConflict g
   free_of none a b x c =
       let known = predicts_known a c.one x c.first_is c.one_predicts in
-      none a b x known (place_below g ok x known) c
+      none a b x known (index_below g ok x known) c
 
   pub least_of : (c : Conflict) (p : Production) (symbol : ℕ) → IsLeastBelow g (length g.literals + 4) (Some c) → symbol ≡ (get_or g.productions c.first p).left → IsLeastConflict g symbol c.first c.second c.ahead
   least_of c p symbol least is = record {
     conflict = least.0;
     of_symbol = sym (is ∙ ap (λ (q : Production). q.left) (get_or_from_slice_get g.productions c.first least.0.one p least.0.first_is));
-    least = λ a b y d. let known = predicts_known a d.one y d.first_is d.one_predicts in least.2 a b y known (place_below g ok y known) d;
+    least = λ a b y d. let known = predicts_known a d.one y d.first_is d.one_predicts in least.2 a b y known (index_below g ok y known) d;
   }
 
   -- full columns without a conflict fit the grammar
   module _ (t : Choices) (literals : t.literals ≡ length g.literals) (full : AreColumns g (length g.literals + 4) t.columns) (free : HasNoConflict g) where
-    looked_up : (s : ℕ) (x : Ahead) → is_known t.literals x ≡ true → choice_of t s x ≡ choice_at (get_or t.columns (place_of (length g.literals) x) []) s
+    looked_up : (s : ℕ) (x : Ahead) → is_known t.literals x ≡ true → choice_of t s x ≡ choice_at (get_or t.columns (index_of (length g.literals) x) []) s
     looked_up s x h = rw (h, literals) refl
 
-    column_at : (x : Ahead) → IsKnownAhead g x → IsColumn g x (get_or t.columns (place_of (length g.literals) x) [])
-    column_at x known = full x known (place_below g ok x known)
+    column_at : (x : Ahead) → IsKnownAhead g x → IsColumn g x (get_or t.columns (index_of (length g.literals) x) [])
+    column_at x known = full x known (index_below g ok x known)
 
     there : (s : ℕ) (x : Ahead) (k : ℕ) (b : Bool) → is_known t.literals x ≡ b → choice_of t s x ≡ Some k → IsChoice g s x k
     there s x k true h e =
@@ -241,7 +241,7 @@ module _ (g : Grammar) (ok : IsAccepted g) where
       | inr other ↦ absurd (free j k x (record { one = h.0; other = m.0; first_is = h.1; second_is = m.1; earlier = omega arith; of_one_symbol = h.2 ∙ sym m.2; one_predicts = h.3; other_predicts = m.3 }))
     ]
 
-    found : (s : ℕ) (x : Ahead) (k : ℕ) → IsChoice g s x k → (o : Option ℕ) → choice_at (get_or t.columns (place_of (length g.literals) x) []) s ≡ o → o ≡ Some k
+    found : (s : ℕ) (x : Ahead) (k : ℕ) → IsChoice g s x k → (o : Option ℕ) → choice_at (get_or t.columns (index_of (length g.literals) x) []) s ≡ o → o ≡ Some k
     found s x k h None e = let known = predicts_known k h.0 x h.1 h.3 in absurd ((column_at x known).none s k e h)
     found s x k h (Some j) e =
         let known = predicts_known k h.0 x h.1 h.3 in
@@ -252,7 +252,7 @@ module _ (g : Grammar) (ok : IsAccepted g) where
     back s x k h =
         let known = predicts_known k h.0 x h.1 h.3 in
         let test : is_known t.literals x ≡ true = subst (λ z. is_known z x ≡ true) (sym literals) (of_known x known) in
-        looked_up s x test ∙ found s x k h (choice_at (get_or t.columns (place_of (length g.literals) x) []) s) refl
+        looked_up s x test ∙ found s x k h (choice_at (get_or t.columns (index_of (length g.literals) x) []) s) refl
 
     pub fits : FitsGrammar g t
     fits s x k = (there s x k (is_known t.literals x) refl, back s x k)

@@ -12,11 +12,11 @@ use Rattle.ag_grammar.specs.grammars.Accepted.{IsAccepted, IsNamedItem}
 use Rattle.closure.specs.Edges.{along, IsEdgeBelow}
 use Rattle.closure.specs.Following.{Follows, seed}
 use Rattle.closure.specs.declared.edges.Edge.{Edge}
-use Rattle.closure.proofs.Places.{element_at, place_of_element}
+use Rattle.closure.proofs.Positions.{element_at, position_of_element}
 use Rattle.closure.proofs.Reached.{reached_in, step}
 use Rattle.llparse.specs.Ahead.{IsNullable, InFirst, of_production, InFirstOf, here, inside, later}
 use Rattle.llparse.specs.table.Edges.{Adds, front, node_in, Begins, IsEdge, IsFirstEdge, IsKnownAhead, OfSome}
-use Rattle.llparse.specs.table.Nodes.{node_of, place_of}
+use Rattle.llparse.specs.table.Nodes.{node_of, index_of}
 use Rattle.llparse.specs.table.Nullable.{is_empty}
 use Rattle.llparse.specs.declared.ahead.Ahead.{Ahead}
 use Rattle.llparse.specs.declared.ahead.Ahead.TheVariants as ahead
@@ -26,12 +26,12 @@ module _ (g : Grammar) (ok : IsAccepted g) where
   -- what stands in a production is named
   pub named_in : (q : Production) (y : Item) → Contains g.productions q → Contains q.items y → IsNamedItem g y
   named_in q y hq hy =
-      let p = place_of_element g.productions q hq in
-      let i = place_of_element q.items y hy in
+      let p = position_of_element g.productions q hq in
+      let i = position_of_element q.items y hy in
       ok.named.items_named p.0 q p.1 i.0 y i.1
 
   pub left_in : (q : Production) → Contains g.productions q → q.left < length g.symbols
-  left_in q hq = let p = place_of_element g.productions q hq in ok.named.left_sides p.0 q p.1
+  left_in q hq = let p = position_of_element g.productions q hq in ok.named.left_sides p.0 q p.1
 
   pub node_below : (y : Item) → IsNamedItem g y → node_in g y < length g.symbols + (length g.literals + 4)
   node_below (item.Symbol s) h = omega arith
@@ -46,8 +46,8 @@ module _ (g : Grammar) (ok : IsAccepted g) where
   known_terminal (Literal l) h = h
   known_terminal (Class c) h = ok.named.classes_known h.0 c h.1
 
-  -- look-ahead of one place are one
-  pub same_ahead : (x y : Ahead) → IsKnownAhead g x → IsKnownAhead g y → place_of (length g.literals) x ≡ place_of (length g.literals) y → x ≡ y
+  -- look-ahead of one index are one
+  pub same_ahead : (x y : Ahead) → IsKnownAhead g x → IsKnownAhead g y → index_of (length g.literals) x ≡ index_of (length g.literals) y → x ≡ y
   same_ahead (ahead.Terminal (Literal l)) (ahead.Terminal (Literal m)) h k e = ap (λ z. ahead.Terminal (Literal z)) e
   same_ahead (ahead.Terminal (Literal l)) (ahead.Terminal (Class c)) h k e = absurd (omega arith)
   same_ahead (ahead.Terminal (Literal l)) ahead.End h k e = absurd (omega arith)
@@ -58,10 +58,10 @@ module _ (g : Grammar) (ok : IsAccepted g) where
   same_ahead ahead.End (ahead.Terminal (Class c)) h k e = absurd (omega arith)
   same_ahead ahead.End ahead.End h k e = refl
 
-  pub place_below : (x : Ahead) → IsKnownAhead g x → place_of (length g.literals) x < length g.literals + 4
-  place_below (ahead.Terminal (Literal l)) h = omega arith
-  place_below (ahead.Terminal (Class c)) h = omega arith
-  place_below ahead.End h = omega arith
+  pub index_below : (x : Ahead) → IsKnownAhead g x → index_of (length g.literals) x < length g.literals + 4
+  index_below (ahead.Terminal (Literal l)) h = omega arith
+  index_below (ahead.Terminal (Class c)) h = omega arith
+  index_below ahead.End h = omega arith
 
   first_below : (s : ℕ) (a : Terminal) → InFirst g s a → s < length g.symbols
   first_below s a (of_production p q e l h) = rw (← l) (ok.named.left_sides p q e)
@@ -119,7 +119,7 @@ module _ (g : Grammar) (ok : IsAccepted g) where
 
     module _ (edges : List Edge) (x : Ahead) (known : IsKnownAhead g x) where
       abbrev root : ℕ
-      root = length g.symbols + place_of (length g.literals) x
+      root = length g.symbols + index_of (length g.literals) x
 
       abbrev Reached : ℕ → Type 0
       Reached t = Follows (map along edges) (root ∷ []) t
@@ -130,7 +130,7 @@ module _ (g : Grammar) (ok : IsAccepted g) where
       root_item : (y : Item) → IsNamedItem g y → node_in g y ≡ root → (a : Terminal) × (y ≡ item.Terminal a) × (x ≡ ahead.Terminal a)
       root_item (item.Symbol s) h e = absurd (omega arith)
       root_item (item.Terminal a) h e =
-          let same : place_of (length g.literals) x ≡ place_of (length g.literals) (ahead.Terminal a) = omega arith in
+          let same : index_of (length g.literals) x ≡ index_of (length g.literals) (ahead.Terminal a) = omega arith in
           (a, refl, same_ahead x (ahead.Terminal a) known (known_terminal a h) same)
 
       -- what is reached is the look-ahead, or begins with it
@@ -141,7 +141,7 @@ module _ (g : Grammar) (ok : IsAccepted g) where
       ]) (λ e h before.
           let r = some_edge e h in
           let q = r.0 in
-          let p = place_of_element g.productions q r.1 in
+          let p = position_of_element g.productions q r.1 in
           let y = r.2.0 in
           elim before [
             | inl at_root ↦
@@ -155,7 +155,7 @@ module _ (g : Grammar) (ok : IsAccepted g) where
     -- what begins with a terminal is reached
     module _ (edges : List Edge) (a : Terminal) where
       abbrev FromTerminal : ℕ → Type 0
-      FromTerminal t = Follows (map along edges) ((length g.symbols + place_of (length g.literals) (ahead.Terminal a)) ∷ []) t
+      FromTerminal t = Follows (map along edges) ((length g.symbols + index_of (length g.literals) (ahead.Terminal a)) ∷ []) t
 
       mutual
         first_reached : ((s : ℕ) → IsNullable g s → n s ≡ true) → ((e : Edge) → OfSome (IsFirstEdge g n) g.productions e → Contains edges e) → (s : ℕ) (b : Terminal) → b ≡ a → InFirst g s b → FromTerminal s

@@ -10,7 +10,7 @@ use Rattle.ag_grammar.specs.grammars.Accepted.{IsAccepted, IsNamedItem}
 use Rattle.closure.specs.Edges.{along, IsEdgeBelow}
 use Rattle.closure.specs.Following.{Follows, seed}
 use Rattle.closure.specs.declared.edges.Edge.{Edge}
-use Rattle.closure.proofs.Places.{element_at, place_of_element}
+use Rattle.closure.proofs.Positions.{element_at, position_of_element}
 use Rattle.closure.proofs.Reached.{reached_in, step}
 use Rattle.llparse.specs.Ahead.{IsNullable, ComesFirst, InFollow, at_end, next, last}
 use Rattle.llparse.specs.table.Comes.{next_in, all_empty, IsFollowEdge, IsFollowed, OfRest}
@@ -77,7 +77,7 @@ module _ (g : Grammar) (ok : IsAccepted g) (n : ℕ → Bool) where
     seeded t lt (inl at_start) = rw (at_start.0, at_start.1) at_end
     seeded t lt (inr r) =
         let w = rest_split (next_in (λ x. b (node_in g x)) (is_empty n) false) (λ x t. t ≡ node_in g x) r.0.items t r.2 in
-        let p = place_of_element g.productions r.0 r.1 in
+        let p = position_of_element g.productions r.0 r.1 in
         let same = symbol_item g ok w.1 t lt w.5 in
         let split = subst (λ z. r.0.items ≡ w.0 ++ z ∷ w.2) same w.3 in
         followed p.0 r.0 w.0 w.2 t x p.1 split ((comes_iff g n known x (λ y. b (node_in g y)) begins w.2 (rest_named r.0 w.0 w.2 w.1 r.1 w.3)).0 w.4)
@@ -88,7 +88,7 @@ module _ (g : Grammar) (ok : IsAccepted g) (n : ℕ → Bool) where
           let r = (exact e).0 h in
           let q = r.0 in
           let w = rest_split (all_empty (is_empty n)) (λ x e. IsEdge q.left (node_in g x) e) q.items e r.2 in
-          let p = place_of_element g.productions q r.1 in
+          let p = position_of_element g.productions q r.1 in
           let same = symbol_item g ok w.1 e.to lt w.5.head in
           let split = subst (λ z. q.items ≡ w.0 ++ z ∷ w.2) same w.3 in
           let from : e.from ≡ q.left = w.5.tail in

@@ -9,7 +9,7 @@ use Rattle.closure.specs.Clauses.{IsClauseBelow}
 use Rattle.closure.specs.Following.{Follows, FollowAll, by_clause, nothing as no_number, one_more}
 use Rattle.closure.specs.declared.clause.Clause.{Clause}
 use Rattle.closure.proofs.Following.{follows_in}
-use Rattle.closure.proofs.Places.{at_mapped, mapped_at}
+use Rattle.closure.proofs.Positions.{at_mapped, mapped_at}
 use Rattle.llparse.specs.Ahead.{IsNullable, by_production, AreNullable, nothing, a_symbol}
 use Rattle.llparse.specs.table.Edges.{node_in}
 use Rattle.llparse.specs.table.Nullable.{clause_of, clauses_of}

@@ -14,7 +14,7 @@ use Rattle.llparse.specs.table.Nullable.{is_empty}
 use Rattle.closure.specs.Following.{is_marked}
 use Rattle.llparse.specs.declared.ahead.Ahead.{Ahead}
 use Rattle.llparse.proofs.look_ahead.Comes.{comes_iff, next_behind, next_cases, next_first, nullable_iff}
-use Rattle.closure.proofs.Places.{element_at}
+use Rattle.closure.proofs.Positions.{element_at}
 use Rattle.llparse.proofs.look_ahead.Firsts.{left_in, named_in}
 
 -- a production is predicted where its items come next, or what follows it

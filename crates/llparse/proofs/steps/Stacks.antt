@@ -25,15 +25,15 @@ use Rattle.llparse.proofs.steps.Literals as literals
 use Rattle.llparse.proofs.steps.Starts as starts
 
 module _ (k : Task) where
-  -- an open node that has an item next, which its place goes behind
-  pub faces : (node : OpenNode) (x : Item) (fs : List OpenNode) (i n : ℕ) (rs : Made) → slice_get (right_side k.grammar node.production) node.place ≡ Some x
+  -- an open node that has an item next, which it passes
+  pub faces : (node : OpenNode) (x : Item) (fs : List OpenNode) (i n : ℕ) (rs : Made) → slice_get (right_side k.grammar node.production) node.passed ≡ Some x
       → Between k (node ∷ fs) i n rs → Before k x (advanced node ∷ fs) i n rs
-  faces node x fs i n rs next = subst (λ ys. Reading k node.production node.base ys fs i n rs) (rest_at (right_side k.grammar node.production) node.place x next)
+  faces node x fs i n rs next = subst (λ ys. Reading k node.production node.base ys fs i n rs) (rest_at (right_side k.grammar node.production) node.passed x next)
 
   -- an open node that has none next
-  pub ends : (node : OpenNode) (fs : List OpenNode) (i n : ℕ) (rs : Made) → slice_get (right_side k.grammar node.production) node.place ≡ None
+  pub ends : (node : OpenNode) (fs : List OpenNode) (i n : ℕ) (rs : Made) → slice_get (right_side k.grammar node.production) node.passed ≡ None
       → Between k (node ∷ fs) i n rs → Reading k node.production node.base [] fs i n rs
-  ends node fs i n rs over = subst (λ ys. Reading k node.production node.base ys fs i n rs) (rest_none (right_side k.grammar node.production) node.place over)
+  ends node fs i n rs over = subst (λ ys. Reading k node.production node.base ys fs i n rs) (rest_none (right_side k.grammar node.production) node.passed over)
 
   -- and is closed
   pub closed : (p base : ℕ) (fs : List OpenNode) (i n : ℕ) (rs out : Made) → WhenHonest k.honest (out.bytes ≡ rs.bytes ++ node_frame p (drop base rs.texts)) → out.texts ≡ take base rs.texts
@@ -43,37 +43,37 @@ module _ (k : Task) where
 
   pub asks : (s : ℕ) (fs : List OpenNode) (i n : ℕ) (rs : Made) → Before k (item.Symbol s) fs i n rs → Asked k s fs i n rs
   asks s [] i n rs b = absurd b
-  asks s (f ∷ fs) i n rs b = starts.on_symbol k f s (drop f.place (right_side k.grammar f.production)) fs i n rs refl b
+  asks s (f ∷ fs) i n rs b = starts.on_symbol k f s (drop f.passed (right_side k.grammar f.production)) fs i n rs refl b
 
   pub literal : (l : ℕ) (fs : List OpenNode) (i n : ℕ) (rs : Made) (rest : List Lexeme) → drop i k.words ≡ (Literal l, literal_text k.grammar l) ∷ rest
       → Before k (item.Terminal (Literal l)) fs i n rs → Between k fs (i + 1) n rs
   literal l [] i n rs rest next b = absurd b
-  literal l (f ∷ fs) i n rs rest next b = literals.on_literal k f.production f.base l (drop f.place (right_side k.grammar f.production)) fs i n rs rest next b
+  literal l (f ∷ fs) i n rs rest next b = literals.on_literal k f.production f.base l (drop f.passed (right_side k.grammar f.production)) fs i n rs rest next b
 
   pub no_literal : IsAccepted k.grammar → (l : ℕ) (fs : List OpenNode) (i n : ℕ) (rs : Made) → (ahead_of (drop i k.words) ≡ ahead.Terminal (Literal l) → ⊥)
       → Before k (item.Terminal (Literal l)) fs i n rs → IsStuckAt k.grammar k.words i
   no_literal accepted l [] i n rs other b = absurd b
-  no_literal accepted l (f ∷ fs) i n rs other b = literals.no_literal k accepted f.production f.base l (drop f.place (right_side k.grammar f.production)) fs i n rs other b
+  no_literal accepted l (f ∷ fs) i n rs other b = literals.no_literal k accepted f.production f.base l (drop f.passed (right_side k.grammar f.production)) fs i n rs other b
 
   pub class : (c : ℕ) (x : List ℕ) (fs : List OpenNode) (i n : ℕ) (rs out : Made) (rest : List Lexeme) → drop i k.words ≡ (Class c, x) ∷ rest → IsTokenText x
       → WhenHonest k.honest (out.bytes ≡ rs.bytes ++ leaf_frame c x) → out.texts ≡ rs.texts ++ Text x ∷ [] → n < k.nodes → length fs < k.depth
       → Before k (item.Terminal (Class c)) fs i n rs → Between k fs (i + 1) (n + 1) out
   class c x [] i n rs out rest next text put grown more_nodes more_levels b = absurd b
   class c x (f ∷ fs) i n rs out rest next text put grown more_nodes more_levels b =
-      leaves.on_class k f.production f.base c x (drop f.place (right_side k.grammar f.production)) fs i n rs out rest next text put grown more_nodes more_levels b
+      leaves.on_class k f.production f.base c x (drop f.passed (right_side k.grammar f.production)) fs i n rs out rest next text put grown more_nodes more_levels b
 
   pub no_class : IsAccepted k.grammar → (c : ℕ) (fs : List OpenNode) (i n : ℕ) (rs : Made) → (ahead_of (drop i k.words) ≡ ahead.Terminal (Class c) → ⊥)
       → Before k (item.Terminal (Class c)) fs i n rs → IsStuckAt k.grammar k.words i
   no_class accepted c [] i n rs other b = absurd b
-  no_class accepted c (f ∷ fs) i n rs other b = leaves.no_class k accepted f.production f.base c (drop f.place (right_side k.grammar f.production)) fs i n rs other b
+  no_class accepted c (f ∷ fs) i n rs other b = leaves.no_class k accepted f.production f.base c (drop f.passed (right_side k.grammar f.production)) fs i n rs other b
 
   pub deep_leaf : IsAccepted k.grammar → (c : ℕ) (fs : List OpenNode) (i n : ℕ) (rs : Made) → k.depth ≤ length fs → Before k (item.Terminal (Class c)) fs i n rs → IsTooDeep k
   deep_leaf accepted c [] i n rs deep b = absurd b
-  deep_leaf accepted c (f ∷ fs) i n rs deep b = leaves.deep_leaf k accepted f.production f.base c (drop f.place (right_side k.grammar f.production)) fs i n rs deep b
+  deep_leaf accepted c (f ∷ fs) i n rs deep b = leaves.deep_leaf k accepted f.production f.base c (drop f.passed (right_side k.grammar f.production)) fs i n rs deep b
 
   pub large_leaf : IsAccepted k.grammar → (c : ℕ) (fs : List OpenNode) (i n : ℕ) (rs : Made) → k.nodes ≤ n → Before k (item.Terminal (Class c)) fs i n rs → IsTooLarge k
   large_leaf accepted c [] i n rs large b = absurd b
-  large_leaf accepted c (f ∷ fs) i n rs large b = leaves.large_leaf k accepted f.production f.base c (drop f.place (right_side k.grammar f.production)) fs i n rs large b
+  large_leaf accepted c (f ∷ fs) i n rs large b = leaves.large_leaf k accepted f.production f.base c (drop f.passed (right_side k.grammar f.production)) fs i n rs large b
 
 -- ---- fewer steps are left
 
@@ -83,9 +83,9 @@ most_is (q ∷ qs) zero = omega arith
 most_is (q ∷ qs) (suc p) = let e = most_is qs p in omega arith
 
 module _ (g : Grammar) (nodes : ℕ) where
-  pub fewer_passed : (node : OpenNode) (x : Item) (fs : List OpenNode) (n : ℕ) → slice_get (right_side g node.production) node.place ≡ Some x
+  pub fewer_passed : (node : OpenNode) (x : Item) (fs : List OpenNode) (n : ℕ) → slice_get (right_side g node.production) node.passed ≡ Some x
       → steps_left g nodes (advanced node ∷ fs) n < steps_left g nodes (node ∷ fs) n
-  fewer_passed node x fs n next = let c = ap length (rest_at (right_side g node.production) node.place x next) in omega arith
+  fewer_passed node x fs n next = let c = ap length (rest_at (right_side g node.production) node.passed x next) in omega arith
 
   pub fewer_counted : (fs : List OpenNode) (n m : ℕ) → n ≤ m → steps_left g nodes fs m ≤ steps_left g nodes fs n
   fewer_counted fs n m le =
@@ -93,7 +93,7 @@ module _ (g : Grammar) (nodes : ℕ) where
       let times = mul-le-mul_left {m = nodes - m} {n = nodes - n} (most g.productions + 2) smaller in
       omega arith
 
-  pub fewer_opened : (fs : List OpenNode) (p base n : ℕ) → n < nodes → steps_left g nodes (record { production = p; place = 0; base = base } ∷ fs) (n + 1) < steps_left g nodes fs n
+  pub fewer_opened : (fs : List OpenNode) (p base n : ℕ) → n < nodes → steps_left g nodes (record { production = p; passed = 0; base = base } ∷ fs) (n + 1) < steps_left g nodes fs n
   fewer_opened fs p base n le =
       let longest = most_is g.productions p in
       let one : nodes - n ≡ suc (nodes - (n + 1)) = omega arith in

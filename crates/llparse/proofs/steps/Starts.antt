@@ -33,7 +33,7 @@ module _ (k : Task) where
     complete = λ rest t e p. (step.begin k.grammar rest t).0 p;
   }
 
-  pub on_symbol : (f : OpenNode) (s : ℕ) (ys : List Item) (fs : List OpenNode) (i n : ℕ) (rs : Made) → ys ≡ drop f.place (right_side g f.production)
+  pub on_symbol : (f : OpenNode) (s : ℕ) (ys : List Item) (fs : List OpenNode) (i n : ℕ) (rs : Made) → ys ≡ drop f.passed (right_side g f.production)
       → Reading k f.production f.base (item.Symbol s ∷ ys) fs i n rs → Asked k s (f ∷ fs) i n rs
   on_symbol f s ys fs i n rs left r = record {
     under = open_at f.production r.done ys ∷ r.under;

@@ -31,10 +31,10 @@ module _ (k : Task) (tables : Choices) (fits : FitsGrammar k.grammar tables) (s 
   at_start : Asked k s [] 0 0 nothing_made
   at_start = rw start (begin k nothing_made refl refl)
 
-  pub begun : (node : OpenNode) (p : Parser) → 0 < k.nodes → 0 < k.depth → p.waiting.items ≡ [] → p.texts.items ≡ [] → p.tokens.taken ≡ 0 → p.count ≡ 1 → node.place ≡ 0 → node.base ≡ 0
+  pub begun : (node : OpenNode) (p : Parser) → 0 < k.nodes → 0 < k.depth → p.waiting.items ≡ [] → p.texts.items ≡ [] → p.tokens.taken ≡ 0 → p.count ≡ 1 → node.passed ≡ 0 → node.base ≡ 0
       → choice_of tables s (ahead_of (drop 0 k.words)) ≡ Some node.production → IsBetween k node p k.front
-  begun node p more_nodes more_levels waiting texts taken count place base chosen =
-      rw (waiting, texts, taken, count, place) (on_open k tables fits s node.production node.base [] 0 0 nothing_made chosen base more_nodes more_levels at_start)
+  begun node p more_nodes more_levels waiting texts taken count behind base chosen =
+      rw (waiting, texts, taken, count, behind) (on_open k tables fits s node.production node.base [] 0 0 nothing_made chosen base more_nodes more_levels at_start)
 
   pub not_begun : IsAccepted k.grammar → choice_of tables s (ahead_of (drop 0 k.words)) ≡ None → IsStuckAt k.grammar k.words 0
   not_begun accepted unnamed = no_rule k tables fits accepted s [] 0 0 nothing_made unnamed at_start

@@ -69,7 +69,7 @@ abbrev pub Shows : Grammar → List Open → List OpenNode → Type 0
 Shows g [] [] = Unit {0}
 Shows g [] (f ∷ fs) = ⊥
 Shows g (o ∷ os) [] = ⊥
-Shows g (o ∷ os) (f ∷ fs) = (o.production ≡ f.production) × (o.rest ≡ drop f.place (right_side g f.production)) × (f.base ≡ length (kept os)) × Shows g os fs
+Shows g (o ∷ os) (f ∷ fs) = (o.production ≡ f.production) × (o.rest ≡ drop f.passed (right_side g f.production)) × (f.base ≡ length (kept os)) × Shows g os fs
 
 -- the records of the trees that are done, those of the outermost node first
 abbrev pub written : List Open → List ℕ
@@ -131,12 +131,12 @@ pub record Whole (k : Task) (at count : ℕ) (bytes : List ℕ) : Type 0 where
 -- Where a parser is between two steps: the first node of its stack is open where the stack says, or the tree is done.
 abbrev pub Between : Task → List OpenNode → ℕ → ℕ → Made → Type 0
 Between k [] at count made = Whole k at count made.bytes
-Between k (f ∷ fs) at count made = Reading k f.production f.base (drop f.place (right_side k.grammar f.production)) fs at count made
+Between k (f ∷ fs) at count made = Reading k f.production f.base (drop f.passed (right_side k.grammar f.production)) fs at count made
 
 -- The first node of the stack has an item before it, which the stack has passed.
 abbrev pub Before : Task → Item → List OpenNode → ℕ → ℕ → Made → Type 0
 Before k x [] at count made = ⊥
-Before k x (f ∷ fs) at count made = Reading k f.production f.base (x ∷ drop f.place (right_side k.grammar f.production)) fs at count made
+Before k x (f ∷ fs) at count made = Reading k f.production f.base (x ∷ drop f.passed (right_side k.grammar f.production)) fs at count made
 
 -- the tree of a task's words, within its limits, whose records are written
 pub record IsParsed (k : Task) (count : ℕ) (bytes : List ℕ) : Type 0 where
@@ -171,7 +171,7 @@ most (q ∷ qs) = length q.items + most qs
 -- how many steps the open nodes take at most before the next one is opened
 abbrev pub weight : Grammar → List OpenNode → ℕ
 weight g [] = 0
-weight g (f ∷ fs) = suc (length (drop f.place (right_side g f.production))) + weight g fs
+weight g (f ∷ fs) = suc (length (drop f.passed (right_side g f.production))) + weight g fs
 
 -- how many steps are left at most
 abbrev pub steps_left : Grammar → ℕ → List OpenNode → ℕ → ℕ

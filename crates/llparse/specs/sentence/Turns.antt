@@ -26,7 +26,7 @@ IsBetween k node p bytes = Between k (node ∷ reverse p.waiting.items) p.tokens
 abbrev pub Asks : Task → ℕ → OpenNode → Parser → List ℕ → Type 0
 Asks k s node p bytes = Asked k s (node ∷ reverse p.waiting.items) p.tokens.taken p.count (made_by p bytes)
 
--- the innermost open node has an item next, which its place is behind
+-- the innermost open node has an item next, which it has passed
 abbrev pub Faces : Task → Item → OpenNode → Parser → List ℕ → Type 0
 Faces k x node p bytes = Before k x (node ∷ reverse p.waiting.items) p.tokens.taken p.count (made_by p bytes)
 
@@ -62,9 +62,9 @@ left_of g node p = steps_left g most_nodes (node ∷ reverse p.waiting.items) p.
 
 -- an open node behind its item
 abbrev pub advanced : OpenNode → OpenNode
-advanced node = record node { place = node.place + 1 }
+advanced node = record node { passed = node.passed + 1 }
 
 -- An open node of a right side has this item next, and goes behind it; or it is at its end.
 abbrev pub Advances : List Item → OpenNode → Option Item → OpenNode → Type 0
-Advances items old None new = (slice_get items old.place ≡ None) × (new ≡ old)
-Advances items old (Some x) new = (slice_get items old.place ≡ Some x) × (new ≡ advanced old)
+Advances items old None new = (slice_get items old.passed ≡ None) × (new ≡ old)
+Advances items old (Some x) new = (slice_get items old.passed ≡ Some x) × (new ≡ advanced old)

@@ -3,7 +3,7 @@ use Rattle.std.specs.Prelude.{ℕ, ◌≡◌, ◌<◌, ◌≤◌, ◌⊎◌, Lis
 use Rattle.ag_grammar.specs.grammars.AttributeGrammar.{Grammar}
 use Rattle.llparse.specs.Ahead.{IsConflict}
 use Rattle.llparse.specs.table.Edges.{IsKnownAhead}
-use Rattle.llparse.specs.table.Nodes.{place_of}
+use Rattle.llparse.specs.table.Nodes.{index_of}
 use Rattle.llparse.specs.table.Predicted.{choice_at, IsNoLater}
 use Rattle.llparse.specs.table.Tables.{ComesNoLater, IsChoice}
 use Rattle.llparse.specs.declared.ahead.Ahead.{Ahead}
@@ -20,16 +20,16 @@ abbrev pub IsLeastAt : Grammar → Ahead → Option Pair → Type 0
 IsLeastAt g x None = (a b : ℕ) → IsConflict g a b x → ⊥
 IsLeastAt g x (Some p) = IsConflict g p.first p.second x × ((a b : ℕ) → IsConflict g a b x → IsNoLater p a b)
 
--- the least conflict at the look-aheads before a place, or none where there is none
+-- the least conflict at the look-aheads before an index, or none where there is none
 abbrev pub IsLeastBelow : Grammar → ℕ → Option Conflict → Type 0
-IsLeastBelow g n None = (a b : ℕ) (y : Ahead) → IsKnownAhead g y → place_of (length g.literals) y < n → IsConflict g a b y → ⊥
+IsLeastBelow g n None = (a b : ℕ) (y : Ahead) → IsKnownAhead g y → index_of (length g.literals) y < n → IsConflict g a b y → ⊥
 IsLeastBelow g n (Some c) =
-    IsConflict g c.first c.second c.ahead × (place_of (length g.literals) c.ahead < n)
-    × ((a b : ℕ) (y : Ahead) → IsKnownAhead g y → place_of (length g.literals) y < n → IsConflict g a b y → ComesNoLater g c.first c.second c.ahead a b y)
+    IsConflict g c.first c.second c.ahead × (index_of (length g.literals) c.ahead < n)
+    × ((a b : ℕ) (y : Ahead) → IsKnownAhead g y → index_of (length g.literals) y < n → IsConflict g a b y → ComesNoLater g c.first c.second c.ahead a b y)
 
--- the columns of the look-aheads before a place
+-- the columns of the look-aheads before an index
 abbrev pub AreColumns : Grammar → ℕ → List (List (Option ℕ)) → Type 0
-AreColumns g n columns = (y : Ahead) → IsKnownAhead g y → place_of (length g.literals) y < n → IsColumn g y (slice_index_or columns (place_of (length g.literals) y) [])
+AreColumns g n columns = (y : Ahead) → IsKnownAhead g y → index_of (length g.literals) y < n → IsColumn g y (slice_index_or columns (index_of (length g.literals) y) [])
 
 -- a conflict where a pair conflicts
 abbrev pub at_ahead : Pair → Ahead → Conflict

@@ -8,17 +8,17 @@ use Rattle.llparse.specs.declared.ahead.Ahead.{Ahead}
 use Rattle.llparse.specs.declared.ahead.Ahead.TheVariants as ahead
 use Rattle.llparse.specs.declared.table.nodes.Sizes.{Sizes}
 
--- A look-ahead's place in their order, where a grammar has so many literals: the literals by their numbers, then the classes
+-- A look-ahead's index in their order, where a grammar has so many literals: the literals by their numbers, then the classes
 -- by theirs, then the end.
-abbrev pub place_of : ℕ → Ahead → ℕ
-place_of literals (ahead.Terminal (Literal l)) = l
-place_of literals (ahead.Terminal (Class c)) = literals + c
-place_of literals ahead.End = literals + class_count
+abbrev pub index_of : ℕ → Ahead → ℕ
+index_of literals (ahead.Terminal (Literal l)) = l
+index_of literals (ahead.Terminal (Class c)) = literals + c
+index_of literals ahead.End = literals + class_count
 
 -- Symbols are nodes by their numbers, and the look-aheads stand behind them.
 abbrev pub node_of : ℕ → ℕ → Item → ℕ
 node_of symbols literals (item.Symbol s) = s
-node_of symbols literals (item.Terminal a) = symbols + place_of literals (ahead.Terminal a)
+node_of symbols literals (item.Terminal a) = symbols + index_of literals (ahead.Terminal a)
 
 -- an item's node by the sizes of a grammar
 abbrev pub node_by : Sizes → Item → ℕ

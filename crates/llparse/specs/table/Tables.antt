@@ -5,7 +5,7 @@ use Rattle.ag_grammar.specs.declared.grammar.Terminal.TheVariants.{Literal, Clas
 use Rattle.ag_grammar.specs.grammars.AttributeGrammar.{Grammar, IsProduction}
 use Rattle.ag_grammar.specs.grammars.Accepted.{class_count}
 use Rattle.llparse.specs.Ahead.{IsConflict, Predicts}
-use Rattle.llparse.specs.table.Nodes.{place_of}
+use Rattle.llparse.specs.table.Nodes.{index_of}
 use Rattle.llparse.specs.declared.ahead.Ahead.{Ahead}
 use Rattle.llparse.specs.declared.ahead.Ahead.TheVariants as ahead
 
@@ -13,7 +13,7 @@ use Rattle.llparse.specs.declared.ahead.Ahead.TheVariants as ahead
 abbrev pub IsChoice : Grammar → ℕ → Ahead → ℕ → Type 0
 IsChoice g s x k = (q : Production) × IsProduction g k q × (q.left ≡ s) × Predicts g q x
 
--- Tables: how many literals there are, and for each look-ahead, by its place, the production that each symbol has.
+-- Tables: how many literals there are, and for each look-ahead, by its index, the production that each symbol has.
 pub record Choices : Type 0 where
   pub literals : ℕ
   pub columns : List (List (Option ℕ))
@@ -26,7 +26,7 @@ is_known literals ahead.End = true
 
 -- the production of a symbol at a look-ahead, none where there is no such entry
 abbrev pub choice_of : Choices → ℕ → Ahead → Option ℕ
-choice_of t s x = if is_known t.literals x then slice_index_or (slice_index_or t.columns (place_of t.literals x) []) s None else None
+choice_of t s x = if is_known t.literals x then slice_index_or (slice_index_or t.columns (index_of t.literals x) []) s None else None
 
 -- Tables fit a grammar: they have exactly what is predicted.
 abbrev pub FitsGrammar : Grammar → Choices → Type 0
@@ -35,7 +35,7 @@ FitsGrammar g t = (s : ℕ) (x : Ahead) (k : ℕ) → choice_of t s x ≡ Some k
 -- Conflicts are in order of their first productions, then of their second ones, then of their look-aheads: literals, then
 -- classes, then the end (this project's).
 abbrev pub ComesNoLater : Grammar → ℕ → ℕ → Ahead → ℕ → ℕ → Ahead → Type 0
-ComesNoLater g a b x c d y = (a < c) ⊎ ((a ≡ c) × ((b < d) ⊎ ((b ≡ d) × (place_of (length g.literals) x ≤ place_of (length g.literals) y))))
+ComesNoLater g a b x c d y = (a < c) ⊎ ((a ≡ c) × ((b < d) ⊎ ((b ≡ d) × (index_of (length g.literals) x ≤ index_of (length g.literals) y))))
 
 -- the least conflict, with its symbol
 pub record IsLeastConflict (g : Grammar) (symbol first second : ℕ) (x : Ahead) : Type 0 where

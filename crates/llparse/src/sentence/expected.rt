@@ -165,8 +165,8 @@ fn all_that_could(
 {
     let mut expected = Vec::new(alloc);
     let sizes = Sizes::of(grammar);
-    for place in 0..sizes.aheads() {
-        let ahead = sizes.ahead(place);
+    for index in 0..sizes.aheads() {
+        let ahead = sizes.ahead(index);
         if could_stand(alloc, grammar, tables, sentence, before, innermost, ahead)? {
             expected.push(ahead)?;
         }

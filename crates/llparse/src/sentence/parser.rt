@@ -35,7 +35,7 @@ use treefile::{Device, Kind, Writer};
 #[derive(Clone, Copy, Debug, PartialEq, Eq)]
 pub(crate) struct OpenNode {
     pub(crate) production: u16,
-    pub(crate) place: u16,
+    pub(crate) passed: u16,
     pub(crate) base: usize,
 }
 
@@ -49,16 +49,16 @@ pub(crate) fn next_item(grammar: &Grammar, node: &mut OpenNode) -> Option<Item>
     let item = production
         .items
         .as_slice()
-        .get(node.place as usize)
+        .get(node.passed as usize)
         .copied()?;
-    node.place += 1;
+    node.passed += 1;
     Some(item)
 }
 
 /// A node of a symbol at a look-ahead, open at its beginning, whose texts are to come behind so many.
 #[inline(always)]
 pub(crate) fn node_at(tables: &Tables, symbol: u16, ahead: Ahead, base: usize) -> Option<OpenNode>
-    ensures begins { IfSome result (λ node. node.place ≡ 0) }
+    ensures begins { IfSome result (λ node. node.passed ≡ 0) }
     ensures base { IfSome result (λ node. node.base ≡ base) }
     ensures chosen { choice_of tables.now symbol ahead
         ≡ option_map (λ node. node.production) result }
@@ -66,7 +66,7 @@ pub(crate) fn node_at(tables: &Tables, symbol: u16, ahead: Ahead, base: usize) -
     match tables.choice(symbol, ahead) {
         Some(production) => Some(OpenNode {
             production,
-            place: 0,
+            passed: 0,
             base,
         }),
         None => None,
@@ -82,13 +82,13 @@ pub(crate) fn new_node(
     symbol: u16,
     base: usize,
 ) -> Result<OpenNode, ParseFault>
-    ensures begins { IfOk result (λ node. node.place ≡ 0) }
+    ensures begins { IfOk result (λ node. node.passed ≡ 0) }
     ensures base { IfOk result (λ node. node.base ≡ base) }
     ensures chosen { IfOk result (λ node. choice_of tables.now symbol
         (ahead_of (drop tokens.now.taken (words_of tokens.now.list))) ≡ Some node.production) }
     ensures none { OnErr result (choice_of tables.now symbol
         (ahead_of (drop tokens.now.taken (words_of tokens.now.list))) ≡ None) }
-    ensures place { IfErr result (λ e.
+    ensures offset { IfErr result (λ e.
         e ≡ ParseFault.Unexpected (offset_at tokens.now.list tokens.now.taken)) }
 {
     match node_at(tables, symbol, next_of(tokens), base) {

@@ -51,7 +51,7 @@ pub(crate) fn expect<'t>(tokens: &Tokens<'t>, kind: Terminal) -> Result<&'t str,
     ensures within { IfOk result (λ _. tokens.now.taken < length tokens.now.list) }
     ensures fits { IfOk result (λ lex. (v : Vocabulary) → FitAll v tokens.now.list
         → IsTokenOf v kind lex.now) }
-    ensures place { IfErr result (λ e.
+    ensures offset { IfErr result (λ e.
         e ≡ ParseFault.Unexpected (offset_at tokens.now.list tokens.now.taken)) }
     ensures other { IfErr result (λ _. ahead_of (drop tokens.now.taken
         (words_of tokens.now.list)) ≢ look.Terminal kind) }

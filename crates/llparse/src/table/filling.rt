@@ -81,8 +81,8 @@ pub(crate) fn fill(alloc: Global, grammar: &Grammar) -> Result<Columns, NoMemory
     let sizes = Sizes::of(grammar);
     let mut choices = Vec::new(alloc);
     let mut conflict = None;
-    for place in 0..sizes.aheads() {
-        let ahead = sizes.ahead(place);
+    for index in 0..sizes.aheads() {
+        let ahead = sizes.ahead(index);
         let column = column_of(alloc, grammar, &sets, ahead)?;
         conflict = sooner(conflict, column.conflict, ahead);
         choices.push(column.choices)?;

@@ -87,7 +87,7 @@ pub(crate) fn first(
     ensures { IfOk result (λ marks. AreFirst grammar.now ahead marks.items) }
 {
     let sizes = Sizes::of(grammar);
-    let node = sizes.symbols as usize + sizes.place(ahead);
+    let node = sizes.symbols as usize + sizes.index(ahead);
     let marks = edges.closure(alloc, &[node])?;
     Ok(marks)
 }

@@ -53,9 +53,9 @@ impl Tables {
             symbols: 0,
             literals: self.literals,
         };
-        let place = sizes.place(ahead);
-        if sizes.knows(ahead) && place < self.columns.len() {
-            return entry(self.columns[place].as_slice(), symbol as usize);
+        let index = sizes.index(ahead);
+        if sizes.knows(ahead) && index < self.columns.len() {
+            return entry(self.columns[index].as_slice(), symbol as usize);
         }
         None
     }

@@ -1,7 +1,7 @@
 //! How the symbols and the look-aheads of a grammar are numbered.
 ghost use Rattle.std.specs.Prelude.{◌≡◌, ◌+◌, ◌<◌, true, length};
 ghost use Rattle.ag_grammar.specs.grammars.Accepted.{IsAccepted};
-ghost use Rattle.llparse.specs.table.Nodes.{node_of, place_of};
+ghost use Rattle.llparse.specs.table.Nodes.{node_of, index_of};
 ghost use Rattle.llparse.specs.table.Tables.{is_known};
 
 use crate::ahead::Ahead;
@@ -29,8 +29,8 @@ impl Sizes {
     }
 
     /// A look-ahead's place among all: literals, then classes, then the end.
-    pub(crate) fn place(self, ahead: Ahead) -> usize
-        ensures { result ≡ place_of self.literals ahead }
+    pub(crate) fn index(self, ahead: Ahead) -> usize
+        ensures { result ≡ index_of self.literals ahead }
     {
         match ahead {
             Ahead::Terminal(Terminal::Literal(literal)) => literal as usize,
@@ -46,7 +46,7 @@ impl Sizes {
         match item {
             Item::Symbol(symbol) => symbol as usize,
             Item::Terminal(terminal) => {
-                self.symbols as usize + self.place(Ahead::Terminal(terminal))
+                self.symbols as usize + self.index(Ahead::Terminal(terminal))
             }
         }
     }
@@ -66,17 +66,17 @@ impl Sizes {
     }
 
     /// The look-ahead at a place.
-    pub(crate) fn ahead(self, place: usize) -> Ahead
-        requires { place < self.literals + 4 }
-        ensures place { place_of self.literals result ≡ place }
+    pub(crate) fn ahead(self, index: usize) -> Ahead
+        requires { index < self.literals + 4 }
+        ensures index { index_of self.literals result ≡ index }
         ensures known { is_known self.literals result ≡ true }
     {
         let literals = self.literals as usize;
-        if place < literals {
-            return Ahead::Terminal(Terminal::Literal(place as u16));
+        if index < literals {
+            return Ahead::Terminal(Terminal::Literal(index as u16));
         }
-        if place < literals + CLASS_COUNT as usize {
-            return Ahead::Terminal(Terminal::Class((place - literals) as u16));
+        if index < literals + CLASS_COUNT as usize {
+            return Ahead::Terminal(Terminal::Class((index - literals) as u16));
         }
         Ahead::End
     }

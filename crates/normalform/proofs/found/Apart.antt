@@ -8,7 +8,7 @@ use Rattle.std.proofs.lemmas.Option.{get_or_from_slice_get, slice_get_within, sl
 use Rattle.std.specs.List.{list_any}
 use Rattle.ag_grammar.specs.Lists.{DifferIn}
 use Rattle.normalform.specs.declared.fault.NormalFault.{NormalFault}
-use Rattle.normalform.specs.faults.Faults.{Place, first_wrong, places_along}
+use Rattle.normalform.specs.faults.Faults.{Check, first_wrong, checks_along}
 use Rattle.normalform.proofs.found.Right.{both_right, together, is_right, right_is}
 
 -- no key is there twice
@@ -35,9 +35,9 @@ apart_new : {K : Type 0} (same : K → K → Bool) → Tells same → (seen : Li
 apart_new same tells seen key rest apart = list_any_none (same key) seen (λ k d lt. differs same tells (get_or seen k d) key (λ e.
     apart k (length seen) d lt (omega (arith, length-append seen (key ∷ rest))) (get_or_append_left seen (key ∷ rest) d k lt ∙ e ∙ sym (get_or_at seen key rest d (length seen) refl))))
 
--- a key where it stands, and places of its own behind it
-abbrev pub key_places : {X K : Type 0} → (K → K → Bool) → (X → NormalFault) → (X → K) → (X → List Place) → List K → X → List Place
-key_places same fault key more seen x = (fault x, not (list_any (same (key x)) seen)) ∷ more x
+-- a key where it stands, and checks of its own behind it
+abbrev pub key_checks : {X K : Type 0} → (K → K → Bool) → (X → NormalFault) → (X → K) → (X → List Check) → List K → X → List Check
+key_checks same fault key more seen x = (fault x, not (list_any (same (key x)) seen)) ∷ more x
 
 abbrev pub with_key : {X K : Type 0} → (K → K → Bool) → (X → K) → List K → X → List K
 with_key same key seen x = cond (list_any (same (key x)) seen) seen (seen ++ key x ∷ [])
@@ -49,31 +49,31 @@ new_is true h = absurd (cc)
 with_new : {X K : Type 0} (same : K → K → Bool) (key : X → K) (seen : List K) (x : X) → list_any (same (key x)) seen ≡ false → with_key same key seen x ≡ seen ++ key x ∷ []
 with_new same key seen x new = rw new refl
 
-pub apart_along : {X K : Type 0} (same : K → K → Bool) (fault : X → NormalFault) (key : X → K) (more : X → List Place) → Tells same → (seen : List K) (xs : List X) → Apart seen
-    → first_wrong (places_along (key_places same fault key more) (with_key same key) seen xs) ≡ None → Apart (seen ++ map key xs)
+pub apart_along : {X K : Type 0} (same : K → K → Bool) (fault : X → NormalFault) (key : X → K) (more : X → List Check) → Tells same → (seen : List K) (xs : List X) → Apart seen
+    → first_wrong (checks_along (key_checks same fault key more) (with_key same key) seen xs) ≡ None → Apart (seen ++ map key xs)
 apart_along same fault key more tells seen [] apart h = rw append-nil apart
 apart_along same fault key more tells seen (x ∷ xs) apart h =
-    let p = both_right (key_places same fault key more seen x) (places_along (key_places same fault key more) (with_key same key) (with_key same key seen x) xs) h in
+    let p = both_right (key_checks same fault key more seen x) (checks_along (key_checks same fault key more) (with_key same key) (with_key same key seen x) xs) h in
     let new = new_is (list_any (same (key x)) seen) (is_right (fault x, not (list_any (same (key x)) seen)) (both_right ((fault x, not (list_any (same (key x)) seen)) ∷ []) (more x) p.0).0) in
     rw (← append_assoc seen (key x ∷ []) (map key xs)) (apart_along same fault key more tells (seen ++ key x ∷ []) xs (apart_push same tells seen (key x) apart new) (rw (with_new same key seen x new) at p.1))
 
--- the places of their own are right too
-pub more_along : {X K : Type 0} (same : K → K → Bool) (fault : X → NormalFault) (key : X → K) (more : X → List Place) (seen : List K) (xs : List X)
-    → first_wrong (places_along (key_places same fault key more) (with_key same key) seen xs) ≡ None → (i : ℕ) (x : X) → slice_get xs i ≡ Some x → first_wrong (more x) ≡ None
+-- the checks of their own hold too
+pub more_along : {X K : Type 0} (same : K → K → Bool) (fault : X → NormalFault) (key : X → K) (more : X → List Check) (seen : List K) (xs : List X)
+    → first_wrong (checks_along (key_checks same fault key more) (with_key same key) seen xs) ≡ None → (i : ℕ) (x : X) → slice_get xs i ≡ Some x → first_wrong (more x) ≡ None
 more_along same fault key more seen [] h i x e = absurd (cc)
 more_along same fault key more seen (y ∷ ys) h zero x e =
-    let p = both_right (key_places same fault key more seen y) (places_along (key_places same fault key more) (with_key same key) (with_key same key seen y) ys) h in
+    let p = both_right (key_checks same fault key more seen y) (checks_along (key_checks same fault key more) (with_key same key) (with_key same key seen y) ys) h in
     let z : y ≡ x = cc in rw (← z) (both_right ((fault y, not (list_any (same (key y)) seen)) ∷ []) (more y) p.0).1
 more_along same fault key more seen (y ∷ ys) h (suc i) x e =
-    let p = both_right (key_places same fault key more seen y) (places_along (key_places same fault key more) (with_key same key) (with_key same key seen y) ys) h in
+    let p = both_right (key_checks same fault key more seen y) (checks_along (key_checks same fault key more) (with_key same key) (with_key same key seen y) ys) h in
     more_along same fault key more (with_key same key seen y) ys p.1 i x e
 
-pub along_apart : {X K : Type 0} (same : K → K → Bool) (fault : X → NormalFault) (key : X → K) (more : X → List Place) → Tells same → (seen : List K) (xs : List X) → Apart (seen ++ map key xs)
-    → ((i : ℕ) (x : X) → slice_get xs i ≡ Some x → first_wrong (more x) ≡ None) → first_wrong (places_along (key_places same fault key more) (with_key same key) seen xs) ≡ None
+pub along_apart : {X K : Type 0} (same : K → K → Bool) (fault : X → NormalFault) (key : X → K) (more : X → List Check) → Tells same → (seen : List K) (xs : List X) → Apart (seen ++ map key xs)
+    → ((i : ℕ) (x : X) → slice_get xs i ≡ Some x → first_wrong (more x) ≡ None) → first_wrong (checks_along (key_checks same fault key more) (with_key same key) seen xs) ≡ None
 along_apart same fault key more tells seen [] apart each = refl
 along_apart same fault key more tells seen (x ∷ xs) apart each =
     let new = apart_new same tells seen (key x) (map key xs) apart in
-    together (key_places same fault key more seen x) (places_along (key_places same fault key more) (with_key same key) (with_key same key seen x) xs)
+    together (key_checks same fault key more seen x) (checks_along (key_checks same fault key more) (with_key same key) (with_key same key seen x) xs)
     (together ((fault x, not (list_any (same (key x)) seen)) ∷ []) (more x) (right_is (fault x, not (list_any (same (key x)) seen)) (rw new refl)) (each zero x refl))
     (rw (with_new same key seen x new) (along_apart same fault key more tells (seen ++ key x ∷ []) xs (rw (append_assoc seen (key x ∷ []) (map key xs)) apart) (λ i. each (suc i))))
 

@@ -16,13 +16,13 @@ use Rattle.ag_grammar.specs.declared.raw.RawProduction.{RawProduction}
 use Rattle.ag_grammar.specs.declared.raw.RawRule.{RawRule}
 use Rattle.ag_grammar.specs.declared.raw.RawSymbol.{RawSymbol}
 use Rattle.normalform.specs.declared.fault.NormalFault.TheVariants as fault
-use Rattle.normalform.specs.faults.Faults.{first_wrong, name_place, item_places, occurrence_place, rule_places, unknown_in, unknown, doubled_names, doubled}
+use Rattle.normalform.specs.faults.Faults.{first_wrong, name_check, item_checks, occurrence_check, rule_checks, unknown_in, unknown, doubled_names, doubled}
 use Rattle.normalform.specs.numbers.Numbers.{number_in, symbol_of, symbol_names, item_of, placed, names_at, target_of, rule_of, literals_of, numbered}
 use Rattle.normalform.proofs.found.Apart.{Apart, none_apart, apart_along, more_along, along_apart, apart_differ, differ_apart}
 use Rattle.normalform.proofs.numbered.Listed.{tells_texts, has_any}
 use Rattle.normalform.proofs.numbered.Placing.{some_kind, stands_for, named_there, names_of}
 use Rattle.normalform.proofs.found.Reduced.{symbols, produces, name_known, below_known, unknown_parts}
-use Rattle.closure.proofs.Places.{at_mapped, mapped_at}
+use Rattle.closure.proofs.Positions.{at_mapped, mapped_at}
 use Rattle.normalform.proofs.found.Right.{both_right, together, is_right, right_is, flat_each, each_flat, map_each, each_map}
 use Rattle.normalform.proofs.found.Ruled.{differ_mapped, mapped_differ, each_mapped, mapped_each}
 
@@ -69,13 +69,13 @@ differ_doubled ss differ each = along_apart bytes_eq (λ (s : RawSymbol). fault.
     (rw (names_same s) (differ_texts (attribute_names (symbol_of s)) (mapped_each symbol_of (λ t. Differ (attribute_names t)) ss each i s e))) (λ j x f. refl))
 
 -- an occurrence is known
-occurrence_known : (raw : RawGrammar) (q : RawProduction) (r : RawRule) → first_wrong (rule_places (symbols raw) (placed (symbols raw) q) r) ≡ None
+occurrence_known : (raw : RawGrammar) (q : RawProduction) (r : RawRule) → first_wrong (rule_checks (symbols raw) (placed (symbols raw) q) r) ≡ None
     → (list_any (bytes_eq r.target.attr) (names_at (symbols raw) (placed (symbols raw) q) r.target.place) ≡ true) × ((i : ℕ) (o : Occ) → slice_get r.expr.1 i ≡ Some o → list_any (bytes_eq o.attr) (names_at (symbols raw) (placed (symbols raw) q) o.place) ≡ true)
 occurrence_known raw q r h =
     let ss = symbols raw in
     let items = placed ss q in
-    let w = both_right (occurrence_place ss items r.target ∷ []) (map (occurrence_place ss items) r.expr.1) h in
-    (is_right (occurrence_place ss items r.target) w.0, map_each (occurrence_place ss items) r.expr.1 w.1)
+    let w = both_right (occurrence_check ss items r.target ∷ []) (map (occurrence_check ss items) r.expr.1) h in
+    (is_right (occurrence_check ss items r.target) w.0, map_each (occurrence_check ss items) r.expr.1 w.1)
 
 related : (raw : RawGrammar) (q : RawProduction) (os : List Occ) → ((i : ℕ) (o : Occ) → slice_get os i ≡ Some o → list_any (bytes_eq o.attr) (names_at (symbols raw) (placed (symbols raw) q) o.place) ≡ true)
     → AreRelated (StandsFor (numbered raw) (produces raw q)) os (map (target_of (symbols raw) (placed (symbols raw) q)) os)
@@ -89,7 +89,7 @@ related raw q os h = record {
 }
 
 -- a known rule is named
-pub rule_named : (raw : RawGrammar) (q : RawProduction) (r : RawRule) → first_wrong (rule_places (symbols raw) (placed (symbols raw) q) r) ≡ None → is_below (length r.expr.1) r.expr.0 ≡ true
+pub rule_named : (raw : RawGrammar) (q : RawProduction) (r : RawRule) → first_wrong (rule_checks (symbols raw) (placed (symbols raw) q) r) ≡ None → is_below (length r.expr.1) r.expr.0 ≡ true
     → IsNamedRule (numbered raw) (produces raw q) (rule_of (symbols raw) (placed (symbols raw) q) r)
 rule_named raw q r h listed = let w = occurrence_known raw q r h in record {
   target = some_kind raw q r.target w.0;
@@ -103,16 +103,16 @@ found_there raw q o stands =
     has_any names o.attr (number_in names o.attr, sym (ap (λ ns. slice_get ns (number_in names o.attr)) (names_of raw q o.place)) ∙ stands.name)
 
 -- and the other way round
-named_rule : (raw : RawGrammar) (q : RawProduction) (r : RawRule) → IsNamedRule (numbered raw) (produces raw q) (rule_of (symbols raw) (placed (symbols raw) q) r) → first_wrong (rule_places (symbols raw) (placed (symbols raw) q) r) ≡ None
+named_rule : (raw : RawGrammar) (q : RawProduction) (r : RawRule) → IsNamedRule (numbered raw) (produces raw q) (rule_of (symbols raw) (placed (symbols raw) q) r) → first_wrong (rule_checks (symbols raw) (placed (symbols raw) q) r) ≡ None
 named_rule raw q r named =
     let ss = symbols raw in
     let items = placed ss q in
-    together (occurrence_place ss items r.target ∷ []) (map (occurrence_place ss items) r.expr.1)
-    (right_is (occurrence_place ss items r.target) (named_there raw q r.target named.target.0 named.target.1))
-    (each_map (occurrence_place ss items) r.expr.1 (λ i o e. let s = named.arguments.each i o (target_of ss items o) e (at_mapped (target_of ss items) r.expr.1 i o e) in found_there raw q o s))
+    together (occurrence_check ss items r.target ∷ []) (map (occurrence_check ss items) r.expr.1)
+    (right_is (occurrence_check ss items r.target) (named_there raw q r.target named.target.0 named.target.1))
+    (each_map (occurrence_check ss items) r.expr.1 (λ i o e. let s = named.arguments.each i o (target_of ss items o) e (at_mapped (target_of ss items) r.expr.1 i o e) in found_there raw q o s))
 
-name_right : (ss : List Symbol) (name : Named) → number_in (symbol_names ss) name.name < length ss → first_wrong (name_place (symbol_names ss) name ∷ []) ≡ None
-name_right ss name lt = right_is (name_place (symbol_names ss) name) (below_known (symbol_names ss) name.name (rw (length-map ss (λ (s : Symbol). s.name)) lt))
+name_right : (ss : List Symbol) (name : Named) → number_in (symbol_names ss) name.name < length ss → first_wrong (name_check (symbol_names ss) name ∷ []) ≡ None
+name_right ss name lt = right_is (name_check (symbol_names ss) name) (below_known (symbol_names ss) name.name (rw (length-map ss (λ (s : Symbol). s.name)) lt))
 
 -- left sides are symbols
 pub lefts_known : (raw : RawGrammar) → first_wrong (unknown (symbols raw) raw.productions) ≡ None → Each (λ q. q.left < length (symbols raw)) (numbered raw).productions
@@ -125,12 +125,12 @@ pub rules_named : (raw : RawGrammar) → first_wrong (unknown (symbols raw) raw.
 rules_named raw h listed = each_mapped (produces raw) (λ q. Each (IsNamedRule (numbered raw) q) q.rules) raw.productions (λ p q e.
     let parts = unknown_parts (symbols raw) q (flat_each (unknown_in (symbols raw)) raw.productions h p q e) in
     each_mapped (rule_of (symbols raw) (placed (symbols raw) q)) (IsNamedRule (numbered raw) (produces raw q)) q.rules (λ i r f.
-    rule_named raw q r (flat_each (rule_places (symbols raw) (placed (symbols raw) q)) q.rules parts.2 i r f)
+    rule_named raw q r (flat_each (rule_checks (symbols raw) (placed (symbols raw) q)) q.rules parts.2 i r f)
     (mapped_each (rule_of (symbols raw) (placed (symbols raw) q)) (λ s. is_below (length s.expr.1) s.expr.0 ≡ true) q.rules
     (mapped_each (produces raw) (λ s. Each (λ r. is_below (length r.expr.1) r.expr.0 ≡ true) s.rules) raw.productions listed p q e) i r f)))
 
 -- the names of a named grammar are known
-item_right : (raw : RawGrammar) (x : RawItem) → IsNamedItem (numbered raw) (item_of (symbol_names (symbols raw)) (literals_of raw.productions) x) → first_wrong (item_places (symbol_names (symbols raw)) x) ≡ None
+item_right : (raw : RawGrammar) (x : RawItem) → IsNamedItem (numbered raw) (item_of (symbol_names (symbols raw)) (literals_of raw.productions) x) → first_wrong (item_checks (symbol_names (symbols raw)) x) ≡ None
 item_right raw (raw_item.Name name) lt = name_right (symbols raw) name lt
 item_right raw (raw_item.Literal text) lt = refl
 item_right raw (raw_item.Class c) lt = refl
@@ -138,12 +138,12 @@ item_right raw (raw_item.Class c) lt = refl
 pub named_known : (raw : RawGrammar) → IsNamed (numbered raw) → first_wrong (unknown (symbols raw) raw.productions) ≡ None
 named_known raw named = each_flat (unknown_in (symbols raw)) raw.productions (λ p q e.
     let ss = symbols raw in
-    together (name_place (symbol_names ss) q.left ∷ []) (flat_map (item_places (symbol_names ss)) q.items ++ flat_map (rule_places ss (placed ss q)) q.rules)
+    together (name_check (symbol_names ss) q.left ∷ []) (flat_map (item_checks (symbol_names ss)) q.items ++ flat_map (rule_checks ss (placed ss q)) q.rules)
     (name_right ss q.left (mapped_each (produces raw) (λ r. r.left < length ss) raw.productions named.left_sides p q e))
-    (together (flat_map (item_places (symbol_names ss)) q.items) (flat_map (rule_places ss (placed ss q)) q.rules)
-    (each_flat (item_places (symbol_names ss)) q.items (λ i x f.
+    (together (flat_map (item_checks (symbol_names ss)) q.items) (flat_map (rule_checks ss (placed ss q)) q.rules)
+    (each_flat (item_checks (symbol_names ss)) q.items (λ i x f.
     item_right raw x (mapped_each (item_of (symbol_names ss) (literals_of raw.productions)) (IsNamedItem (numbered raw)) q.items
     (mapped_each (produces raw) (λ r. Each (IsNamedItem (numbered raw)) r.items) raw.productions named.items_named p q e) i x f)))
-    (each_flat (rule_places ss (placed ss q)) q.rules (λ i r f.
+    (each_flat (rule_checks ss (placed ss q)) q.rules (λ i r f.
     named_rule raw q r (mapped_each (rule_of ss (placed ss q)) (IsNamedRule (numbered raw) (produces raw q)) q.rules
     (mapped_each (produces raw) (λ s. Each (IsNamedRule (numbered raw) s) s.rules) raw.productions named.rules_named p q e) i r f)))))

@@ -21,7 +21,7 @@ use Rattle.closure.specs.Clauses.{IsClauseBelow}
 use Rattle.closure.specs.Edges.{along, IsEdgeBelow}
 use Rattle.closure.specs.Following.{Follows, seed}
 use Rattle.closure.specs.declared.edges.Edge.{Edge}
-use Rattle.closure.proofs.Places.{at_mapped, element_at, mapped_at, place_of_element}
+use Rattle.closure.proofs.Positions.{at_mapped, element_at, mapped_at, position_of_element}
 use Rattle.closure.proofs.Reached.{reached_in, step}
 use Rattle.closure.proofs.Following.{follows_in, head_follows}
 use Rattle.normalform.specs.faults.Clauses.{body_of, clause_of, clauses_of, edge, edges_of, reaching}
@@ -29,7 +29,7 @@ use Rattle.normalform.specs.numbers.Numbers.{number_in, symbol_of, symbol_names,
 use Rattle.normalform.proofs.numbered.Texts.{found}
 use Rattle.ag_grammar.specs.declared.raw.Named.{Named}
 use Rattle.normalform.specs.declared.fault.NormalFault.TheVariants as fault
-use Rattle.normalform.specs.faults.Faults.{first_wrong, name_place, item_places, rule_places, unknown_in, unknown, is_start, start_places}
+use Rattle.normalform.specs.faults.Faults.{first_wrong, name_check, item_checks, rule_checks, unknown_in, unknown, is_start, start_checks}
 use Rattle.normalform.proofs.found.Right.{is_right, both_right, has_flat}
 
 abbrev symbols_of : List Item → List ℕ
@@ -157,7 +157,7 @@ edge_reached raw p e at before =
 
 pub follows_reached : (raw : RawGrammar) (s : ℕ) → FollowsStart raw s → IsReached (numbered raw) s
 follows_reached raw = reached_in (edges raw) (start raw ∷ []) (IsReached (numbered raw)) (λ t h. All-contains (IsReached (numbered raw)) (start raw ∷ []) t (All-cons (IsReached (numbered raw)) (start raw) [] at_start (All-nil (IsReached (numbered raw)))) h)
-    (λ e h. let w = place_of_element (edges raw) e h in edge_reached raw w.0 e w.1)
+    (λ e h. let w = position_of_element (edges raw) e h in edge_reached raw w.0 e w.1)
 
 -- Where names are known the numbers are of symbols.
 pub known : (texts : List (List ℕ)) (text : List ℕ) → list_any (bytes_eq text) texts ≡ true → number_in texts text < length texts
@@ -171,23 +171,23 @@ known texts text h = go (nat_lt (number_in texts text) (length texts)) refl (fou
 pub below_known : (texts : List (List ℕ)) (text : List ℕ) → number_in texts text < length texts → list_any (bytes_eq text) texts ≡ true
 below_known texts text lt = let e = lt-ltb (number_in texts text) (length texts) lt in sym (found (bytes_eq text) texts) ∙ rw e refl
 
-pub name_known : (ss : List Symbol) (name : Named) → first_wrong (name_place (symbol_names ss) name ∷ []) ≡ None → number_in (symbol_names ss) name.name < length ss
-name_known ss name h = rw (length-map ss (λ (s : Symbol). s.name)) at (known (symbol_names ss) name.name (is_right (name_place (symbol_names ss) name) h))
+pub name_known : (ss : List Symbol) (name : Named) → first_wrong (name_check (symbol_names ss) name ∷ []) ≡ None → number_in (symbol_names ss) name.name < length ss
+name_known ss name h = rw (length-map ss (λ (s : Symbol). s.name)) at (known (symbol_names ss) name.name (is_right (name_check (symbol_names ss) name) h))
 
-body_below : (ss : List Symbol) (xs : List RawItem) → first_wrong (flat_map (item_places (symbol_names ss)) xs) ≡ None → All (λ t. t < length ss) (body_of (symbol_names ss) xs)
+body_below : (ss : List Symbol) (xs : List RawItem) → first_wrong (flat_map (item_checks (symbol_names ss)) xs) ≡ None → All (λ t. t < length ss) (body_of (symbol_names ss) xs)
 body_below ss [] h = All-nil (λ t. t < length ss)
 body_below ss (raw_item.Name name ∷ xs) h =
-    let w = both_right (name_place (symbol_names ss) name ∷ []) (flat_map (item_places (symbol_names ss)) xs) h in
+    let w = both_right (name_check (symbol_names ss) name ∷ []) (flat_map (item_checks (symbol_names ss)) xs) h in
     All-cons (λ t. t < length ss) (number_in (symbol_names ss) name.name) (body_of (symbol_names ss) xs) (name_known ss name w.0) (body_below ss xs w.1)
 body_below ss (raw_item.Literal text ∷ xs) h = body_below ss xs h
 body_below ss (raw_item.Class c ∷ xs) h = body_below ss xs h
 
 -- the parts of a production without an unknown name
 pub unknown_parts : (ss : List Symbol) (q : RawProduction) → first_wrong (unknown_in ss q) ≡ None
-    → (first_wrong (name_place (symbol_names ss) q.left ∷ []) ≡ None) × (first_wrong (flat_map (item_places (symbol_names ss)) q.items) ≡ None) × (first_wrong (flat_map (rule_places ss (placed ss q)) q.rules) ≡ None)
+    → (first_wrong (name_check (symbol_names ss) q.left ∷ []) ≡ None) × (first_wrong (flat_map (item_checks (symbol_names ss)) q.items) ≡ None) × (first_wrong (flat_map (rule_checks ss (placed ss q)) q.rules) ≡ None)
 unknown_parts ss q h =
-    let w = both_right (name_place (symbol_names ss) q.left ∷ []) (flat_map (item_places (symbol_names ss)) q.items ++ flat_map (rule_places ss (placed ss q)) q.rules) h in
-    let v = both_right (flat_map (item_places (symbol_names ss)) q.items) (flat_map (rule_places ss (placed ss q)) q.rules) w.1 in (w.0, v.0, v.1)
+    let w = both_right (name_check (symbol_names ss) q.left ∷ []) (flat_map (item_checks (symbol_names ss)) q.items ++ flat_map (rule_checks ss (placed ss q)) q.rules) h in
+    let v = both_right (flat_map (item_checks (symbol_names ss)) q.items) (flat_map (rule_checks ss (placed ss q)) q.rules) w.1 in (w.0, v.0, v.1)
 
 pub clauses_below : (ss : List Symbol) (qs : List RawProduction) → first_wrong (unknown ss qs) ≡ None → All (IsClauseBelow (length ss)) (clauses_of ss qs)
 clauses_below ss [] h = All-nil (IsClauseBelow (length ss))
@@ -209,5 +209,5 @@ start_there ss n h = go (slice_get ss n) refl h
     go None e h = absurd (cc)
     go (Some s) e h = slice_get_within ss n s e
 
-pub start_below : (ss : List Symbol) (name : Named) → first_wrong (start_places ss name) ≡ None → number_in (symbol_names ss) name.name < length ss
+pub start_below : (ss : List Symbol) (name : Named) → first_wrong (start_checks ss name) ≡ None → number_in (symbol_names ss) name.name < length ss
 start_below ss name h = start_there ss (number_in (symbol_names ss) name.name) (is_right (fault.BadStart, is_start (slice_get ss (number_in (symbol_names ss) name.name))) h)

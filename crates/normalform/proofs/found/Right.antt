@@ -1,64 +1,64 @@
--- Lists of places without a wrong one, and elements of mapped and joined lists.
+-- Lists of checks none of which fails, and elements of mapped and joined lists.
 use Rattle.std.proofs.Common.{ℕ, zero, suc, ◌≡◌, ◌+◌, Bool, true, false, List, [], ◌∷◌, ◌++◌, map, flat_map, Some, None, Option, slice_get, refl, sym, ◌∙◌, arith}
 use Rattle.std.specs.Option.{option_or}
 use Rattle.ag_grammar.specs.Lists.{Has}
 use Rattle.normalform.specs.declared.fault.NormalFault.{NormalFault}
-use Rattle.normalform.specs.faults.Faults.{Place, first_wrong, places_along, after}
+use Rattle.normalform.specs.faults.Faults.{Check, first_wrong, checks_along, after}
 use Rattle.normalform.proofs.found.Wrong.{wrong-append}
 
-pub both_right : (xs ys : List Place) → first_wrong (xs ++ ys) ≡ None → (first_wrong xs ≡ None) × (first_wrong ys ≡ None)
+pub both_right : (xs ys : List Check) → first_wrong (xs ++ ys) ≡ None → (first_wrong xs ≡ None) × (first_wrong ys ≡ None)
 both_right xs ys h = go (first_wrong xs) (first_wrong ys) (sym (wrong-append xs ys) ∙ h)
   where
     go : (a b : Option NormalFault) → option_or a b ≡ None → (a ≡ None) × (b ≡ None)
     go None b e = (refl, e)
     go (Some x) b e = absurd (cc)
 
-pub together : (xs ys : List Place) → first_wrong xs ≡ None → first_wrong ys ≡ None → first_wrong (xs ++ ys) ≡ None
+pub together : (xs ys : List Check) → first_wrong xs ≡ None → first_wrong ys ≡ None → first_wrong (xs ++ ys) ≡ None
 together xs ys e f = rw (wrong-append xs ys, e) f
 
-pub is_right : (p : Place) → first_wrong (p ∷ []) ≡ None → p.1 ≡ true
+pub is_right : (p : Check) → first_wrong (p ∷ []) ≡ None → p.1 ≡ true
 is_right p h = go p.1 refl
   where
     go : (b : Bool) → p.1 ≡ b → p.1 ≡ true
     go true e = e
     go false e = let wrong : first_wrong (p ∷ []) ≡ Some p.0 = rw e refl in absurd (cc (wrong, h))
 
-pub right_is : (p : Place) → p.1 ≡ true → first_wrong (p ∷ []) ≡ None
+pub right_is : (p : Check) → p.1 ≡ true → first_wrong (p ∷ []) ≡ None
 right_is p h = rw h refl
 
-pub flat_each : {X : Type 0} (f : X → List Place) (xs : List X) → first_wrong (flat_map f xs) ≡ None → (i : ℕ) (x : X) → slice_get xs i ≡ Some x → first_wrong (f x) ≡ None
+pub flat_each : {X : Type 0} (f : X → List Check) (xs : List X) → first_wrong (flat_map f xs) ≡ None → (i : ℕ) (x : X) → slice_get xs i ≡ Some x → first_wrong (f x) ≡ None
 flat_each f [] h i x e = absurd (cc)
 flat_each f (y ∷ ys) h zero x e = let same : y ≡ x = cc in rw (← same) (both_right (f y) (flat_map f ys) h).0
 flat_each f (y ∷ ys) h (suc i) x e = flat_each f ys (both_right (f y) (flat_map f ys) h).1 i x e
 
-pub each_flat : {X : Type 0} (f : X → List Place) (xs : List X) → ((i : ℕ) (x : X) → slice_get xs i ≡ Some x → first_wrong (f x) ≡ None) → first_wrong (flat_map f xs) ≡ None
+pub each_flat : {X : Type 0} (f : X → List Check) (xs : List X) → ((i : ℕ) (x : X) → slice_get xs i ≡ Some x → first_wrong (f x) ≡ None) → first_wrong (flat_map f xs) ≡ None
 each_flat f [] h = refl
 each_flat f (y ∷ ys) h = together (f y) (flat_map f ys) (h zero y refl) (each_flat f ys (λ i. h (suc i)))
 
-pub map_each : {X : Type 0} (f : X → Place) (xs : List X) → first_wrong (map f xs) ≡ None → (i : ℕ) (x : X) → slice_get xs i ≡ Some x → (f x).1 ≡ true
+pub map_each : {X : Type 0} (f : X → Check) (xs : List X) → first_wrong (map f xs) ≡ None → (i : ℕ) (x : X) → slice_get xs i ≡ Some x → (f x).1 ≡ true
 map_each f [] h i x e = absurd (cc)
 map_each f (y ∷ ys) h zero x e = let same : y ≡ x = cc in rw (← same) (is_right (f y) (both_right (f y ∷ []) (map f ys) h).0)
 map_each f (y ∷ ys) h (suc i) x e = map_each f ys (both_right (f y ∷ []) (map f ys) h).1 i x e
 
-pub each_map : {X : Type 0} (f : X → Place) (xs : List X) → ((i : ℕ) (x : X) → slice_get xs i ≡ Some x → (f x).1 ≡ true) → first_wrong (map f xs) ≡ None
+pub each_map : {X : Type 0} (f : X → Check) (xs : List X) → ((i : ℕ) (x : X) → slice_get xs i ≡ Some x → (f x).1 ≡ true) → first_wrong (map f xs) ≡ None
 each_map f [] h = refl
 each_map f (y ∷ ys) h = together (f y ∷ []) (map f ys) (right_is (f y) (h zero y refl)) (each_map f ys (λ i. h (suc i)))
 
-pub along_each : {X : Type 0} (f : ℕ → X → List Place) (n : ℕ) (xs : List X) → first_wrong (places_along f after n xs) ≡ None → (i : ℕ) (x : X) → slice_get xs i ≡ Some x → first_wrong (f (n + i) x) ≡ None
+pub along_each : {X : Type 0} (f : ℕ → X → List Check) (n : ℕ) (xs : List X) → first_wrong (checks_along f after n xs) ≡ None → (i : ℕ) (x : X) → slice_get xs i ≡ Some x → first_wrong (f (n + i) x) ≡ None
 along_each f n [] h i x e = absurd (cc)
 along_each f n (y ∷ ys) h zero x e =
     let same : y ≡ x = cc in
     let here : n + 0 ≡ n = omega arith in
-    rw (here, ← same) (both_right (f n y) (places_along f after (n + 1) ys) h).0
+    rw (here, ← same) (both_right (f n y) (checks_along f after (n + 1) ys) h).0
 along_each f n (y ∷ ys) h (suc i) x e =
     let there : n + suc i ≡ (n + 1) + i = omega arith in
-    rw there (along_each f (n + 1) ys (both_right (f n y) (places_along f after (n + 1) ys) h).1 i x e)
+    rw there (along_each f (n + 1) ys (both_right (f n y) (checks_along f after (n + 1) ys) h).1 i x e)
 
-pub each_along : {X : Type 0} (f : ℕ → X → List Place) (n : ℕ) (xs : List X) → ((i : ℕ) (x : X) → slice_get xs i ≡ Some x → first_wrong (f (n + i) x) ≡ None) → first_wrong (places_along f after n xs) ≡ None
+pub each_along : {X : Type 0} (f : ℕ → X → List Check) (n : ℕ) (xs : List X) → ((i : ℕ) (x : X) → slice_get xs i ≡ Some x → first_wrong (f (n + i) x) ≡ None) → first_wrong (checks_along f after n xs) ≡ None
 each_along f n [] h = refl
 each_along f n (y ∷ ys) h =
     let here : n + 0 ≡ n = omega arith in
-    together (f n y) (places_along f after (n + 1) ys) (rw here at (h zero y refl))
+    together (f n y) (checks_along f after (n + 1) ys) (rw here at (h zero y refl))
     (each_along f (n + 1) ys (λ i x e. let there : n + suc i ≡ (n + 1) + i = omega arith in rw there at (h (suc i) x e)))
 
 -- an element of joined lists is of one of them

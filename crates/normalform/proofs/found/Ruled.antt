@@ -15,14 +15,14 @@ use Rattle.ag_grammar.specs.declared.raw.RawGrammar.{RawGrammar}
 use Rattle.ag_grammar.specs.declared.raw.RawProduction.{RawProduction}
 use Rattle.ag_grammar.specs.declared.raw.RawRule.{RawRule}
 use Rattle.normalform.specs.declared.fault.NormalFault.TheVariants as fault
-use Rattle.normalform.specs.faults.Faults.{first_wrong, given_at, numbers_given, same_target, with_target, with_rule, targets_of, missing_place, missing_at, missing_in, doubled_in, is_kind, has_kind, given_place, not_given_in, found_place, not_found_in}
+use Rattle.normalform.specs.faults.Faults.{first_wrong, given_at, numbers_given, same_target, with_target, with_rule, targets_of, missing_check, missing_at, missing_in, doubled_in, is_kind, has_kind, given_check, not_given_in, found_check, not_found_in}
 use Rattle.normalform.specs.numbers.Numbers.{declared, placed, target_of, rule_of, numbered}
 use Rattle.normalform.proofs.found.Apart.{Tells, none_apart, apart_along, along_apart, apart_differ, differ_apart}
 use Rattle.normalform.proofs.numbered.KindAt.{synthesized_at, inherited_at}
 use Rattle.normalform.proofs.numbered.Listed.{any_at, at_any}
 use Rattle.normalform.proofs.numbered.Placing.{kinds_at, kind_has, has_its_kind, is_its_kind}
 use Rattle.normalform.proofs.found.Reduced.{symbols, produces, split_has}
-use Rattle.closure.proofs.Places.{at_mapped, mapped_at}
+use Rattle.closure.proofs.Positions.{at_mapped, mapped_at}
 use Rattle.normalform.proofs.found.Right.{flat_each, each_flat, map_each, each_map, along_each, each_along}
 
 both : (a b : Bool) → (a && b) ≡ true → (a ≡ true) × (b ≡ true)
@@ -175,7 +175,7 @@ all_ruled raw p q h o k =
         let there : 0 + o.place ≡ o.place = omega arith in
         let here : first_wrong (missing_at ss ts p o.place x) ≡ None = rw there at (along_each (missing_at ss ts p) 0 items h o.place x e) in
         let has = given_has ss q o.place x o.attr e kind in
-        let right = map_each (missing_place ts p o.place) (given_at ss o.place x) here has.0 o.attr has.1 in
+        let right = map_each (missing_check ts p o.place) (given_at ss o.place x) here has.0 o.attr has.1 in
         elim (among_from ss items o q.rules [] right) [
           | inl none ↦ absurd (cc)
           | inr w ↦ (rule_of ss items w.1, (w.0, at_mapped (rule_of ss items) q.rules w.0 w.1 w.2), w.3)
@@ -190,7 +190,7 @@ ruled_all raw p q all =
     let ss = symbols raw in
     let items = placed ss q in
     let ts = targets_of ss items q.rules in
-    each_along (missing_at ss ts p) 0 items (λ place x e. each_map (missing_place ts p (0 + place)) (given_at ss (0 + place) x) (λ i a f. place_right place x e i a f))
+    each_along (missing_at ss ts p) 0 items (λ place x e. each_map (missing_check ts p (0 + place)) (given_at ss (0 + place) x) (λ i a f. place_right place x e i a f))
   where
     place_right : (place : ℕ) (x : Item) → slice_get (placed (symbols raw) q) place ≡ Some x → (i a : ℕ) → slice_get (given_at (symbols raw) (0 + place) x) i ≡ Some a
         → list_any (same_target (record { place = 0 + place; attr = a })) (targets_of (symbols raw) (placed (symbols raw) q) q.rules) ≡ true
@@ -238,10 +238,10 @@ single_rules raw q h =
 pub targets_given : (raw : RawGrammar) (q : RawProduction) → first_wrong (not_given_in (symbols raw) q) ≡ None → Each (λ r. HasKind (numbered raw) (produces raw q) r.target (given_kind r.target.place)) (produces raw q).rules
 targets_given raw q h = each_mapped (rule_of (symbols raw) (placed (symbols raw) q)) (λ r. HasKind (numbered raw) (produces raw q) r.target (given_kind r.target.place)) q.rules (λ i r e.
     let t = target_of (symbols raw) (placed (symbols raw) q) r.target in
-    kind_has raw q t (given_kind t.place) (map_each (given_place (symbols raw) (placed (symbols raw) q)) q.rules h i r e))
+    kind_has raw q t (given_kind t.place) (map_each (given_check (symbols raw) (placed (symbols raw) q)) q.rules h i r e))
 
 pub given_targets : (raw : RawGrammar) (q : RawProduction) → Each (λ r. HasKind (numbered raw) (produces raw q) r.target (given_kind r.target.place)) (produces raw q).rules → first_wrong (not_given_in (symbols raw) q) ≡ None
-given_targets raw q h = each_map (given_place (symbols raw) (placed (symbols raw) q)) q.rules (λ i r e.
+given_targets raw q h = each_map (given_check (symbols raw) (placed (symbols raw) q)) q.rules (λ i r e.
     let t = target_of (symbols raw) (placed (symbols raw) q) r.target in
     has_its_kind raw q t (given_kind t.place) (mapped_each (rule_of (symbols raw) (placed (symbols raw) q)) (λ r. HasKind (numbered raw) (produces raw q) r.target (given_kind r.target.place)) q.rules h i r e))
 
@@ -250,12 +250,12 @@ pub arguments_found : (raw : RawGrammar) (q : RawProduction) → first_wrong (no
 arguments_found raw q h = each_mapped (rule_of (symbols raw) (placed (symbols raw) q)) (λ r. Each (λ o. HasKind (numbered raw) (produces raw q) o (found_kind o.place)) r.args) q.rules (λ i r e.
     each_mapped (target_of (symbols raw) (placed (symbols raw) q)) (λ o. HasKind (numbered raw) (produces raw q) o (found_kind o.place)) r.expr.1 (λ j o f.
     let t = target_of (symbols raw) (placed (symbols raw) q) o in
-    kind_has raw q t (found_kind t.place) (map_each (found_place (symbols raw) (placed (symbols raw) q)) r.expr.1
-    (flat_each (λ (s : RawRule). map (found_place (symbols raw) (placed (symbols raw) q)) s.expr.1) q.rules h i r e) j o f)))
+    kind_has raw q t (found_kind t.place) (map_each (found_check (symbols raw) (placed (symbols raw) q)) r.expr.1
+    (flat_each (λ (s : RawRule). map (found_check (symbols raw) (placed (symbols raw) q)) s.expr.1) q.rules h i r e) j o f)))
 
 pub found_arguments : (raw : RawGrammar) (q : RawProduction) → IsNormal (numbered raw) (produces raw q) → first_wrong (not_found_in (symbols raw) q) ≡ None
-found_arguments raw q h = each_flat (λ (s : RawRule). map (found_place (symbols raw) (placed (symbols raw) q)) s.expr.1) q.rules (λ i r e.
-    each_map (found_place (symbols raw) (placed (symbols raw) q)) r.expr.1 (λ j o f.
+found_arguments raw q h = each_flat (λ (s : RawRule). map (found_check (symbols raw) (placed (symbols raw) q)) s.expr.1) q.rules (λ i r e.
+    each_map (found_check (symbols raw) (placed (symbols raw) q)) r.expr.1 (λ j o f.
     let t = target_of (symbols raw) (placed (symbols raw) q) o in
     has_its_kind raw q t (found_kind t.place)
     (mapped_each (target_of (symbols raw) (placed (symbols raw) q)) (λ o. HasKind (numbered raw) (produces raw q) o (found_kind o.place)) r.expr.1

@@ -10,59 +10,59 @@ use Rattle.ag_grammar.specs.declared.grammar.Symbol.{Symbol}
 use Rattle.ag_grammar.specs.declared.raw.RawProduction.{RawProduction}
 use Rattle.normalform.specs.declared.faults.asking.Question.TheVariants as question
 use Rattle.normalform.specs.faults.Asking.{asked}
-use Rattle.normalform.specs.faults.Faults.{Place, first_wrong, places_along, doubled_names, new_place, with_name, given_place, not_given}
+use Rattle.normalform.specs.faults.Faults.{Check, first_wrong, checks_along, doubled_names, new_check, with_name, given_check, not_given}
 use Rattle.normalform.specs.numbers.Numbers.{placed}
 
 map_or : {X Y : Type 0} (f : X → Y) (a b : Option X) → option_map f (option_or a b) ≡ option_or (option_map f a) (option_map f b)
 map_or f None b = refl
 map_or f (Some x) b = refl
 
-pub wrong-append : (xs ys : List Place) → first_wrong (xs ++ ys) ≡ option_or (first_wrong xs) (first_wrong ys)
-wrong-append xs ys = ap (option_map (λ (x : Place). x.0)) (find-append (λ (x : Place). not x.1) xs ys) ∙ map_or (λ (x : Place). x.0) (find (λ (x : Place). not x.1) xs) (find (λ (x : Place). not x.1) ys)
+pub wrong-append : (xs ys : List Check) → first_wrong (xs ++ ys) ≡ option_or (first_wrong xs) (first_wrong ys)
+wrong-append xs ys = ap (option_map (λ (x : Check). x.0)) (find-append (λ (x : Check). not x.1) xs ys) ∙ map_or (λ (x : Check). x.0) (find (λ (x : Check). not x.1) xs) (find (λ (x : Check). not x.1) ys)
 
 -- the first of a list is that of the list with more behind it
-pub first_of : (xs ys : List Place) (fault : NormalFault) → Some fault ≡ first_wrong xs → Some fault ≡ first_wrong (xs ++ ys)
+pub first_of : (xs ys : List Check) (fault : NormalFault) → Some fault ≡ first_wrong xs → Some fault ≡ first_wrong (xs ++ ys)
 first_of xs ys fault e = rw (wrong-append xs ys, ← e) refl
 
 -- and where there is none, that of what is behind
-pub rest_of : (xs ys : List Place) → None ≡ first_wrong xs → first_wrong ys ≡ first_wrong (xs ++ ys)
+pub rest_of : (xs ys : List Check) → None ≡ first_wrong xs → first_wrong ys ≡ first_wrong (xs ++ ys)
 rest_of xs ys e = rw (wrong-append xs ys, ← e) refl
 
--- one step along a list that gives places
-pub wrong_more : {X : Type 0} (f : X → List Place) (xs : List X) (i : ℕ) (d : X) → i < length xs → first_wrong (flat_map f (drop i xs)) ≡ option_or (first_wrong (f (get_or xs i d))) (first_wrong (flat_map f (drop (i + 1) xs)))
+-- one step along a list that gives checks
+pub wrong_more : {X : Type 0} (f : X → List Check) (xs : List X) (i : ℕ) (d : X) → i < length xs → first_wrong (flat_map f (drop i xs)) ≡ option_or (first_wrong (f (get_or xs i d))) (first_wrong (flat_map f (drop (i + 1) xs)))
 wrong_more f xs i d lt = ap (λ ys. first_wrong (flat_map f ys)) (drop_more xs i d lt) ∙ wrong-append (f (get_or xs i d)) (flat_map f (drop (i + 1) xs))
 
 -- what stands at a place of the list has the first, where nothing before has one
-pub wrong_here : {X : Type 0} (f : X → List Place) (xs : List X) (i : ℕ) (x : X) (fault : NormalFault) (all : Option NormalFault) → i < length xs → x ≡ get_or xs i x → Some fault ≡ first_wrong (f x) → first_wrong (flat_map f (drop i xs)) ≡ all → Some fault ≡ all
+pub wrong_here : {X : Type 0} (f : X → List Check) (xs : List X) (i : ℕ) (x : X) (fault : NormalFault) (all : Option NormalFault) → i < length xs → x ≡ get_or xs i x → Some fault ≡ first_wrong (f x) → first_wrong (flat_map f (drop i xs)) ≡ all → Some fault ≡ all
 wrong_here f xs i x fault all lt is here so_far = let e : first_wrong (f (get_or xs i x)) ≡ Some fault = rw (← is) (sym here) in sym (ap (λ o. option_or o (first_wrong (flat_map f (drop (i + 1) xs)))) e) ∙ sym (wrong_more f xs i x lt) ∙ so_far
 
 -- or has none
-pub wrong_past : {X : Type 0} (f : X → List Place) (xs : List X) (i : ℕ) (x : X) (all : Option NormalFault) → i < length xs → x ≡ get_or xs i x → None ≡ first_wrong (f x) → first_wrong (flat_map f (drop i xs)) ≡ all → first_wrong (flat_map f (drop (i + 1) xs)) ≡ all
+pub wrong_past : {X : Type 0} (f : X → List Check) (xs : List X) (i : ℕ) (x : X) (all : Option NormalFault) → i < length xs → x ≡ get_or xs i x → None ≡ first_wrong (f x) → first_wrong (flat_map f (drop i xs)) ≡ all → first_wrong (flat_map f (drop (i + 1) xs)) ≡ all
 wrong_past f xs i x all lt is here so_far = let e : first_wrong (f (get_or xs i x)) ≡ None = rw (← is) (sym here) in sym (ap (λ o. option_or o (first_wrong (flat_map f (drop (i + 1) xs)))) e) ∙ sym (wrong_more f xs i x lt) ∙ so_far
 
-pub along_more : {S X : Type 0} (f : S → X → List Place) (g : S → X → S) (s : S) (xs : List X) (i : ℕ) (d : X) → i < length xs
-    → first_wrong (places_along f g s (drop i xs)) ≡ option_or (first_wrong (f s (get_or xs i d))) (first_wrong (places_along f g (g s (get_or xs i d)) (drop (i + 1) xs)))
-along_more f g s xs i d lt = ap (λ ys. first_wrong (places_along f g s ys)) (drop_more xs i d lt) ∙ wrong-append (f s (get_or xs i d)) (places_along f g (g s (get_or xs i d)) (drop (i + 1) xs))
+pub along_more : {S X : Type 0} (f : S → X → List Check) (g : S → X → S) (s : S) (xs : List X) (i : ℕ) (d : X) → i < length xs
+    → first_wrong (checks_along f g s (drop i xs)) ≡ option_or (first_wrong (f s (get_or xs i d))) (first_wrong (checks_along f g (g s (get_or xs i d)) (drop (i + 1) xs)))
+along_more f g s xs i d lt = ap (λ ys. first_wrong (checks_along f g s ys)) (drop_more xs i d lt) ∙ wrong-append (f s (get_or xs i d)) (checks_along f g (g s (get_or xs i d)) (drop (i + 1) xs))
 
-pub along_here : {S X : Type 0} (f : S → X → List Place) (g : S → X → S) (s : S) (xs : List X) (i : ℕ) (x : X) (fault : NormalFault) (all : Option NormalFault) → i < length xs → x ≡ get_or xs i x → Some fault ≡ first_wrong (f s x)
-    → first_wrong (places_along f g s (drop i xs)) ≡ all → Some fault ≡ all
+pub along_here : {S X : Type 0} (f : S → X → List Check) (g : S → X → S) (s : S) (xs : List X) (i : ℕ) (x : X) (fault : NormalFault) (all : Option NormalFault) → i < length xs → x ≡ get_or xs i x → Some fault ≡ first_wrong (f s x)
+    → first_wrong (checks_along f g s (drop i xs)) ≡ all → Some fault ≡ all
 along_here f g s xs i x fault all lt is here so_far =
     let e : first_wrong (f s (get_or xs i x)) ≡ Some fault = rw (← is) (sym here) in
-    sym (ap (λ o. option_or o (first_wrong (places_along f g (g s (get_or xs i x)) (drop (i + 1) xs)))) e) ∙ sym (along_more f g s xs i x lt) ∙ so_far
+    sym (ap (λ o. option_or o (first_wrong (checks_along f g (g s (get_or xs i x)) (drop (i + 1) xs)))) e) ∙ sym (along_more f g s xs i x lt) ∙ so_far
 
-pub along_past : {S X : Type 0} (f : S → X → List Place) (g : S → X → S) (s t : S) (xs : List X) (i : ℕ) (x : X) (all : Option NormalFault) → i < length xs → x ≡ get_or xs i x → None ≡ first_wrong (f s x) → t ≡ g s x
-    → first_wrong (places_along f g s (drop i xs)) ≡ all → first_wrong (places_along f g t (drop (i + 1) xs)) ≡ all
+pub along_past : {S X : Type 0} (f : S → X → List Check) (g : S → X → S) (s t : S) (xs : List X) (i : ℕ) (x : X) (all : Option NormalFault) → i < length xs → x ≡ get_or xs i x → None ≡ first_wrong (f s x) → t ≡ g s x
+    → first_wrong (checks_along f g s (drop i xs)) ≡ all → first_wrong (checks_along f g t (drop (i + 1) xs)) ≡ all
 along_past f g s t xs i x all lt is here next so_far =
     let e : first_wrong (f s (get_or xs i x)) ≡ None = rw (← is) (sym here) in
     let n : t ≡ g s (get_or xs i x) = rw (← is) next in
-    ap (λ u. first_wrong (places_along f g u (drop (i + 1) xs))) n ∙ sym (ap (λ o. option_or o (first_wrong (places_along f g (g s (get_or xs i x)) (drop (i + 1) xs)))) e) ∙ sym (along_more f g s xs i x lt) ∙ so_far
+    ap (λ u. first_wrong (checks_along f g u (drop (i + 1) xs))) n ∙ sym (ap (λ o. option_or o (first_wrong (checks_along f g (g s (get_or xs i x)) (drop (i + 1) xs)))) e) ∙ sym (along_more f g s xs i x lt) ∙ so_far
 
-pub along-append : {S X : Type 0} (f : S → X → List Place) (g : S → X → S) (s : S) (xs ys : List X) → places_along f g s (xs ++ ys) ≡ places_along f g s xs ++ places_along f g (fold g s xs) ys
+pub along-append : {S X : Type 0} (f : S → X → List Check) (g : S → X → S) (s : S) (xs ys : List X) → checks_along f g s (xs ++ ys) ≡ checks_along f g s xs ++ checks_along f g (fold g s xs) ys
 along-append f g s [] ys = refl
-along-append f g s (x ∷ xs) ys = ap (λ zs. f s x ++ zs) (along-append f g (g s x) xs ys) ∙ sym (append_assoc (f s x) (places_along f g (g s x) xs) (places_along f g (fold g (g s x) xs) ys))
+along-append f g s (x ∷ xs) ys = ap (λ zs. f s x ++ zs) (along-append f g (g s x) xs ys) ∙ sym (append_assoc (f s x) (checks_along f g (g s x) xs) (checks_along f g (fold g (g s x) xs) ys))
 
 pub wrong_both : (xs ys : List Named) → first_wrong (doubled_names [] (xs ++ ys)) ≡ option_or (first_wrong (doubled_names [] xs)) (first_wrong (doubled_names (fold with_name [] xs) ys))
-wrong_both xs ys = ap first_wrong (along-append new_place with_name [] xs ys) ∙ wrong-append (doubled_names [] xs) (doubled_names (fold with_name [] xs) ys)
+wrong_both xs ys = ap first_wrong (along-append new_check with_name [] xs ys) ∙ wrong-append (doubled_names [] xs) (doubled_names (fold with_name [] xs) ys)
 
 pub doubled_here : (seen : List (List ℕ)) (xs ys : List Named) (o : Option NormalFault) (fault : NormalFault) → seen ≡ [] → o ≡ first_wrong (doubled_names seen xs) → o ≡ Some fault → Some fault ≡ first_wrong (doubled_names [] (xs ++ ys))
 doubled_here seen xs ys o fault none is here =
@@ -76,31 +76,31 @@ doubled_past seen seen' xs ys o none is past next =
     let n : seen' ≡ fold with_name [] xs = rw (← none) (next past) in
     ap (λ s. first_wrong (doubled_names s ys)) n ∙ sym (wrong_both xs ys ∙ ap (λ o. option_or o (first_wrong (doubled_names (fold with_name [] xs) ys))) e)
 
-map_more : {X : Type 0} (f : X → Place) (xs : List X) (i : ℕ) (d : X) → i < length xs → first_wrong (map f (drop i xs)) ≡ option_or (first_wrong (f (get_or xs i d) ∷ [])) (first_wrong (map f (drop (i + 1) xs)))
+map_more : {X : Type 0} (f : X → Check) (xs : List X) (i : ℕ) (d : X) → i < length xs → first_wrong (map f (drop i xs)) ≡ option_or (first_wrong (f (get_or xs i d) ∷ [])) (first_wrong (map f (drop (i + 1) xs)))
 map_more f xs i d lt = ap (λ ys. first_wrong (map f ys)) (drop_more xs i d lt) ∙ wrong-append (f (get_or xs i d) ∷ []) (map f (drop (i + 1) xs))
 
 -- the same along a list that gives one place each
-pub map_here : {X : Type 0} (f : X → Place) (xs : List X) (i : ℕ) (x : X) (fault : NormalFault) (all : Option NormalFault) → i < length xs → x ≡ get_or xs i x → Some fault ≡ first_wrong (f x ∷ []) → first_wrong (map f (drop i xs)) ≡ all
+pub map_here : {X : Type 0} (f : X → Check) (xs : List X) (i : ℕ) (x : X) (fault : NormalFault) (all : Option NormalFault) → i < length xs → x ≡ get_or xs i x → Some fault ≡ first_wrong (f x ∷ []) → first_wrong (map f (drop i xs)) ≡ all
     → Some fault ≡ all
 map_here f xs i x fault all lt is here so_far = let e : first_wrong (f (get_or xs i x) ∷ []) ≡ Some fault = rw (← is) (sym here) in sym (ap (λ o. option_or o (first_wrong (map f (drop (i + 1) xs)))) e) ∙ sym (map_more f xs i x lt) ∙ so_far
 
-pub map_past : {X : Type 0} (f : X → Place) (xs : List X) (i : ℕ) (x : X) (all : Option NormalFault) → i < length xs → x ≡ get_or xs i x → None ≡ first_wrong (f x ∷ []) → first_wrong (map f (drop i xs)) ≡ all → first_wrong (map f (drop (i + 1) xs)) ≡ all
+pub map_past : {X : Type 0} (f : X → Check) (xs : List X) (i : ℕ) (x : X) (all : Option NormalFault) → i < length xs → x ≡ get_or xs i x → None ≡ first_wrong (f x ∷ []) → first_wrong (map f (drop i xs)) ≡ all → first_wrong (map f (drop (i + 1) xs)) ≡ all
 map_past f xs i x all lt is here so_far = let e : first_wrong (f (get_or xs i x) ∷ []) ≡ None = rw (← is) (sym here) in sym (ap (λ o. option_or o (first_wrong (map f (drop (i + 1) xs)))) e) ∙ sym (map_more f xs i x lt) ∙ so_far
 
 range_more : (a e : ℕ) → a < e → range_with_len a (e - a) ≡ a ∷ range_with_len (a + 1) (e - (a + 1))
 range_more a e lt = let k : e - a ≡ suc (e - (a + 1)) = omega arith in rw k refl
 
 -- the same along numbers
-pub range_here : (f : ℕ → Place) (a e : ℕ) (all : Option NormalFault) → a < e → (f a).1 ≡ false → first_wrong (map f (range_with_len a (e - a))) ≡ all → Some (f a).0 ≡ all
+pub range_here : (f : ℕ → Check) (a e : ℕ) (all : Option NormalFault) → a < e → (f a).1 ≡ false → first_wrong (map f (range_with_len a (e - a))) ≡ all → Some (f a).0 ≡ all
 range_here f a e all lt wrong so_far = sym (go (f a) wrong) ∙ sym (ap (λ ns. first_wrong (map f ns)) (range_more a e lt)) ∙ so_far
   where
-    go : (p : Place) → p.1 ≡ false → first_wrong (p ∷ map f (range_with_len (a + 1) (e - (a + 1)))) ≡ Some p.0
+    go : (p : Check) → p.1 ≡ false → first_wrong (p ∷ map f (range_with_len (a + 1) (e - (a + 1)))) ≡ Some p.0
     go p h = rw h refl
 
-pub range_past : (f : ℕ → Place) (a e : ℕ) (all : Option NormalFault) → a < e → (f a).1 ≡ true → first_wrong (map f (range_with_len a (e - a))) ≡ all → first_wrong (map f (range_with_len (a + 1) (e - (a + 1)))) ≡ all
+pub range_past : (f : ℕ → Check) (a e : ℕ) (all : Option NormalFault) → a < e → (f a).1 ≡ true → first_wrong (map f (range_with_len a (e - a))) ≡ all → first_wrong (map f (range_with_len (a + 1) (e - (a + 1)))) ≡ all
 range_past f a e all lt right so_far = sym (go (f a) right) ∙ sym (ap (λ ns. first_wrong (map f ns)) (range_more a e lt)) ∙ so_far
   where
-    go : (p : Place) → p.1 ≡ true → first_wrong (p ∷ map f (range_with_len (a + 1) (e - (a + 1)))) ≡ first_wrong (map f (range_with_len (a + 1) (e - (a + 1))))
+    go : (p : Check) → p.1 ≡ true → first_wrong (p ∷ map f (range_with_len (a + 1) (e - (a + 1)))) ≡ first_wrong (map f (range_with_len (a + 1) (e - (a + 1))))
     go p h = rw h refl
 
 -- an element of a mapped list
@@ -110,15 +110,15 @@ mapped f xs i d lt = sym (get_or-map f xs i d (f (get_or xs i d)) lt)
 pub within : {X Y : Type 0} (f : X → Y) (xs : List X) (i : ℕ) → i < length xs → i < length (map f xs)
 within f xs i lt = rw (length-map xs f) lt
 
-pub none_of : (xs ys : List Place) → None ≡ first_wrong xs → None ≡ first_wrong ys → None ≡ first_wrong (xs ++ ys)
+pub none_of : (xs ys : List Check) → None ≡ first_wrong xs → None ≡ first_wrong ys → None ≡ first_wrong (xs ++ ys)
 none_of xs ys e f = f ∙ rest_of xs ys e
 
 -- a list that gives one place each
-each_alone : {X : Type 0} (f : X → Place) (xs : List X) → flat_map (λ x. f x ∷ []) xs ≡ map f xs
+each_alone : {X : Type 0} (f : X → Check) (xs : List X) → flat_map (λ x. f x ∷ []) xs ≡ map f xs
 each_alone f [] = refl
 each_alone f (x ∷ xs) = ap (λ ys. f x ∷ ys) (each_alone f xs)
 
 -- what is asked of targets alone
 pub given_asked : (ss : List Symbol) (qs : List RawProduction) → asked question.Given ss qs ≡ not_given ss qs
 given_asked ss [] = refl
-given_asked ss (q ∷ qs) = ap (λ xs. xs ++ asked question.Given ss qs) (each_alone (given_place ss (placed ss q)) q.rules) ∙ ap (λ ys. map (given_place ss (placed ss q)) q.rules ++ ys) (given_asked ss qs)
+given_asked ss (q ∷ qs) = ap (λ xs. xs ++ asked question.Given ss qs) (each_alone (given_check ss (placed ss q)) q.rules) ∙ ap (λ ys. map (given_check ss (placed ss q)) q.rules ++ ys) (given_asked ss qs)

@@ -21,7 +21,7 @@ use Rattle.ag_grammar.specs.declared.raw.RawProduction.{RawProduction}
 use Rattle.normalform.specs.declared.fault.LimitKind.TheVariants as limit
 use Rattle.normalform.specs.declared.fault.NormalFault.{NormalFault}
 use Rattle.normalform.specs.declared.fault.NormalFault.TheVariants as fault
-use Rattle.normalform.specs.faults.Faults.{first_wrong, unknown_in, item_places, unknown, doubled, is_start, start_places, missing_in, missing, doubled_in, doubled_rules, not_given_in, not_given, not_found_in, not_found, few_attributes, few_items, few_stored, is_short, symbol_limits, production_limits, literal_limits, limit_places, rule_kinds, naming_places, HasNoFault, IsReadable, IsReadableItem, IsSmall, IsListed, AreListedIn, IsFirstFault, in_names, in_productive, in_reached, in_rules, IsTrueOf}
+use Rattle.normalform.specs.faults.Faults.{first_wrong, unknown_in, item_checks, unknown, doubled, is_start, start_checks, missing_in, missing, doubled_in, doubled_rules, not_given_in, not_given, not_found_in, not_found, few_attributes, few_items, few_stored, is_short, symbol_limits, production_limits, literal_limits, limit_checks, rule_kinds, naming_checks, HasNoFault, IsReadable, IsReadableItem, IsSmall, IsListed, AreListedIn, IsFirstFault, in_names, in_productive, in_reached, in_rules, IsTrueOf}
 use Rattle.normalform.specs.numbers.Numbers.{number_in, symbol_of, symbol_names, item_of, placed, is_class, classes_of, literals_of, numbered}
 use Rattle.normalform.proofs.found.Apart.{Apart}
 use Rattle.normalform.proofs.found.Founds.{naming_parts}
@@ -29,7 +29,7 @@ use Rattle.normalform.proofs.found.Known.{symbols_differ, attributes_differ, dif
 use Rattle.normalform.proofs.numbered.Listed.{any_has, has_any, literals_apart, literal_stands, literal_listed, apart_same, number_at, filter_has, has_filter, class_stands, stands_class}
 use Rattle.normalform.proofs.numbered.Placing.{stored_same}
 use Rattle.normalform.proofs.found.Reduced.{symbols, produces, name_known, known, unknown_parts}
-use Rattle.closure.proofs.Places.{at_mapped}
+use Rattle.closure.proofs.Positions.{at_mapped}
 use Rattle.normalform.proofs.found.Right.{both_right, together, is_right, right_is, flat_each, each_flat, along_each, each_along}
 use Rattle.normalform.proofs.found.Ruled.{all_ruled, ruled_all, rules_single, single_rules, targets_given, given_targets, arguments_found, found_arguments, each_mapped, mapped_each}
 use Rattle.normalform.proofs.numbered.Small.{passes_at}
@@ -93,7 +93,7 @@ class_used raw i c e =
     (w.0, produces raw w.1, at_mapped (produces raw) raw.productions w.0 w.1 w.2, (w.3.0, at_mapped (item_in raw) w.1.items w.3.0 (raw_item.Class c) w.3.1))
 
 -- an item of a production stands for what there is
-item_named : (raw : RawGrammar) (p : ℕ) (q : RawProduction) (i : ℕ) (x : RawItem) → slice_get raw.productions p ≡ Some q → slice_get q.items i ≡ Some x → IsReadableItem x → first_wrong (item_places (symbol_names (symbols raw)) x) ≡ None
+item_named : (raw : RawGrammar) (p : ℕ) (q : RawProduction) (i : ℕ) (x : RawItem) → slice_get raw.productions p ≡ Some q → slice_get q.items i ≡ Some x → IsReadableItem x → first_wrong (item_checks (symbol_names (symbols raw)) x) ≡ None
     → IsNamedItem (numbered raw) (item_in raw x)
 item_named raw p q i (raw_item.Name name) e f readable right = name_known (symbols raw) name right
 item_named raw p q i (raw_item.Literal text) e f readable right = known (literals raw) text (literal_listed raw.productions p q i text e f)
@@ -103,12 +103,12 @@ items_named : (raw : RawGrammar) → IsReadable raw → first_wrong (unknown (sy
 items_named raw readable h = each_mapped (produces raw) (λ q. Each (IsNamedItem (numbered raw)) q.items) raw.productions (λ p q e.
     let parts = unknown_parts (symbols raw) q (flat_each (unknown_in (symbols raw)) raw.productions h p q e) in
     each_mapped (item_in raw) (IsNamedItem (numbered raw)) q.items (λ i x f.
-    item_named raw p q i x e f (readable p q e i x f) (flat_each (item_places (symbol_names (symbols raw))) q.items parts.1 i x f)))
+    item_named raw p q i x e f (readable p q e i x f) (flat_each (item_checks (symbol_names (symbols raw))) q.items parts.1 i x f)))
 
 abbrev AreListed : RawGrammar → Type 0
 AreListed raw = Each (λ q. Each (λ r. is_below (length r.expr.1) r.expr.0 ≡ true) q.rules) (numbered raw).productions
 
-named : (raw : RawGrammar) → IsReadable raw → AreListed raw → first_wrong (naming_places raw) ≡ None → IsNamed (numbered raw)
+named : (raw : RawGrammar) → IsReadable raw → AreListed raw → first_wrong (naming_checks raw) ≡ None → IsNamed (numbered raw)
 named raw readable listed h = let parts = naming_parts raw h in record {
   symbols_differ = symbols_differ raw.symbols parts.1;
   attributes_differ = attributes_differ raw.symbols parts.1;
@@ -131,7 +131,7 @@ empty : {X : Type 0} (xs : List X) → length xs ≡ 0 → xs ≡ []
 empty [] h = refl
 empty (x ∷ xs) h = absurd (omega (arith, h))
 
-starts : (raw : RawGrammar) → first_wrong (start_places (symbols raw) raw.start) ≡ None → IsStart (numbered raw)
+starts : (raw : RawGrammar) → first_wrong (start_checks (symbols raw) raw.start) ≡ None → IsStart (numbered raw)
 starts raw h = go (slice_get (symbols raw) (start_number raw)) refl (is_right (fault.BadStart, is_start (slice_get (symbols raw) (start_number raw))) h)
   where
     go : (o : Option Symbol) → slice_get (symbols raw) (start_number raw) ≡ o → is_start o ≡ true → IsStart (numbered raw)
@@ -143,7 +143,7 @@ starts raw h = go (slice_get (symbols raw) (start_number raw)) refl (is_right (f
       out = any_has s.syn out_name w.1;
     }
 
-start_right : (raw : RawGrammar) → IsStart (numbered raw) → first_wrong (start_places (symbols raw) raw.start) ≡ None
+start_right : (raw : RawGrammar) → IsStart (numbered raw) → first_wrong (start_checks (symbols raw) raw.start) ≡ None
 start_right raw start = right_is (fault.BadStart, is_start (slice_get (symbols raw) (start_number raw))) (rw (start.declared, start.plain, has_any start.symbol.syn out_name start.out) refl)
 
 -- the kinds about rules
@@ -196,7 +196,7 @@ all_pass test (x ∷ xs) h = rw (h zero x refl) (all_pass test xs (λ i. h (suc 
 stored_long : (raw : RawGrammar) (q : RawProduction) → length (placed (symbols raw) q) ≡ 1 + length (stored_items (produces raw q).items)
 stored_long raw q = let e = ap length (stored_same (symbol_names (symbols raw)) (literals raw) q.items) in omega (arith, e)
 
-limits : (raw : RawGrammar) → IsReadable raw → first_wrong (limit_places (symbols raw) raw.productions) ≡ None → IsWithinGrammarLimits (numbered raw)
+limits : (raw : RawGrammar) → IsReadable raw → first_wrong (limit_checks (symbols raw) raw.productions) ≡ None → IsWithinGrammarLimits (numbered raw)
 limits raw readable h =
     let ss = symbols raw in
     let qs = raw.productions in
@@ -220,7 +220,7 @@ limits raw readable h =
       literal_bytes = λ i x e. ((literal_readable raw readable i x e).0, leb-true (length x) most_literal_bytes (passes_at is_short (literals raw) i x short e));
     }
 
-within_limits : (raw : RawGrammar) → IsWithinGrammarLimits (numbered raw) → first_wrong (limit_places (symbols raw) raw.productions) ≡ None
+within_limits : (raw : RawGrammar) → IsWithinGrammarLimits (numbered raw) → first_wrong (limit_checks (symbols raw) raw.productions) ≡ None
 within_limits raw within =
     let ss = symbols raw in
     let qs = raw.productions in
@@ -242,7 +242,7 @@ within_limits raw within =
 pub accepted : (raw : RawGrammar) → IsReadable raw → AreListed raw → HasNoFault raw → IsAccepted (numbered raw)
 accepted raw readable listed none =
     let parts = naming_parts raw none.names in
-    let further = both_right (rule_kinds (symbols raw) raw.productions) (limit_places (symbols raw) raw.productions) none.rules in
+    let further = both_right (rule_kinds (symbols raw) raw.productions) (limit_checks (symbols raw) raw.productions) none.rules in
     let rules = rule_parts raw further.0 in
     record {
       named = named raw readable listed none.names;
@@ -259,12 +259,12 @@ pub no_fault : (raw : RawGrammar) → IsAccepted (numbered raw) → HasNoFault r
 no_fault raw accepted =
     let ss = symbols raw in
     record {
-      names = together (unknown ss raw.productions ++ doubled raw.symbols) (start_places ss raw.start)
+      names = together (unknown ss raw.productions ++ doubled raw.symbols) (start_checks ss raw.start)
           (together (unknown ss raw.productions) (doubled raw.symbols) (named_known raw accepted.named) (differ_doubled raw.symbols accepted.named.symbols_differ accepted.named.attributes_differ))
           (start_right raw accepted.start);
       productive = λ s lt. accepted.productive s (rw (length-map raw.symbols symbol_of) lt);
       reached = λ s lt. accepted.reachable s (rw (length-map raw.symbols symbol_of) lt);
-      rules = together (rule_kinds ss raw.productions) (limit_places ss raw.productions) (parts_rule raw (rules_of raw accepted.complete accepted.normal)) (within_limits raw accepted.limits);
+      rules = together (rule_kinds ss raw.productions) (limit_checks ss raw.productions) (parts_rule raw (rules_of raw accepted.complete accepted.normal)) (within_limits raw accepted.limits);
     }
 
 -- without a fault the numbers are small
@@ -272,7 +272,7 @@ pub small : (raw : RawGrammar) → HasNoFault raw → IsSmall (symbols raw) (lit
 small raw none =
     let ss = symbols raw in
     let qs = raw.productions in
-    let further = both_right (rule_kinds ss qs) (limit_places ss qs) none.rules in
+    let further = both_right (rule_kinds ss qs) (limit_checks ss qs) none.rules in
     let a = both_right (symbol_limits ss ++ production_limits ss qs) (literal_limits (literals raw)) further.1 in
     let b = both_right (symbol_limits ss) (production_limits ss qs) a.0 in
     let s = both_right ((fault.Limit limit.Symbols, nat_le (length ss) most_symbols) ∷ []) ((fault.Limit limit.Attributes, list_all few_attributes ss) ∷ []) b.0 in

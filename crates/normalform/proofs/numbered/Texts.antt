@@ -76,8 +76,8 @@ pub found : {X : Type 0} (p : X → Bool) (xs : List X) → is_some (position p 
 found p xs = ap is_some (position_from-zero p xs) ∙ found_from p 0 xs
 
 -- the place of the first, or the length
-pub place_is : {X : Type 0} (p : X → Bool) (xs : List X) → unwrap_or (position p xs) (length xs) ≡ position_or_len p xs
-place_is p xs = go (nat_lt (position_or_len p xs) (length xs)) refl
+pub index_is : {X : Type 0} (p : X → Bool) (xs : List X) → unwrap_or (position p xs) (length xs) ≡ position_or_len p xs
+index_is p xs = go (nat_lt (position_or_len p xs) (length xs)) refl
   where
     go : (b : Bool) → nat_lt (position_or_len p xs) (length xs) ≡ b → unwrap_or (cond b (Some (position_or_len p xs)) None) (length xs) ≡ position_or_len p xs
     go true e = refl
@@ -86,5 +86,5 @@ place_is p xs = go (nat_lt (position_or_len p xs) (length xs)) refl
 pub texts_pushed : (old mid new : List (Bor (List ℕ))) (t : Bor (List ℕ)) → mid ≡ old → new ≡ mid ++ t ∷ [] → map (λ (k : Bor (List ℕ)). k.now) new ≡ map (λ (k : Bor (List ℕ)). k.now) old ++ t.now ∷ []
 texts_pushed old mid new t same pushed = rw (pushed, same) (map_push (λ (k : Bor (List ℕ)). k.now) old t)
 
-pub place_at : {X : Type 0} (p : X → Bool) (xs : List X) (o : Option ℕ) (n r : ℕ) → r ≡ unwrap_or o n → o ≡ position p xs → n ≡ length xs → r ≡ position_or_len p xs
-place_at p xs o n r is at count = is ∙ rw (at, count) (place_is p xs)
+pub index_at : {X : Type 0} (p : X → Bool) (xs : List X) (o : Option ℕ) (n r : ℕ) → r ≡ unwrap_or o n → o ≡ position p xs → n ≡ length xs → r ≡ position_or_len p xs
+index_at p xs o n r is at count = is ∙ rw (at, count) (index_is p xs)

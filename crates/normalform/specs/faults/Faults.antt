@@ -1,5 +1,5 @@
 -- The faults of a raw grammar, kind by kind, and which comes first (this project's; complete and productive are Knuth's 1968
--- and the textbook's). A kind is the list of its places, in the order of the text.
+-- and the textbook's). A kind is the list of its checks, in the order of the text.
 use Rattle.std.specs.Prelude.{All, ℕ, zero, suc, cond, fold, ◌⊎◌, ◌+◌, ◌≡◌, ◌<◌, ◌≤◌, nat_eq, nat_le, not, Bool, true, false, ◌&&◌, List, [], ◌∷◌, ◌++◌, length, map, flat_map, find, Option, Some, None, bytes_eq, slice_get}
 use Rattle.std.specs.List.{list_any, list_all, range_with_len}
 use Rattle.std.specs.Option.{option_map}
@@ -26,70 +26,70 @@ use Rattle.normalform.specs.declared.fault.NormalFault.{NormalFault}
 use Rattle.normalform.specs.declared.fault.NormalFault.TheVariants as fault
 use Rattle.normalform.specs.numbers.Numbers.{symbol_of, symbol_names, with_text, declared, number_in, names_at, placed, target_of, literals_of, numbered}
 
--- A place of the text: the fault that is there where it is wrong, and whether it is right.
-abbrev pub Place : Type 0
-Place = NormalFault × Bool
+-- A check of something in the text: the fault that is told where it fails, and whether it holds.
+abbrev pub Check : Type 0
+Check = NormalFault × Bool
 
--- the fault of the first place that is wrong
-abbrev pub first_wrong : List Place → Option NormalFault
-first_wrong places = option_map (λ x. x.0) (find (λ x. not x.1) places)
+-- the fault of the first check that fails
+abbrev pub first_wrong : List Check → Option NormalFault
+first_wrong checks = option_map (λ x. x.0) (find (λ x. not x.1) checks)
 
--- places along a list, with what is known at each from those before
-abbrev pub places_along : {S X : Type 0} → (S → X → List Place) → (S → X → S) → S → List X → List Place
-places_along f g s [] = []
-places_along f g s (x ∷ xs) = f s x ++ places_along f g (g s x) xs
+-- checks along a list, with what is known at each from those before
+abbrev pub checks_along : {S X : Type 0} → (S → X → List Check) → (S → X → S) → S → List X → List Check
+checks_along f g s [] = []
+checks_along f g s (x ∷ xs) = f s x ++ checks_along f g (g s x) xs
 
 -- N1. A name of a symbol: it is declared.
-abbrev pub name_place : List (List ℕ) → Named → Place
-name_place names name = (fault.UnknownName name.at, list_any (bytes_eq name.name) names)
+abbrev pub name_check : List (List ℕ) → Named → Check
+name_check names name = (fault.UnknownName name.at, list_any (bytes_eq name.name) names)
 
-abbrev pub item_places : List (List ℕ) → RawItem → List Place
-item_places names (raw_item.Name name) = name_place names name ∷ []
-item_places names (raw_item.Literal text) = []
-item_places names (raw_item.Class c) = []
+abbrev pub item_checks : List (List ℕ) → RawItem → List Check
+item_checks names (raw_item.Name name) = name_check names name ∷ []
+item_checks names (raw_item.Literal text) = []
+item_checks names (raw_item.Class c) = []
 
 -- An occurrence: the item at its place has an attribute of its name.
-abbrev pub occurrence_place : List Symbol → List Item → Occ → Place
-occurrence_place ss items o = (fault.UnknownName o.at, list_any (bytes_eq o.attr) (names_at ss items o.place))
+abbrev pub occurrence_check : List Symbol → List Item → Occ → Check
+occurrence_check ss items o = (fault.UnknownName o.at, list_any (bytes_eq o.attr) (names_at ss items o.place))
 
 -- the target of a rule, then the occurrences of its expression
-abbrev pub rule_places : List Symbol → List Item → RawRule → List Place
-rule_places ss items r = occurrence_place ss items r.target ∷ map (occurrence_place ss items) r.expr.1
+abbrev pub rule_checks : List Symbol → List Item → RawRule → List Check
+rule_checks ss items r = occurrence_check ss items r.target ∷ map (occurrence_check ss items) r.expr.1
 
 -- a production: its left side, its items, its rules
-abbrev pub unknown_in : List Symbol → RawProduction → List Place
-unknown_in ss q = name_place (symbol_names ss) q.left ∷ flat_map (item_places (symbol_names ss)) q.items ++ flat_map (rule_places ss (placed ss q)) q.rules
+abbrev pub unknown_in : List Symbol → RawProduction → List Check
+unknown_in ss q = name_check (symbol_names ss) q.left ∷ flat_map (item_checks (symbol_names ss)) q.items ++ flat_map (rule_checks ss (placed ss q)) q.rules
 
-abbrev pub unknown : List Symbol → List RawProduction → List Place
+abbrev pub unknown : List Symbol → List RawProduction → List Check
 unknown ss qs = flat_map (unknown_in ss) qs
 
 -- N2. A name where it is declared: it is not among those before.
-abbrev pub new_place : List (List ℕ) → Named → List Place
-new_place seen name = (fault.DoubledName name.at, not (list_any (bytes_eq name.name) seen)) ∷ []
+abbrev pub new_check : List (List ℕ) → Named → List Check
+new_check seen name = (fault.DoubledName name.at, not (list_any (bytes_eq name.name) seen)) ∷ []
 
 abbrev pub with_name : List (List ℕ) → Named → List (List ℕ)
 with_name seen name = with_text seen name.name
 
-abbrev pub doubled_names : List (List ℕ) → List Named → List Place
-doubled_names seen names = places_along new_place with_name seen names
+abbrev pub doubled_names : List (List ℕ) → List Named → List Check
+doubled_names seen names = checks_along new_check with_name seen names
 
 -- a symbol: its name, then its attributes among themselves
-abbrev pub symbol_places : List (List ℕ) → RawSymbol → List Place
-symbol_places seen s = new_place seen s.name ++ doubled_names [] (s.syn ++ s.inh)
+abbrev pub symbol_checks : List (List ℕ) → RawSymbol → List Check
+symbol_checks seen s = new_check seen s.name ++ doubled_names [] (s.syn ++ s.inh)
 
 abbrev pub with_symbol : List (List ℕ) → RawSymbol → List (List ℕ)
 with_symbol seen s = with_text seen s.name.name
 
-abbrev pub doubled : List RawSymbol → List Place
-doubled ss = places_along symbol_places with_symbol [] ss
+abbrev pub doubled : List RawSymbol → List Check
+doubled ss = checks_along symbol_checks with_symbol [] ss
 
 -- N3. The start symbol is declared, has no inherited attribute, and a synthesized one named `out`.
 abbrev pub is_start : Option Symbol → Bool
 is_start None = false
 is_start (Some s) = nat_eq (length s.inh) 0 && list_any (bytes_eq out_name) s.syn
 
-abbrev pub start_places : List Symbol → Named → List Place
-start_places ss name = (fault.BadStart, is_start (slice_get ss (number_in (symbol_names ss) name.name))) ∷ []
+abbrev pub start_checks : List Symbol → Named → List Check
+start_checks ss name = (fault.BadStart, is_start (slice_get ss (number_in (symbol_names ss) name.name))) ∷ []
 
 -- N4, N5. The first of a list whose number is not so.
 pub record IsFirstNot (P : ℕ → Type 0) (ss : List RawSymbol) (name : Named) : Type 0 where
@@ -126,31 +126,31 @@ abbrev pub targets_of : List Symbol → List Item → List RawRule → List Targ
 targets_of ss items rules = fold (with_rule ss items) [] rules
 
 -- a rule for the attribute is there
-abbrev pub missing_place : List Target → ℕ → ℕ → ℕ → Place
-missing_place ts p place a = (fault.RuleMissing p place a, list_any (same_target (record { place = place; attr = a })) ts)
+abbrev pub missing_check : List Target → ℕ → ℕ → ℕ → Check
+missing_check ts p place a = (fault.RuleMissing p place a, list_any (same_target (record { place = place; attr = a })) ts)
 
 -- the attributes that rules give at a place of the production p
-abbrev pub missing_at : List Symbol → List Target → ℕ → ℕ → Item → List Place
-missing_at ss ts p place x = map (missing_place ts p place) (given_at ss place x)
+abbrev pub missing_at : List Symbol → List Target → ℕ → ℕ → Item → List Check
+missing_at ss ts p place x = map (missing_check ts p place) (given_at ss place x)
 
 -- the index after that of an element
 abbrev pub after : {X : Type 0} → ℕ → X → ℕ
 after n x = n + 1
 
-abbrev pub missing_in : List Symbol → ℕ → RawProduction → List Place
-missing_in ss p q = places_along (missing_at ss (targets_of ss (placed ss q) q.rules) p) after 0 (placed ss q)
+abbrev pub missing_in : List Symbol → ℕ → RawProduction → List Check
+missing_in ss p q = checks_along (missing_at ss (targets_of ss (placed ss q) q.rules) p) after 0 (placed ss q)
 
-abbrev pub missing : List Symbol → List RawProduction → List Place
-missing ss qs = places_along (missing_in ss) after 0 qs
+abbrev pub missing : List Symbol → List RawProduction → List Check
+missing ss qs = checks_along (missing_in ss) after 0 qs
 
 -- N7. The target of a rule: it is not among those of the rules before in the production.
-abbrev pub new_target : List Symbol → List Item → List Target → RawRule → List Place
+abbrev pub new_target : List Symbol → List Item → List Target → RawRule → List Check
 new_target ss items ts r = (fault.RuleDoubled r.target.at, not (list_any (same_target (target_of ss items r.target)) ts)) ∷ []
 
-abbrev pub doubled_in : List Symbol → RawProduction → List Place
-doubled_in ss q = places_along (new_target ss (placed ss q)) (with_rule ss (placed ss q)) [] q.rules
+abbrev pub doubled_in : List Symbol → RawProduction → List Check
+doubled_in ss q = checks_along (new_target ss (placed ss q)) (with_rule ss (placed ss q)) [] q.rules
 
-abbrev pub doubled_rules : List Symbol → List RawProduction → List Place
+abbrev pub doubled_rules : List Symbol → List RawProduction → List Check
 doubled_rules ss qs = flat_map (doubled_in ss) qs
 
 -- an attribute is there and of the kind
@@ -165,23 +165,23 @@ abbrev pub has_kind : List Symbol → List Item → Target → Kind → Bool
 has_kind ss items t k = is_kind k (slice_get (item_kinds (declared ss) (slice_get items t.place)) t.attr)
 
 -- N8. The target of a rule is one that the rules of the production give.
-abbrev pub given_place : List Symbol → List Item → RawRule → Place
-given_place ss items r = let t = target_of ss items r.target in (fault.NotDefinedHere r.target.at, has_kind ss items t (given_kind t.place))
+abbrev pub given_check : List Symbol → List Item → RawRule → Check
+given_check ss items r = let t = target_of ss items r.target in (fault.NotDefinedHere r.target.at, has_kind ss items t (given_kind t.place))
 
-abbrev pub not_given_in : List Symbol → RawProduction → List Place
-not_given_in ss q = map (given_place ss (placed ss q)) q.rules
+abbrev pub not_given_in : List Symbol → RawProduction → List Check
+not_given_in ss q = map (given_check ss (placed ss q)) q.rules
 
-abbrev pub not_given : List Symbol → List RawProduction → List Place
+abbrev pub not_given : List Symbol → List RawProduction → List Check
 not_given ss qs = flat_map (not_given_in ss) qs
 
 -- N9. An occurrence is one that the rules of the production find.
-abbrev pub found_place : List Symbol → List Item → Occ → Place
-found_place ss items o = let t = target_of ss items o in (fault.NotNormal o.at, has_kind ss items t (found_kind t.place))
+abbrev pub found_check : List Symbol → List Item → Occ → Check
+found_check ss items o = let t = target_of ss items o in (fault.NotNormal o.at, has_kind ss items t (found_kind t.place))
 
-abbrev pub not_found_in : List Symbol → RawProduction → List Place
-not_found_in ss q = flat_map (λ r. map (found_place ss (placed ss q)) r.expr.1) q.rules
+abbrev pub not_found_in : List Symbol → RawProduction → List Check
+not_found_in ss q = flat_map (λ r. map (found_check ss (placed ss q)) r.expr.1) q.rules
 
-abbrev pub not_found : List Symbol → List RawProduction → List Place
+abbrev pub not_found : List Symbol → List RawProduction → List Check
 not_found ss qs = flat_map (not_found_in ss) qs
 
 -- N10. The limits, of symbols, productions and different literals.
@@ -198,54 +198,54 @@ few_stored ss q = nat_le (length (placed ss q)) (1 + most_stored)
 abbrev pub is_short : List ℕ → Bool
 is_short text = nat_le (length text) most_literal_bytes
 
-abbrev pub symbol_limits : List Symbol → List Place
+abbrev pub symbol_limits : List Symbol → List Check
 symbol_limits ss = (fault.Limit limit.Symbols, nat_le (length ss) most_symbols) ∷ (fault.Limit limit.Attributes, list_all few_attributes ss) ∷ []
 
-abbrev pub production_limits : List Symbol → List RawProduction → List Place
+abbrev pub production_limits : List Symbol → List RawProduction → List Check
 production_limits ss qs =
     (fault.Limit limit.Productions, nat_le (length qs) most_productions)
     ∷ (fault.Limit limit.Items, list_all few_items qs)
     ∷ (fault.Limit limit.Stored, list_all (few_stored ss) qs)
     ∷ []
 
-abbrev pub literal_limits : List (List ℕ) → List Place
+abbrev pub literal_limits : List (List ℕ) → List Check
 literal_limits texts = (fault.Limit limit.LiteralLength, list_all is_short texts) ∷ (fault.Limit limit.Literals, nat_le (length texts) most_literals) ∷ []
 
-abbrev pub limit_places : List Symbol → List RawProduction → List Place
-limit_places ss qs = symbol_limits ss ++ production_limits ss qs ++ literal_limits (literals_of qs)
+abbrev pub limit_checks : List Symbol → List RawProduction → List Check
+limit_checks ss qs = symbol_limits ss ++ production_limits ss qs ++ literal_limits (literals_of qs)
 
--- the places of the kinds before N4: names, and the start symbol
-abbrev pub naming_places : RawGrammar → List Place
-naming_places raw = let ss = map symbol_of raw.symbols in
-    unknown ss raw.productions ++ doubled raw.symbols ++ start_places ss raw.start
+-- the checks of the kinds before N4: names, and the start symbol
+abbrev pub naming_checks : RawGrammar → List Check
+naming_checks raw = let ss = map symbol_of raw.symbols in
+    unknown ss raw.productions ++ doubled raw.symbols ++ start_checks ss raw.start
 
--- the places of the kinds about rules
-abbrev pub rule_kinds : List Symbol → List RawProduction → List Place
+-- the checks of the kinds about rules
+abbrev pub rule_kinds : List Symbol → List RawProduction → List Check
 rule_kinds ss qs = missing ss qs ++ doubled_rules ss qs ++ not_given ss qs ++ not_found ss qs
 
--- the places of the kinds behind N5
-abbrev pub further_places : RawGrammar → List Place
-further_places raw = let ss = map symbol_of raw.symbols in rule_kinds ss raw.productions ++ limit_places ss raw.productions
+-- the checks of the kinds behind N5
+abbrev pub further_checks : RawGrammar → List Check
+further_checks raw = let ss = map symbol_of raw.symbols in rule_kinds ss raw.productions ++ limit_checks ss raw.productions
 
 -- each declared symbol is so
 abbrev pub AreAll : (ℕ → Type 0) → RawGrammar → Type 0
 AreAll P raw = (s : ℕ) → s < length raw.symbols → P s
 
--- The first fault: the first wrong place of the first kind that has one.
+-- The first fault: the first check that fails, of the first kind that has one.
 pub data IsFirstFault (raw : RawGrammar) : NormalFault → Type 0 where
-  in_names : {f : NormalFault} → first_wrong (naming_places raw) ≡ Some f → IsFirstFault raw f
-  in_productive : {name : Named} → first_wrong (naming_places raw) ≡ None → IsFirstNot (IsProductive (numbered raw)) raw.symbols name → IsFirstFault raw (fault.Unproductive name)
-  in_reached : {name : Named} → first_wrong (naming_places raw) ≡ None → AreAll (IsProductive (numbered raw)) raw → IsFirstNot (IsReached (numbered raw)) raw.symbols name
+  in_names : {f : NormalFault} → first_wrong (naming_checks raw) ≡ Some f → IsFirstFault raw f
+  in_productive : {name : Named} → first_wrong (naming_checks raw) ≡ None → IsFirstNot (IsProductive (numbered raw)) raw.symbols name → IsFirstFault raw (fault.Unproductive name)
+  in_reached : {name : Named} → first_wrong (naming_checks raw) ≡ None → AreAll (IsProductive (numbered raw)) raw → IsFirstNot (IsReached (numbered raw)) raw.symbols name
       → IsFirstFault raw (fault.Unreachable name)
-  in_rules : {f : NormalFault} → first_wrong (naming_places raw) ≡ None → AreAll (IsProductive (numbered raw)) raw → AreAll (IsReached (numbered raw)) raw → first_wrong (further_places raw) ≡ Some f
+  in_rules : {f : NormalFault} → first_wrong (naming_checks raw) ≡ None → AreAll (IsProductive (numbered raw)) raw → AreAll (IsReached (numbered raw)) raw → first_wrong (further_checks raw) ≡ Some f
       → IsFirstFault raw f
 
 -- No kind has a fault.
 pub record HasNoFault (raw : RawGrammar) : Type 0 where
-  pub names : first_wrong (naming_places raw) ≡ None
+  pub names : first_wrong (naming_checks raw) ≡ None
   pub productive : AreAll (IsProductive (numbered raw)) raw
   pub reached : AreAll (IsReached (numbered raw)) raw
-  pub rules : first_wrong (further_places raw) ≡ None
+  pub rules : first_wrong (further_checks raw) ≡ None
 
 -- A literal or a class as a text gives them: a literal is not empty and has no separator, a class is known.
 abbrev pub IsReadableItem : RawItem → Type 0

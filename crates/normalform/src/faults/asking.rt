@@ -1,6 +1,6 @@
 //! One walk along the rules of productions, for what is asked of the attributes that they name.
 ghost use Rattle.std.specs.Prelude.{◌≡◌, ◌∷◌, [], map, flat_map, IfOk};
-ghost use Rattle.normalform.specs.faults.Asking.{asked_place, asked_places, asked_in, asked};
+ghost use Rattle.normalform.specs.faults.Asking.{asked_check, asked_checks, asked_in, asked};
 ghost use Rattle.normalform.specs.faults.Faults.{first_wrong};
 ghost use Rattle.normalform.specs.faults.Placed.{item_placed};
 
@@ -36,7 +36,7 @@ fn fault_of(
     items: &[Placed],
     occurrence: &Occ,
 ) -> Option<NormalFault>
-    ensures { result ≡ first_wrong (asked_place question declared.now (map item_placed items.now)
+    ensures { result ≡ first_wrong (asked_check question declared.now (map item_placed items.now)
         occurrence.now ∷ []) }
 {
     let at = occurrence.at;
@@ -63,7 +63,7 @@ fn first_among(
     items: &[Placed],
     occurrences: &[Occ],
 ) -> Option<NormalFault>
-    ensures { result ≡ first_wrong (map (asked_place question declared.now
+    ensures { result ≡ first_wrong (map (asked_check question declared.now
         (map item_placed items.now)) occurrences.now) }
 {
     for occurrence in occurrences {
@@ -81,7 +81,7 @@ fn first_in_rule(
     items: &[Placed],
     rule: &RawRule,
 ) -> Option<NormalFault>
-    ensures { result ≡ first_wrong (asked_places question declared.now (map item_placed items.now)
+    ensures { result ≡ first_wrong (asked_checks question declared.now (map item_placed items.now)
         rule.now) }
 {
     match question {
@@ -103,7 +103,7 @@ fn first_in_rules(
     items: &[Placed],
     rules: &[RawRule],
 ) -> Option<NormalFault>
-    ensures { result ≡ first_wrong (flat_map (asked_places question declared.now
+    ensures { result ≡ first_wrong (flat_map (asked_checks question declared.now
         (map item_placed items.now)) rules.now) }
 {
     for rule in rules {

@@ -1,7 +1,7 @@
 //! The limits of a grammar.
 ghost use Rattle.std.specs.Prelude.{◌≡◌, ◌++◌, ◌+◌, ◌≤◌, nat_le, length, fold, map, IfOk, OnOk};
 ghost use Rattle.std.specs.List.{list_all};
-ghost use Rattle.normalform.specs.faults.Faults.{first_wrong, limit_places, few_attributes, few_items};
+ghost use Rattle.normalform.specs.faults.Faults.{first_wrong, limit_checks, few_attributes, few_items};
 ghost use Rattle.normalform.specs.faults.Faults.{few_stored, is_short, symbol_limits};
 ghost use Rattle.normalform.specs.faults.Faults.{production_limits, literal_limits};
 ghost use Rattle.normalform.specs.numbers.Numbers as spec;
@@ -175,7 +175,7 @@ pub fn exceeded(
     productions: &[RawProduction],
 ) -> Result<Option<NormalFault>, NoMemory>
     requires { declared.now ≡ map symbol_of symbols.now }
-    ensures { IfOk result (λ f. f ≡ first_wrong (limit_places declared.now productions.now)) }
+    ensures { IfOk result (λ f. f ≡ first_wrong (limit_checks declared.now productions.now)) }
 {
     if let Some(fault) = symbol_limit(symbols) {
         return Ok(Some(fault));

@@ -1,9 +1,9 @@
 //! Names that are not declared, and names that are declared twice.
 ghost use Rattle.std.specs.Prelude.{◌≡◌, ◌++◌, ◌∷◌, [], fold, None, IfOk, OnOk, flat_map};
 ghost use Rattle.normalform.specs.faults.Faults as spec;
-ghost use Rattle.normalform.specs.faults.Faults.{first_wrong, name_place, item_places, new_place};
+ghost use Rattle.normalform.specs.faults.Faults.{first_wrong, name_check, item_checks, new_check};
 ghost use Rattle.normalform.specs.faults.Faults.{unknown_in};
-ghost use Rattle.normalform.specs.faults.Faults.{symbol_places, with_name, with_symbol};
+ghost use Rattle.normalform.specs.faults.Faults.{symbol_checks, with_name, with_symbol};
 ghost use Rattle.normalform.specs.numbers.Numbers.{symbol_names, with_text};
 
 use crate::fault::NormalFault;
@@ -16,7 +16,7 @@ use std::alloc::Global;
 
 /// The fault of a symbol's name that is not declared.
 fn unknown_name(declared: &Declared<'_>, name: &Named) -> Option<NormalFault>
-    ensures { result ≡ first_wrong (name_place (symbol_names declared.now) name.now ∷ []) }
+    ensures { result ≡ first_wrong (name_check (symbol_names declared.now) name.now ∷ []) }
 {
     if declared.has(name.name.as_str()) {
         None
@@ -27,7 +27,7 @@ fn unknown_name(declared: &Declared<'_>, name: &Named) -> Option<NormalFault>
 
 /// The fault of an item that is a symbol's name and not declared.
 fn unknown_in_item(declared: &Declared<'_>, item: &RawItem) -> Option<NormalFault>
-    ensures { result ≡ first_wrong (item_places (symbol_names declared.now) item.now) }
+    ensures { result ≡ first_wrong (item_checks (symbol_names declared.now) item.now) }
 {
     match item {
         RawItem::Name(name) => unknown_name(declared, name),
@@ -38,7 +38,7 @@ fn unknown_in_item(declared: &Declared<'_>, item: &RawItem) -> Option<NormalFaul
 /// The first fault of a right side.
 fn unknown_in_items(declared: &Declared<'_>, items: &[RawItem]) -> Option<NormalFault>
     ensures { result
-        ≡ first_wrong (flat_map (item_places (symbol_names declared.now)) items.now) }
+        ≡ first_wrong (flat_map (item_checks (symbol_names declared.now)) items.now) }
 {
     for item in items {
         if let Some(fault) = unknown_in_item(declared, item) {
@@ -84,7 +84,7 @@ pub fn unknown(
 
 /// The fault of a name that is among those before; it is then among them.
 fn doubled_name<'t>(seen: &mut Names<'t>, name: &'t Named) -> Result<Option<NormalFault>, NoMemory>
-    ensures fault { IfOk result (λ f. f ≡ first_wrong (new_place seen.old name.now)) }
+    ensures fault { IfOk result (λ f. f ≡ first_wrong (new_check seen.old name.now)) }
     ensures seen { OnOk result (seen.new ≡ with_text seen.old name.now.name) }
 {
     if seen.list(name.name.as_str())? {
@@ -128,7 +128,7 @@ fn doubled_in_symbol<'t>(
     seen: &mut Names<'t>,
     symbol: &'t RawSymbol,
 ) -> Result<Option<NormalFault>, NoMemory>
-    ensures fault { IfOk result (λ f. f ≡ first_wrong (symbol_places seen.old symbol.now)) }
+    ensures fault { IfOk result (λ f. f ≡ first_wrong (symbol_checks seen.old symbol.now)) }
     ensures seen { OnOk result (seen.new ≡ with_symbol seen.old symbol.now) }
 {
     if let Some(fault) = doubled_name(seen, &symbol.name)? {

@@ -2,7 +2,7 @@
 ghost use Rattle.std.specs.Prelude.{◌≡◌, [], map, IfOk, OnOk, not};
 ghost use Rattle.std.specs.List.{list_any};
 ghost use Rattle.normalform.specs.faults.Faults as spec;
-ghost use Rattle.normalform.specs.faults.Faults.{first_wrong, places_along, after, with_rule, new_target};
+ghost use Rattle.normalform.specs.faults.Faults.{first_wrong, checks_along, after, with_rule, new_target};
 ghost use Rattle.normalform.specs.faults.Faults.{same_target, doubled_in};
 ghost use Rattle.normalform.specs.numbers.Numbers.{target_of};
 ghost use Rattle.normalform.specs.faults.Placed.{item_placed};
@@ -79,7 +79,7 @@ fn missing_among(
     production: usize,
     items: &[Placed],
 ) -> Option<NormalFault>
-    ensures { result ≡ first_wrong (places_along (spec.missing_at declared.now targets.now
+    ensures { result ≡ first_wrong (checks_along (spec.missing_at declared.now targets.now
         production) after 0 (map item_placed items.now)) }
 {
     for place in 0..items.len() {
@@ -153,7 +153,7 @@ fn doubled_among(
     items: &[Placed],
     rules: &[RawRule],
 ) -> Result<Option<NormalFault>, NoMemory>
-    ensures { IfOk result (λ f. f ≡ first_wrong (places_along (new_target declared.now
+    ensures { IfOk result (λ f. f ≡ first_wrong (checks_along (new_target declared.now
         (map item_placed items.now)) (with_rule declared.now (map item_placed items.now)) []
         rules.now)) }
 {

@@ -122,7 +122,7 @@ impl<'t> Declared<'t> {
     pub fn number(&self, name: &str) -> usize
         ensures { result ≡ number_in (symbol_names self.now) name.now }
     {
-        self.names.place(name)
+        self.names.number(name)
     }
 
     /// A symbol is declared.
@@ -137,7 +137,7 @@ impl<'t> Declared<'t> {
         ensures { result ≡ number_in (attributes_of (slice_get self.now symbol)) name.now }
     {
         match self.attributes.get(symbol) {
-            Some(names) => names.place(name),
+            Some(names) => names.number(name),
             None => 0,
         }
     }

@@ -81,7 +81,7 @@ impl<'t> Names<'t> {
     }
 
     /// The number of a text, and the number behind all where it is not there.
-    pub fn place(&self, text: &str) -> usize
+    pub fn number(&self, text: &str) -> usize
         ensures { result ≡ number_in self.now text.now }
     {
         self.numbers.get(text).copied().unwrap_or(self.listed.len())

@@ -33,7 +33,7 @@ fn item_of(declared: &Declared<'_>, literals: &Names<'_>, item: &RawItem) -> Ite
     match item {
         RawItem::Name(name) => Item::Symbol(narrow(declared.number(name.name.as_str()))),
         RawItem::Literal(text) => {
-            Item::Terminal(Terminal::Literal(narrow(literals.place(text.as_str()))))
+            Item::Terminal(Terminal::Literal(narrow(literals.number(text.as_str()))))
         }
         RawItem::Class(class) => Item::Terminal(Terminal::Class(*class)),
     }

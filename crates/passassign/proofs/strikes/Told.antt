@@ -16,7 +16,7 @@ use Rattle.closure.specs.declared.addition.Addition.{Addition}
 use Rattle.closure.specs.declared.addition.Reason.{Reason}
 use Rattle.closure.specs.declared.addition.Reason.TheVariants as reason
 use Rattle.closure.specs.declared.clause.Clause.{Clause}
-use Rattle.closure.proofs.Places.{at_mapped, element_at, mapped_at}
+use Rattle.closure.proofs.Positions.{at_mapped, element_at, mapped_at}
 use Rattle.closure.proofs.Reached.{step}
 use Rattle.passassign.specs.Certificate.{Strikes, IsAhead, IsOneOf, IsGood, AreGood}
 use Rattle.passassign.specs.Dependencies.{symbol_of, table_slot, dependency_of, head_of}

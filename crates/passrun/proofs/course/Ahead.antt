@@ -24,7 +24,7 @@ use Rattle.treefile.proofs.ways.Backward.{damage_is_there, never_no_file}
 use Rattle.treefile.proofs.records.Fitting.{fits_version_two}
 use Rattle.treefile.proofs.records.Spelled.{one_token, same_node}
 use Rattle.treefile.proofs.ways.Way.{way_is_too_long}
-use Rattle.backreader.specs.Place.{Place}
+use Rattle.backreader.specs.BackState.{BackState}
 use Rattle.planchecker.specs.courses.Settings.{Setting, arity, place, way}
 use Rattle.planchecker.specs.courses.Sound.{IsSound}
 use Rattle.passrun.specs.declared.run_fault.RunFault.{RunFault}
@@ -135,14 +135,14 @@ module _ (c : Setting) (sound : IsSound c) where
   missing_breaks x copy level todo (Ok None) h = tt
   missing_breaks x copy level todo (Ok (Some body)) h = no_record c x body copy h
 
-  pub unfetched : (x : Item) (copy : Option (List Value)) (open_count : ℕ) (content : List ℕ) (place : Place) (todo : ToCome) (f : RunFault) → IsReadable (source c) content → (h : ComesTo (source c) content place.progress.at ((suc open_count, (x, copy)) ∷ todo)) → place.progress.records ≡ length h.bodies
-      → IsUnfetched c x open_count content place f → IsRunFault c content f
-  unfetched x copy n content place todo (fault.Damaged at) readable h count (same, missing) =
-      subst (IsDamaged (source c) content) (sym same) (broken (source c) (tellable c sound) content place.progress.at readable ((suc n, (x, copy)) ∷ todo, h, missing_breaks x copy (suc n) todo (next_before version_two content place.progress.at) missing))
-  unfetched x copy n content place todo fault.TooDeep readable h count deep = way_is_too_long version_two c.grammar c.passes c.read content place.progress.at (length h.bodies) (suc n) most_depth most_nodes (x, copy) todo (way_to (source c) (tellable c sound) content place.progress.at ((suc n, (x, copy)) ∷ todo) h) (inl (omega arith))
-  unfetched x copy n content place todo fault.TooManyNodes readable h count many = way_is_too_long version_two c.grammar c.passes c.read content place.progress.at (length h.bodies) (suc n) most_depth most_nodes (x, copy) todo (way_to (source c) (tellable c sound) content place.progress.at ((suc n, (x, copy)) ∷ todo) h) (inr (omega arith))
-  unfetched x copy n content place todo fault.Device readable h count u = tt
-  unfetched x copy n content place todo fault.NoMemory readable h count u = tt
+  pub unfetched : (x : Item) (copy : Option (List Value)) (open_count : ℕ) (content : List ℕ) (state : BackState) (todo : ToCome) (f : RunFault) → IsReadable (source c) content → (h : ComesTo (source c) content state.progress.at ((suc open_count, (x, copy)) ∷ todo)) → state.progress.records ≡ length h.bodies
+      → IsUnfetched c x open_count content state f → IsRunFault c content f
+  unfetched x copy n content state todo (fault.Damaged at) readable h count (same, missing) =
+      subst (IsDamaged (source c) content) (sym same) (broken (source c) (tellable c sound) content state.progress.at readable ((suc n, (x, copy)) ∷ todo, h, missing_breaks x copy (suc n) todo (next_before version_two content state.progress.at) missing))
+  unfetched x copy n content state todo fault.TooDeep readable h count deep = way_is_too_long version_two c.grammar c.passes c.read content state.progress.at (length h.bodies) (suc n) most_depth most_nodes (x, copy) todo (way_to (source c) (tellable c sound) content state.progress.at ((suc n, (x, copy)) ∷ todo) h) (inl (omega arith))
+  unfetched x copy n content state todo fault.TooManyNodes readable h count many = way_is_too_long version_two c.grammar c.passes c.read content state.progress.at (length h.bodies) (suc n) most_depth most_nodes (x, copy) todo (way_to (source c) (tellable c sound) content state.progress.at ((suc n, (x, copy)) ∷ todo) h) (inr (omega arith))
+  unfetched x copy n content state todo fault.Device readable h count u = tt
+  unfetched x copy n content state todo fault.NoMemory readable h count u = tt
 
   -- a record that was read and does not agree breaks the way
   pub disagreed : (x : Item) (p level : ℕ) (content body : List ℕ) (at : ℕ) (todo : ToCome) (old new : List Value) (h : IsRead c x p body old new) (f : ℕ → Value) → (AgreeAt c x f (read_values c x p body old new h) → ⊥) → IsReadable (source c) content
@@ -152,8 +152,8 @@ module _ (c : Setting) (sound : IsSound c) where
       broken (source c) (tellable c sound) content at readable (first, here, subst (awaited.Breaks version_two c.grammar c.passes c.read first) (sym found) (differs x p body old new h f apart))
 
 -- no frame is found
-pub frame_unfetched : (c : Setting) (x : Item) (open_count : ℕ) (content : List ℕ) (place : Place) (view : Option (Bor (List ℕ)) → Option (List ℕ)) (f : FrameFault) → Told view (Err f) (next_before version_two content place.progress.at) → IsUnfetched c x open_count content place (run_fault_of_frame f)
-frame_unfetched c x n content place view frame_fault.NotATreeFile told = absurd (never_no_file version_two content place.progress.at told)
-frame_unfetched c x n content place view (frame_fault.Damaged at) told = (damage_is_there version_two content place.progress.at at told, subst (IsMissing c x) (sym told) tt)
-frame_unfetched c x n content place view frame_fault.Device told = tt
-frame_unfetched c x n content place view frame_fault.NoMemory told = tt
+pub frame_unfetched : (c : Setting) (x : Item) (open_count : ℕ) (content : List ℕ) (state : BackState) (view : Option (Bor (List ℕ)) → Option (List ℕ)) (f : FrameFault) → Told view (Err f) (next_before version_two content state.progress.at) → IsUnfetched c x open_count content state (run_fault_of_frame f)
+frame_unfetched c x n content state view frame_fault.NotATreeFile told = absurd (never_no_file version_two content state.progress.at told)
+frame_unfetched c x n content state view (frame_fault.Damaged at) told = (damage_is_there version_two content state.progress.at at told, subst (IsMissing c x) (sym told) tt)
+frame_unfetched c x n content state view frame_fault.Device told = tt
+frame_unfetched c x n content state view frame_fault.NoMemory told = tt

@@ -20,7 +20,7 @@ use Rattle.treefile.specs.records.TreeFile.{body_of, header, version_two}
 use Rattle.treefile.specs.ways.Writing as writing
 use Rattle.treefile.proofs.ways.Backward.{none_at_header}
 use Rattle.treefile.proofs.records.Values.{values_well}
-use Rattle.backreader.specs.Place.{HasRead, Place, IsOver, lent_body, progress_after}
+use Rattle.backreader.specs.BackState.{HasRead, BackState, IsOver, lent_body, progress_after}
 use Rattle.backreader.proofs.Standing.{all_bytes}
 use Rattle.planchecker.specs.courses.Course.{Between}
 use Rattle.planchecker.specs.courses.Settings.{Setting}
@@ -52,17 +52,17 @@ none_lent (Some body) e = absurd cc
 none_lent None e = refl
 
 -- and the reader is where it was
-pub reader_kept : (honest : Bool) (content : List ℕ) (old now : Place) (answer : Result (Option (Bor (List ℕ))) FrameFault) (found : Option (Bor (List ℕ))) → HasRead honest content old (lent_body (λ (b : Bor (List ℕ)). b.now) answer) now → answer ≡ Ok found → is_some found ≡ false → now.progress ≡ old.progress
+pub reader_kept : (honest : Bool) (content : List ℕ) (old now : BackState) (answer : Result (Option (Bor (List ℕ))) FrameFault) (found : Option (Bor (List ℕ))) → HasRead honest content old (lent_body (λ (b : Bor (List ℕ)). b.now) answer) now → answer ≡ Ok found → is_some found ≡ false → now.progress ≡ old.progress
 reader_kept honest content old now answer found h was none = h.progress ∙ ap (λ z. progress_after old.progress (lent_body (λ (b : Bor (List ℕ)). b.now) z)) was ∙ ap (λ z. progress_after old.progress (Ok z)) (none_lent found none)
 
 module _ (c : Setting) (sound : IsSound c) where
-  pub begun_runs : (p meter began start : ℕ) (honest honest' to_honest : Bool) (content content' to : List ℕ) (place back : Place) (out : writing.Progress) (old values : Vec Value) (waiting : Vec OpenNode)
-      → old.items ≡ [] → waiting.items ≡ [] → start ≡ c.grammar.start → began ≡ meter → HasFetched c (item.Symbol start) p 0 honest content place back old.items values.items → honest' ≡ honest → LeavesContent honest content content'
-      → WhenHonest honest (IsReadable (source c) content) → WhenHonest honest (IsOver content place) → WhenHonest honest (place.progress.at ≡ length content) → place.progress.records ≡ 0 → place.progress.version ≡ version_two → place.progress.fault ≡ None
+  pub begun_runs : (p meter began start : ℕ) (honest honest' to_honest : Bool) (content content' to : List ℕ) (state back : BackState) (out : writing.Progress) (old values : Vec Value) (waiting : Vec OpenNode)
+      → old.items ≡ [] → waiting.items ≡ [] → start ≡ c.grammar.start → began ≡ meter → HasFetched c (item.Symbol start) p 0 honest content state back old.items values.items → honest' ≡ honest → LeavesContent honest content content'
+      → WhenHonest honest (IsReadable (source c) content) → WhenHonest honest (IsOver content state) → WhenHonest honest (state.progress.at ≡ length content) → state.progress.records ≡ 0 → state.progress.version ≡ version_two → state.progress.fault ≡ None
       → WhenHonest to_honest (to ≡ header version_two c.write) → out ≡ record { written = 0; is_broken = false } → meter ≤ 2 ^ 63
       → Runs c honest' content' to_honest to meter (record { back = back; writer = out; values = values; waiting = waiting; root = p; begun = began }) (Some (first_at p 0))
-  begun_runs p meter began first honest honest' to_honest content content' to place back out old values waiting none alone is_start is_meter h' same leaves readable over end fresh version unbroken head begun low =
-      let h = subst (λ s. HasFetched c (item.Symbol s) p 0 honest content place back old.items values.items) is_start h' in
+  begun_runs p meter began first honest honest' to_honest content content' to state back out old values waiting none alone is_start is_meter h' same leaves readable over end fresh version unbroken head begun low =
+      let h = subst (λ s. HasFetched c (item.Symbol s) p 0 honest content state back old.items values.items) is_start h' in
       let t = h.taken in
       let f = t.values in
       let start = c.grammar.start in

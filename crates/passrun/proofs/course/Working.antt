@@ -8,7 +8,7 @@ use Rattle.ag_value.specs.declared.value.Value.{Value}
 use Rattle.ag_grammar.specs.declared.grammar.Item.{Item}
 use Rattle.ag_grammar.specs.grammars.Tree.{most_nodes}
 use Rattle.treefile.specs.ways.Writing as writing
-use Rattle.backreader.specs.Place.{Place}
+use Rattle.backreader.specs.BackState.{BackState}
 use Rattle.passcode.specs.declared.instr.Instr.{Instr}
 use Rattle.passcode.specs.declared.instr.Instr.TheVariants as instr
 use Rattle.passcode.specs.Rows.{Lists}
@@ -59,7 +59,7 @@ one_less b n h = let e : n ≡ suc (n - 1) = omega arith in ap (λ n. b * n) e �
     mul_suc b n = omega arith
 
 module _ (c : Setting) (sound : IsSound c) where
-  pub got_less : (m : Machine) (back : Place) (values : Vec Value) (read : List Value) (honest : Bool) (content : List ℕ) (x next : OpenNode) (j p n : ℕ) (x' : Item)
+  pub got_less : (m : Machine) (back : BackState) (values : Vec Value) (read : List Value) (honest : Bool) (content : List ℕ) (x next : OpenNode) (j p n : ℕ) (x' : Item)
       → slice_get (list_at c x.production) x.at ≡ Some (instr.Get j) → HasFetched c x' p n honest content m.back back m.values.items read → next ≡ stepped x p
       → work c (record { back = back; writer = m.writer; values = values; waiting = m.waiting; root = m.root; begun = m.begun }) (Some next) < work c m (Some x)
   got_less m back values read honest content x next j p n x' at h on =

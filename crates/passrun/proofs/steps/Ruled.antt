@@ -17,7 +17,7 @@ use Rattle.ag_grammar.proofs.expressions.Depending.{rule_has_one_value}
 use Rattle.treefile.specs.ways.Awaited.{ToCome}
 use Rattle.treefile.specs.records.Records.{values_up_to}
 use Rattle.treefile.specs.ways.Writing as writing
-use Rattle.backreader.specs.Place.{Place}
+use Rattle.backreader.specs.BackState.{BackState}
 use Rattle.passcode.specs.declared.instr.Instr.{Instr}
 use Rattle.planchecker.specs.courses.Course.{Phase, Between, Got, Gone, Follows, Gives, got, went, IsAtHand, IsFinal, IsKnown}
 use Rattle.planchecker.specs.courses.Settings.{Setting, arity, list_at, place, way}
@@ -272,12 +272,12 @@ module _ (c : Setting) (sound : IsSound c) where
   step_give root x xs values new t now todo j a r v spare z q u slots giving at there num are is written (s, f, under, old, before, others, waits, ph, o) =
       (s, f, under, old, before, others, waits, ph, given_in s f (suc (length xs)) x under old before others ph values new t now todo j a r v spare z q u slots giving at there num are is written o)
 
-  pub given_runs : (root : ℕ) (honest to_honest : Bool) (content to : List ℕ) (place : Place) (out : writing.Progress) (values new : List Value) (x : OpenNode) (xs : List OpenNode) (evals j a r : ℕ) (z : Instr) (q : Production) (u : Rule) (slots : RuleSlots) (spare v : Value)
+  pub given_runs : (root : ℕ) (honest to_honest : Bool) (content to : List ℕ) (state : BackState) (out : writing.Progress) (values new : List Value) (x : OpenNode) (xs : List OpenNode) (evals j a r : ℕ) (z : Instr) (q : Production) (u : Rule) (slots : RuleSlots) (spare v : Value)
       → IsGivingOf j a r z → slice_get (list_at c x.production) x.at ≡ Some z → IsProduction c.grammar x.production q → slice_get q.rules r ≡ Some u → AreSlotsOf c q u slots
       → v ≡ value_of u.expr.0 (λ k. get_or (drop x.base values) (slice_index slots.args k) spare) → IsWell v → new ≡ set values (x.base + slots.target) v
-      → IsRunning c root honest content to_honest to place out values (x ∷ xs) evals
-      → IsRunning c root honest content to_honest to place out new (stepped x x.child ∷ xs) (evals + 1)
-  given_runs root honest to_honest content to place out values new x xs evals j a r z q u slots spare v giving at there num are is well written run =
+      → IsRunning c root honest content to_honest to state out values (x ∷ xs) evals
+      → IsRunning c root honest content to_honest to state out new (stepped x x.child ∷ xs) (evals + 1)
+  given_runs root honest to_honest content to state out values new x xs evals j a r z q u slots spare v giving at there num are is well written run =
       record {
         tapes = run.tapes;
         todo = run.todo;

@@ -20,7 +20,7 @@ use Rattle.treefile.specs.records.TreeFile.{body_of, frame, header, version_two}
 use Rattle.treefile.specs.ways.Writing as writing
 use Rattle.treefile.proofs.ways.Backward.{reads_on}
 use Rattle.treefile.proofs.records.Values.{values_well}
-use Rattle.backreader.specs.Place.{Place, IsOver}
+use Rattle.backreader.specs.BackState.{BackState, IsOver}
 use Rattle.passcode.specs.declared.instr.Instr.TheVariants as instr
 use Rattle.planchecker.specs.courses.Settings.{Setting, list_at}
 use Rattle.planchecker.specs.courses.Sound.{IsSound}
@@ -39,12 +39,12 @@ use Rattle.passrun.proofs.steps.Steps.{HasAgreed, step_end, step_end_root, step_
 
 module _ (c : Setting) (sound : IsSound c) where
   -- the bookkeeping of a body that was read
-  pub read_more : (root : ℕ) (honest honest' to_honest : Bool) (content content' to : List ℕ) (place place' : Place) (out : writing.Progress) (values read kept : List Value) (xs ys : List OpenNode) (evals p n : ℕ) (x : Item) (todo : ToCome)
-      → (h : HasFetched c x p n honest content place place' values read) → honest' ≡ honest → LeavesContent honest content content' → All IsWell kept
-      → (r : IsRunning c root honest content to_honest to place out values xs evals) → Passing c root ys kept (record { read = r.tapes.read ++ h.body ∷ []; put = r.tapes.put }) evals todo
+  pub read_more : (root : ℕ) (honest honest' to_honest : Bool) (content content' to : List ℕ) (state state' : BackState) (out : writing.Progress) (values read kept : List Value) (xs ys : List OpenNode) (evals p n : ℕ) (x : Item) (todo : ToCome)
+      → (h : HasFetched c x p n honest content state state' values read) → honest' ≡ honest → LeavesContent honest content content' → All IsWell kept
+      → (r : IsRunning c root honest content to_honest to state out values xs evals) → Passing c root ys kept (record { read = r.tapes.read ++ h.body ∷ []; put = r.tapes.put }) evals todo
       → AreRecords (source c) (r.tapes.read ++ h.body ∷ []) todo
-      → IsRunning c root honest' content' to_honest to place' out kept ys evals
-  read_more root honest honest' to_honest content content' to place place' out values read kept xs ys evals p n x todo h same leaves well r passing on =
+      → IsRunning c root honest' content' to_honest to state' out kept ys evals
+  read_more root honest honest' to_honest content content' to state state' out values read kept xs ys evals p n x todo h same leaves well r passing on =
       let at = ap (λ g. g.at) h.progress in
       let records = ap (λ g. g.records) h.progress in
       let len = length-append r.tapes.read (h.body ∷ []) in
@@ -54,8 +54,8 @@ module _ (c : Setting) (sound : IsSound c) where
         tapes = record { read = r.tapes.read ++ h.body ∷ []; put = r.tapes.put };
         todo = todo;
         passing = passing;
-        over = λ z. let w = sym same ∙ z in subst (λ bytes. IsOver bytes place') (sym (leaves w)) (h.over w);
-        read = λ z. let w = sym same ∙ z in subst (λ bytes. ReadsTo version_two bytes (length bytes) (r.tapes.read ++ h.body ∷ []) place'.progress.at) (sym (leaves w)) (subst (ReadsTo version_two content (length content) (r.tapes.read ++ h.body ∷ [])) (sym at) (reads_on version_two content r.tapes.read (h.body ∷ []) (length content) place.progress.at (before_frame place.progress.at h.body) (r.read w) (h.found w, refl)));
+        over = λ z. let w = sym same ∙ z in subst (λ bytes. IsOver bytes state') (sym (leaves w)) (h.over w);
+        read = λ z. let w = sym same ∙ z in subst (λ bytes. ReadsTo version_two bytes (length bytes) (r.tapes.read ++ h.body ∷ []) state'.progress.at) (sym (leaves w)) (subst (ReadsTo version_two content (length content) (r.tapes.read ++ h.body ∷ [])) (sym at) (reads_on version_two content r.tapes.read (h.body ∷ []) (length content) state.progress.at (before_frame state.progress.at h.body) (r.read w) (h.found w, refl)));
         records = omega arith;
         few = omega arith;
         put = r.put;
@@ -68,24 +68,24 @@ module _ (c : Setting) (sound : IsSound c) where
         ahead = on;
       }
 
-  pub got_runs : (root : ℕ) (honest honest' to_honest : Bool) (content content' to : List ℕ) (place place' : Place) (out : writing.Progress) (values read : List Value) (x : OpenNode) (xs : List OpenNode) (evals j p : ℕ) (q : Production) (x' : Item)
+  pub got_runs : (root : ℕ) (honest honest' to_honest : Bool) (content content' to : List ℕ) (state state' : BackState) (out : writing.Progress) (values read : List Value) (x : OpenNode) (xs : List OpenNode) (evals j p : ℕ) (q : Production) (x' : Item)
       → slice_get (list_at c x.production) x.at ≡ Some (instr.Get j) → IsProduction c.grammar x.production q → item_at q j ≡ Some x'
-      → (h : HasFetched c x' p (suc (length xs)) honest content place place' values read) → HasAgreed c q x j x' read (read_values c x' p h.body values read h.taken) → honest' ≡ honest → LeavesContent honest content content'
-      → IsRunning c root honest content to_honest to place out values (x ∷ xs) evals
-      → IsRunning c root honest' content' to_honest to place' out (kept_values x' values read) (stepped x p ∷ xs) evals
-  got_runs root honest honest' to_honest content content' to place place' out values read x xs evals j p q (item.Symbol s) at there stands h agreed same leaves r =
+      → (h : HasFetched c x' p (suc (length xs)) honest content state state' values read) → HasAgreed c q x j x' read (read_values c x' p h.body values read h.taken) → honest' ≡ honest → LeavesContent honest content content'
+      → IsRunning c root honest content to_honest to state out values (x ∷ xs) evals
+      → IsRunning c root honest' content' to_honest to state' out (kept_values x' values read) (stepped x p ∷ xs) evals
+  got_runs root honest honest' to_honest content content' to state state' out values read x xs evals j p q (item.Symbol s) at there stands h agreed same leaves r =
       let t = h.taken in
       let on = step_got c sound root x xs values read r.tapes evals r.todo j p s q h.body t at there stands h.deep agreed r.passing in
       let cs = copies c c.write (stored_items t.production.items) t.table in
       let row_well = All-append IsWell (values_up_to c.write (c.passes s) t.values) cs (values_well c.write (c.passes s) t.values (λ a p is le. t.well a)) (copies_well c c.write (stored_items t.production.items) t.table t.table_well) in
-      read_more root honest honest' to_honest content content' to place place' out values read read (x ∷ xs) (stepped x p ∷ xs) evals p (suc (length xs)) (item.Symbol s) on.0 h same leaves
+      read_more root honest honest' to_honest content content' to state state' out values read read (x ∷ xs) (stepped x p ∷ xs) evals p (suc (length xs)) (item.Symbol s) on.0 h same leaves
       (subst (All IsWell) (sym t.row) (All-append IsWell values (values_up_to c.write (c.passes s) t.values ++ cs) r.well row_well)) r on.2 (on.1 r.ahead)
-  got_runs root honest honest' to_honest content content' to place place' out values read x xs evals j p q (item.Terminal (Class d)) at there stands h agreed same leaves r =
+  got_runs root honest honest' to_honest content content' to state state' out values read x xs evals j p q (item.Terminal (Class d)) at there stands h agreed same leaves r =
       let on = step_leaf c sound root x xs values read r.tapes evals r.todo j d q h.body h.taken.1 at there stands h.deep agreed r.passing in
       let number : d ≡ p = sym h.taken.0 in
-      read_more root honest honest' to_honest content content' to place place' out values read values (x ∷ xs) (stepped x p ∷ xs) evals p (suc (length xs)) (item.Terminal (Class d)) on.0 h same leaves r.well r
+      read_more root honest honest' to_honest content content' to state state' out values read values (x ∷ xs) (stepped x p ∷ xs) evals p (suc (length xs)) (item.Terminal (Class d)) on.0 h same leaves r.well r
       (subst (λ n. Passing c root (stepped x n ∷ xs) values (record { read = r.tapes.read ++ h.body ∷ []; put = r.tapes.put }) evals on.0) number on.2) (on.1 r.ahead)
-  got_runs root honest honest' to_honest content content' to place place' out values read x xs evals j p q (item.Terminal (Literal l)) at there stands h agreed same leaves r = elim h.taken [ ]
+  got_runs root honest honest' to_honest content content' to state state' out values read x xs evals j p q (item.Terminal (Literal l)) at there stands h agreed same leaves r = elim h.taken [ ]
 
   -- the bookkeeping of a body that was put
   pub put_more : (honest honest' : Bool) (to to' : List ℕ) (out out' : writing.Progress) (kind : Kind) (number : ℕ) (values : List Value) (put : List (List ℕ))
@@ -98,10 +98,10 @@ module _ (c : Setting) (sound : IsSound c) where
       ∙ ap (λ bytes. header version_two c.write ++ bytes) (ap (λ bytes. flat_map frame put ++ bytes) (sym (append-nil (frame body))) ∙ sym (flat_map-append frame put (body ∷ [])))
 
   -- a record was put, and the pass goes on
-  put_on : (root : ℕ) (honest to_honest to_honest' : Bool) (content to to' : List ℕ) (place : Place) (out out' : writing.Progress) (values new : List Value) (xs ys : List OpenNode) (evals : ℕ) (kind : Kind) (number : ℕ) (put : List Value)
-      → HasPut kind number put to_honest to to' out out' → to_honest' ≡ to_honest → All IsWell new → (r : IsRunning c root honest content to_honest to place out values xs evals)
-      → Passing c root ys new (record { read = r.tapes.read; put = r.tapes.put ++ body_of kind number put ∷ [] }) evals r.todo → IsRunning c root honest content to_honest' to' place out' new ys evals
-  put_on root honest to_honest to_honest' content to to' place out out' values new xs ys evals kind number put h same well r passing =
+  put_on : (root : ℕ) (honest to_honest to_honest' : Bool) (content to to' : List ℕ) (state : BackState) (out out' : writing.Progress) (values new : List Value) (xs ys : List OpenNode) (evals : ℕ) (kind : Kind) (number : ℕ) (put : List Value)
+      → HasPut kind number put to_honest to to' out out' → to_honest' ≡ to_honest → All IsWell new → (r : IsRunning c root honest content to_honest to state out values xs evals)
+      → Passing c root ys new (record { read = r.tapes.read; put = r.tapes.put ++ body_of kind number put ∷ [] }) evals r.todo → IsRunning c root honest content to_honest' to' state out' new ys evals
+  put_on root honest to_honest to_honest' content to to' state out out' values new xs ys evals kind number put h same well r passing =
       let written = ap (λ w. w.written) h.counted in
       let len = length-append r.tapes.put (body_of kind number put ∷ []) in
       let old = r.written in
@@ -123,18 +123,18 @@ module _ (c : Setting) (sound : IsSound c) where
         ahead = r.ahead;
       }
 
-  pub put_runs : (root : ℕ) (honest to_honest to_honest' : Bool) (content to to' : List ℕ) (place : Place) (out out' : writing.Progress) (values : List Value) (x : OpenNode) (xs : List OpenNode) (evals j d : ℕ) (q : Production) (text : List Value)
+  pub put_runs : (root : ℕ) (honest to_honest to_honest' : Bool) (content to to' : List ℕ) (state : BackState) (out out' : writing.Progress) (values : List Value) (x : OpenNode) (xs : List OpenNode) (evals j d : ℕ) (q : Production) (text : List Value)
       → slice_get (list_at c x.production) x.at ≡ Some (instr.Put j) → IsProduction c.grammar x.production q → item_at q j ≡ Some (item.Terminal (Class d)) → text ≡ take 1 (drop (x.base + copy_start c q j) values)
       → HasPut Token x.child text to_honest to to' out out' → to_honest' ≡ to_honest
-      → IsRunning c root honest content to_honest to place out values (x ∷ xs) evals
-      → IsRunning c root honest content to_honest' to' place out' values (stepped x x.child ∷ xs) evals
-  put_runs root honest to_honest to_honest' content to to' place out out' values x xs evals j d q text at there stands is h same r =
-      put_on root honest to_honest to_honest' content to to' place out out' values values (x ∷ xs) (stepped x x.child ∷ xs) evals Token x.child text h same r.well r (step_put_leaf c sound root x xs values r.tapes evals r.todo j d q text at there stands is r.passing)
+      → IsRunning c root honest content to_honest to state out values (x ∷ xs) evals
+      → IsRunning c root honest content to_honest' to' state out' values (stepped x x.child ∷ xs) evals
+  put_runs root honest to_honest to_honest' content to to' state out out' values x xs evals j d q text at there stands is h same r =
+      put_on root honest to_honest to_honest' content to to' state out out' values values (x ∷ xs) (stepped x x.child ∷ xs) evals Token x.child text h same r.well r (step_put_leaf c sound root x xs values r.tapes evals r.todo j d q text at there stands is r.passing)
 
   -- nothing was read, put or run
-  pub gone_runs : (root : ℕ) (honest to_honest : Bool) (content to : List ℕ) (place : Place) (out : writing.Progress) (values : List Value) (xs ys : List OpenNode) (evals : ℕ) → GoesOn c xs values ys values
-      → IsRunning c root honest content to_honest to place out values xs evals → IsRunning c root honest content to_honest to place out values ys evals
-  gone_runs root honest to_honest content to place out values xs ys evals goes r = record { tapes = r.tapes; todo = r.todo; passing = goes root r.tapes evals r.todo r.passing; over = r.over; read = r.read; records = r.records; few = r.few; put = r.put; written = r.written; version = r.version; unbroken = r.unbroken; whole = r.whole; well = r.well; readable = r.readable; ahead = r.ahead }
+  pub gone_runs : (root : ℕ) (honest to_honest : Bool) (content to : List ℕ) (state : BackState) (out : writing.Progress) (values : List Value) (xs ys : List OpenNode) (evals : ℕ) → GoesOn c xs values ys values
+      → IsRunning c root honest content to_honest to state out values xs evals → IsRunning c root honest content to_honest to state out values ys evals
+  gone_runs root honest to_honest content to state out values xs ys evals goes r = record { tapes = r.tapes; todo = r.todo; passing = goes root r.tapes evals r.todo r.passing; over = r.over; read = r.read; records = r.records; few = r.few; put = r.put; written = r.written; version = r.version; unbroken = r.unbroken; whole = r.whole; well = r.well; readable = r.readable; ahead = r.ahead }
 
   pub left_node : (x : OpenNode) (xs : List OpenNode) (values : List Value) (j s : ℕ) (q : Production) → slice_get (list_at c x.production) x.at ≡ Some (instr.Put j) → IsProduction c.grammar x.production q → item_at q j ≡ Some (item.Symbol s) → GoesOn c (x ∷ xs) values (stepped x x.child ∷ xs) values
   left_node x xs values j s q at there stands root t now todo h = step_put_node c sound root x xs values t now todo j s q at there stands h
@@ -142,13 +142,13 @@ module _ (c : Setting) (sound : IsSound c) where
   pub root_ended : (x : OpenNode) (values : List Value) → slice_get (list_at c x.production) x.at ≡ Some instr.End → All IsWell values → GoesOn c (x ∷ []) values [] values
   root_ended x values at well root t now todo h = step_end_root c sound root x values t now todo at well h
 
-  pub ended_runs : (root : ℕ) (honest to_honest to_honest' : Bool) (content to to' : List ℕ) (place : Place) (out out' : writing.Progress) (values result : List Value) (x y : OpenNode) (ys : List OpenNode) (evals from count : ℕ)
+  pub ended_runs : (root : ℕ) (honest to_honest to_honest' : Bool) (content to to' : List ℕ) (state : BackState) (out out' : writing.Progress) (values result : List Value) (x y : OpenNode) (ys : List OpenNode) (evals from count : ℕ)
       → slice_get (list_at c x.production) x.at ≡ Some instr.End → ((q : Production) (x' : Item) → IsProduction c.grammar y.production q → item_at q y.place ≡ Some x' → (from ≡ y.base + copy_start c q y.place) × (count ≡ copied_width c x'))
       → result ≡ take from values ++ (take count (drop x.base values) ++ drop (from + count) (take x.base values))
       → HasPut Node x.production (drop x.base values) to_honest to to' out out' → to_honest' ≡ to_honest
-      → IsRunning c root honest content to_honest to place out values (x ∷ y ∷ ys) evals → IsRunning c root honest content to_honest' to' place out' result (y ∷ ys) evals
-  ended_runs root honest to_honest to_honest' content to to' place out out' values result x y ys evals from count at slots is h same r =
+      → IsRunning c root honest content to_honest to state out values (x ∷ y ∷ ys) evals → IsRunning c root honest content to_honest' to' state out' result (y ∷ ys) evals
+  ended_runs root honest to_honest to_honest' content to to' state out out' values result x y ys evals from count at slots is h same r =
       let well = subst (All IsWell) (sym is) (All-append IsWell (take from values) (take count (drop x.base values) ++ drop (from + count) (take x.base values)) (All-take IsWell from values r.well)
       (All-append IsWell (take count (drop x.base values)) (drop (from + count) (take x.base values)) (All-take IsWell count (drop x.base values) (All-drop IsWell x.base values r.well)) (All-drop IsWell (from + count) (take x.base values) (All-take IsWell x.base values r.well)))) in
-      put_on root honest to_honest to_honest' content to to' place out out' values result (x ∷ y ∷ ys) (y ∷ ys) evals Node x.production (drop x.base values) h same well r
+      put_on root honest to_honest to_honest' content to to' state out out' values result (x ∷ y ∷ ys) (y ∷ ys) evals Node x.production (drop x.base values) h same well r
       (step_end c sound root x y ys values result r.tapes evals r.todo from count at r.well slots is r.passing)

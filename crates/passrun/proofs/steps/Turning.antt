@@ -21,7 +21,7 @@ use Rattle.treefile.specs.declared.body.Kind.TheVariants.{Node, Token}
 use Rattle.treefile.specs.devices.Device.{LeavesContent}
 use Rattle.treefile.specs.records.Records.{values_up_to}
 use Rattle.treefile.specs.ways.Writing as writing
-use Rattle.backreader.specs.Place.{Place}
+use Rattle.backreader.specs.BackState.{BackState}
 use Rattle.passcode.specs.declared.instr.Instr.TheVariants as instr
 use Rattle.passcode.specs.Rows.{Lists}
 use Rattle.planchecker.specs.courses.Settings.{Setting, list_at, setting_of}
@@ -167,7 +167,7 @@ module _ (c : Setting) (sound : IsSound c) where
   pub got_place : (honest : Bool) (content : List ℕ) (m : Machine) (x : OpenNode) (j : ℕ) (row : PlaceRow) → RunsFrom c honest content m (Some x) → slice_get (list_at c x.production) x.at ≡ Some (instr.Get j) → Answers c x j (Some row) → IsPlace c x j row m.values.items
   got_place honest content m x j row runs at is = let h = get_at honest content m x j runs at in the_place c x j row m.values.items h is
 
-  pub got_turns : (m : Machine) (back : Place) (values : Vec Value) (honest honest' : Bool) (content content' : List ℕ) (x next : OpenNode) (j p n : ℕ) (row : PlaceRow) (read : List Value)
+  pub got_turns : (m : Machine) (back : BackState) (values : Vec Value) (honest honest' : Bool) (content content' : List ℕ) (x next : OpenNode) (j p n : ℕ) (row : PlaceRow) (read : List Value)
       → slice_get (list_at c x.production) x.at ≡ Some (instr.Get j) → Answers c x j (Some row) → (h : HasFetched c row.item p n honest content m.back back m.values.items read) → n ≡ length m.waiting.items + 1
       → ((q : Production) → IsProduction c.grammar x.production q → row.start ≡ copy_start c q j → HasAgreed c q x j row.item read (read_values c row.item p h.body m.values.items read h.taken))
       → values.items ≡ kept_values row.item m.values.items read → honest' ≡ honest → LeavesContent honest content content' → next ≡ stepped x p

@@ -7,14 +7,14 @@ use Rattle.treefile.specs.declared.reading.FrameFault.{FrameFault}
 use Rattle.treefile.specs.ways.Backward.{before_frame, next_before}
 use Rattle.treefile.specs.devices.Device.{WhenHonest}
 use Rattle.treefile.specs.records.TreeFile.{version_two}
-use Rattle.backreader.specs.Place.{IsOver, Place}
+use Rattle.backreader.specs.BackState.{IsOver, BackState}
 use Rattle.planchecker.specs.courses.Settings.{Setting}
 use Rattle.passrun.specs.declared.run_fault.RunFault.{RunFault}
 use Rattle.passrun.specs.declared.run_fault.RunFault.TheVariants as fault
 use Rattle.passrun.specs.reading.Reading.{IsRead, IsNoRecord}
 
 -- The record of an item was read below so many open nodes: its body stood before the offset, and its row came behind the values.
-pub record HasFetched (c : Setting) (x : Item) (p open_count : ℕ) (honest : Bool) (content : List ℕ) (old new : Place) (values now : List Value) : Type 0 where
+pub record HasFetched (c : Setting) (x : Item) (p open_count : ℕ) (honest : Bool) (content : List ℕ) (old new : BackState) (values now : List Value) : Type 0 where
   pub body : List ℕ
   pub found : WhenHonest honest (next_before version_two content old.progress.at ≡ Ok (Some body))
   pub taken : IsRead c x p body values now
@@ -30,7 +30,7 @@ IsMissing c x (Ok None) = Unit {0}
 IsMissing c x (Ok (Some body)) = IsNoRecord c x body
 
 -- Why no record of an item was read: none ends where the reader has come to, or it would be too deep, or one too many.
-abbrev pub IsUnfetched : Setting → Item → ℕ → List ℕ → Place → RunFault → Type 0
+abbrev pub IsUnfetched : Setting → Item → ℕ → List ℕ → BackState → RunFault → Type 0
 IsUnfetched c x open_count content old (fault.Damaged at) = (at ≡ old.progress.at) × IsMissing c x (next_before version_two content old.progress.at)
 IsUnfetched c x open_count content old fault.TooDeep = most_depth ≤ open_count
 IsUnfetched c x open_count content old fault.TooManyNodes = most_nodes ≤ old.progress.records

@@ -1,7 +1,7 @@
 //! Fetching the record of an item: the next body of the file that a pass reads from its end.
 
 ghost use Rattle.std.specs.Prelude.{◌≡◌, ◌≤◌, None, IfErr, IfOk, IsErrOf};
-ghost use Rattle.backreader.specs.Place.{IsOver};
+ghost use Rattle.backreader.specs.BackState.{IsOver};
 ghost use Rattle.passrun.specs.reading.Fetching.{HasFetched, IsUnfetched};
 ghost use Rattle.passrun.specs.laid.Jobs.{CanRun, setting};
 ghost use Rattle.treefile.specs.devices.Device.{LeavesContent, Persists, WhenHonest};

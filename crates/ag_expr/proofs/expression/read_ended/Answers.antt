@@ -31,4 +31,4 @@ returns c =
     let read = rw front at c.in_ok-node.ensures in
     let both = ended_of c.args.cursor.now _ _ read.0 read.1 (sym c.if-not-sees_semicolon.ensures) in
     let listed = c.into_parts-occurrences.ensures.listed ∙ all_of c.args.cursor.now _ _ read.0 read.1 (sym c.if-not-sees_semicolon.ensures) in
-    (both.0 ∙ rw (c.new-2.ensures, c.place-at.ensures, c.into_parts-occurrences.ensures.tokens, listed) refl, c.bump.ensures ∙ ap next c.into_parts-occurrences.ensures.tokens ∙ both.1)
+    (both.0 ∙ rw (c.new-2.ensures, c.offset-at.ensures, c.into_parts-occurrences.ensures.tokens, listed) refl, c.bump.ensures ∙ ap next c.into_parts-occurrences.ensures.tokens ∙ both.1)

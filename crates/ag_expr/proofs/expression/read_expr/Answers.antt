@@ -1,6 +1,6 @@
 use Rattle.std.proofs.Common.{subst}
 use Rattle.ag_expr.specs.language.State.{IsReadToEnd}
-use Rattle.ag_expr.proofs.language.Texts.{read_to, reads_as, refuses_of, first_of, places_of}
+use Rattle.ag_expr.proofs.language.Texts.{read_to, reads_as, refuses_of, first_of, offsets_of}
 use Rattle.ag_expr.proofs.expression.read_expr.Goals as goal
 
 pub returns-clause-exact : goal.returns-clause-exact
@@ -15,5 +15,5 @@ returns-clause-reads c = reads_as c.args.text.now c.whole.result c.utf8.text (re
 pub returns-clause-refuses : goal.returns-clause-refuses
 returns-clause-refuses c = refuses_of c.args.text.now c.whole.result (returns-clause-exact c)
 
-pub returns-clause-places : goal.returns-clause-places
-returns-clause-places c = places_of c.args.text.now c.whole.result (returns-clause-exact c)
+pub returns-clause-offsets : goal.returns-clause-offsets
+returns-clause-offsets c = offsets_of c.args.text.now c.whole.result (returns-clause-exact c)

@@ -1,4 +1,4 @@
-use Rattle.ag_expr.proofs.language.Until.{is_read, first_until, reads_until, refuses_until, places_until}
+use Rattle.ag_expr.proofs.language.Until.{is_read, first_until, reads_until, refuses_until, offsets_until}
 use Rattle.ag_expr.proofs.expression.read_until.Goals as goal
 
 pub returns-clause-exact : goal.returns-clause-exact
@@ -13,5 +13,5 @@ returns-clause-reads c = reads_until c.args.text.now c.args.from _ c.at-cursor.e
 pub returns-clause-refuses : goal.returns-clause-refuses
 returns-clause-refuses c = refuses_until c.args.text.now c.args.from _ c.at-cursor.ensures _ (returns-clause-exact c)
 
-pub returns-clause-places : goal.returns-clause-places
-returns-clause-places c = places_until c.args.text.now c.args.from _ c.at-cursor.ensures _ (returns-clause-exact c)
+pub returns-clause-offsets : goal.returns-clause-offsets
+returns-clause-offsets c = offsets_until c.args.text.now c.args.from _ c.at-cursor.ensures _ (returns-clause-exact c)

@@ -1,6 +1,6 @@
 -- The goals of `further_fault` that are left.
 use Rattle.std.proofs.Common.{◌≡◌, Some, None, map, sym, ◌∙◌}
-use Rattle.normalform.specs.faults.Faults.{first_wrong, rule_kinds, limit_places, further_places}
+use Rattle.normalform.specs.faults.Faults.{first_wrong, rule_kinds, limit_checks, further_checks}
 use Rattle.normalform.specs.numbers.Numbers.{symbol_of}
 use Rattle.normalform.proofs.found.Wrong.{first_of, rest_of}
 use Rattle.normalform.proofs.checking.further_fault.Goals as goal
@@ -10,12 +10,12 @@ returns-in-Some c =
     let raw = c.args.raw.now in
     let ss = map symbol_of raw.symbols in
     let here : Some c.in-Some.fault ≡ first_wrong (rule_kinds ss raw.productions) = rw (← c.requires, ← c.as_slice-productions.ensures) (sym c.in-Some.is ∙ c.in_ok-fault.ensures) in
-    first_of (rule_kinds ss raw.productions) (limit_places ss raw.productions) _ here
+    first_of (rule_kinds ss raw.productions) (limit_checks ss raw.productions) _ here
 
 pub returns : goal.returns
 returns c =
     let raw = c.args.raw.now in
     let ss = map symbol_of raw.symbols in
     let past : None ≡ first_wrong (rule_kinds ss raw.productions) = rw (← c.requires, ← c.as_slice-productions.ensures) (sym c.in_default.is ∙ c.in_ok-fault.ensures) in
-    let all : first_wrong (limit_places ss raw.productions) ≡ first_wrong (further_places raw) = rest_of (rule_kinds ss raw.productions) (limit_places ss raw.productions) past in
+    let all : first_wrong (limit_checks ss raw.productions) ≡ first_wrong (further_checks raw) = rest_of (rule_kinds ss raw.productions) (limit_checks ss raw.productions) past in
     rw (← all, ← c.requires, ← c.as_slice-productions.ensures) c.exceeded.ensures

@@ -5,7 +5,7 @@ use Rattle.ag_grammar.specs.declared.grammar.Item.TheVariants as item
 use Rattle.treefile.specs.ways.Backward.{next_before}
 use Rattle.treefile.specs.ways.Ending.{Told}
 use Rattle.treefile.specs.records.TreeFile.{version_one}
-use Rattle.backreader.specs.Place.{IsOver, Place}
+use Rattle.backreader.specs.BackState.{IsOver, BackState}
 use Rattle.passrun.specs.Upgrading.{Brought, IsUnbrought, text_list}
 use Rattle.passrun.proofs.course.Ending.{none_lent}
 use Rattle.passrun.proofs.Refusing.{some_lent}
@@ -18,7 +18,7 @@ body_of = option_map (λ (body : Bor (List ℕ)). body.now)
 pub returns-in_err-back-clause-refused : goal.returns-in_err-back-clause-refused
 returns-in_err-back-clause-refused g c =
     let p = err_from_is_err_and c.from_residual.result c.from_residual.ensures.1 in
-    rw (p.1, p.2) (λ honest. not_begun c.args.grammar.now c.start.ensures.accepted (λ (back : Place). back.progress.pass) (g.D.Device.content c.args.from.now) c.in_err-back.field-0.0 (c.in_err-back.ensures.told honest))
+    rw (p.1, p.2) (λ honest. not_begun c.args.grammar.now c.start.ensures.accepted (λ (back : BackState). back.progress.pass) (g.D.Device.content c.args.from.now) c.in_err-back.field-0.0 (c.in_err-back.ensures.told honest))
 
 pub returns-then-pass-ne0-clause-refused : goal.returns-then-pass-ne0-clause-refused
 returns-then-pass-ne0-clause-refused g c honest =
@@ -82,17 +82,17 @@ returns-clause-brought g c honest =
     let begin = c.in_ok-writer.ensures in
     let tree = c.in_ok-tree.ensures in
     let before = c.in_ok-back.back.progress in
-    let place = c.tree.new.self.back in
+    let back = c.tree.new.self.back in
     let to = g.E.Device.is_honest c.args.to.now in
     let out_old = g.E.Device.content c.begin.new.device in
     let out = g.E.Device.content c.tree.new.to in
     let texts = text_list c.in_ok-tree.field-0 in
     let is = start.persists.honest ∙ honest in
     let same = tree.content is ∙ start.content honest in
-    let there = subst (λ (bytes : List ℕ). Brought grammar bytes [] (item.Symbol c.start.result ∷ []) 1 before place.progress (g.E.Device.is_honest c.begin.new.device) out_old out texts) (start.content honest) (tree.brought is) in
-    let brought = subst (λ (b : Bool). Brought grammar content [] (item.Symbol grammar.start ∷ []) 1 before place.progress b out_old out texts) begin.persists.honest (subst (λ (s : ℕ). Brought grammar content [] (item.Symbol s ∷ []) 1 before place.progress (g.E.Device.is_honest c.begin.new.device) out_old out texts) c.start.ensures.value there) in
+    let there = subst (λ (bytes : List ℕ). Brought grammar bytes [] (item.Symbol c.start.result ∷ []) 1 before back.progress (g.E.Device.is_honest c.begin.new.device) out_old out texts) (start.content honest) (tree.brought is) in
+    let brought = subst (λ (b : Bool). Brought grammar content [] (item.Symbol grammar.start ∷ []) 1 before back.progress b out_old out texts) begin.persists.honest (subst (λ (s : ℕ). Brought grammar content [] (item.Symbol s ∷ []) 1 before back.progress (g.E.Device.is_honest c.begin.new.device) out_old out texts) c.start.ensures.value there) in
     let here = begins_at grammar c.start.ensures.accepted content before.pass before (start.told honest) (sym c.pass.ensures ∙ c.if-pass-ne0.false) (start.started.end honest) start.started.fresh in
     let none = none_lent c.in_ok-back-2.field-0 (sym c.is_some.ensures ∙ c.if-is_some.false) in
     let told = rw tree.ready.version at (c.in_ok-back-2.ensures.told tree.ready.unbroken (tree.devices.first.honest ∙ is)) in
-    whole_brought grammar c.start.ensures.accepted content before place to out_old out texts here (start.started.end honest) start.started.fresh brought (subst (λ (bytes : List ℕ). IsOver bytes place) (start.content honest) (tree.ready.over is)) tree.ready.few
-    (subst (λ (bytes : List ℕ). next_before version_one bytes place.progress.at ≡ Ok None) same (told ∙ ap Ok none)) (λ h. begin.header h)
+    whole_brought grammar c.start.ensures.accepted content before back to out_old out texts here (start.started.end honest) start.started.fresh brought (subst (λ (bytes : List ℕ). IsOver bytes back) (start.content honest) (tree.ready.over is)) tree.ready.few
+    (subst (λ (bytes : List ℕ). next_before version_one bytes back.progress.at ≡ Ok None) same (told ∙ ap Ok none)) (λ h. begin.header h)

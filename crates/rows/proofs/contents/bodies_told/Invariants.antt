@@ -1,4 +1,4 @@
-use Rattle.backreader.specs.Place.{IsOver}
+use Rattle.backreader.specs.BackState.{IsOver}
 use Rattle.treefile.specs.devices.Device.{WhenHonest}
 use Rattle.rows.proofs.contents.bodies_told.Given as goal
 

@@ -10,5 +10,5 @@ returns-clause-last c = last_of_file
 pub returns-clause-none : goal.returns-clause-none
 returns-clause-none c = none_of_header
 
-pub returns-clause-place : goal.returns-clause-place
-returns-clause-place c = damaged_at_end
+pub returns-clause-damaged : goal.returns-clause-damaged
+returns-clause-damaged c = damaged_at_end

@@ -1,6 +1,6 @@
 use Rattle.std.proofs.Common.{inr, sym, ◌∙◌}
 use Rattle.std.proofs.lemmas.Result.{err_from_is_err_and}
-use Rattle.aggen.proofs.Closed.{explained, no_value, refused_none, same_place, wanted}
+use Rattle.aggen.proofs.Closed.{explained, no_value, refused_none, same_offset, wanted}
 use Rattle.aggen.proofs.values.value.read_closed.Goals as goal
 
 pub returns-in_err-expr-clause-refused : goal.returns-in_err-expr-clause-refused
@@ -8,10 +8,10 @@ returns-in_err-expr-clause-refused c =
     let p = err_from_is_err_and c.from_residual.result c.from_residual.ensures.1 in
     rw (p.1, p.2) (refused_none c.args.text.now c.in_err-expr.field-0.0 c.in_err-expr.ensures.refuses)
 
-pub returns-in_err-expr-clause-places : goal.returns-in_err-expr-clause-places
-returns-in_err-expr-clause-places c =
+pub returns-in_err-expr-clause-offsets : goal.returns-in_err-expr-clause-offsets
+returns-in_err-expr-clause-offsets c =
     let p = err_from_is_err_and c.from_residual.result c.from_residual.ensures.1 in
-    rw (p.1, p.2) (explained c.args.text.now c.in_err-expr.field-0.0 c.in_err-expr.ensures.refuses c.in_err-expr.ensures.places)
+    rw (p.1, p.2) (explained c.args.text.now c.in_err-expr.field-0.0 c.in_err-expr.ensures.refuses c.in_err-expr.ensures.offsets)
 
 pub returns-in_err-expr-clause-occurs : goal.returns-in_err-expr-clause-occurs
 returns-in_err-expr-clause-occurs c = λ at occurs.
@@ -20,13 +20,13 @@ returns-in_err-expr-clause-occurs c = λ at occurs.
 
 -- the text has the occurrence that was found
 pub returns-in-Some-clause-refused : goal.returns-in-Some-clause-refused
-returns-in-Some-clause-refused c = λ x is has. no_value c.args.text.now c.in-Some.at is (record { expr = c.in_ok-expr.expr; reads = c.in_ok-expr.ensures.reads; place = sym c.first_occurrence.ensures ∙ c.in-Some.is }) has
+returns-in-Some-clause-refused c = λ x is has. no_value c.args.text.now c.in-Some.at is (record { expr = c.in_ok-expr.expr; reads = c.in_ok-expr.ensures.reads; offset = sym c.first_occurrence.ensures ∙ c.in-Some.is }) has
 
-pub returns-in-Some-clause-places : goal.returns-in-Some-clause-places
-returns-in-Some-clause-places c = inr (record { expr = c.in_ok-expr.expr; reads = c.in_ok-expr.ensures.reads; place = sym c.first_occurrence.ensures ∙ c.in-Some.is })
+pub returns-in-Some-clause-offsets : goal.returns-in-Some-clause-offsets
+returns-in-Some-clause-offsets c = inr (record { expr = c.in_ok-expr.expr; reads = c.in_ok-expr.ensures.reads; offset = sym c.first_occurrence.ensures ∙ c.in-Some.is })
 
 pub returns-in-Some-clause-occurs : goal.returns-in-Some-clause-occurs
-returns-in-Some-clause-occurs c = λ at occurs. let e = same_place c.args.text.now c.in_ok-expr.expr at c.in_ok-expr.ensures.reads occurs in cc
+returns-in-Some-clause-occurs c = λ at occurs. let e = same_offset c.args.text.now c.in_ok-expr.expr at c.in_ok-expr.ensures.reads occurs in cc
 
 pub returns-in-None-clause-occurs : goal.returns-in-None-clause-occurs
-returns-in-None-clause-occurs c = λ at occurs. let e = same_place c.args.text.now c.in_ok-expr.expr at c.in_ok-expr.ensures.reads occurs in absurd cc
+returns-in-None-clause-occurs c = λ at occurs. let e = same_offset c.args.text.now c.in_ok-expr.expr at c.in_ok-expr.ensures.reads occurs in absurd cc

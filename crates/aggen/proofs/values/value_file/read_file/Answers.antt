@@ -2,7 +2,7 @@ use Rattle.std.proofs.Common.{ap, ◌∙◌}
 use Rattle.std.proofs.lemmas.Result.{err_from_is_err_and}
 use Rattle.treefile.specs.ways.Ending.{last_body_of}
 use Rattle.treefile.specs.records.TreeFile.{version_two}
-use Rattle.aggen.proofs.Reading.{body_told, last_of, place_told, value_told, want_told}
+use Rattle.aggen.proofs.Reading.{body_told, last_of, offset_told, value_told, want_told}
 use Rattle.aggen.proofs.values.value_file.read_file.Goals as goal
 
 pub returns-in_err-body-clause-read : goal.returns-in_err-body-clause-read
@@ -15,7 +15,7 @@ returns-clause-read g c = λ honest value well is.
     let body = body_told _ _ _ (ap (last_body_of version_two) is ∙ last_of value well) (c.in_ok-body.ensures.told honest) in
     value_told value c.value_in.result (c.value_in.ensures.read value well (c.as_slice.ensures.value ∙ body))
 
-pub returns-in_err-body-clause-place : goal.returns-in_err-body-clause-place
-returns-in_err-body-clause-place g c = λ honest.
+pub returns-in_err-body-clause-offset : goal.returns-in_err-body-clause-offset
+returns-in_err-body-clause-offset g c = λ honest.
     let p = err_from_is_err_and c.from_residual.result c.from_residual.ensures.1 in
-    rw (p.1, p.2) (place_told _ c.in_err-body.field-0.0 (c.in_err-body.ensures.told honest))
+    rw (p.1, p.2) (offset_told _ c.in_err-body.field-0.0 (c.in_err-body.ensures.told honest))

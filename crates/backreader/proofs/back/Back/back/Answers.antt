@@ -1,6 +1,6 @@
 use Rattle.std.proofs.Common.{rules, ◌≡◌, ◌+◌, ◌≤◌, None, Some, Ok, Err, length, ℕ, List, Bor, refl, sym, ap, subst, ◌∙◌, arith}
 use Rattle.std.specs.Option.{option_map}
-use Rattle.backreader.specs.Place.{IsLarge, Place, Progress, progress_after}
+use Rattle.backreader.specs.BackState.{IsLarge, BackState, Progress, progress_after}
 use Rattle.backreader.specs.Windows.{taken, unread}
 use Rattle.backreader.proofs.Standing.{told_as_well}
 use Rattle.treefile.proofs.records.Frames.{length_part}
@@ -15,8 +15,8 @@ use Rattle.backreader.proofs.back.Back.back.Goals as goal
 pub returns-in-Ok-None : goal.returns-in-Ok-None
 returns-in-Ok-None g c =
     let content = g.D.Device.content c.args.device.now in
-    let at_is : c.self.inside.window.at ≡ c.args.self.now.progress.at = ap (λ (place : Place). place.progress.at) c.self.view_is in
-    let unbroken : c.args.self.now.progress.fault ≡ None = sym (ap (λ (place : Place). place.progress.fault) c.self.view_is) ∙ c.in_default.is in
+    let at_is : c.self.inside.window.at ≡ c.args.self.now.progress.at = ap (λ (state : BackState). state.progress.at) c.self.view_is in
+    let unbroken : c.args.self.now.progress.fault ≡ None = sym (ap (λ (state : BackState). state.progress.fault) c.self.view_is) ∙ c.in_default.is in
     let stays : c.next.new.self.at ≡ c.self.inside.window.at = rw c.in-Ok-None.field-0-is at c.in-Ok-None.ensures.none in
     let now : ℕ → Progress = λ (k : ℕ). record { version = version_of c.self.inside.window.version; pass = c.self.inside.pass; at = k; records = c.self.inside.records; fault = c.self.inside.fault } in (
       (
@@ -24,13 +24,13 @@ returns-in-Ok-None g c =
         (λ _. tt),
         record {
           over = λ h. record { window = c.in-Ok-None.ensures.stand h; header = (c.requires h).header };
-          progress = ap (λ v. record (now c.next.new.self.at) { version = version_of v }) c.in-Ok-None.ensures.version ∙ ap now stays ∙ ap (λ (place : Place). place.progress) c.self.view_is;
+          progress = ap (λ v. record (now c.next.new.self.at) { version = version_of v }) c.in-Ok-None.ensures.version ∙ ap now stays ∙ ap (λ (state : BackState). state.progress) c.self.view_is;
           want = search rules;
         },
       ),
       record {
         after = tt;
-        told = λ e honest. subst (λ (place : Place). next_before place.progress.version content place.progress.at ≡ Ok None) c.self.view_is (rw c.in-Ok-None.field-0-is at (c.in-Ok-None.ensures.told honest));
+        told = λ e honest. subst (λ (state : BackState). next_before state.progress.version content state.progress.at ≡ Ok None) c.self.view_is (rw c.in-Ok-None.field-0-is at (c.in-Ok-None.ensures.told honest));
         memory = search rules;
         body = search rules;
         room = search rules;
@@ -48,8 +48,8 @@ returns-in-Ok-Some g c =
     let body = c.taken.result.now in
     let count = c.in-Ok-Some.length in
     let new = c.next.new.self in
-    let at_is : c.self.inside.window.at ≡ c.args.self.now.progress.at = ap (λ (place : Place). place.progress.at) c.self.view_is in
-    let unbroken : c.args.self.now.progress.fault ≡ None = sym (ap (λ (place : Place). place.progress.fault) c.self.view_is) ∙ c.in_default.is in
+    let at_is : c.self.inside.window.at ≡ c.args.self.now.progress.at = ap (λ (state : BackState). state.progress.at) c.self.view_is in
+    let unbroken : c.args.self.now.progress.fault ≡ None = sym (ap (λ (state : BackState). state.progress.fault) c.self.view_is) ∙ c.in_default.is in
     let within = rw c.in-Ok-Some.field-0-is at c.in-Ok-Some.ensures.within in
     let moved = rw c.in-Ok-Some.field-0-is at c.in-Ok-Some.ensures.moved in
     let least = rw c.in-Ok-Some.field-0-is at c.in-Ok-Some.ensures.least in
@@ -62,15 +62,15 @@ returns-in-Ok-Some g c =
         (λ _. tt),
         record {
           over = λ h. record { window = c.in-Ok-Some.ensures.stand h; header = (c.requires h).header };
-          progress = ap (λ v. record (now new.at) { version = version_of v }) c.in-Ok-Some.ensures.version ∙ ap now here ∙ ap (λ (place : Place). progress_after place.progress (Ok (Some body))) c.self.view_is;
+          progress = ap (λ v. record (now new.at) { version = version_of v }) c.in-Ok-Some.ensures.version ∙ ap now here ∙ ap (λ (state : BackState). progress_after state.progress (Ok (Some body))) c.self.view_is;
           want = search rules;
         },
       ),
       record {
         after = tt;
-        told = λ e honest. subst (λ (place : Place). next_before place.progress.version content place.progress.at ≡ Ok (Some body)) c.self.view_is ((rw c.in-Ok-Some.field-0-is at (c.in-Ok-Some.ensures.told honest)) ∙ ap (λ (b : List ℕ). Ok (Some b)) (sym c.taken.ensures));
+        told = λ e honest. subst (λ (state : BackState). next_before state.progress.version content state.progress.at ≡ Ok (Some body)) c.self.view_is ((rw c.in-Ok-Some.field-0-is at (c.in-Ok-Some.ensures.told honest)) ∙ ap (λ (b : List ℕ). Ok (Some b)) (sym c.taken.ensures));
         memory = search rules;
-        body = record { least = omega (arith, least, long); greatest = subst (λ (place : Place). length body ≤ greatest_body place.progress.version) c.self.view_is (omega (arith, greatest, long)) };
+        body = record { least = omega (arith, least, long); greatest = subst (λ (state : BackState). length body ≤ greatest_body state.progress.version) c.self.view_is (omega (arith, greatest, long)) };
         room = omega (arith, moved, long, at_is);
         file = search rules;
         broken = rw unbroken tt;
@@ -84,8 +84,8 @@ pub returns-in-Err : goal.returns-in-Err
 returns-in-Err g c =
     let content = g.D.Device.content c.args.device.now in
     let fault = c.in-Err.fault in
-    let at_is : c.self.inside.window.at ≡ c.args.self.now.progress.at = ap (λ (place : Place). place.progress.at) c.self.view_is in
-    let unbroken : c.args.self.now.progress.fault ≡ None = sym (ap (λ (place : Place). place.progress.fault) c.self.view_is) ∙ c.in_default.is in
+    let at_is : c.self.inside.window.at ≡ c.args.self.now.progress.at = ap (λ (state : BackState). state.progress.at) c.self.view_is in
+    let unbroken : c.args.self.now.progress.fault ≡ None = sym (ap (λ (state : BackState). state.progress.fault) c.self.view_is) ∙ c.in_default.is in
     let then : Progress = record { version = version_of c.self.inside.window.version; pass = c.self.inside.pass; at = c.self.inside.window.at; records = c.self.inside.records; fault = c.self.inside.fault } in
     let now : ℕ → Progress = λ (k : ℕ). record { version = version_of c.self.inside.window.version; pass = c.self.inside.pass; at = k; records = c.self.inside.records; fault = c.for_good-self-inside.result } in
     let version : record (now c.next.new.self.at) { version = version_of c.next.new.self.version } ≡ now c.next.new.self.at = ap (λ v. record (now c.next.new.self.at) { version = version_of v }) c.in-Err.ensures.version in
@@ -95,7 +95,7 @@ returns-in-Err g c =
         (λ _. tt),
         record {
           over = λ h. record { window = c.in-Err.ensures.stand h; header = (c.requires h).header };
-          progress = version ∙ after ∙ ap (λ (place : Place). progress_after place.progress (Err fault)) c.self.view_is;
+          progress = version ∙ after ∙ ap (λ (state : BackState). progress_after state.progress (Err fault)) c.self.view_is;
           want = λ is.
               let same : fault ≡ NoMemory = cc in
               let window : unread c.next.new.self ≡ unread c.self.inside.window = c.in-Err.ensures.want (ap Err same) in
@@ -105,10 +105,10 @@ returns-in-Err g c =
       ),
       record {
         after = tt;
-        told = λ e honest. subst (λ (place : Place). Told (option_map (λ (body : Bor (List ℕ)). body.now)) (Err fault) (next_before place.progress.version content place.progress.at)) c.self.view_is (told_as_well (option_map (taken c.next.new.self)) (option_map (λ (body : Bor (List ℕ)). body.now)) fault (next_before (version_of c.self.inside.window.version) content c.self.inside.window.at) (c.in-Err.ensures.told honest));
+        told = λ e honest. subst (λ (state : BackState). Told (option_map (λ (body : Bor (List ℕ)). body.now)) (Err fault) (next_before state.progress.version content state.progress.at)) c.self.view_is (told_as_well (option_map (taken c.next.new.self)) (option_map (λ (body : Bor (List ℕ)). body.now)) fault (next_before (version_of c.self.inside.window.version) content c.self.inside.window.at) (c.in-Err.ensures.told honest));
         memory = λ e honest is.
             let same : fault ≡ NoMemory = cc in
-            subst (λ (place : Place). IsLarge (next_before place.progress.version content place.progress.at)) c.self.view_is (c.in-Err.ensures.memory honest (ap Err same));
+            subst (λ (state : BackState). IsLarge (next_before state.progress.version content state.progress.at)) c.self.view_is (c.in-Err.ensures.memory honest (ap Err same));
         body = search rules;
         room = search rules;
         file = search rules;

@@ -1,5 +1,5 @@
 use Rattle.std.proofs.Common.{◌≡◌, ◌-◌, length, drop, take, take_at, slice_range, ℕ, List, ◌++◌, arith, sym, ap, subst, ◌∙◌}
-use Rattle.backreader.specs.Place.{StandBefore}
+use Rattle.backreader.specs.BackState.{StandBefore}
 use Rattle.backreader.specs.Windows.{unread}
 use Rattle.backreader.proofs.Standing.{read_stands, same_stand}
 use Rattle.backreader.proofs.window.Window.fill.Goals as goal

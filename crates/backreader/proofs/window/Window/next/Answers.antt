@@ -1,6 +1,6 @@
 use Rattle.std.proofs.Common.{◌≡◌, ◌-◌, true, List, ℕ, slice_range, rules, sym, subst, ◌∙◌}
 use Rattle.backreader.proofs.Standing.{same_stand}
-use Rattle.backreader.specs.Place.{StandBefore}
+use Rattle.backreader.specs.BackState.{StandBefore}
 use Rattle.backreader.specs.Windows.{unread}
 use Rattle.backreader.proofs.window.Window.next.Goals as goal
 
@@ -10,9 +10,9 @@ returns-then-is_err-clause-stand g c honest =
     let content = g.D.Device.content c.args.device.now in
     let old = c.args.self.now in
     let new = c.grow.new.self in
-    let place : new.at ≡ old.at = c.grow.ensures.at ∙ c.in_ok-length.ensures.at in
+    let same_at : new.at ≡ old.at = c.grow.ensures.at ∙ c.in_ok-length.ensures.at in
     let forgotten : slice_range new.buffer.items (new.to - (old.to - old.from)) new.to ≡ unread old = search rules in
-    subst (λ (k : ℕ). StandBefore content k (slice_range new.buffer.items (new.to - (old.to - old.from)) new.to)) (sym place) (same_stand content (unread old) _ old.at forgotten (c.requires honest))
+    subst (λ (k : ℕ). StandBefore content k (slice_range new.buffer.items (new.to - (old.to - old.from)) new.to)) (sym same_at) (same_stand content (unread old) _ old.at forgotten (c.requires honest))
 
 -- a body was taken
 pub returns-clause-stand : goal.returns-clause-stand

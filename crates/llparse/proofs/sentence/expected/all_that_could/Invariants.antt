@@ -3,5 +3,5 @@ use Rattle.std.specs.Prelude.{All}
 use Rattle.llparse.specs.table.Tables.{is_known}
 use Rattle.llparse.proofs.sentence.expected.all_that_could.Given as goal
 
-abbrev pub invariant-loop-place : goal.invariant-loop-place
-invariant-loop-place l = All (λ ahead. is_known (length l.grammar.literals) ahead ≡ true) l.expected.items
+abbrev pub invariant-loop-index : goal.invariant-loop-index
+invariant-loop-index l = All (λ ahead. is_known (length l.grammar.literals) ahead ≡ true) l.expected.items

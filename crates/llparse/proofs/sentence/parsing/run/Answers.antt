@@ -29,9 +29,9 @@ returns-in_err-node-clause-refused g c =
     let k = task_of c.args.grammar.now c.args.sentence.now (g.D.Device.is_honest c.args.device.now) (g.D.Device.content c.args.device.now) in
     let p = err_from_is_err_and c.from_residual.result c.from_residual.ensures.1 in
     let made = c.new-parser.ensures.tokens in
-    let place = subst (λ (h : Handed). c.in_err-node.field-0.0 ≡ Unexpected (offset_at h.list h.taken)) made c.in_err-node.ensures.place in
+    let told = subst (λ (h : Handed). c.in_err-node.field-0.0 ≡ Unexpected (offset_at h.list h.taken)) made c.in_err-node.ensures.offset in
     let none = subst (λ (h : Handed). choice_of c.args.tables.now c.start.result (ahead_of (drop h.taken (words_of h.list))) ≡ None) made c.in_err-node.ensures.none in
-    rw (p.1, p.2) (stuck k.grammar c.args.sentence.now k.honest k.front 0 c.in_err-node.field-0.0 place
+    rw (p.1, p.2) (stuck k.grammar c.args.sentence.now k.honest k.front 0 c.in_err-node.field-0.0 told
     (turn.not_begun k c.args.tables.now c.requires.tables c.start.result c.start.ensures.value c.start.ensures.accepted none))
 
 pub loop-terminal-init : goal.loop-terminal-init
@@ -160,8 +160,8 @@ returns-then-is_some-clause-refused g c =
     let none_waits : length c.loop-terminal.parser.waiting.items ≡ 0 = omega (arith, c.in_default.ensures.cases) in
     let tokens = c.loop-terminal.parser.tokens in
     let some : tokens.taken < length c.args.sentence.now = subst (λ (ts : List Token). tokens.taken < length ts) inv.list (some_left tokens.list tokens.taken c.ahead.result c.ahead.ensures (sym c.is_some.ensures ∙ c.if-is_some.true)) in
-    let place : c.unexpected.result ≡ Unexpected (offset_at c.args.sentence.now tokens.taken) = subst (λ ts. c.unexpected.result ≡ Unexpected (offset_at ts tokens.taken)) inv.list c.unexpected.ensures in
-    stuck k.grammar c.args.sentence.now k.honest k.front tokens.taken c.unexpected.result place
+    let told : c.unexpected.result ≡ Unexpected (offset_at c.args.sentence.now tokens.taken) = subst (λ ts. c.unexpected.result ≡ Unexpected (offset_at ts tokens.taken)) inv.list c.unexpected.ensures in
+    stuck k.grammar c.args.sentence.now k.honest k.front tokens.taken c.unexpected.result told
     (turn.some_left k.grammar c.args.sentence.now k.honest k.front c.loop-terminal.parser (g.D.Device.content c.put_node.new.device) c.truncate.new.self.items none_waits closed some)
 
 pub returns-clause-parsed : goal.returns-clause-parsed

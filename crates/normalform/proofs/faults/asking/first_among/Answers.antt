@@ -1,12 +1,12 @@
 -- The goals of `first_among` that are left.
 use Rattle.std.proofs.Common.{map}
-use Rattle.normalform.specs.faults.Asking.{asked_place}
+use Rattle.normalform.specs.faults.Asking.{asked_check}
 use Rattle.normalform.specs.faults.Placed.{item_placed}
 use Rattle.normalform.proofs.found.Wrong.{map_here, map_past}
 use Rattle.normalform.proofs.faults.asking.first_among.Goals as goal
 
 pub returns-in-Some : goal.returns-in-Some
-returns-in-Some c = map_here (asked_place c.args.question c.args.declared.now (map item_placed c.args.items.now)) _ _ _ _ _ c.loop-occurrence-test.true c.occurrence-item.is c.in-Some.ensures c.loop-occurrence.invariant
+returns-in-Some c = map_here (asked_check c.args.question c.args.declared.now (map item_placed c.args.items.now)) _ _ _ _ _ c.loop-occurrence-test.true c.occurrence-item.is c.in-Some.ensures c.loop-occurrence.invariant
 
 pub loop-occurrence-preserved : goal.loop-occurrence-preserved
-loop-occurrence-preserved c = map_past (asked_place c.args.question c.args.declared.now (map item_placed c.args.items.now)) _ _ _ _ c.loop-occurrence-test.true c.occurrence-item.is c.in_default.ensures c.loop-occurrence.invariant
+loop-occurrence-preserved c = map_past (asked_check c.args.question c.args.declared.now (map item_placed c.args.items.now)) _ _ _ _ c.loop-occurrence-test.true c.occurrence-item.is c.in_default.ensures c.loop-occurrence.invariant

@@ -5,4 +5,4 @@ use Rattle.normalform.proofs.found.Wrong.{given_asked}
 use Rattle.normalform.proofs.faults.rules.not_given.Goals as goal
 
 pub returns : goal.returns
-returns c = subst (λ places. IfOk c.first_in_productions.result (λ f. f ≡ first_wrong places)) (given_asked c.args.declared.now c.args.productions.now) c.first_in_productions.ensures
+returns c = subst (λ checks. IfOk c.first_in_productions.result (λ f. f ≡ first_wrong checks)) (given_asked c.args.declared.now c.args.productions.now) c.first_in_productions.ensures

@@ -6,4 +6,4 @@ pub narrow-requires : goal.narrow-requires
 narrow-requires c = rw (c.number.ensures) (symbol_small c.args.declared.now c.as_str.result.now c.requires.symbols)
 
 pub narrow-requires-in-Literal : goal.narrow-requires-in-Literal
-narrow-requires-in-Literal c = rw (c.place.ensures) (text_small c.args.literals.now c.as_str-in-Literal.result.now c.requires.texts)
+narrow-requires-in-Literal c = rw (c.number-in-Literal.ensures) (text_small c.args.literals.now c.as_str-in-Literal.result.now c.requires.texts)

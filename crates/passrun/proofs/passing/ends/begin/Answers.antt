@@ -1,6 +1,6 @@
 use Rattle.std.proofs.Common.{◌-◌, ◌<◌, arith, List, ℕ, ap, length, sym, subst, ◌∙◌}
 use Rattle.std.proofs.lemmas.Result.{err_from_is_err_and}
-use Rattle.backreader.specs.Place.{IsOver}
+use Rattle.backreader.specs.BackState.{IsOver}
 use Rattle.passrun.specs.laid.Jobs.{setting}
 use Rattle.passrun.specs.passing.Ahead.{IsRunFault}
 use Rattle.passrun.specs.Damage.{IsReadable, source}

@@ -9,7 +9,7 @@ use Rattle.ag_grammar.specs.declared.grammar.Item.{Item}
 use Rattle.ag_grammar.specs.declared.grammar.Item.TheVariants as item
 use Rattle.ag_grammar.specs.declared.grammar.Production.{Production}
 use Rattle.ag_grammar.specs.grammars.AttributeGrammar.{Grammar, IsProduction, stored_items}
-use Rattle.backreader.specs.Place.{Progress}
+use Rattle.backreader.specs.BackState.{Progress}
 use Rattle.passrun.specs.Upgrading.{Brought, HasTaken, IsOf, IsUnbrought, text_list}
 use Rattle.treefile.specs.records.TreeFile.{body_of, frame}
 use Rattle.treefile.specs.declared.body.Kind.TheVariants.{Node, Token}

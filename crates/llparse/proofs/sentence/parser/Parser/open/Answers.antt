@@ -13,7 +13,7 @@ use Rattle.llparse.proofs.sentence.parser.Parser.open.Goals as goal
 pub returns-in_err-node-clause-refuses : goal.returns-in_err-node-clause-refuses
 returns-in_err-node-clause-refuses c =
     let p = err_from_is_err_and c.from_residual.result c.from_residual.ensures.1 in
-    rw (p.1, p.2) (λ g honest front bytes has a. stuck g c.args.self.now.tokens.list honest front c.args.self.now.tokens.taken c.in_err-node.field-0.0 c.in_err-node.ensures.place
+    rw (p.1, p.2) (λ g honest front bytes has a. stuck g c.args.self.now.tokens.list honest front c.args.self.now.tokens.taken c.in_err-node.field-0.0 c.in_err-node.ensures.offset
     (no_rule (task_of g c.args.self.now.tokens.list honest front) c.args.tables.now has.1 has.0 c.args.symbol (c.args.outer ∷ reverse c.args.self.now.waiting.items) c.args.self.now.tokens.taken c.args.self.now.count (made_by c.args.self.now bytes) c.in_err-node.ensures.none a))
 
 pub returns-in_err-has_room-clause-refuses : goal.returns-in_err-has_room-clause-refuses

@@ -16,7 +16,7 @@ use Rattle.llparse.proofs.sentence.parser.Parser.take_class.Goals as goal
 pub returns-in_err-lex-clause-refuses : goal.returns-in_err-lex-clause-refuses
 returns-in_err-lex-clause-refuses g c = λ node.
     let p = err_from_is_err_and c.from_residual.result c.from_residual.ensures.1 in
-    rw (p.1, p.2) (λ gr honest front bytes has b. stuck gr c.args.self.now.tokens.list honest front c.args.self.now.tokens.taken c.in_err-lex.field-0.0 c.in_err-lex.ensures.place
+    rw (p.1, p.2) (λ gr honest front bytes has b. stuck gr c.args.self.now.tokens.list honest front c.args.self.now.tokens.taken c.in_err-lex.field-0.0 c.in_err-lex.ensures.offset
     (no_class (task_of gr c.args.self.now.tokens.list honest front) has.0 c.args.class (node ∷ reverse c.args.self.now.waiting.items) c.args.self.now.tokens.taken c.args.self.now.count (made_by c.args.self.now bytes) c.in_err-lex.ensures.other b))
 
 pub returns-in_err-has_room-clause-refuses : goal.returns-in_err-has_room-clause-refuses

@@ -13,7 +13,7 @@ use Rattle.llparse.proofs.sentence.parser.Parser.take_literal.Goals as goal
 pub returns-in_err-expect-clause-refuses : goal.returns-in_err-expect-clause-refuses
 returns-in_err-expect-clause-refuses c = λ node.
     let p = err_from_is_err_and c.from_residual.result c.from_residual.ensures.1 in
-    rw (p.1, p.2) (λ g honest front bytes has b. stuck g c.args.self.now.tokens.list honest front c.args.self.now.tokens.taken c.in_err-expect.field-0.0 c.in_err-expect.ensures.place
+    rw (p.1, p.2) (λ g honest front bytes has b. stuck g c.args.self.now.tokens.list honest front c.args.self.now.tokens.taken c.in_err-expect.field-0.0 c.in_err-expect.ensures.offset
     (no_literal (task_of g c.args.self.now.tokens.list honest front) has.0 c.args.literal (node ∷ reverse c.args.self.now.waiting.items) c.args.self.now.tokens.taken c.args.self.now.count (made_by c.args.self.now bytes) c.in_err-expect.ensures.other b))
 
 pub returns-clause-takes : goal.returns-clause-takes

@@ -23,7 +23,7 @@ abbrev pub NoneGoesOn : List Occ → List Token → Ending → List Placed → T
 NoneGoesOn listed ts e [] = (at : ℕ) → e ≡ ending.EndsAt at → (levels : ℕ) (tree : Node) → IsExpr listed levels ts tree → ⊥
 NoneGoesOn listed ts e (p ∷ ps) = Begins listed (ts ++ p.token ∷ []) → ⊥
 
--- The fault is that of the place in front of `rest`: what stands before is the beginning of an expression, and with what stands there none goes on.
+-- The fault is told in front of `rest`: what stands before is the beginning of an expression, and with what stands there none goes on.
 pub record IsFirstWrong (listed : List Occ) (i : Input) (f : ExprFault) : Type 0 where
   pub before : List Placed
   pub rest : List Placed

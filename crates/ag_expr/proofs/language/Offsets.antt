@@ -19,7 +19,7 @@ use Rattle.ag_expr.specs.language.Expression.{begins_expression}
 use Rattle.ag_expr.specs.language.Laws.{RefusesAtTheFirst}
 use Rattle.ag_expr.specs.language.Names.{Names}
 use Rattle.ag_tokens.specs.Placed.{Placed, Input, tokens}
-use Rattle.ag_expr.specs.language.Places.{NoneGoesOn, IsToldFirst}
+use Rattle.ag_expr.specs.language.Offsets.{NoneGoesOn, IsToldFirst}
 use Rattle.ag_tokens.specs.Parsing as reading
 use Rattle.ag_tokens.specs.Parsing.{front, front_of, front_is, sees, is_end, is_sign, choose}
 use Rattle.ag_expr.specs.language.Reading.{token_as, Outcome, Parser, refusal, refusal_of, at_end, expect, is_operator_of, begins, begins_atom, other_from, chain_from, ranked_from, none_from, table_from, parenthesized_from, next_from, items_from, some_from, list_from, unary_from, binary_from, put_from, arguments_from, call_from, let_from, if_from, atom_from, whole_from, no_level_of, expr_from, expr_in, expr_of}

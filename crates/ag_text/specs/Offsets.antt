@@ -4,7 +4,7 @@ use Rattle.ag_tokens.specs.Ending.{Ending}
 use Rattle.ag_tokens.specs.Ending as ending
 use Rattle.ag_tokens.specs.Placed.{Placed, Input}
 use Rattle.ag_grammar.specs.declared.raw.RawGrammar.{RawGrammar}
-use Rattle.ag_tokens.specs.Parsing.{place_of}
+use Rattle.ag_tokens.specs.Parsing.{front_offset}
 use Rattle.ag_text.specs.Syntax.{IsGrammar}
 
 -- the tokens are the beginning of a grammar's text
@@ -16,11 +16,11 @@ abbrev pub NoneGoesOn : List Placed → Ending → List Placed → Type 0
 NoneGoesOn ps e [] = (at : ℕ) → e ≡ ending.EndsAt at → (raw : RawGrammar) → IsGrammar ps raw → ⊥
 NoneGoesOn ps e (p ∷ rest) = Begins (ps ++ p ∷ []) → ⊥
 
--- The offset is that of the place in front of `rest`: what stands before is the beginning of a grammar's text, and with what stands there none goes on.
+-- The offset is that in front of `rest`: what stands before is the beginning of a grammar's text, and with what stands there none goes on.
 pub record IsFirstWrong (i : Input) (at : ℕ) : Type 0 where
   pub before : List Placed
   pub rest : List Placed
   pub cut : i.left ≡ before ++ rest
   pub start : Begins before
-  pub says : at ≡ place_of i.ending rest
+  pub says : at ≡ front_offset i.ending rest
   pub none : NoneGoesOn before i.ending rest
