@@ -1,6 +1,7 @@
 -- Lemmas on the expression language.
 pub mod Agree
 pub mod Below
+pub mod Chains
 pub mod Examples
 pub mod Listing
 pub mod Manner

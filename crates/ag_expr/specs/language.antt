@@ -1,4 +1,5 @@
 -- The expression language: its syntax.
+pub mod Chains
 pub mod Expression
 pub mod Faults
 pub mod Laws

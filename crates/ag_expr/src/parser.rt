@@ -1,14 +1,14 @@
 //! The parser of expressions, by recursive descent.
 
-ghost use Rattle.std.specs.Prelude.{◌≡◌, [], Some, IfOk, OnOk};
+ghost use Rattle.std.specs.Prelude.{◌≡◌, ◌∷◌, [], Some, IfOk, OnOk};
 ghost use Rattle.ag_expr.specs.language.Syntax as syntax;
 ghost use Rattle.ag_expr.specs.language.Syntax.{closer};
 ghost use Rattle.ag_expr.specs.language.State.{Reads, ReadsAs, input};
 ghost use Rattle.ag_tokens.specs.Lexing.{token_of};
 ghost use Rattle.ag_tokens.specs.Parsing.{front, further_from, sees, sign_of, offset};
+ghost use Rattle.ag_expr.specs.language.Chains as chains;
 ghost use Rattle.ag_expr.specs.language.Reading as reading;
-ghost use Rattle.ag_expr.specs.language.Reading.{atom_from, chain_from, expr_in, other_from};
-ghost use Rattle.ag_expr.specs.language.Reading.{ranked_from};
+ghost use Rattle.ag_expr.specs.language.Reading.{atom_from, expr_in, other_from, ranked_from};
 ghost use Rattle.ag_tokens.specs.Token as token;
 
 use crate::fault::ExprFault;
@@ -94,6 +94,38 @@ fn operator_of(precedence: Precedence, token: Token<'_>) -> Option<Operator>
     }
 }
 
+/// Whether the other precedence binds more strongly.
+#[tactic(auto, using(crate::proofs::language::Chains::others_closer))]
+fn is_closer(precedence: Precedence, other: Precedence) -> bool
+    ensures { result ≡ chains.is_among (closer precedence) other }
+{
+    match precedence {
+        Precedence::Comparison => other != Precedence::Comparison,
+        Precedence::Join => other == Precedence::Sum || other == Precedence::Product,
+        Precedence::Sum => other == Precedence::Product,
+        Precedence::Product => false,
+    }
+}
+
+/// Whether a token is an operator that binds more strongly than those of the precedence.
+#[tactic(auto, using(crate::proofs::language::Chains::operator_among, crate::proofs::language::Chains::no_operator))]
+fn is_closer_operator(precedence: Precedence, token: Token<'_>) -> bool
+    ensures { result ≡ chains.is_operator_among (closer precedence) (token_of token.entry) }
+{
+    match binary_operator(token) {
+        Some((other, _)) => is_closer(precedence, other),
+        None => false,
+    }
+}
+
+/// Whether a token is an operator.
+#[tactic(auto, using(crate::proofs::language::Chains::any_operator))]
+fn is_operator(token: Token<'_>) -> bool
+    ensures { result ≡ chains.is_operator_among syntax.precedences (token_of token.entry) }
+{
+    binary_operator(token).is_some()
+}
+
 /// What a token begins that no operator takes apart.
 #[derive(Clone, Copy, Debug, PartialEq, Eq)]
 enum Atom {
@@ -171,6 +203,26 @@ impl<'t> Reader<'t> {
         self.next_operator(precedence).is_some()
     }
 
+    /// Whether an operator that binds more strongly than those of a precedence stands in front.
+    fn goes_on_closer(&self, precedence: Precedence) -> bool
+        ensures { result ≡ sees (chains.is_operator_among (closer precedence)) (input self.now) }
+    {
+        match self.peek() {
+            Some(token) => is_closer_operator(precedence, token),
+            None => false,
+        }
+    }
+
+    /// Whether an operator stands in front.
+    fn sees_operator(&self) -> bool
+        ensures { result ≡ sees (chains.is_operator_among syntax.precedences) (input self.now) }
+    {
+        match self.peek() {
+            Some(token) => is_operator(token),
+            None => false,
+        }
+    }
+
     /// Passes an operator of a precedence.
     fn operator(&mut self, precedence: Precedence) -> Result<Operator, ExprFault>
         ensures { Reads (λ _ _. reading.token_as (syntax.operator_of precedence))
@@ -221,7 +273,7 @@ impl<'t> Reader<'t> {
 
     /// Passes an expression of at most so many levels, and answers its tree.
     #[cycle(parsing)]
-    #[tactic(auto, using(crate::proofs::language::Parts::one_level), unfolding(crate::specs::language::Reading::expr_in, crate::specs::language::Reading::whole_from, crate::specs::language::Reading::ranked_from,))]
+    #[tactic(auto, using(crate::proofs::language::Parts::one_level), unfolding(crate::specs::language::Reading::expr_in, crate::specs::language::Reading::whole_from))]
     pub fn expression(&mut self, levels: usize) -> Result<Node, ExprFault>
         ensures { Reads (λ all. expr_in all levels) self.old result self.new }
     {
@@ -234,7 +286,7 @@ impl<'t> Reader<'t> {
         if self.sees_word("if") {
             return self.conditional(levels - 1);
         }
-        self.chain(levels - 1, Precedence::Comparison)
+        self.chain(levels - 1)
     }
 
     /// Passes an expression of at most so many levels, and answers its tree in a box.
@@ -278,15 +330,37 @@ impl<'t> Reader<'t> {
         Ok(Node::If(test, value, other))
     }
 
-    /// Passes a chain of a precedence, whose atoms have parts of at most so many levels.
+    /// Passes a chain of any precedence, whose atoms have parts of at most so many levels.
+    ///
+    /// Where no operator stands behind its first atom, as behind most, that atom is the chain.
     #[cycle(parsing)]
-    #[tactic(auto, using(crate::proofs::language::Parts::alone), unfolding(crate::specs::language::Reading::chain_from))]
-    fn chain(&mut self, levels: usize, precedence: Precedence) -> Result<Node, ExprFault>
-        ensures { Reads (λ all names. chain_from precedence
-            (ranked_from (atom_from (expr_in all levels) names all) (closer precedence)))
+    #[tactic(auto, using(crate::proofs::language::Chains::atom_alone, crate::proofs::language::Chains::by_atom))]
+    fn chain(&mut self, levels: usize) -> Result<Node, ExprFault>
+        ensures { Reads (λ all names.
+            ranked_from (atom_from (expr_in all levels) names all) syntax.precedences)
             self.old result self.new }
     {
-        let first = self.operand(levels, precedence)?;
+        let first = self.atom(levels)?;
+        if !self.sees_operator() {
+            return Ok(first);
+        }
+        self.chain_behind(levels, Precedence::Comparison, first)
+    }
+
+    /// Passes what stands behind the first atom of a chain of a precedence, and answers the tree of
+    /// the whole.
+    #[cycle(parsing)]
+    #[tactic(auto, using(crate::proofs::language::Chains::operand_alone), unfolding(crate::specs::language::Chains::ranked_behind, crate::specs::language::Chains::chain_behind))]
+    fn chain_behind(
+        &mut self,
+        levels: usize,
+        precedence: Precedence,
+        atom: Node,
+    ) -> Result<Node, ExprFault>
+        ensures { Reads (λ all names. chains.ranked_behind (atom_from (expr_in all levels) names all)
+            (precedence ∷ closer precedence) atom) self.old result self.new }
+    {
+        let first = self.operand_behind(levels, precedence, atom)?;
         if !self.goes_on(precedence) {
             return Ok(first);
         }
@@ -294,24 +368,47 @@ impl<'t> Reader<'t> {
         Ok(chained(self.alloc(), first, others)?)
     }
 
-    /// Passes an operand of a precedence: a chain of the next precedence, or behind the last an atom.
+    /// Passes what stands behind the first atom of an operand of a precedence, and answers the tree
+    /// of the whole.
     #[cycle(parsing)]
-    #[tactic(auto, unfolding(crate::specs::language::Reading::ranked_from))]
+    #[tactic(auto, unfolding(crate::specs::language::Chains::ranked_behind))]
+    fn operand_behind(
+        &mut self,
+        levels: usize,
+        precedence: Precedence,
+        atom: Node,
+    ) -> Result<Node, ExprFault>
+        ensures { Reads (λ all names. chains.ranked_behind (atom_from (expr_in all levels) names all)
+            (closer precedence) atom) self.old result self.new }
+    {
+        match precedence {
+            Precedence::Comparison => self.chain_behind(levels, Precedence::Join, atom),
+            Precedence::Join => self.chain_behind(levels, Precedence::Sum, atom),
+            Precedence::Sum => self.chain_behind(levels, Precedence::Product, atom),
+            Precedence::Product => Ok(atom),
+        }
+    }
+
+    /// Passes an operand of a precedence: a chain of the next precedence, or behind the last an atom.
+    ///
+    /// Where no closer operator stands behind its first atom, that atom is the operand.
+    #[cycle(parsing)]
+    #[tactic(auto, using(crate::proofs::language::Chains::atom_alone, crate::proofs::language::Chains::by_atom))]
     fn operand(&mut self, levels: usize, precedence: Precedence) -> Result<Node, ExprFault>
         ensures { Reads (λ all names.
             ranked_from (atom_from (expr_in all levels) names all) (closer precedence))
             self.old result self.new }
     {
-        match precedence {
-            Precedence::Comparison => self.chain(levels, Precedence::Join),
-            Precedence::Join => self.chain(levels, Precedence::Sum),
-            Precedence::Sum => self.chain(levels, Precedence::Product),
-            Precedence::Product => self.atom(levels),
+        let first = self.atom(levels)?;
+        if !self.goes_on_closer(precedence) {
+            return Ok(first);
         }
+        self.operand_behind(levels, precedence, first)
     }
 
     /// Passes the operands behind the first, each with its operator, and answers their trees.
     #[cycle(parsing)]
+    #[inline(never)]
     #[tactic(auto, using(crate::proofs::language::Parts::shorter, crate::proofs::language::Agree::other_shortens))]
     fn others(
         &mut self,
@@ -352,13 +449,18 @@ impl<'t> Reader<'t> {
         Ok((operator, operand))
     }
 
-    /// Passes what no operator takes apart, whose parts have at most so many levels.
+    /// Passes what no operator takes apart, whose parts have at most so many levels: a number straight
+    /// away, since nothing else is read as often.
     #[cycle(parsing)]
     #[tactic(auto, unfolding(crate::specs::language::Reading::atom_from))]
     fn atom(&mut self, levels: usize) -> Result<Node, ExprFault>
         ensures { Reads (λ all names. atom_from (expr_in all levels) names all)
             self.old result self.new }
     {
+        if let Some(Token::Number(number)) = self.peek() {
+            self.bump();
+            return Ok(Node::Literal(Literal::number(number)));
+        }
         match self.front_atom() {
             Atom::Parenthesized => self.parenthesized(levels),
             Atom::List => self.list(levels),

@@ -1,5 +1,5 @@
 -- The longest front of a text whose characters pass, beside a loop over its characters.
-use Rattle.ag_tokens.proofs.Fronts.{front_is}
+use Rattle.ag_tokens.proofs.Fronts.{front_is, drop_more}
 use Rattle.std.proofs.Common.{◌≡◌, ℕ, ◌-◌, ◌<◌, ◌≤◌, Bool, true, List, [], ◌∷◌, ◌++◌, length, take, drop, Bor, Some, chars, IsUtf8, encode_utf8, encode_utf8_all, refl, ap, sym, ◌∙◌, arith, append_assoc, append-nil, length-append}
 use Rattle.std.specs.List.{prefix_len, list_all}
 use Rattle.std.specs.Str.{IsCharBoundary}
@@ -7,6 +7,7 @@ use Rattle.std.proofs.Math.Seq.{take-append_seam, drop-append_seam}
 use Rattle.std.proofs.lemmas.List.Folds.{list_all-append}
 use Rattle.std.proofs.lemmas.Str.{encodes-append, length-encode, len_utf8_bounds, chars-nil, IsCharBoundary-at_seam}
 use Rattle.ag_tokens.specs.declared.lexer.Class.{Class}
+use Rattle.ag_tokens.specs.declared.lexer.Class.TheVariants as class
 use Rattle.ag_tokens.specs.Lexing.{is_in, front_in, back_of, PassesOne}
 use Rattle.ag_tokens.specs.Left.{unspaced}
 use Rattle.ag_tokens.specs.Tokens.{width}
@@ -68,3 +69,10 @@ pub left_within : (text rest : List ℕ) → IsUtf8 text → IsUtf8 rest → cha
 left_within text rest utf8 utf8' is =
     let space = spaces (chars text) in
     omega (arith, width-chars text utf8, width-chars rest utf8', ap width is)
+
+-- separators that are skipped one by one
+pub skipped : (rest : List ℕ) (after : Bor (List ℕ)) → PassesOne class.Separator rest (Some after) → unspaced (chars after.now) ≡ unspaced (chars rest)
+skipped rest after (c, passes, characters, split) = rw characters (grind (arith, drop_more))
+
+pub unskipped : (rest : List ℕ) → prefix_len (is_in class.Separator) (chars rest) ≡ 0 → chars rest ≡ unspaced (chars rest)
+unskipped rest none = rw none refl

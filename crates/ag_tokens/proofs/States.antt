@@ -1,6 +1,5 @@
 -- What is left of a text, by the token in front.
-use Rattle.std.proofs.Common.{◌≡◌, ◌==◌, ℕ, suc, ◌-◌, ◌<◌, ◌≤◌, ◌+◌, Bool, true, false, List, [], ◌∷◌, length, drop, Some, None, Result, Ok, Err, Bor, IsUtf8, chars, refl, ap, sym, ◌∙◌, subst, arith}
-use Rattle.std.proofs.lemmas.Bool.{eqb-true}
+use Rattle.std.proofs.Common.{◌≡◌, ◌==◌, ℕ, suc, ◌-◌, ◌<◌, ◌≤◌, ◌+◌, Bool, true, false, List, [], ◌∷◌, length, drop, Result, Ok, Err, Bor, IsUtf8, chars, refl, ap, sym, ◌∙◌, subst, arith}
 use Rattle.std.proofs.lemmas.List.{length-drop}
 use Rattle.std.proofs.lemmas.Str.{len_utf8_bounds, IsUtf8-drop}
 use Rattle.std.proofs.lemmas.Bool.Decides.{nat_tests}
@@ -11,8 +10,8 @@ use Rattle.ag_tokens.specs.declared.fault.TokenFault.{TokenFault}
 use Rattle.ag_tokens.specs.declared.fault.TokenFault.TheVariants as fault
 use Rattle.ag_tokens.specs.Tokens.{width, Lexes}
 use Rattle.ag_tokens.specs.Lexing.{token_from, token_of, GivesToken}
-use Rattle.ag_tokens.specs.Left.{unspaced, none_left, one_before, ending_by, left_by, cut, input}
-use Rattle.ag_tokens.specs.Parsing.{ending_fault, offset, is_end}
+use Rattle.ag_tokens.specs.Left.{unspaced, none_left, one_before, ending_by, left_by, cut, input, IsReady}
+use Rattle.ag_tokens.specs.Parsing.{next, offset, is_end}
 use Rattle.ag_tokens.proofs.Lexed.{is_behind, spaces, width-chars}
 use Rattle.ag_tokens.proofs.Lexes.{nothing_cut, same_cut, shorter, cut_at, cut_first}
 
@@ -72,9 +71,13 @@ pub all_left : (text rest : List ℕ) → IsUtf8 text → chars rest ≡ unspace
 unfolding input cut_at
 all_left text rest utf8 is = subst (λ cs. Lexes 0 (chars text) (input (length text) cs)) (sym is) (cut_first 0 (length text) (chars text) (omega (arith, width-chars text utf8)))
 
--- why no token stands there, by whether bytes are left
-pub fault_at_end : (f : TokenFault) (rest : List ℕ) → f ≡ fault.Nothing → IsUtf8 rest → (length rest == 0) ≡ true → (at : ℕ) → None ≡ ending_fault (ending_by f at (chars rest))
-fault_at_end f rest is utf8 none at = rw (is, no_width (chars rest) (width-chars rest utf8 ∙ eqb-true (length rest) 0 none)) refl
+-- behind the token in front the one that is cut there stands in front
+pub ready : (text now rest : List ℕ) (x : lent.Token × Bor (List ℕ)) (front : Front) → GivesToken (Ok x) (token_from (chars now)) → width (chars now) ≡ length now → length now ≤ length text
+    → chars rest ≡ unspaced (chars x.1.now) → IsUtf8 rest → GivesToken front (token_from (chars rest)) → IsReady text rest front
+ready text now rest x front given wide fewer is utf8 cut =
+    let rest_wide = width-chars rest utf8 in
+    let within : width (chars now) ≤ length text = omega (arith, wide, fewer) in
+    record { cut_front = cut; fewer = narrower (chars now) rest x (length text) given is rest_wide within; rest_wide = rest_wide }
 
-pub fault_before_end : (f : TokenFault) (rest : List ℕ) → f ≡ fault.Nothing → IsUtf8 rest → (length rest == 0) ≡ false → (at : ℕ) → Some fault.Nothing ≡ ending_fault (ending_by f at (chars rest))
-fault_before_end f rest is utf8 some at = let wide = width-chars rest utf8 in grind (arith, nat_tests)
+pub next_is : (len : ℕ) (now rest : List ℕ) (x : lent.Token × Bor (List ℕ)) → GivesToken (Ok x) (token_from (chars now)) → chars rest ≡ unspaced (chars x.1.now) → input len (chars rest) ≡ next (input len (chars now))
+next_is len now rest x given is = ap (input len) is ∙ sym (ap next (front_is len (chars now) (Ok x) given))

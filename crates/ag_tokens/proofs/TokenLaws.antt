@@ -319,3 +319,14 @@ begins_plain word (token.Punctuation s) is = rw is (punctuation_plain s)
 
 pub word_some : (word : List ℕ) (t : Token) → IsToken word t → 0 < length word
 word_some word t is = let plain = begins_plain word t is in grind arith
+
+-- ---- by the first character
+
+pub marked_token : (c : ℕ) (cs : List ℕ) (s : Punctuation) (rest : List ℕ) → is_ascii_digit c ≡ false → starts_name c ≡ false → punctuation_from (c ∷ cs) ≡ Some (s, rest) → token_from (c ∷ cs) ≡ Some (token.Punctuation s, rest)
+unfolding token_from
+marked_token c cs s rest digit name mark =
+    let none : digits_from (c ∷ cs) ≡ None = grind arith in
+    let unnamed : name_from (c ∷ cs) ≡ None = grind arith in
+    let plain : plain_from (c ∷ cs) ≡ Some (token.Punctuation s, rest) = rw (none, unnamed, mark) refl in
+    let token : cond (c == 34) (text_from (length cs) [] cs) (cond (c == 36) (occurrence_from cs) (plain_from (c ∷ cs))) ≡ plain_from (c ∷ cs) = grind (arith, nat_tests) in
+    token ∙ plain

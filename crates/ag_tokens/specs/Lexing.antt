@@ -117,6 +117,10 @@ abbrev pub occurrence_from : List ℕ → Option (Token × List ℕ)
 occurrence_from cs =
     option_and_then (λ d. option_and_then (λ rest. option_and_then (λ n. Some (token.Occurrence (digits_value 10 d.0) (encode_utf8_all n.0), n.1)) (name_from rest)) (undotted d.1)) (digits_from cs)
 
+-- a number of some digits
+abbrev pub number_from : List ℕ → Option (Token × List ℕ)
+number_from cs = option_and_then (λ d. Some (token.Number (pos (digits_value 10 d.0)), d.1)) (digits_from cs)
+
 -- a number, a name or punctuation
 abbrev pub plain_from : List ℕ → Option (Token × List ℕ)
 plain_from cs =
@@ -134,10 +138,13 @@ abbrev pub IsTooLarge : Option (Token × List ℕ) → Type 0
 IsTooLarge None = ⊥
 IsTooLarge (Some x) = is_within x.0 ≡ false
 
--- A lent token with the text behind it is the token that is read, with the characters behind it, and its number is within the limits; nothing
--- is read at Nothing, and a number above its limit at TooLarge.
+-- A lent token with the text behind it is the token that is read, with the characters behind it, and its number is within the limits.
+abbrev pub IsCutSo : lent.Token × Bor (List ℕ) → Option (Token × List ℕ) → Type 0
+IsCutSo x read = (read ≡ Some (token_of x.0, chars x.1.now)) × (is_within (token_of x.0) ≡ true)
+
+-- The same of a result: nothing is read at Nothing, and a number above its limit at TooLarge.
 abbrev pub GivesToken : Result (lent.Token × Bor (List ℕ)) TokenFault → Option (Token × List ℕ) → Type 0
-GivesToken (Ok x) read = (read ≡ Some (token_of x.0, chars x.1.now)) × (is_within (token_of x.0) ≡ true)
+GivesToken (Ok x) read = IsCutSo x read
 GivesToken (Err fault.Nothing) read = read ≡ None
 GivesToken (Err fault.TooLarge) read = IsTooLarge read
 
@@ -157,6 +164,11 @@ GivesName result read = option_map {U = List ℕ × List ℕ} (λ x. (x.0.now, c
 abbrev pub PassesOne : Class → List ℕ → Option (Bor (List ℕ)) → Type 0
 PassesOne class text None = prefix_len (is_in class) (chars text) ≡ 0
 PassesOne class text (Some rest) = (c : ℕ) × (is_in class c ≡ true) × (chars text ≡ c ∷ chars rest.now) × (text ≡ encode_utf8 c ++ rest.now)
+
+-- a first digit and what stands behind it, and no digit stands in front where there is nothing
+abbrev pub PassesDigit : List ℕ → Option (ℕ × Bor (List ℕ)) → Type 0
+PassesDigit text None = prefix_len is_ascii_digit (chars text) ≡ 0
+PassesDigit text (Some x) = (is_ascii_digit x.0 ≡ true) × IsSplit text x.0 x.1.now
 
 -- what stands behind an escape whose backslash stood before
 abbrev pub PassesEscape : List ℕ → Option (Bor (List ℕ)) → Type 0

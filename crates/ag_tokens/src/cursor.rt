@@ -9,7 +9,7 @@ ghost use Rattle.ag_tokens.specs.Parsing.{ending_fault, fault_of, front, is_end,
 ghost use Rattle.ag_tokens.specs.Tokens.{Lexes};
 
 use crate::fault::TokenFault;
-use crate::lexer::{skip_separators, token_in_front};
+use crate::lexer::{quick_token, skip_separators, token_in_front};
 use crate::token::Token;
 use std::marker::Model;
 
@@ -121,7 +121,10 @@ impl<'t> Cursor<'t> {
     {
         if let Ok((_, behind)) = self.front {
             self.rest = skip_separators(behind);
-            self.front = token_in_front(self.rest);
+            match quick_token(self.rest) {
+                Some(cut) => self.front = Ok(cut),
+                None => self.front = token_in_front(self.rest),
+            }
         }
     }
 }

@@ -1,12 +1,14 @@
 //! Cutting the token at the front of a text.
 
-ghost use Rattle.std.specs.Prelude.{◌≡◌, ◌++◌, ◌∷◌, [], None, pos, false, length, chars, is_some};
+ghost use Rattle.std.specs.Prelude.{◌≡◌, ◌++◌, ◌∷◌, [], None, pos, true, false, length, chars, is_some};
 ghost use Rattle.std.specs.Prelude.{option_map};
 ghost use Rattle.std.specs.Prelude.{IfOk, IfSome, MatchOption, encode_utf8, encode_utf8_all};
+ghost use Rattle.std.specs.Char.{is_ascii_digit};
 ghost use Rattle.std.specs.Str.Parse.{digits_value};
 ghost use Rattle.ag_tokens.specs.Left.{unspaced};
 ghost use Rattle.ag_tokens.specs.Lexing as lexing;
 ghost use Rattle.ag_tokens.specs.Lexing.{GivesToken, IsPast, back_of, front_in};
+ghost use Rattle.ag_tokens.specs.declared.lexer.Class.TheVariants as class;
 ghost use Rattle.ag_tokens.specs.Token as token;
 ghost use Rattle.ag_tokens.specs.Tokens as tokens_spec;
 ghost use Rattle.ag_tokens.specs.Tokens.{IsDigits};
@@ -86,7 +88,11 @@ pub fn split_behind(class: Class, text: &str) -> (&str, &str)
 pub fn skip_separators(text: &str) -> &str
     ensures { chars result.now ≡ unspaced (chars text.now) }
 {
-    split_behind(Class::Separator, text).1
+    let mut rest = text;
+    while let Some(behind) = behind_one(Class::Separator, rest) {
+        rest = behind;
+    }
+    rest
 }
 
 /// The digits in front, where there are some, and what stands behind them.
@@ -103,6 +109,7 @@ fn digits_in_front(text: &str) -> Option<(&str, &str)>
 }
 
 /// The name in front, where one begins, and what stands behind it.
+#[inline(never)]
 fn name_in_front(text: &str) -> Option<(&str, &str)>
     ensures { lexing.GivesName result (lexing.name_from (chars text.now)) }
 {
@@ -113,6 +120,7 @@ fn name_in_front(text: &str) -> Option<(&str, &str)>
 }
 
 /// The punctuation that is one character.
+#[inline(always)]
 #[tactic(auto, using(crate::proofs::TokenLaws::no_start))]
 fn single_punctuation(c: char) -> Option<Punctuation>
     ensures value { result ≡ lexing.single_punctuation c }
@@ -136,6 +144,7 @@ fn single_punctuation(c: char) -> Option<Punctuation>
 
 /// One mark where its character stands twice, and another where it stands once, as it does before
 /// the text.
+#[inline(always)]
 fn doubled(twice: char, two: Punctuation, one: Punctuation, text: &str) -> (Punctuation, &str)
     ensures { (result.0, chars result.1.now) ≡ lexing.doubled twice two one (chars text.now) }
 {
@@ -145,17 +154,19 @@ fn doubled(twice: char, two: Punctuation, one: Punctuation, text: &str) -> (Punc
     }
 }
 
-/// The punctuation in front, where no name begins, and what stands behind it.
+/// The punctuation that begins with the character, where no name does, and what stands behind it;
+/// `rest` stands behind the character.
+#[inline(always)]
 #[tactic(auto, using(crate::proofs::TokenLaws::no_start))]
-fn punctuation_in_front(text: &str) -> Option<(Punctuation, &str)>
+fn punctuation_of(c: char, rest: &str) -> Option<(Punctuation, &str)>
     ensures value { option_map (λ x. (x.0, chars x.1.now)) result
-        ≡ lexing.punctuation_from (chars text.now) }
-    ensures unnamed { IfSome result (λ _. lexing.name_from (chars text.now) ≡ None) }
+        ≡ lexing.punctuation_from (c ∷ chars rest.now) }
+    ensures unnamed { IfSome result (λ _. tokens_spec.starts_name c ≡ false) }
 {
-    match first(text)? {
-        ('+', rest) => Some(doubled('+', Punctuation::Join, Punctuation::Plus, rest)),
-        ('=', rest) => Some(doubled('=', Punctuation::EqualEqual, Punctuation::Equal, rest)),
-        (c, rest) => Some((single_punctuation(c)?, rest)),
+    match c {
+        '+' => Some(doubled('+', Punctuation::Join, Punctuation::Plus, rest)),
+        '=' => Some(doubled('=', Punctuation::EqualEqual, Punctuation::Equal, rest)),
+        _ => Some((single_punctuation(c)?, rest)),
     }
 }
 
@@ -253,9 +264,12 @@ pub fn unescaped(alloc: Global, body: &str) -> Result<Text, NoMemory>
     Ok(Text::from_string(text))
 }
 
-/// The text literal whose first quote stood before the text.
-fn text_literal(text: &str) -> Result<(Token<'_>, &str), TokenFault>
-    ensures { GivesToken result (lexing.text_from (length (chars text.now)) [] (chars text.now)) }
+/// What stands between the quotes of the text literal whose first quote stood before the text, and
+/// what stands behind it.
+#[inline(never)]
+fn quoted_in_front(text: &str) -> Option<(&str, &str)>
+    ensures { option_map (λ x. (token.Text (lexing.unescaped (chars x.0.now)), chars x.1.now)) result
+        ≡ lexing.text_from (length (chars text.now)) [] (chars text.now) }
 {
     let mut rest = text;
     while let Some(after) = past_character(rest) {
@@ -264,13 +278,25 @@ fn text_literal(text: &str) -> Result<(Token<'_>, &str), TokenFault>
     match unquoted(rest) {
         Some(behind) => {
             let (body, _) = text.split_at(text.len() - rest.len());
-            Ok((Token::Text(body), behind))
+            Some((body, behind))
         }
+        None => None,
+    }
+}
+
+/// The text literal whose first quote stood before the text.
+#[inline(always)]
+fn text_literal(text: &str) -> Result<(Token<'_>, &str), TokenFault>
+    ensures { GivesToken result (lexing.text_from (length (chars text.now)) [] (chars text.now)) }
+{
+    match quoted_in_front(text) {
+        Some((body, rest)) => Ok((Token::Text(body), rest)),
         None => Err(TokenFault::Nothing),
     }
 }
 
 /// The number literal of these digits, in front of `rest`.
+#[inline(always)]
 fn number_literal<'t>(digits: &str, rest: &'t str) -> Result<(Token<'t>, &'t str), TokenFault>
     requires { IsDigits digits.now }
     ensures { GivesToken result
@@ -282,7 +308,76 @@ fn number_literal<'t>(digits: &str, rest: &'t str) -> Result<(Token<'t>, &'t str
     }
 }
 
+/// The number literal in front, of however many digits.
+#[inline(always)]
+fn long_number(text: &str) -> Result<(Token<'_>, &str), TokenFault>
+    ensures { GivesToken result (lexing.number_from (chars text.now)) }
+{
+    match digits_in_front(text) {
+        Some((digits, rest)) => number_literal(digits, rest),
+        None => Err(TokenFault::Nothing),
+    }
+}
+
+/// The digit in front, and what stands behind it.
+fn digit_in_front(text: &str) -> Option<(char, &str)>
+    ensures { lexing.PassesDigit text.now result }
+{
+    match first(text) {
+        Some((c, rest)) if c.is_ascii_digit() => Some((c, rest)),
+        _ => None,
+    }
+}
+
+/// The number of a digit and of those that stand behind it, and what stands behind them. None where
+/// the number is 10 to the power 18 or more.
+fn short_number(digit: char, text: &str) -> Option<(i64, &str)>
+    requires { is_ascii_digit digit ≡ true }
+    ensures value { IfSome result (λ x. x.0
+        ≡ pos (digits_value 10 (front_in class.Digit (digit ∷ chars text.now)))) }
+    ensures back { IfSome result (λ x. chars x.1.now
+        ≡ back_of class.Digit (digit ∷ chars text.now)) }
+{
+    let mut number = digit as u64 - 48;
+    let mut rest = text;
+    while let Some((c, behind)) = digit_in_front(rest) {
+        if number > 99_999_999_999_999_999 {
+            return None;
+        }
+        number = number * 10 + (c as u64 - 48);
+        rest = behind;
+    }
+    Some((number as i64, rest))
+}
+
+/// The number literal that begins with the digit; `rest` stands behind the digit.
+#[inline(always)]
+fn number<'t>(digit: char, rest: &'t str, text: &'t str) -> Result<(Token<'t>, &'t str), TokenFault>
+    requires digit { is_ascii_digit digit ≡ true }
+    requires split { lexing.IsSplit text.now digit rest.now }
+    ensures { GivesToken result (lexing.number_from (chars text.now)) }
+{
+    match short_number(digit, rest) {
+        Some((number, behind)) => Ok((Token::Number(number), behind)),
+        None => long_number(text),
+    }
+}
+
+/// The digits and the name of the occurrence whose `$` stood before the text, and what stands behind
+/// it.
+#[inline(never)]
+fn occurrence_in_front(text: &str) -> Option<(&str, &str, &str)>
+    ensures value { option_map (λ x. (token.Occurrence (digits_value 10 x.0.now) x.1.now, chars x.2.now)) result
+        ≡ lexing.occurrence_from (chars text.now) }
+    ensures digits { IfSome result (λ x. IsDigits x.0.now) }
+{
+    let (digits, rest) = digits_in_front(text)?;
+    let (attr, rest) = name_in_front(undotted(rest)?)?;
+    Some((digits, attr, rest))
+}
+
 /// The occurrence of these digits and this name, in front of `rest`.
+#[inline(always)]
 fn occurrence_of<'t>(
     digits: &str,
     attr: &'t str,
@@ -299,40 +394,71 @@ fn occurrence_of<'t>(
 }
 
 /// The occurrence whose `$` stood before the text.
+#[inline(always)]
 fn occurrence(text: &str) -> Result<(Token<'_>, &str), TokenFault>
     ensures { GivesToken result (lexing.occurrence_from (chars text.now)) }
 {
-    let (digits, rest) = digits_in_front(text).ok_or(TokenFault::Nothing)?;
-    let rest = undotted(rest).ok_or(TokenFault::Nothing)?;
-    let (attr, rest) = name_in_front(rest).ok_or(TokenFault::Nothing)?;
-    occurrence_of(digits, attr, rest)
+    match occurrence_in_front(text) {
+        Some((digits, attr, rest)) => occurrence_of(digits, attr, rest),
+        None => Err(TokenFault::Nothing),
+    }
 }
 
-/// The number, name or punctuation in front.
-fn plain_token(text: &str) -> Result<(Token<'_>, &str), TokenFault>
+/// The name or punctuation that begins with the character, which is no digit; `rest` stands behind
+/// the character.
+#[inline(always)]
+#[tactic(auto, using(crate::proofs::Numerals::no_digit))]
+fn plain_token<'t>(
+    c: char,
+    rest: &'t str,
+    text: &'t str,
+) -> Result<(Token<'t>, &'t str), TokenFault>
+    requires digit { is_ascii_digit c ≡ false }
+    requires split { lexing.IsSplit text.now c rest.now }
     ensures { GivesToken result (lexing.plain_from (chars text.now)) }
 {
-    if let Some((digits, rest)) = digits_in_front(text) {
-        return number_literal(digits, rest);
-    }
-    if let Some((mark, rest)) = punctuation_in_front(text) {
-        return Ok((Token::Punctuation(mark), rest));
+    if let Some((mark, behind)) = punctuation_of(c, rest) {
+        return Ok((Token::Punctuation(mark), behind));
     }
     match name_in_front(text) {
-        Some((name, rest)) => Ok((Token::Name(name), rest)),
+        Some((name, behind)) => Ok((Token::Name(name), behind)),
         None => Err(TokenFault::Nothing),
     }
 }
 
 /// The token in front, and what stands behind it. Takes no memory.
-#[tactic(auto, unfolding(crate::specs::Lexing::token_from))]
+///
+/// What is long is cut by functions that are not inlined, and answer less than a whole token. So a
+/// token is put together in registers.
+#[inline(never)]
+#[tactic(auto, using(crate::proofs::Numerals::some_digit), unfolding(crate::specs::Lexing::token_from))]
 pub fn token_in_front(text: &str) -> Result<(Token<'_>, &str), TokenFault>
     ensures { GivesToken result (lexing.token_from (chars text.now)) }
 {
     match first(text) {
         Some(('"', rest)) => text_literal(rest),
         Some(('$', rest)) => occurrence(rest),
-        Some(_) => plain_token(text),
+        Some((c, rest)) if c.is_ascii_digit() => number(c, rest, text),
+        Some((c, rest)) => plain_token(c, rest, text),
         None => Err(TokenFault::Nothing),
+    }
+}
+
+/// The token in front, and what stands behind it, where that is punctuation or a number below 10 to
+/// the power 18: what is cut without a further call. Takes no memory.
+#[inline(always)]
+#[tactic(auto, using(crate::proofs::TokenLaws::marked_token, crate::proofs::Numerals::numbered_token))]
+pub fn quick_token(text: &str) -> Option<(Token<'_>, &str)>
+    ensures { IfSome result (λ x. lexing.IsCutSo x (lexing.token_from (chars text.now))) }
+{
+    match first(text)? {
+        (c, rest) if c.is_ascii_digit() => {
+            let (number, behind) = short_number(c, rest)?;
+            Some((Token::Number(number), behind))
+        }
+        (c, rest) => {
+            let (mark, behind) = punctuation_of(c, rest)?;
+            Some((Token::Punctuation(mark), behind))
+        }
     }
 }

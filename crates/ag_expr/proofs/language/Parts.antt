@@ -1,25 +1,18 @@
 -- Parts of an expression that are read one after the other; and one level more.
-use Rattle.std.proofs.Common.{◌≡◌, ◌≢◌, ℕ, zero, suc, ◌-◌, ◌<◌, Bool, true, false, List, [], ◌∷◌, ◌++◌, length, Result, Ok, Err, refl, ap, sym, ◌∙◌, subst, arith}
+use Rattle.std.proofs.Common.{◌≡◌, ◌≢◌, ℕ, zero, suc, ◌-◌, ◌<◌, Bool, true, false, List, [], ◌∷◌, ◌++◌, length, Result, Ok, Err, ap, sym, ◌∙◌, subst, arith}
 use Rattle.ag_tokens.specs.Parsing.{sees}
 use Rattle.ag_tokens.specs.Placed.{Input}
 use Rattle.ag_tokens.specs.Token.{Token}
 use Rattle.ag_expr.proofs.reading.Turns as turns
-use Rattle.ag_expr.proofs.reading.Turns.{Going, none_further}
+use Rattle.ag_expr.proofs.reading.Turns.{Going}
 use Rattle.std.specs.Result.{IsErrAnd}
 use Rattle.ag_expr.specs.declared.fault.ExprFault.{ExprFault}
 use Rattle.ag_expr.specs.declared.fault.ExprFault.TheVariants as fault
 use Rattle.ag_grammar.specs.declared.syntax.node.Node.{Node}
 use Rattle.ag_grammar.specs.declared.syntax.occurrence.Occ.{Occ}
-use Rattle.ag_expr.specs.declared.parser.Precedence.{Precedence}
 use Rattle.ag_expr.specs.language.Names.{Names}
-use Rattle.ag_expr.specs.language.Reading.{Outcome, Parser, whole_from, expr_in, chain_from, is_operator_of, other_from}
+use Rattle.ag_expr.specs.language.Reading.{Outcome, Parser, whole_from, expr_in}
 use Rattle.ag_expr.specs.language.State.{State, Keeps, Reads, ReadsAs, everything, input}
-use Rattle.ag_expr.specs.language.Syntax.{takes_one}
-
--- an operand behind which no operator of its precedence stands is all of its chain
-pub alone : (k : Precedence) (operand : Parser Node) (i j : Input) (first : Node) → operand i ≡ Ok (first, j) → sees (is_operator_of k) j ≡ false → chain_from k operand i ≡ Ok (first, j)
-unfolding chain_from
-alone k operand i j first is none = rw (is, none_further (takes_one k) (is_operator_of k) (other_from k operand) [] j none) refl
 
 -- a fault that is answered
 pub answered : {X Y : Type 0} (view : X → Y) (read : List Occ → Names → Parser Y) (old new : State) (r : Result X ExprFault) (e : ExprFault) → IsErrAnd r (λ x. x ≡ e) → (e ≢ fault.NoMemory → read (everything old) old.scope (input old) ≡ Err e) → ReadsAs view read old r new

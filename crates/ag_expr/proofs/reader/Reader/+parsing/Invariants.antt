@@ -12,9 +12,9 @@ use Rattle.ag_expr.proofs.reader.Reader.+parsing.Given as goal
 
 -- how many calls lie between a precedence and an atom
 abbrev above : Precedence → ℕ
-above precedence.Comparison = 18
-above precedence.Join = 14
-above precedence.Sum = 10
+above precedence.Comparison = 21
+above precedence.Join = 16
+above precedence.Sum = 11
 above precedence.Product = 6
 
 abbrev pub decreases-expression : goal.decreases-expression
@@ -33,16 +33,22 @@ abbrev pub decreases-conditional : goal.decreases-conditional
 decreases-conditional l = 40 * l.levels + 2
 
 abbrev pub decreases-chain : goal.decreases-chain
-decreases-chain l = 40 * l.levels + (above l.precedence + 3)
+decreases-chain l = 40 * l.levels + 26
+
+abbrev pub decreases-chain_behind : goal.decreases-chain_behind
+decreases-chain_behind l = 40 * l.levels + (above l.precedence + 4)
+
+abbrev pub decreases-operand_behind : goal.decreases-operand_behind
+decreases-operand_behind l = 40 * l.levels + above l.precedence
 
 abbrev pub decreases-others : goal.decreases-others
-decreases-others l = 40 * l.levels + (above l.precedence + 2)
+decreases-others l = 40 * l.levels + (above l.precedence + 3)
 
 abbrev pub decreases-other : goal.decreases-other
-decreases-other l = 40 * l.levels + (above l.precedence + 1)
+decreases-other l = 40 * l.levels + (above l.precedence + 2)
 
 abbrev pub decreases-operand : goal.decreases-operand
-decreases-operand l = 40 * l.levels + above l.precedence
+decreases-operand l = 40 * l.levels + (above l.precedence + 1)
 
 abbrev pub decreases-atom : goal.decreases-atom
 decreases-atom l = 40 * l.levels + 5

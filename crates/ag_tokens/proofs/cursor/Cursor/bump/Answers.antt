@@ -1,25 +1,27 @@
-use Rattle.std.proofs.Common.{sym, ap, ◌∙◌, length, chars, Ok, Err}
-use Rattle.ag_tokens.specs.Left.{input}
+use Rattle.std.proofs.Common.{sym, ap, ◌∙◌, Err}
 use Rattle.ag_tokens.specs.Parsing.{next}
-use Rattle.ag_tokens.proofs.Lexed.{width-chars}
-use Rattle.ag_tokens.proofs.States.{front_is, narrower}
+use Rattle.ag_tokens.proofs.States.{front_is, next_is, ready}
 use Rattle.ag_tokens.proofs.cursor.Cursor.bump.Goals as goal
 
 pub invariant_of-self : goal.invariant_of-self
 invariant_of-self c =
     let given = rw c.in-Ok.is at c.self.invariant.cut_front in
-    let wide = width-chars c.skip_separators-self-inside.result.now c.skip_separators-self-inside.utf8 in
-    let within = rw (← c.self.invariant.rest_wide) at c.self.invariant.fewer in
-    record {
-      cut_front = c.token_in_front-self-inside.ensures;
-      fewer = narrower (chars c.self.inside.rest.now) c.skip_separators-self-inside.result.now (c.in-Ok.field-0-0, c.in-Ok.behind) _ given c.skip_separators-self-inside.ensures wide within;
-      rest_wide = wide;
-    }
+    ready _ c.self.inside.rest.now _ (c.in-Ok.field-0-0, c.in-Ok.behind) _ given c.self.invariant.rest_wide c.self.invariant.fewer c.skip_separators-self-inside.ensures c.skip_separators-self-inside.utf8 c.in-Some.ensures
 
-pub returns-in-Ok : goal.returns-in-Ok
-returns-in-Ok c =
+pub invariant_of-self-in-None : goal.invariant_of-self-in-None
+invariant_of-self-in-None c =
     let given = rw c.in-Ok.is at c.self.invariant.cut_front in
-    rw (← c.self.view_is) (ap (input (length c.self.inside.text.now)) c.skip_separators-self-inside.ensures ∙ sym (ap next (front_is _ _ (Ok (c.in-Ok.field-0-0, c.in-Ok.behind)) given)))
+    ready _ c.self.inside.rest.now _ (c.in-Ok.field-0-0, c.in-Ok.behind) _ given c.self.invariant.rest_wide c.self.invariant.fewer c.skip_separators-self-inside.ensures c.skip_separators-self-inside.utf8 c.token_in_front-self-inside.ensures
+
+pub returns-in-Some : goal.returns-in-Some
+returns-in-Some c =
+    let given = rw c.in-Ok.is at c.self.invariant.cut_front in
+    rw (← c.self.view_is) (next_is _ c.self.inside.rest.now _ (c.in-Ok.field-0-0, c.in-Ok.behind) given c.skip_separators-self-inside.ensures)
+
+pub returns-in-None : goal.returns-in-None
+returns-in-None c =
+    let given = rw c.in-Ok.is at c.self.invariant.cut_front in
+    rw (← c.self.view_is) (next_is _ c.self.inside.rest.now _ (c.in-Ok.field-0-0, c.in-Ok.behind) given c.skip_separators-self-inside.ensures)
 
 pub returns-in_default : goal.returns-in_default
 returns-in_default c =

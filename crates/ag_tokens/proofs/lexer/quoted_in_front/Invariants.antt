@@ -3,7 +3,7 @@ use denote.Text.{Utf8}
 use denote.Shadow.{shadow}
 use Rattle.ag_tokens.specs.Lexing.{text_from}
 use Rattle.ag_tokens.proofs.TextTurns.{Within}
-use Rattle.ag_tokens.proofs.lexer.text_literal.Given as goal
+use Rattle.ag_tokens.proofs.lexer.quoted_in_front.Given as goal
 
 abbrev pub invariant-loop-after : goal.invariant-loop-after
 invariant-loop-after l = shadow (Utf8 l.rest) × Within l.text l.rest (text_from (length (chars l.text)) [] (chars l.text))

@@ -1,7 +1,7 @@
-use Rattle.std.proofs.Common.{rules, refl, ap, ◌∙◌, chars}
+use Rattle.std.proofs.Common.{rules, refl, ap, sym, ◌∙◌, chars}
 use Rattle.ag_tokens.specs.Lexing.{unescaped}
 use Rattle.ag_tokens.proofs.TextTurns.{starts, goes_on, stopped, boundary, body_is}
-use Rattle.ag_tokens.proofs.lexer.text_literal.Goals as goal
+use Rattle.ag_tokens.proofs.lexer.quoted_in_front.Goals as goal
 
 pub loop-after-init : goal.loop-after-init
 loop-after-init c = (c.utf8.text, starts c.args.text.now)
@@ -15,7 +15,7 @@ split_at-requires c = boundary c.args.text.now c.loop-after.rest.now _ c.loop-af
 pub returns-in-Some-unquoted : goal.returns-in-Some-unquoted
 returns-in-Some-unquoted c =
     let body = ap (λ x. unescaped (chars x)) c.split_at.ensures.front ∙ body_is c.args.text.now c.loop-after.rest.now _ c.loop-after.invariant.1 c.utf8.text c.loop-after.invariant.0 in
-    (stopped c.args.text.now c.loop-after.rest.now _ c.in_default.ensures c.loop-after.invariant.1 ∙ rw (← c.in-Some-unquoted.ensures, body) refl, refl)
+    sym (stopped c.args.text.now c.loop-after.rest.now _ c.in_default.ensures c.loop-after.invariant.1 ∙ rw (← c.in-Some-unquoted.ensures, body) refl)
 
 pub returns-in-None : goal.returns-in-None
-returns-in-None c = stopped c.args.text.now c.loop-after.rest.now _ c.in_default.ensures c.loop-after.invariant.1 ∙ rw (← c.in-None.ensures) refl
+returns-in-None c = sym (stopped c.args.text.now c.loop-after.rest.now _ c.in_default.ensures c.loop-after.invariant.1 ∙ rw (← c.in-None.ensures) refl)

@@ -1,0 +1,78 @@
+-- A chain of operators by its first atom, and by what stands behind that.
+use Rattle.std.proofs.Common.{◌≡◌, Bool, true, false, ◌||◌, not, List, [], ◌∷◌, Option, Some, None, Ok, Err, refl, ap, ◌∙◌, arith, is_some}
+use Rattle.ag_tokens.specs.Parsing.{and_then, front_is, front, sees}
+use Rattle.ag_tokens.specs.Placed.{Input}
+use Rattle.ag_tokens.specs.Token.{Token}
+use Rattle.ag_expr.proofs.reading.Turns.{none_further}
+use Rattle.ag_grammar.specs.declared.syntax.node.Node.{Node}
+use Rattle.ag_grammar.specs.declared.syntax.node.Operator.{Operator}
+use Rattle.ag_expr.specs.declared.parser.Precedence.{Precedence}
+use Rattle.ag_expr.specs.declared.parser.Precedence.TheVariants as precedence
+use Rattle.ag_expr.specs.language.Chains.{chain_behind, is_among, is_operator_among, ranked_behind}
+use Rattle.ag_expr.specs.language.Reading.{Outcome, Parser, chain_from, is_operator_of, other_from, ranked_from}
+use Rattle.ag_expr.specs.language.Syntax.{binary_operator, closer, precedences, same_precedence, takes_one}
+
+-- ---- which operators are closer
+
+pub others_closer : (other : Precedence) → is_among (closer precedence.Comparison) other ≡ not (same_precedence other precedence.Comparison)
+others_closer precedence.Comparison = refl
+others_closer precedence.Join = refl
+others_closer precedence.Sum = refl
+others_closer precedence.Product = refl
+
+all_among : (other : Precedence) → is_among precedences other ≡ true
+all_among precedence.Comparison = refl
+all_among precedence.Join = refl
+all_among precedence.Sum = refl
+all_among precedence.Product = refl
+
+pub operator_among : (ks : List Precedence) (t : Token) (other : Precedence) (o : Operator) → binary_operator t ≡ Some (other, o) → is_operator_among ks t ≡ is_among ks other
+operator_among [] t other o is = refl
+operator_among (k ∷ ks) t other o is = let more = operator_among ks t other o is in grind (arith, more)
+
+pub no_operator : (ks : List Precedence) (t : Token) → binary_operator t ≡ None → is_operator_among ks t ≡ false
+no_operator [] t is = refl
+no_operator (k ∷ ks) t is = let more = no_operator ks t is in grind (arith, more)
+
+pub any_operator : (t : Token) → is_operator_among precedences t ≡ is_some (binary_operator t)
+any_operator t = go (binary_operator t) refl
+  where
+    go : (o : Option (Precedence × Operator)) → binary_operator t ≡ o → is_operator_among precedences t ≡ is_some (binary_operator t)
+    go None is = no_operator precedences t is ∙ rw is refl
+    go (Some x) is = operator_among precedences t x.0 x.1 is ∙ all_among x.0 ∙ rw is refl
+
+-- ---- the first atom
+
+in_turn : (o : Outcome Node) (f g : Node → Parser Node) → and_then (and_then o f) g ≡ and_then o (λ a j. and_then (f a j) g)
+in_turn (Ok p) f g = refl
+in_turn (Err e) f g = refl
+
+same_outcome : (o : Outcome Node) → o ≡ and_then o (λ a j. Ok (a, j))
+same_outcome (Ok p) = refl
+same_outcome (Err e) = refl
+
+-- chains are their first atom and what stands behind it
+pub by_atom : (atom : Parser Node) (ks : List Precedence) (i : Input) → ranked_from atom ks i ≡ and_then (atom i) (ranked_behind atom ks)
+unfolding ranked_from ranked_behind chain_from chain_behind
+by_atom atom [] i = same_outcome (atom i)
+by_atom atom (k ∷ ks) i = ap (λ o. and_then o (chain_behind k (ranked_from atom ks))) (by_atom atom ks i) ∙ in_turn (atom i) (ranked_behind atom ks) (chain_behind k (ranked_from atom ks))
+
+neither : (a b : Token → Bool) (o : Option Token) → front_is (λ t. a t || b t) o ≡ false → (front_is a o ≡ false) × (front_is b o ≡ false)
+neither a b None none = (refl, refl)
+neither a b (Some t) none = grind arith
+
+-- and where no operator of them stands behind it, nothing does
+only_atom : (atom : Parser Node) (ks : List Precedence) (first : Node) (j : Input) → sees (is_operator_among ks) j ≡ false → ranked_behind atom ks first j ≡ Ok (first, j)
+unfolding ranked_behind chain_behind
+only_atom atom [] first j none = refl
+only_atom atom (k ∷ ks) first j none =
+    let parts = neither (is_operator_of k) (is_operator_among ks) (front j) none in
+    rw (only_atom atom ks first j parts.1, none_further (takes_one k) (is_operator_of k) (other_from k (ranked_from atom ks)) [] j parts.0) refl
+
+pub atom_alone : (atom : Parser Node) (ks : List Precedence) (i j : Input) (first : Node) → atom i ≡ Ok (first, j) → sees (is_operator_among ks) j ≡ false → ranked_from atom ks i ≡ Ok (first, j)
+atom_alone atom ks i j first is none = by_atom atom ks i ∙ ap (λ o. and_then o (ranked_behind atom ks)) is ∙ only_atom atom ks first j none
+
+-- the same of an operand behind which no operator of its precedence stands
+pub operand_alone : (atom : Parser Node) (k : Precedence) (i j : Input) (first operand : Node) → ranked_behind atom (closer k) first i ≡ Ok (operand, j) → sees (is_operator_of k) j ≡ false → ranked_behind atom (k ∷ closer k) first i ≡ Ok (operand, j)
+unfolding ranked_behind chain_behind
+operand_alone atom k i j first operand is none = rw (is, none_further (takes_one k) (is_operator_of k) (other_from k (ranked_from atom (closer k))) [] j none) refl

@@ -1,0 +1,22 @@
+use Rattle.std.proofs.Common.{rules, arith, ap, ◌∙◌, pos}
+use Rattle.std.proofs.lemmas.Int.{to_z_pos}
+use mir.Syntax.{w64}
+use Rattle.ag_tokens.proofs.Numerals.{begins, goes_on, value_of, rest_of}
+use Rattle.ag_tokens.proofs.lexer.short_number.Goals as goal
+
+pub loop-c-init : goal.loop-c-init
+loop-c-init c = (c.utf8.text, begins c.args.digit c.args.text.now c.requires)
+
+pub loop-c-preserved : goal.loop-c-preserved
+loop-c-preserved c =
+    let so_far = c.loop-c.invariant.1 in
+    (search rules, goes_on _ c.loop-c.number c.loop-c.rest.now c.in-Some.c c.in-Some.behind.now c.in-Some.ensures.0 c.in-Some.ensures.1.0 c.if-number-gt99999999999999999.false so_far)
+
+pub returns-clause-value : goal.returns-clause-value
+returns-clause-value c =
+    let so_far = c.loop-c.invariant.1 in
+    let small = so_far.small in
+    to_z_pos w64 c.loop-c.number (omega arith) ∙ ap pos (value_of _ c.loop-c.number c.loop-c.rest.now c.in_default.ensures so_far)
+
+pub returns-clause-back : goal.returns-clause-back
+returns-clause-back c = rest_of _ c.loop-c.number c.loop-c.rest.now c.in_default.ensures c.loop-c.invariant.1
