@@ -1,10 +1,10 @@
 -- What a call that evaluates the tree of a file tells: the files that it leaves, and what its refusals say. All of this is this
 -- project's.
-use Rattle.std.specs.Prelude.{ℕ, List, [], Bool, Option}
+use Rattle.std.specs.Prelude.{ℕ, ◌≤◌, List, [], Bool, Option}
 use Rattle.ag_grammar.specs.grammars.AttributeGrammar.{Grammar}
 use Rattle.ag_grammar.specs.grammars.Passes.{Passes}
 use Rattle.ag_grammar.specs.grammars.Solution.{Valuation}
-use Rattle.ag_grammar.specs.grammars.Tree.{Tree, IsWithinLimits, most_depth, most_nodes}
+use Rattle.ag_grammar.specs.grammars.Tree.{Tree, depth_of, most_depth, most_nodes, node_count}
 use Rattle.treefile.specs.records.FirstFile.{AreFromOne}
 use Rattle.passassign.specs.Rows.{IsGreatest, passes_of}
 use Rattle.passcode.specs.Rows.{Lists}
@@ -42,12 +42,12 @@ pub record LeavesFilesOfTree (g : Grammar) (rows : List (List ℕ)) (honest_tree
 abbrev pub ShowsInFile : Grammar → List ℕ → ℕ → Type 0
 ShowsInFile g content at = (plan : List (List ℕ) × Lists) × AreFromOne (passes_of plan.0) × ShowsAt (source (setting_of g plan 1)) content at
 
--- R1: the content is the file of no tree of the grammar, and it shows at the offset. P2 and P3: of none within the limits. The others
--- say nothing of it.
+-- R1: the content is the file of no tree of the grammar, and it shows at the offset. P2: of none of so few levels. P3: of none of so
+-- few stored nodes. The others say nothing of it.
 abbrev pub IsFileFault : Grammar → List ℕ → RunFault → Type 0
 IsFileFault g content (run.Damaged at) = ((t : Tree) → IsTreeInFile g content t → ⊥) × ShowsInFile g content at
-IsFileFault g content run.TooDeep = (t : Tree) → IsTreeInFile g content t → IsWithinLimits most_depth most_nodes t → ⊥
-IsFileFault g content run.TooManyNodes = (t : Tree) → IsTreeInFile g content t → IsWithinLimits most_depth most_nodes t → ⊥
+IsFileFault g content run.TooDeep = (t : Tree) → IsTreeInFile g content t → depth_of t ≤ most_depth → ⊥
+IsFileFault g content run.TooManyNodes = (t : Tree) → IsTreeInFile g content t → node_count t ≤ most_nodes → ⊥
 IsFileFault g content run.Device = Unit {0}
 IsFileFault g content run.NoMemory = Unit {0}
 

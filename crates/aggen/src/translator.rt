@@ -215,11 +215,12 @@ impl Translator {
     /// is; with one pass the file of the pass before it is that of the tree. Nothing goes out before
     /// the last pass has ended, and `tree` is only read.
     ///
-    /// R1 where the content of `tree` is the file of pass 0 of no tree of the grammar; P2 and P3
-    /// where it is that of none within the limits; O1 NoText where the translation is no text; O2
-    /// Write where a write failed or took no byte; D1 Device where a call of a device failed. Of a
-    /// device that does not give back what was written, B1 or B2 may come. On every refusal but O2
-    /// the writer is as before.
+    /// R1 where the content of `tree` is the file of pass 0 of no tree of the grammar; P2
+    /// where it is that of none of at most `MOST_DEPTH` levels, P3 where it is that of none of at most
+    /// `MOST_NODES` stored nodes; O1 NoText where the translation is no text; O2 Write where a write
+    /// failed or took no byte; D1 Device where a call of a device failed. Of a device that does not
+    /// give back what was written, B1, B2, or R1, P2 or P3 of a later pass's file may come. On every
+    /// refusal but O2 the writer is as before.
     #[tactic(auto, using(crate::proofs::Begun::begun))]
     pub fn evaluate_tree<T: Device, D: Device, W: Write>(
         &self,
@@ -262,9 +263,10 @@ impl Translator {
     /// left, and `old` is only read. Answers the number of stored nodes.
     ///
     /// R1 where the content of `old` is the file of version 1 and pass 0 of no tree of the grammar; P2
-    /// and P3 where it is that of no tree of at most `MOST_TURNED_DEPTH` levels and `MOST_TURNED_NODES`
-    /// stored nodes (256 and 65,536); D1 where a call of a device failed. Of a `mid` that does not give back what was written, R1 or P2 may come, with
-    /// an offset in `mid`. After a refusal `to` has what it had, or a beginning of a file.
+    /// where it is that of no tree of at most `MOST_TURNED_DEPTH` levels (256), P3 where it is that of
+    /// none of at most `MOST_TURNED_NODES` stored nodes (65,536); D1 where a call of a device failed. Of
+    /// a `mid` that does not give back what was written, R1 or P2 may come, with an offset in `mid`.
+    /// After a refusal `to` has what it had, or a beginning of a file.
     pub fn upgrade<D: Device, E: Device, F: Device>(
         &self,
         old: &mut D,
@@ -274,7 +276,7 @@ impl Translator {
         // an answer: the one tree of the old file is brought over
         ensures upgraded { IfOk result (λ count. WhenHonest (D.is_honest old.old)
             (WhenHonest (E.is_honest mid.old) (IsUpgraded self.now (D.content old.old)
-            (F.is_honest to.old) (F.content to.new) count))) }
+            (E.content mid.new) (F.is_honest to.old) (F.content to.new) count))) }
         // a refusal: what it says of the old content is true
         ensures refused { IfErr result (λ e. IsOldFileFault self.now
             (D.is_honest old.old) (E.is_honest mid.old) (D.content old.old) e) }

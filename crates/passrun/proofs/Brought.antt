@@ -115,8 +115,8 @@ module _ (g : Grammar) (accepted : IsAccepted g) where
   pub no_first : (content : List ℕ) → HasNoTree version_one g unassigned 0 content → HasNoFirstTree version_one g content
   no_first content none t tree is = let texts = texts_are_given g t in none t texts.0 tree (is unassigned texts.0 unassigned_from_one texts.1)
 
-  pub no_first_within : (content : List ℕ) → HasNoTreeWithin most_levels most_records version_one g unassigned 0 content → HasNoFirstTreeWithin most_levels most_records version_one g content
-  no_first_within content none t tree within is = let texts = texts_are_given g t in none t texts.0 tree within (is unassigned texts.0 unassigned_from_one texts.1)
+  pub no_first_within : (levels nodes : ℕ) (content : List ℕ) → HasNoTreeWithin levels nodes version_one g unassigned 0 content → HasNoFirstTreeWithin levels nodes version_one g content
+  no_first_within levels nodes content none t tree within is = let texts = texts_are_given g t in none t texts.0 tree within (is unassigned texts.0 unassigned_from_one texts.1)
 
   -- the way breaks
   pub breaks_at : (content : List ℕ) (progress : Progress) (todo : ToCome) → IsAt g content progress todo → Breaks version_one g unassigned 0 todo (next_before version_one content progress.at) → IsUpgradeFault g content (fault.Damaged progress.at)
@@ -125,9 +125,9 @@ module _ (g : Grammar) (accepted : IsAccepted g) where
       (no_first content damaged.none, damaged.shown)
 
   -- or goes on too far
-  pub too_large : (content : List ℕ) (progress : Progress) (level : ℕ) (x : Child) (todo : ToCome) → IsAt g content progress ((level, x) ∷ todo) → (most_levels < level) ⊎ (most_records ≤ progress.records) → HasNoFirstTreeWithin most_levels most_records version_one g content
-  too_large content progress level x todo is so =
-      no_first_within content (way_is_too_long version_one g unassigned 0 content progress.at (length is.way.bodies) level most_levels most_records x todo (way_to (old_file g) tellable content progress.at ((level, x) ∷ todo) is.way) (subst (λ n. (most_levels < level) ⊎ (most_records ≤ n)) is.counted so))
+  pub too_large : (levels nodes : ℕ) (content : List ℕ) (progress : Progress) (level : ℕ) (x : Child) (todo : ToCome) → IsAt g content progress ((level, x) ∷ todo) → (levels < level) ⊎ (nodes ≤ progress.records) → HasNoFirstTreeWithin levels nodes version_one g content
+  too_large levels nodes content progress level x todo is so =
+      no_first_within levels nodes content (way_is_too_long version_one g unassigned 0 content progress.at (length is.way.bodies) level levels nodes x todo (way_to (old_file g) tellable content progress.at ((level, x) ∷ todo) is.way) (subst (λ n. (levels < level) ⊎ (nodes ≤ n)) is.counted so))
 
   -- or a record more was read
   pub one_more : (content : List ℕ) (before now : Progress) (level : ℕ) (x : Item) (others : ToCome) (r : OldRecord) (is : IsOf g x r) → next_before version_one content before.at ≡ Ok (Some (body_in r)) → now.at ≡ before_frame before.at (body_in r) → now.records ≡ before.records + 1
@@ -151,10 +151,10 @@ module _ (g : Grammar) (accepted : IsAccepted g) where
     here others is = subst (IsAt g content progress) (coming_one g level x others stored) is
 
     pub one_too_deep : most_levels < level → IsUnbrought g content (x ∷ []) level progress fault.TooDeep
-    one_too_deep deep others is = too_large content progress level (x, None) others (here others is) (inl deep)
+    one_too_deep deep others is = λ nodes. too_large most_levels nodes content progress level (x, None) others (here others is) (inl deep)
 
     pub one_too_many : most_records ≤ progress.records → IsUnbrought g content (x ∷ []) level progress fault.TooManyNodes
-    one_too_many many others is = too_large content progress level (x, None) others (here others is) (inr many)
+    one_too_many many others is = λ levels. too_large levels most_records content progress level (x, None) others (here others is) (inr many)
 
     -- what ends there breaks the way
     pub one_breaks : (at : ℕ) → at ≡ progress.at → ((others : ToCome) → Breaks version_one g unassigned 0 ((level, (x, None)) ∷ others) (next_before version_one content progress.at)) → IsUnbrought g content (x ∷ []) level progress (fault.Damaged at)

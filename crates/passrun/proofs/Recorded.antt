@@ -25,7 +25,7 @@ use Rattle.treefile.specs.records.TreeFile.{body_from}
 use Rattle.planchecker.specs.courses.Settings.{Setting}
 use Rattle.passrun.specs.declared.reading.record.RecordFault.{RecordFault}
 use Rattle.passrun.specs.passing.Places.{Table, copied_passes, copies, row_passes}
-use Rattle.passrun.specs.reading.Reading.{AllWell, AreTaken, AreUntaken, IsNodeBody, IsNodeRead, IsNoNode, IsNoNodeBody, IsNoRow, IsTaken, IsUntaken, one_value}
+use Rattle.passrun.specs.reading.Reading.{AllWell, AreTaken, AreUntaken, IsNodeBody, IsNodeRead, IsNoNode, IsNoNodeBody, IsNoRow, IsTaken, IsUntaken, StandInFront, one_value}
 
 -- 0 is well
 pub zero_well : IsWell (Num (pos 0))
@@ -34,6 +34,14 @@ zero_well = record {
   shallow = let d = depth-Num (pos 0) in omega arith;
   light = let w = weight-Num (pos 0) in omega arith;
 }
+
+-- values that are the same stand in front,
+pub stand_alone : (old new : List Value) → new ≡ old → StandInFront old new
+stand_alone old new same = ([], same ∙ sym (append-nil old))
+
+-- and those that stand in front of them do so of what stands behind them
+pub stand_on : (old now new : List Value) → StandInFront old now → StandInFront now new → StandInFront old new
+stand_on old now new front more = (front.0 ++ more.0, more.1 ∙ ap (λ xs. xs ++ more.0) front.1 ∙ append_assoc old front.0 more.0)
 
 not_le : (a b : ℕ) → b < a → nat_le a b ≡ false
 not_le a b h = lt-leb a b h

@@ -57,7 +57,7 @@ passes_are_told g plan k from to count evals accepted legal positive is =
 -- tree.
 pub refused_back : (g : Grammar) (plan : List (List ℕ) × Lists) (k n : ℕ) (start now before : List ℕ) → RunsPasses version_two g (passes_of plan.0) (k - 1) (n - 1) start now before → HoldsTree g (passes_of plan.0) (k - 1) start → (f : RunFault) → IsRunFault (setting_of g plan n) now f → IsRunFault (setting_of g plan k) start f
 refused_back g plan k n start now before runs held (fault.Damaged at) damaged = absurd (refusal_goes_back version_two g (passes_of plan.0) (k - 1) (n - 1) start now before runs damaged.none held.tree held.values held.is_tree held.file)
-refused_back g plan k n start now before runs held fault.TooDeep none = refusal_within_goes_back most_depth most_nodes version_two g (passes_of plan.0) (k - 1) (n - 1) start now before runs none
-refused_back g plan k n start now before runs held fault.TooManyNodes none = refusal_within_goes_back most_depth most_nodes version_two g (passes_of plan.0) (k - 1) (n - 1) start now before runs none
+refused_back g plan k n start now before runs held fault.TooDeep none = λ nodes. refusal_within_goes_back most_depth nodes version_two g (passes_of plan.0) (k - 1) (n - 1) start now before runs (none nodes)
+refused_back g plan k n start now before runs held fault.TooManyNodes none = λ depth. refusal_within_goes_back depth most_nodes version_two g (passes_of plan.0) (k - 1) (n - 1) start now before runs (none depth)
 refused_back g plan k n start now before runs held fault.Device none = tt
 refused_back g plan k n start now before runs held fault.NoMemory none = tt

@@ -192,7 +192,7 @@ module _ (g : Grammar) (accepted : IsAccepted g) where
     turned_fault turn_fault.NoMemory so = tt
 
     -- into the file of version 2
-    pub turned_tree : (count : ℕ) → TurnTold (rank_of (stored_count g)) 0 mid honest turned (Ok count) → IsUpgraded g content honest turned count
+    pub turned_tree : (count : ℕ) → TurnTold (rank_of (stored_count g)) 0 mid honest turned (Ok count) → IsUpgraded g content mid honest turned count
     turned_tree count so =
         let it = told (Ok count) so in
         record {
@@ -201,6 +201,7 @@ module _ (g : Grammar) (accepted : IsAccepted g) where
           within = is.within;
           from = is.from;
           only = λ another fits file. first_tree content another is.tree fits is.fits file is.from;
+          halfway = is.to refl;
           to = λ h. is_first_file version_two g is.tree turned is.fits (it.2 h);
           nodes = it.1 ∙ same_count version_two is.tree;
         }

@@ -71,12 +71,16 @@ pub record HasRunAll (g : Grammar) (m : Passes) (k last : ℕ) (start : List ℕ
   pub fresh : last ≡ k → last_content which a b ≡ start
   pub nothing : last ≡ k → (which ≡ A) × (evals ≡ 0) × (sum ≡ record { nodes = 0; read = 0; written = 0 })
 
--- What a refusal leaves of passes behind pass k, from a start: some of them ran, up to one whose file is still on the device that
--- the next one read; and the other device has what it had then, or a beginning of the file of the next one.
-pub record LeavesRound (g : Grammar) (m : Passes) (k : ℕ) (start a b : List ℕ) : Type 0 where
+-- What a refusal leaves of passes behind pass k, from what the first device (a) and the second one (b) had: some of them ran, maybe
+-- none, up to one whose file is still on the device that the next one read; and the other device has what it had then, or a beginning
+-- of a file of the next one. Where one ran, the first content is the file of a tree within the limits; where none did, the first
+-- device is the one that was read, with what it had, whatever that is.
+pub record LeavesRound (g : Grammar) (m : Passes) (k : ℕ) (a b a_new b_new : List ℕ) : Type 0 where
   pub done : ℕ
   pub which : Last
   pub before : List ℕ
   pub far : k ≤ done
-  pub runs : RunsPasses version_two g m k done start (last_content which a b) before
-  pub left : LeavesBeginning (done + 1) before (other_content which a b)
+  pub runs : RunsPasses version_two g m k done a (last_content which a_new b_new) before
+  pub held : k < done → HoldsTree g m k a
+  pub none : done ≡ k → (which ≡ A) × (a_new ≡ a) × (before ≡ b)
+  pub left : LeavesBeginning (done + 1) before (other_content which a_new b_new)

@@ -32,22 +32,24 @@ abbrev pub old_file : Grammar → Source
 old_file g = record { version = version_one; grammar = g; passes = unassigned; pass = 0 }
 
 -- The old content is the file of version 1 and pass 0 of exactly one tree, which is within the limits and has so many nodes; the new
--- one is that of version 2 of the same tree, where an honest device has it.
-pub record IsUpgraded (g : Grammar) (content : List ℕ) (honest : Bool) (upgraded : List ℕ) (count : ℕ) : Type 0 where
+-- one is that of version 2 of the same tree, where an honest device has it; and the one between is a file with the number 1 of its
+-- records of version 2, from right to left.
+pub record IsUpgraded (g : Grammar) (content between : List ℕ) (honest : Bool) (upgraded : List ℕ) (count : ℕ) : Type 0 where
   pub tree : Tree
   pub fits : IsTreeOf g tree
   pub within : IsWithinLimits most_levels most_records tree
   pub from : IsFirstFile version_one g tree content
   pub only : (another : Tree) → IsTreeOf g another → IsFirstFile version_one g another content → another ≡ tree
+  pub halfway : between ≡ file version_two 1 (postfix RightToLeft (first_bodies version_two tree))
   pub to : WhenHonest honest (IsFirstFile version_two g tree upgraded)
   pub nodes : count ≡ node_count tree
 
--- R1: the content is the file of version 1 and pass 0 of no tree, and it shows at the offset. P2 and P3: it is that of none within
--- the limits. The other refusals say nothing of it.
+-- R1: the content is the file of version 1 and pass 0 of no tree, and it shows at the offset. P2: it is that of none of so few
+-- levels, however many nodes it has. P3: of none of so few stored nodes, however deep it is. The other refusals say nothing of it.
 abbrev pub IsUpgradeFault : Grammar → List ℕ → RunFault → Type 0
 IsUpgradeFault g content (fault.Damaged at) = HasNoFirstTree version_one g content × ShowsAt (old_file g) content at
-IsUpgradeFault g content fault.TooDeep = HasNoFirstTreeWithin most_levels most_records version_one g content
-IsUpgradeFault g content fault.TooManyNodes = HasNoFirstTreeWithin most_levels most_records version_one g content
+IsUpgradeFault g content fault.TooDeep = (nodes : ℕ) → HasNoFirstTreeWithin most_levels nodes version_one g content
+IsUpgradeFault g content fault.TooManyNodes = (levels : ℕ) → HasNoFirstTreeWithin levels most_records version_one g content
 IsUpgradeFault g content fault.Device = Unit {0}
 IsUpgradeFault g content fault.NoMemory = Unit {0}
 

@@ -110,14 +110,15 @@ fn one_more(sum: Passed, passed: Passed) -> Passed
 ///
 /// The first pass that is refused ends the run, with the refusal of `run_pass`. R1 Damaged where the
 /// file on `a` is one that pass `first` - 1 leaves of no tree of the grammar, with the offset of
-/// what tells it. P2 TooDeep and P3 TooManyNodes where it is that of no tree of at most
-/// `MOST_DEPTH` levels and `MOST_NODES` stored nodes. D1 Device where a call of one of the devices failed. NoMemory where a
-/// growth was refused.
+/// what tells it. P2 TooDeep where it is that of no tree of at most `MOST_DEPTH`
+/// levels, P3 TooManyNodes where it is that of none of at most `MOST_NODES` stored nodes. D1 Device
+/// where a call of one of the devices failed. NoMemory where a growth was refused.
 ///
 /// What `b` has is overwritten by the first pass, and the file on `a` by the second one: it is kept
-/// where one pass runs at most. After a refusal the device that the pass reads from still has the
-/// file of the pass before, and the other what it had, or a beginning of a tree file. Takes the
-/// memory of one pass at a time.
+/// where one pass runs at most. After a refusal the device that the refused pass reads from still
+/// has what it read, which for each pass behind the first is the file of the pass before; the other
+/// device has what it had when that pass began, or a beginning of a tree file. Takes the memory of
+/// one pass at a time.
 pub fn run_all<D: Device>(
     alloc: Global,
     grammar: &Grammar,
@@ -139,10 +140,10 @@ pub fn run_all<D: Device>(
     ensures refused { IfErr result (λ f. WhenHonest (D.is_honest a.old)
         (WhenHonest (D.is_honest b.old)
         (IsRunFault (setting_of grammar.now plan.now first) (D.content a.old) f))) }
-    // the device that the refused pass read has its file, and the other what it had, or a beginning
+    // what the refused pass read still stands; the other device has what it had, or a beginning
     ensures left { OnErr result (WhenHonest (D.is_honest a.old) (WhenHonest (D.is_honest b.old)
         (LeavesRound grammar.now (passes_of plan.now.0) (first - 1) (D.content a.old)
-        (D.content a.new) (D.content b.new)))) }
+        (D.content b.old) (D.content a.new) (D.content b.new)))) }
     // whatever the devices give back
     ensures few { IfOk result (λ r. (r.1.nodes ≤ most_nodes)
         × (r.1.read ≤ 2 ^ 36) × (r.1.written ≤ 2 ^ 36)) }

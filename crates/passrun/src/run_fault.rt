@@ -9,18 +9,19 @@ use backreader::TurnFault;
 use std::alloc::{AllocError, AllocFailed};
 use treefile::{FrameFault, WriteFault};
 
-/// Why a pass did not run to its end. The second device has then what it had before, or a beginning
-/// of a tree file.
+/// Why a pass, all passes or an upgrade did not go to the end. Each call tells what its devices have
+/// then.
 #[derive(Clone, Copy, Debug, PartialEq, Eq)]
 pub enum RunFault {
     /// R1: the file is one that the pass before leaves of no tree of the grammar. The offset in
     /// bytes is 0 where it begins as no tree file, 4 where it is that of another pass, else the end
     /// of the frame that tells it, or the place at which one should end.
     Damaged(u64),
-    /// P2: it is that of no tree of at most `MOST_DEPTH` levels and `MOST_NODES` stored nodes, of
-    /// `upgrade` `MOST_TURNED_DEPTH` and `MOST_TURNED_NODES`: a record would stand one level deeper.
+    /// P2: it is that of no tree of at most `MOST_DEPTH` levels, of `upgrade` `MOST_TURNED_DEPTH`: a
+    /// record would stand one level deeper.
     TooDeep,
-    /// P3: it is that of no tree of at most as many levels and stored nodes: a record would be one more.
+    /// P3: it is that of no tree of at most `MOST_NODES` stored nodes, of `upgrade` `MOST_TURNED_NODES`:
+    /// a record would be one more.
     TooManyNodes,
     /// D1: a call of one of the devices failed.
     Device,

@@ -229,13 +229,15 @@ fn stored_among(items: &[Item]) -> u32
 /// of the first device, and leaves on the third one the file of version 2 and pass 0 of the same tree,
 /// the one that `parse` writes of a sentence with this tree. The second device has then the same
 /// records from right to left. Answers the number of stored nodes. It recurses over at most
-/// `MOST_LEVELS` levels, 256. The first device keeps its content, also on a refusal; what the others had is taken away.
+/// `MOST_LEVELS` levels, 256. The first device keeps its content, also on a
+/// refusal; on an answer what the others had is taken away.
 ///
 /// R1 Damaged where the content is the file of version 1 and pass 0 of no tree of the grammar, with the
-/// offset in it where that shows, as a pass tells it. P2 TooDeep and P3 TooManyNodes where it is that of
-/// no tree of at most `MOST_LEVELS` levels and `MOST_RECORDS` stored nodes (256 and 65,536). D1 Device where a call of a device failed.
-/// What can't be read back of the second device, which an honest one never shows, is R1 with the
-/// offset in it, or P2. After a refusal the third device has what it had, or a beginning of a file.
+/// offset in it where that shows, as a pass tells it. P2 TooDeep where it is that of no tree of at most
+/// `MOST_LEVELS` levels (256), P3 TooManyNodes where it is that of none of at most `MOST_RECORDS` stored
+/// nodes (65,536). D1 Device where a call of a device failed. NoMemory where a growth was refused. What
+/// can't be read back of the second device, which an honest one never shows, is R1 with the offset in
+/// it, or P2. After a refusal the third device has what it had, or a beginning of a file.
 ///
 /// Takes memory for two buffers, for the texts of the tokens of each node on the way, and for a body on
 /// each level.
@@ -246,10 +248,10 @@ pub fn upgrade<D: Device, E: Device, F: Device>(
     mid: &mut E,
     to: &mut F,
 ) -> Result<u32, RunFault>
-    // an answer: the tree is brought over
+    // an answer: the tree is brought over, by way of its records from right to left
     ensures upgraded { IfOk result (λ count. WhenHonest (D.is_honest old.old)
         (WhenHonest (E.is_honest mid.old) (IsUpgraded grammar.now (D.content old.old)
-        (F.is_honest to.old) (F.content to.new) count))) }
+        (E.content mid.new) (F.is_honest to.old) (F.content to.new) count))) }
     // a refusal: what it says of the old content is true
     ensures refused { IfErr result (λ f. WhenHonest (D.is_honest old.old)
         (WhenHonest (E.is_honest mid.old) (IsUpgradeFault grammar.now (D.content old.old) f))) }

@@ -139,8 +139,8 @@ module _ (c : Setting) (sound : IsSound c) where
       → IsUnfetched c x open_count content state f → IsRunFault c content f
   unfetched x copy n content state todo (fault.Damaged at) readable h count (same, missing) =
       subst (IsDamaged (source c) content) (sym same) (broken (source c) (tellable c sound) content state.progress.at readable ((suc n, (x, copy)) ∷ todo, h, missing_breaks x copy (suc n) todo (next_before version_two content state.progress.at) missing))
-  unfetched x copy n content state todo fault.TooDeep readable h count deep = way_is_too_long version_two c.grammar c.passes c.read content state.progress.at (length h.bodies) (suc n) most_depth most_nodes (x, copy) todo (way_to (source c) (tellable c sound) content state.progress.at ((suc n, (x, copy)) ∷ todo) h) (inl (omega arith))
-  unfetched x copy n content state todo fault.TooManyNodes readable h count many = way_is_too_long version_two c.grammar c.passes c.read content state.progress.at (length h.bodies) (suc n) most_depth most_nodes (x, copy) todo (way_to (source c) (tellable c sound) content state.progress.at ((suc n, (x, copy)) ∷ todo) h) (inr (omega arith))
+  unfetched x copy n content state todo fault.TooDeep readable h count deep = λ nodes. way_is_too_long version_two c.grammar c.passes c.read content state.progress.at (length h.bodies) (suc n) most_depth nodes (x, copy) todo (way_to (source c) (tellable c sound) content state.progress.at ((suc n, (x, copy)) ∷ todo) h) (inl (omega arith))
+  unfetched x copy n content state todo fault.TooManyNodes readable h count many = λ depth. way_is_too_long version_two c.grammar c.passes c.read content state.progress.at (length h.bodies) (suc n) depth most_nodes (x, copy) todo (way_to (source c) (tellable c sound) content state.progress.at ((suc n, (x, copy)) ∷ todo) h) (inr (omega arith))
   unfetched x copy n content state todo fault.Device readable h count u = tt
   unfetched x copy n content state todo fault.NoMemory readable h count u = tt
 

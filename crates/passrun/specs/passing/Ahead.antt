@@ -43,12 +43,12 @@ coming c q Between i child e of_child level others = behind c q e i level others
 coming c q Got i child e of_child level others = of_node c (slice_get c.grammar.productions child) of_child (suc level) (behind c q e (suc i) level others)
 coming c q Gone i child e of_child level others = behind c q e (suc i) level others
 
--- R1: the content is the file of no tree, and it shows at the offset. P2 and P3: it is that of none within the limits. The other
--- refusals say nothing of it.
+-- R1: the content is the file of no tree, and it shows at the offset. P2: it is that of none of so few levels, however many nodes
+-- it has. P3: of none of so few stored nodes, however deep it is. The other refusals say nothing of it.
 abbrev pub IsRunFault : Setting → List ℕ → RunFault → Type 0
 IsRunFault c content (fault.Damaged at) = IsDamaged (source c) content at
-IsRunFault c content fault.TooDeep = HasNoTreeWithin most_depth most_nodes version_two c.grammar c.passes c.read content
-IsRunFault c content fault.TooManyNodes = HasNoTreeWithin most_depth most_nodes version_two c.grammar c.passes c.read content
+IsRunFault c content fault.TooDeep = (nodes : ℕ) → HasNoTreeWithin most_depth nodes version_two c.grammar c.passes c.read content
+IsRunFault c content fault.TooManyNodes = (depth : ℕ) → HasNoTreeWithin depth most_nodes version_two c.grammar c.passes c.read content
 IsRunFault c content fault.Device = Unit {0}
 IsRunFault c content fault.NoMemory = Unit {0}
 

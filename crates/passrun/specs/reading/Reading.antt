@@ -20,6 +20,10 @@ use Rattle.passrun.specs.passing.Places.{Table, copied_passes, copies}
 abbrev pub one_value : ℕ → ℕ → Value → List Value
 one_value k pass value = if nat_le pass k then value ∷ [] else []
 
+-- The old values still stand in front, and others maybe behind them.
+abbrev pub StandInFront : (old new : List Value) → Type 0
+StandInFront old new = (more : List Value) × (new ≡ old ++ more)
+
 -- A value was taken for an attribute of a pass, from the bytes where it is of the passes so far; the values in the row are those
 -- up to the pass that is written, with anything for an attribute of this one.
 pub record IsTaken (read write pass : ℕ) (bytes rest : List ℕ) (old new : List Value) : Type 0 where

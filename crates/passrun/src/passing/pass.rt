@@ -72,10 +72,10 @@ pub(crate) fn run_job<D: Device, E: Device>(
 ///
 /// R1 Damaged where the first file is one that the pass before leaves of no tree of the grammar,
 /// with the offset of what tells it: 0 where it begins as no tree file, 4 where it is that of
-/// another pass, else the end of a frame. P2 TooDeep and P3 TooManyNodes where it is that of no tree
-/// of at most `MOST_DEPTH` levels and `MOST_NODES` stored nodes: P2 before a record one level deeper is
-/// read, P3 before one more. D1 Device where a call of one of the devices failed. NoMemory where a
-/// growth was refused.
+/// another pass, else the end of the frame that tells it, or the place at which one should end. P2
+/// TooDeep where it is that of no tree of at most `MOST_DEPTH` levels, P3 TooManyNodes where it is that
+/// of none of at most `MOST_NODES` stored nodes: P2 before a record one level deeper is read, P3 before
+/// one more. D1 Device where a call of one of the devices failed. NoMemory where a growth was refused.
 ///
 /// The first device is only read. After a refusal the second has what it had, or a beginning of a
 /// tree file. Takes memory for the slots of the grammar's rules, a buffer of 4,096 bytes or of the

@@ -3,7 +3,7 @@
 ghost use Rattle.std.specs.Prelude.{◌≡◌, ◌≤◌, ◌-◌, [], IfOk, IfSome, IsErrOf, None, OnOk, length};
 ghost use Rattle.passrun.specs.laid.Jobs.{CanRun, setting};
 ghost use Rattle.passrun.specs.reading.Reading.{AreTaken, AreUntaken, IsNoNodeBody, IsNoRow, IsNodeBody};
-ghost use Rattle.passrun.specs.reading.Reading.{IsTaken, IsUntaken, IsNodeRead, IsNoNode};
+ghost use Rattle.passrun.specs.reading.Reading.{IsTaken, IsUntaken, IsNodeRead, IsNoNode, StandInFront};
 ghost use Rattle.passrun.specs.reading.Reading.{IsTextOf, IsTokenRead, IsNoToken, IsRead, IsNoRecord};
 ghost use Rattle.passrun.specs.declared.reading.record.RecordFault.TheVariants as record_fault;
 ghost use Rattle.passrun.specs.Faults.{record_fault_of};
@@ -76,6 +76,7 @@ fn take_value<'b>(
     ensures taken { IfOk result (λ rest. IsTaken (k - 1) k pass bytes.now rest.now
         values.old.items values.new.items) }
     ensures untaken { IsErrOf result RecordFault.Damaged → IsUntaken (k - 1) pass bytes.now }
+    ensures front { StandInFront values.old.items values.new.items }
 {
     if pass < k {
         let (value, length) = decode(alloc, bytes)?;
@@ -103,6 +104,7 @@ fn take_values<'b>(
         values.old.items values.new.items) }
     ensures untaken { IsErrOf result RecordFault.Damaged
         → AreUntaken (k - 1) passes.now bytes.now }
+    ensures front { StandInFront values.old.items values.new.items }
 {
     let mut rest = bytes;
     for pass in passes {
@@ -123,6 +125,7 @@ fn take_row(
     ensures taken { OnOk result (AreTaken (k - 1) k passes.now bytes.now []
         values.old.items values.new.items) }
     ensures none { IsErrOf result RecordFault.Damaged → IsNoRow (k - 1) passes.now bytes.now }
+    ensures front { StandInFront values.old.items values.new.items }
 {
     let rest = take_values(alloc, passes, k, bytes, values)?;
     if !rest.is_empty() {
@@ -158,8 +161,8 @@ pub(crate) fn node_in<'b>(grammar: &Grammar, symbol: u16, body: &'b [u8]) -> Opt
 /// Damaged where the body is no record of a node of the symbol in the file of that pass: of a
 /// production of it, with as many well values as it has attributes of passes before k and its
 /// children have in copies, and with no bytes behind them. NoMemory where a growth was refused. After
-/// a refusal the values have a beginning of a row more, or none. Takes memory for what is read, and
-/// for the passes of the production's values.
+/// a refusal the values that were there still stand in front, and behind them maybe others. Takes
+/// memory for what is read, and for the passes of the production's values.
 pub fn read_node(
     alloc: Global,
     grammar: &Grammar,
@@ -174,6 +177,7 @@ pub fn read_node(
         body.now values.old.items values.new.items) }
     ensures none { IsErrOf result RecordFault.Damaged →
         IsNoNode (setting_of grammar.now plan.now k) symbol body.now }
+    ensures front { StandInFront values.old.items values.new.items }
 {
     let Some((number, spellings)) = node_in(grammar, symbol, body) else {
         return Err(RecordFault::Damaged);

@@ -3,7 +3,9 @@ use Rattle.std.proofs.lemmas.Result.{err_from_is_err_and}
 use Rattle.passassign.specs.Rows.{passes_of}
 use Rattle.treefile.specs.Runs.{RunsPasses}
 use Rattle.treefile.specs.records.TreeFile.{version_two}
-use Rattle.passrun.specs.Rounds.{HasRunAll, other_content}
+use Rattle.passrun.specs.Rounds.{HasRunAll, last_content, other_content}
+use Rattle.passrun.specs.declared.last.Last.{Last}
+use Rattle.passrun.specs.declared.last.Last.TheVariants.{A}
 use Rattle.passrun.proofs.Stepping.{all_goes_on, all_refused, all_starts, greatest_most, persists_on, persists_still}
 use Rattle.passrun.proofs.passes.run_all.Goals as goal
 
@@ -22,6 +24,7 @@ loop-done-init g c =
       nodes = omega arith;
       read = omega arith;
       written = omega arith;
+      far = λ same. refl;
       runs = λ ha hb. all_starts c.args.grammar.now (passes_of c.args.plan.now.0) (c.args.first - 1) (c.args.first - 1) (g.D.Device.content c.args.a.now) (g.D.Device.content c.args.b.now) (c.args.meter.now - c.args.meter.now) refl (omega arith);
     }
 
@@ -50,6 +53,7 @@ loop-done-preserved g c =
       nodes = rw sum few;
       read = rw sum (omega arith);
       written = rw sum (omega arith);
+      far = λ same. absurd (omega arith);
       runs = λ ha hb.
           let next : c.loop-done.done + 1 ≡ suc c.loop-done.done = omega arith in
           let total : c.next_pass.new.meter - c.args.meter.now ≡ (c.loop-done.meter - c.args.meter.now) + (c.next_pass.new.meter - c.loop-done.meter) = omega arith in
@@ -88,11 +92,16 @@ returns-in_err-passed-clause-left g c =
     rw p.1 (λ ha hb.
     let is = old.a_persists.honest ∙ ha in
     let too = old.b_persists.honest ∙ hb in
+    let ran = old.runs ha hb in
     record {
       done = c.loop-done.done;
       which = last;
       before = other_content last a b;
       far = old.low;
-      runs = subst (λ (now : List ℕ). RunsPasses version_two c.args.grammar.now (passes_of c.args.plan.now.0) (c.args.first - 1) c.loop-done.done (g.D.Device.content c.args.a.now) now (other_content last a b)) (sym (kept is too)) (old.runs ha hb).runs;
+      runs = subst (λ (now : List ℕ). RunsPasses version_two c.args.grammar.now (passes_of c.args.plan.now.0) (c.args.first - 1) c.loop-done.done (g.D.Device.content c.args.a.now) now (other_content last a b)) (sym (kept is too)) ran.runs;
+      held = ran.held;
+      none = λ same.
+          let first : last ≡ A = (ran.nothing same).0 in
+          (first, subst (λ (w : Last). last_content w (g.D.Device.content c.next_pass.new.a) (g.D.Device.content c.next_pass.new.b) ≡ g.D.Device.content c.args.a.now) first (kept is too ∙ ran.fresh same), subst (λ (w : Last). other_content w a b ≡ g.D.Device.content c.args.b.now) (sym first) (old.far same));
       left = left is too;
     })

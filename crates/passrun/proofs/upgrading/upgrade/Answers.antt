@@ -1,6 +1,6 @@
-use Rattle.std.proofs.Common.{Bool, subst, ◌∙◌}
+use Rattle.std.proofs.Common.{Bool, List, ℕ, subst, sym, ◌∙◌}
 use Rattle.std.proofs.lemmas.Result.{err_from_is_err_and}
-use Rattle.passrun.specs.Upgrading.{IsBrought}
+use Rattle.passrun.specs.Upgrading.{IsBrought, IsUpgraded}
 use Rattle.passrun.proofs.Upgraded.{turned_fault, turned_tree}
 use Rattle.passrun.proofs.upgrading.upgrade.Goals as goal
 
@@ -18,4 +18,5 @@ returns-clause-upgraded g c honest mid_honest =
     let grammar = c.args.grammar.now in
     let content = g.D.Device.content c.args.old.now in
     let mid = g.E.Device.content c.bring.new.to in
-    turned_tree grammar c.in_ok-bring.ensures.accepted content mid (g.F.Device.is_honest c.args.to.now) (g.F.Device.content c.turn.new.to) (subst (λ (b : Bool). IsBrought grammar content b mid) mid_honest (c.in_ok-bring.ensures.brought honest)) c.in_ok-count.count (c.in_ok-count.ensures.told (c.in_ok-bring.ensures.devices.second.honest ∙ mid_honest))
+    subst (λ (between : List ℕ). IsUpgraded grammar content between (g.F.Device.is_honest c.args.to.now) (g.F.Device.content c.turn.new.to) c.in_ok-count.count) (sym (c.turn.ensures.content (c.in_ok-bring.ensures.devices.second.honest ∙ mid_honest)))
+    (turned_tree grammar c.in_ok-bring.ensures.accepted content mid (g.F.Device.is_honest c.args.to.now) (g.F.Device.content c.turn.new.to) (subst (λ (b : Bool). IsBrought grammar content b mid) mid_honest (c.in_ok-bring.ensures.brought honest)) c.in_ok-count.count (c.in_ok-count.ensures.told (c.in_ok-bring.ensures.devices.second.honest ∙ mid_honest)))

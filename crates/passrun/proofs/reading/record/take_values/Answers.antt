@@ -1,6 +1,6 @@
 use Rattle.std.proofs.Common.{ℕ, ◌≡◌, ◌+◌, ◌-◌, ◌∷◌, List, drop, get_or, refl, subst, sym}
 use Rattle.passrun.specs.reading.Reading.{AreTaken, AreUntaken}
-use Rattle.passrun.proofs.Recorded.{more_taken, none_taken, no_passes_from, others_untaken, passes_from}
+use Rattle.passrun.proofs.Recorded.{more_taken, none_taken, no_passes_from, others_untaken, passes_from, stand_on}
 use Rattle.passrun.proofs.reading.record.take_values.Goals as goal
 
 pub loop-pass-preserved : goal.loop-pass-preserved
@@ -16,6 +16,7 @@ loop-pass-preserved c =
           (more_taken read c.args.k (get_or ps i 0) behind c.loop-pass.rest.now c.in_ok-rest.rest.now left c.loop-pass.values.items c.take_value.new.values.items new one more));
       untaken = λ nothing. c.loop-pass.invariant.untaken (subst (λ (qs : List ℕ). AreUntaken read qs c.loop-pass.rest.now) all
           (others_untaken read c.args.k (get_or ps i 0) behind c.loop-pass.rest.now c.in_ok-rest.rest.now c.loop-pass.values.items c.take_value.new.values.items one nothing));
+      front = stand_on c.args.values.now.items c.loop-pass.values.items c.take_value.new.values.items c.loop-pass.invariant.front c.take_value.ensures.front;
     }
 
 pub returns-clause-taken : goal.returns-clause-taken
