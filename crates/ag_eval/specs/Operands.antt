@@ -1,5 +1,5 @@
 -- What stands for the values of operands while an expression is evaluated. All of this is this project's.
-use Rattle.std.specs.Prelude.{ℕ, ◌<◌, Bool, true, false, List, length, map, slice_get}
+use Rattle.std.specs.Prelude.{ℕ, ◌≡◌, ◌<◌, Bool, true, false, List, length, map, slice_get}
 use Rattle.ag_value.specs.declared.value.Value.{Value}
 use Rattle.ag_eval.specs.declared.operand.Held.{Held}
 use Rattle.ag_eval.specs.declared.operand.Held.TheVariants as held
@@ -23,6 +23,10 @@ is_lent (held.Owned v) = false
 abbrev pub operand_value : List Value → Operand → Value
 operand_value bound (operand.Held h) = held_value h
 operand_value bound (operand.Bound k) = bound_value (slice_get bound k)
+
+-- an operand has the value that a function gives for those of two others
+abbrev pub Gives : List Value → (Value → Value → Value) → (first second : Operand) → Operand → Type 0
+Gives bound f first second result = operand_value bound result ≡ f (operand_value bound first) (operand_value bound second)
 
 -- there is a binding with its number, where it is one
 abbrev pub IsIn : List Value → Operand → Type 0

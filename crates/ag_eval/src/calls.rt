@@ -4,7 +4,8 @@ ghost use Rattle.std.specs.Prelude.{◌≡◌, ◌≢◌, IfOk, IfSome, None};
 ghost use Rattle.ag_value.specs.Well.{IsWell};
 ghost use Rattle.ag_value.specs.declared.value.Value.TheVariants as value;
 ghost use Rattle.ag_eval.specs.declared.operand.Held.{Held as HeldValue};
-ghost use Rattle.ag_eval.specs.Operands.{IsIn, held_value, operand_value};
+ghost use Rattle.ag_eval.specs.Growing.{grown};
+ghost use Rattle.ag_eval.specs.Operands.{Gives, IsIn, held_value, operand_value};
 ghost use Rattle.ag_grammar.specs.values.Arguments.{fault_of};
 ghost use Rattle.ag_grammar.specs.values.Calls.{called, called_with, put};
 ghost use Rattle.ag_grammar.specs.values.Lists.{appended, concatenated};
@@ -49,13 +50,11 @@ pub fn apply<'e>(
 ) -> Result<Operand<'e>, NoMemory>
     requires left { IsIn bindings.now left }
     requires right { IsIn bindings.now right }
-    ensures value { IfOk result (λ o. operand_value bindings.now o
-        ≡ applied operator (operand_value bindings.now left.entry)
-        (operand_value bindings.now right.entry)) }
+    ensures value { IfOk result (Gives bindings.now (applied operator) left.entry right.entry) }
     ensures within { IfOk result (λ o. IsIn bindings.now o) }
 {
     if operator == Operator::Join {
-        return concatenate(alloc, left, right, bindings);
+        return grow(alloc, Growth::Join, left, right, bindings);
     }
     Ok(made(calculate(operator, left.get(&*bindings), right.get(&*bindings))))
 }
@@ -107,26 +106,39 @@ pub fn reckoned(operator: Operator, left: &Value, right: &Value) -> Option<Value
     }
 }
 
-/// `a ++ b`: the left operand grows, and is copied before where it is lent or bound. What is in the
-/// right one is moved, or copied where it is lent or bound.
-fn concatenate<'e>(
+/// What grows its first operand by what is in the second one.
+#[derive(Clone, Copy)]
+pub(crate) enum Growth {
+    /// `a ++ b`
+    Join,
+    /// `append(l, v)`
+    Append,
+}
+
+/// The first operand, which has grown: it is copied before where it is lent or bound. What is in the
+/// second one is moved, or copied where it is lent or bound.
+#[tactic(auto, using(crate::proofs::Arguments::no_faults))]
+fn grow<'e>(
     alloc: Global,
-    left: Operand<'e>,
-    right: Operand<'e>,
+    growth: Growth,
+    first: Operand<'e>,
+    second: Operand<'e>,
     bindings: &Bindings<'e>,
 ) -> Result<Operand<'e>, NoMemory>
-    requires left { IsIn bindings.now left }
-    requires right { IsIn bindings.now right }
-    ensures value { IfOk result (λ o. operand_value bindings.now o
-        ≡ applied Operator.Join (operand_value bindings.now left.entry)
-        (operand_value bindings.now right.entry)) }
+    requires first { IsIn bindings.now first }
+    requires second { IsIn bindings.now second }
+    ensures value { IfOk result (Gives bindings.now (grown growth) first.entry second.entry) }
     ensures within { IfOk result (λ o. IsIn bindings.now o) }
 {
-    if let Some(code) = fault_of_two(left.get(&*bindings), right.get(&*bindings)) {
+    if let Some(code) = fault_of_two(first.get(&*bindings), second.get(&*bindings)) {
         return Ok(fault(code));
     }
-    let left = left.into_owned(alloc, &*bindings)?;
-    Ok(Operand::owned(extended(alloc, left, right, bindings)?))
+    let first = first.into_owned(alloc, &*bindings)?;
+    let whole = match growth {
+        Growth::Join => extended(alloc, first, second, bindings)?,
+        Growth::Append => append(first, second.into_owned(alloc, &*bindings)?)?,
+    };
+    Ok(Operand::owned(whole))
 }
 
 /// A value that has grown by what is in an operand.
@@ -192,13 +204,11 @@ pub fn call_binary<'e>(
 ) -> Result<Operand<'e>, NoMemory>
     requires first { IsIn bindings.now first }
     requires second { IsIn bindings.now second }
-    ensures value { IfOk result (λ o. operand_value bindings.now o
-        ≡ called_with call (operand_value bindings.now first.entry)
-        (operand_value bindings.now second.entry)) }
+    ensures value { IfOk result (Gives bindings.now (called_with call) first.entry second.entry) }
     ensures within { IfOk result (λ o. IsIn bindings.now o) }
 {
     match call {
-        BinaryCall::Append => append_to(alloc, first, second, bindings),
+        BinaryCall::Append => grow(alloc, Growth::Append, first, second, bindings),
         BinaryCall::OrElse => Ok(or_else(first, second, bindings)),
         _ => found_by(alloc, call, &first, second.get(&*bindings), bindings),
     }
@@ -252,37 +262,11 @@ fn found_in<'a>(
     }
 }
 
-/// `append(l, v)`: the list grows, and is copied before where it is lent or bound. The item is
-/// moved, or copied where it is lent or bound.
-#[tactic(auto, using(crate::proofs::Arguments::no_faults))]
-fn append_to<'e>(
-    alloc: Global,
-    list: Operand<'e>,
-    item: Operand<'e>,
-    bindings: &Bindings<'e>,
-) -> Result<Operand<'e>, NoMemory>
-    requires list { IsIn bindings.now list }
-    requires item { IsIn bindings.now item }
-    ensures value { IfOk result (λ o. operand_value bindings.now o
-        ≡ called_with BinaryCall.Append (operand_value bindings.now list.entry)
-        (operand_value bindings.now item.entry)) }
-    ensures within { IfOk result (λ o. IsIn bindings.now o) }
-{
-    if let Some(code) = fault_of_two(list.get(&*bindings), item.get(&*bindings)) {
-        return Ok(fault(code));
-    }
-    let list = list.into_owned(alloc, &*bindings)?;
-    let item = item.into_owned(alloc, &*bindings)?;
-    Ok(Operand::owned(append(list, item)?))
-}
-
 /// `orelse(v, w)`
 fn or_else<'e>(value: Operand<'e>, other: Operand<'e>, bindings: &Bindings<'e>) -> Operand<'e>
     requires value { IsIn bindings.now value }
     requires other { IsIn bindings.now other }
-    ensures value { operand_value bindings.now result
-        ≡ called_with BinaryCall.OrElse (operand_value bindings.now value.entry)
-        (operand_value bindings.now other.entry) }
+    ensures value { Gives bindings.now (called_with BinaryCall.OrElse) value.entry other.entry result }
     ensures within { IsIn bindings.now result }
 {
     match fault_of(value.get(&*bindings)) {

@@ -24,6 +24,6 @@ pub use reading::{FrameFault, fits_before, last_body, pass_in};
 pub use tree_laws::{
     files_have_one_tree, first_files_are_one, lists_tell_trees, orders_turn_round,
     passes_follow_files, records_are_read, records_tell_trees, refusals_are_true, root_is_last,
-    trees_are_read_back, worked_files, worked_records, worked_way,
+    trees_are_read_back, ways_are_followed, worked_files, worked_records, worked_way,
 };
 pub use writing::{WriteFault, Writer};

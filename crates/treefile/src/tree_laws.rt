@@ -120,11 +120,10 @@ pub fn passes_follow_files()
     ensures within { RefusalWithinGoesBack }
 {}
 
-/// On the way from the end of a content to its header. The root is to come first, and behind a record
+/// On the way from the end of a content to its header the root is to come first, and behind a record
 /// its children are, one by one in the direction of the next pass. Where nothing is to come, everything
-/// was read. Where what is found is not what is to come the content is the file of no tree, and where
-/// too much is to come it is that of none within the limits.
-pub fn refusals_are_true()
+/// was read.
+pub fn ways_are_followed()
     ensures one { OneRecord }
     ensures begins { WayBegins }
     ensures goes { WayGoesOn }
@@ -132,6 +131,11 @@ pub fn refusals_are_true()
     ensures all { AllToCome }
     ensures there { AwaitedAreThere }
     ensures ends { WayEnds }
+{}
+
+/// Where what is found on the way is not what is to come the content is the file of no tree, and where
+/// too much is to come it is that of none within the limits.
+pub fn refusals_are_true()
     ensures breaks { WayBreaks }
     ensures long { WayIsTooLong }
     ensures header { NoFileHasNoTree }

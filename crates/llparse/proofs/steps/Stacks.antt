@@ -5,6 +5,7 @@ use Rattle.ag_value.specs.declared.value.Value.{Text}
 use Rattle.ag_grammar.specs.declared.grammar.Item.TheVariants as item
 use Rattle.ag_grammar.specs.declared.grammar.Item.{Item}
 use Rattle.ag_grammar.specs.declared.grammar.Production.{Production}
+use Rattle.ag_grammar.specs.declared.grammar.Terminal.{Terminal}
 use Rattle.ag_grammar.specs.declared.grammar.Terminal.TheVariants.{Literal, Class}
 use Rattle.ag_grammar.specs.grammars.Accepted.{IsAccepted}
 use Rattle.ag_grammar.specs.grammars.AttributeGrammar.{Grammar, literal_text}
@@ -50,7 +51,7 @@ module _ (k : Task) where
   literal l [] i n rs rest next b = absurd b
   literal l (f ∷ fs) i n rs rest next b = literals.on_literal k f.production f.base l (drop f.passed (right_side k.grammar f.production)) fs i n rs rest next b
 
-  pub no_literal : IsAccepted k.grammar → (l : ℕ) (fs : List OpenNode) (i n : ℕ) (rs : Made) → (ahead_of (drop i k.words) ≡ ahead.Terminal (Literal l) → ⊥)
+  no_literal : IsAccepted k.grammar → (l : ℕ) (fs : List OpenNode) (i n : ℕ) (rs : Made) → (ahead_of (drop i k.words) ≡ ahead.Terminal (Literal l) → ⊥)
       → Before k (item.Terminal (Literal l)) fs i n rs → IsStuckAt k.grammar k.words i
   no_literal accepted l [] i n rs other b = absurd b
   no_literal accepted l (f ∷ fs) i n rs other b = literals.no_literal k accepted f.production f.base l (drop f.passed (right_side k.grammar f.production)) fs i n rs other b
@@ -62,10 +63,15 @@ module _ (k : Task) where
   class c x (f ∷ fs) i n rs out rest next text put grown more_nodes more_levels b =
       leaves.on_class k f.production f.base c x (drop f.passed (right_side k.grammar f.production)) fs i n rs out rest next text put grown more_nodes more_levels b
 
-  pub no_class : IsAccepted k.grammar → (c : ℕ) (fs : List OpenNode) (i n : ℕ) (rs : Made) → (ahead_of (drop i k.words) ≡ ahead.Terminal (Class c) → ⊥)
+  no_class : IsAccepted k.grammar → (c : ℕ) (fs : List OpenNode) (i n : ℕ) (rs : Made) → (ahead_of (drop i k.words) ≡ ahead.Terminal (Class c) → ⊥)
       → Before k (item.Terminal (Class c)) fs i n rs → IsStuckAt k.grammar k.words i
   no_class accepted c [] i n rs other b = absurd b
   no_class accepted c (f ∷ fs) i n rs other b = leaves.no_class k accepted f.production f.base c (drop f.passed (right_side k.grammar f.production)) fs i n rs other b
+
+  pub no_terminal : IsAccepted k.grammar → (t : Terminal) (fs : List OpenNode) (i n : ℕ) (rs : Made) → (ahead_of (drop i k.words) ≡ ahead.Terminal t → ⊥)
+      → Before k (item.Terminal t) fs i n rs → IsStuckAt k.grammar k.words i
+  no_terminal accepted (Literal l) = no_literal accepted l
+  no_terminal accepted (Class c) = no_class accepted c
 
   pub deep_leaf : IsAccepted k.grammar → (c : ℕ) (fs : List OpenNode) (i n : ℕ) (rs : Made) → k.depth ≤ length fs → Before k (item.Terminal (Class c)) fs i n rs → IsTooDeep k
   deep_leaf accepted c [] i n rs deep b = absurd b

@@ -4,7 +4,6 @@ ghost use Rattle.std.specs.Prelude.{drop, length, Some, None};
 ghost use Rattle.std.specs.Prelude.{option_map, IfErr, IfOk, IfSome, IsErrOf, OnErr, OnOk};
 ghost use Rattle.ag_value.specs.Well.{IsWell};
 ghost use Rattle.ag_grammar.specs.declared.grammar.Item.TheVariants as item;
-ghost use Rattle.ag_grammar.specs.declared.grammar.Terminal.TheVariants as terminal;
 ghost use Rattle.ag_grammar.specs.grammars.AttributeGrammar.{Grammar as AGrammar};
 ghost use Rattle.ag_grammar.specs.grammars.Tree.{IsTokenText, most_depth, most_nodes};
 ghost use Rattle.ag_scan.specs.Handed.{handed, offset_at};
@@ -234,66 +233,8 @@ impl<'t> Parser<'t> {
         Ok(node)
     }
 
-    /// Takes a token of a literal, which has no record.
-    #[inline(always)]
-    fn take_literal(&mut self, literal: u16) -> Result<(), ParseFault>
-        ensures takes { OnOk result ((node : OpenNode)
-            → Leads (HasTokens self.old.tokens.list) self.old.tokens.list
-            (λ k. Faces k (item.Terminal (terminal.Literal literal)) node self.old)
-            (λ k. IsBetween k node self.new)) }
-        ensures refuses { (node : OpenNode)
-            → IfErr result (Refuses (HasTokens self.old.tokens.list) self.old.tokens.list
-            (λ k. Faces k (item.Terminal (terminal.Literal literal)) node self.old)) }
-        ensures list { OnOk result (self.new.tokens.list ≡ self.old.tokens.list) }
-        ensures waiting { OnOk result (self.new.waiting.items ≡ self.old.waiting.items) }
-        ensures count { OnOk result (self.new.count ≡ self.old.count) }
-        ensures calm { IsErrOf result ParseFault.Device → ⊥ }
-    {
-        expect(&self.tokens, Terminal::Literal(literal))?;
-        self.tokens.advance();
-        Ok(())
-    }
-
-    /// Takes a token of a class, appends its record and keeps its text.
-    #[inline(always)]
-    fn take_class<D: Device>(
-        &mut self,
-        alloc: Global,
-        class: u16,
-        device: &mut D,
-        writer: &mut Writer,
-    ) -> Result<(), ParseFault>
-        requires fits { (g : AGrammar) × HasTokens self.old.tokens.list g }
-        requires written { writer.old.written + length self.old.waiting.items + 1
-            ≡ self.old.count }
-        requires fine { writer.old.is_broken ≡ false }
-        ensures takes { OnOk result ((node : OpenNode)
-            → Writes (HasTokens self.old.tokens.list) self.old.tokens.list
-            (D.is_honest device.old) (D.content device.old) (D.content device.new)
-            (λ k. Faces k (item.Terminal (terminal.Class class)) node self.old)
-            (λ k. IsBetween k node self.new)) }
-        ensures refuses { (node : OpenNode)
-            → IfErr result (Refuses (HasTokens self.old.tokens.list) self.old.tokens.list
-            (λ k. Faces k (item.Terminal (terminal.Class class)) node self.old)) }
-        ensures list { OnOk result (self.new.tokens.list ≡ self.old.tokens.list) }
-        ensures waiting { OnOk result (self.new.waiting.items ≡ self.old.waiting.items) }
-        ensures count { OnOk result (self.new.count ≡ self.old.count + 1) }
-        ensures written { OnOk result (writer.new
-            ≡ record writer.old { written = writer.old.written + 1 }) }
-        ensures adds { WhenHonest (D.is_honest device.old)
-            (AddsFrames (D.content device.old) (D.content device.new) result) }
-        ensures device { BreaksWriter D.is_honest D.failures device.old device.new
-            writer.new.is_broken (IsErrOf result ParseFault.Device) }
-    {
-        let lex = expect(&self.tokens, Terminal::Class(class))?;
-        self.has_room()?;
-        put_leaf(alloc, class, lex, &mut self.texts, device, writer)?;
-        self.count += 1;
-        self.tokens.advance();
-        Ok(())
-    }
-
-    /// Takes a token of the terminal that comes next.
+    /// Takes a token of the terminal that comes next. One of a class has a record, which is appended,
+    /// and its text is kept.
     #[inline(always)]
     pub(crate) fn take<D: Device>(
         &mut self,
@@ -325,9 +266,13 @@ impl<'t> Parser<'t> {
         ensures device { BreaksWriter D.is_honest D.failures device.old device.new
             writer.new.is_broken (IsErrOf result ParseFault.Device) }
     {
-        match terminal {
-            Terminal::Literal(literal) => self.take_literal(literal),
-            Terminal::Class(class) => self.take_class(alloc, class, device, writer),
+        let lex = expect(&self.tokens, terminal)?;
+        if let Terminal::Class(class) = terminal {
+            self.has_room()?;
+            put_leaf(alloc, class, lex, &mut self.texts, device, writer)?;
+            self.count += 1;
         }
+        self.tokens.advance();
+        Ok(())
     }
 }
