@@ -11,8 +11,8 @@ pub fn productive_by_trees()
     ensures { ProductiveByTrees }
 {}
 
-/// Any two solutions on a tree of a complete and normal grammar with a legal assignment of passes
-/// are the same.
+/// Any two solutions on a tree of a complete and normal grammar with a legal assignment of passes,
+/// whose start symbol has `out` and no inherited attribute, are the same.
 #[tactic(auto, using(crate::proofs::grammars::OneSolution::one_solution))]
 pub fn one_solution()
     ensures { OneSolution }
@@ -23,13 +23,14 @@ pub fn one_translation()
     ensures { OneTranslation }
 {}
 
-/// The equations of a pass stay true where the values of the passes so far are kept.
+/// With a legal assignment the equations of a pass stay true where the values of the passes so far are
+/// kept.
 #[tactic(auto, using(crate::proofs::grammars::Kept::equations_kept))]
 pub fn equations_kept()
     ensures { EquationsKept }
 {}
 
-/// Values that meet the equations of each pass are a solution.
+/// Where each target has a pass, values that meet the equations of each pass are a solution.
 pub fn passes_solve()
     ensures { PassesSolve }
 {}
