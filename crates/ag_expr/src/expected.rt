@@ -36,9 +36,19 @@ const SIGNS: [&str; 9] = ["=", "(", ")", "]", "}", ",", "in", "then", "else"];
 /// expressions are used up. Takes memory and time for some readings of the text before the offset.
 pub fn expected_at(alloc: Global, text: &str, at: usize) -> Result<Vec<Expected>, NoMemory> {
     let mut found = Vec::new(alloc);
-    let Some(before) = text.get(..at) else {
-        return Ok(found);
-    };
+    if let Some(before) = text.get(..at) {
+        gather(alloc, text, before, &mut found)?;
+    }
+    Ok(found)
+}
+
+/// Gathers what could stand behind a front of a text.
+fn gather(
+    alloc: Global,
+    text: &str,
+    before: &str,
+    found: &mut Vec<Expected>,
+) -> Result<(), NoMemory> {
     let operand = can_stand(alloc, before, "1")?;
     if operand {
         found.push(operand_at(alloc, text, before)?)?;
@@ -55,10 +65,10 @@ pub fn expected_at(alloc: Global, text: &str, at: usize) -> Result<Vec<Expected>
             found.push(Expected::Sign(sign))?;
         }
     }
-    if is_read(alloc, before)? {
+    if refused_at(alloc, before)?.is_none() {
         found.push(Expected::End)?;
     }
-    Ok(found)
+    Ok(())
 }
 
 /// What is said where an operand can stand.
@@ -79,23 +89,22 @@ fn operand_at(alloc: Global, text: &str, before: &str) -> Result<Expected, NoMem
 /// Whether a token could stand behind a text: whether they are read beyond the token's front.
 fn can_stand(alloc: Global, before: &str, token: &str) -> Result<bool, NoMemory> {
     let tried = format!(in alloc; "{before} {token}")?;
-    match read_expr(alloc, tried.as_str()) {
-        Ok(_) => Ok(true),
+    match refused_at(alloc, tried.as_str())? {
+        Some(at) => Ok(at > before.len().saturating_add(1)),
+        None => Ok(true),
+    }
+}
+
+/// Where a text is refused, which is no expression.
+fn refused_at(alloc: Global, text: &str) -> Result<Option<usize>, NoMemory> {
+    match read_expr(alloc, text) {
+        Ok(_) => Ok(None),
         Err(ExprFault::NoMemory) => Err(NoMemory::NoMemory),
         Err(
             ExprFault::NoToken(at)
             | ExprFault::Unexpected(at)
             | ExprFault::NumberTooLarge(at)
             | ExprFault::TooDeep(at),
-        ) => Ok(at > before.len().saturating_add(1)),
-    }
-}
-
-/// Whether a text reads as an expression.
-fn is_read(alloc: Global, text: &str) -> Result<bool, NoMemory> {
-    match read_expr(alloc, text) {
-        Ok(_) => Ok(true),
-        Err(ExprFault::NoMemory) => Err(NoMemory::NoMemory),
-        Err(_) => Ok(false),
+        ) => Ok(Some(at)),
     }
 }

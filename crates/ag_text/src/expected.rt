@@ -43,9 +43,14 @@ pub fn expected_at(alloc: Global, text: &str, fault: TextFault) -> Result<Vec<Ex
 /// What could stand at an offset outside the expressions.
 fn expected_outside(alloc: Global, text: &str, at: usize) -> Result<Vec<Expected>, NoMemory> {
     let mut found = Vec::new(alloc);
-    let Some(before) = text.get(..at) else {
-        return Ok(found);
-    };
+    if let Some(before) = text.get(..at) {
+        gather_outside(alloc, before, &mut found)?;
+    }
+    Ok(found)
+}
+
+/// Gathers what could stand behind a front of a text, outside the expressions.
+fn gather_outside(alloc: Global, before: &str, found: &mut Vec<Expected>) -> Result<(), NoMemory> {
     if can_stand(alloc, before, "\"a\"")? {
         found.push(Expected::Item)?;
     } else if can_stand(alloc, before, "_")? {
@@ -59,10 +64,10 @@ fn expected_outside(alloc: Global, text: &str, at: usize) -> Result<Vec<Expected
             found.push(Expected::Sign(sign))?;
         }
     }
-    if is_read(alloc, before)? {
+    if refused_at(alloc, before)?.is_none() {
         found.push(Expected::End)?;
     }
-    Ok(found)
+    Ok(())
 }
 
 /// What could stand at an offset within an expression.
@@ -107,24 +112,23 @@ fn expression_front(text: &str, at: usize) -> usize {
 /// Whether a token could stand behind a text: whether they are read beyond the token's front.
 fn can_stand(alloc: Global, before: &str, token: &str) -> Result<bool, NoMemory> {
     let tried = format!(in alloc; "{before} {token}")?;
-    match read_grammar(alloc, tried.as_str().as_bytes()) {
-        Ok(_) => Ok(true),
+    match refused_at(alloc, tried.as_str())? {
+        Some(at) => Ok(at > before.len().saturating_add(1)),
+        None => Ok(true),
+    }
+}
+
+/// Where a text is refused, which is no grammar; 0 where that is told of no token.
+fn refused_at(alloc: Global, text: &str) -> Result<Option<usize>, NoMemory> {
+    match read_grammar(alloc, text.as_bytes()) {
+        Ok(_) => Ok(None),
         Err(TextFault::NoMemory) | Err(TextFault::Expr(ExprFault::NoMemory)) => Err(
             NoMemory::NoMemory,
         ),
         // behind the `=` of a rule the text ends where an expression could stand
-        Err(TextFault::Unexpected(_, at) | TextFault::Expr(ExprFault::Unexpected(at))) => {
-            Ok(at > before.len().saturating_add(1))
-        }
-        Err(_) => Ok(false),
-    }
-}
-
-/// Whether a text reads as a grammar.
-fn is_read(alloc: Global, text: &str) -> Result<bool, NoMemory> {
-    match read_grammar(alloc, text.as_bytes()) {
-        Ok(_) => Ok(true),
-        Err(TextFault::NoMemory) => Err(NoMemory::NoMemory),
-        Err(_) => Ok(false),
+        Err(TextFault::Unexpected(_, at) | TextFault::Expr(ExprFault::Unexpected(at))) => Ok(Some(
+            at,
+        )),
+        Err(_) => Ok(Some(0)),
     }
 }
