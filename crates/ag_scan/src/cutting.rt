@@ -1,9 +1,9 @@
 //! The token in front of a text: the longest word that stands there.
 
 ghost use Rattle.std.specs.Prelude.{◌≡◌, ◌++◌, nat_lt, chars, encode_utf8_all};
-ghost use Rattle.std.specs.Prelude.{IfOk, IfErr, MatchOption};
+ghost use Rattle.std.specs.Prelude.{option_map, IfOk, IfErr, MatchOption};
 ghost use Rattle.ag_tokens.specs.Tokens.{width};
-ghost use Rattle.ag_scan.specs.Cutting.{CutsLiteral, CutsToken, front_of};
+ghost use Rattle.ag_scan.specs.Cutting.{front_of, longer_of, CutsLiteral, CutsToken};
 ghost use Rattle.ag_scan.specs.Table.{IsFront};
 ghost use Rattle.ag_scan.specs.Tokens.{IsStopped, TakesToken, Token};
 ghost use Rattle.ag_scan.specs.Words.{BeginsNone, IsAnyWord, IsLiteral, over};
@@ -15,6 +15,7 @@ use ag_grammar::Terminal;
 use ag_grammar::limits::MOST_TOKEN_BYTES;
 
 /// What stands in a text behind a word in front.
+#[inline(always)]
 fn split_word<'t>(text: &'t str, word: &str) -> (&'t str, &'t str)
     requires { IsFront word.now text.now }
     ensures word { chars result.0.now ≡ chars word.now }
@@ -26,9 +27,11 @@ fn split_word<'t>(text: &'t str, word: &str) -> (&'t str, &'t str)
 }
 
 /// The longest literal at the front.
+#[inline(always)]
 fn literal_in_front<'t>(literals: &Literals<'_>, text: &'t str) -> Option<Front<'t>>
-    ensures { MatchOption result (BeginsNone (IsLiteral literals.now) (chars text.now))
-        (λ f. CutsLiteral literals.now (chars text.now) (front_of f)) }
+    ensures { MatchOption (option_map (λ f. front_of f) result)
+        (BeginsNone (IsLiteral literals.now) (chars text.now))
+        (λ f. CutsLiteral literals.now (chars text.now) f) }
 {
     let Some(word) = literals.longest(text) else {
         return None;
@@ -42,13 +45,30 @@ fn literal_in_front<'t>(literals: &Literals<'_>, text: &'t str) -> Option<Front<
 }
 
 /// Whether a text is shorter than another.
+#[inline(always)]
 fn is_shorter(text: &str, other: &str) -> bool
     ensures { result ≡ nat_lt (width (chars text.now)) (width (chars other.now)) }
 {
     text.len() < other.len()
 }
 
+/// Of a literal and a word of a class in front the longer one; the literal where they are as long.
+#[inline(always)]
+fn longer_of<'t>(literal: Option<Front<'t>>, class: Option<Front<'t>>) -> Option<Front<'t>>
+    ensures { option_map (λ f. front_of f) result ≡ longer_of
+        (option_map (λ f. front_of f) literal.entry) (option_map (λ f. front_of f) class.entry) }
+{
+    let Some(literal) = literal else {
+        return class;
+    };
+    match class {
+        Some(class) if is_shorter(class.rest, literal.rest) => Some(class),
+        _ => Some(literal),
+    }
+}
+
 /// The longest word at the front; a literal wins a tie.
+#[inline(always)]
 pub fn word_in_front<'t>(
     literals: &Literals<'_>,
     classes: &[u16],
@@ -58,19 +78,12 @@ pub fn word_in_front<'t>(
         (BeginsNone (IsAnyWord (over literals.now classes.now)) (chars text.now))
         (λ f. CutsToken (over literals.now classes.now) (chars text.now) (front_of f)) }
 {
-    let Some(literal) = literal_in_front(literals, text) else {
-        return class_in_front(classes, text);
-    };
-    let Some(class) = class_in_front(classes, text) else {
-        return Some(literal);
-    };
-    if is_shorter(class.rest, literal.rest) {
-        return Some(class);
-    }
-    Some(literal)
+    let literal = literal_in_front(literals, text);
+    longer_of(literal, class_in_front(classes, text))
 }
 
 /// What stands behind the token in front of what is left of a text, which stands at the offset `at`.
+#[inline(always)]
 pub fn behind_token<'t>(
     literals: &Literals<'_>,
     classes: &[u16],

@@ -1,6 +1,6 @@
 //! The word of a class at the front of a text.
 
-ghost use Rattle.std.specs.Prelude.{◌≡◌, chars, option_map};
+ghost use Rattle.std.specs.Prelude.{◌≡◌, ◌∷◌, chars, option_map};
 ghost use Rattle.ag_tokens.specs.Lexing as lexing;
 ghost use Rattle.ag_scan.specs.Cutting as cutting;
 
@@ -47,13 +47,15 @@ fn text_in_front(text: &str) -> Option<Front<'_>>
     }
 }
 
-/// The word at the front of one of these classes.
+/// The word of one of these classes at the front of a text, which has this character and then what
+/// stands behind it.
+#[inline(never)]
 #[tactic(auto, unfolding(crate::specs::Cutting::class_from))]
-fn class_among<'t>(classes: &[u16], text: &'t str) -> Option<Front<'t>>
+fn class_begun<'t>(classes: &[u16], c: char, behind: &'t str, text: &'t str) -> Option<Front<'t>>
+    requires { chars text.now ≡ c ∷ chars behind.now }
     ensures { option_map (λ f. cutting.front_of f) result
         ≡ cutting.class_from classes.now (chars text.now) }
 {
-    let (c, behind) = first(text)?;
     if starts_name(c) {
         if !classes.contains(&NAME) {
             return None;
@@ -70,6 +72,18 @@ fn class_among<'t>(classes: &[u16], text: &'t str) -> Option<Front<'t>>
         return text_in_front(behind);
     }
     None
+}
+
+/// The word at the front of one of these classes. It stands apart from `class_in_front`, so that room
+/// for an answer is cleared only where a class is in use.
+#[inline(always)]
+#[tactic(auto, unfolding(crate::specs::Cutting::class_from))]
+fn class_among<'t>(classes: &[u16], text: &'t str) -> Option<Front<'t>>
+    ensures { option_map (λ f. cutting.front_of f) result
+        ≡ cutting.class_from classes.now (chars text.now) }
+{
+    let (c, behind) = first(text)?;
+    class_begun(classes, c, behind, text)
 }
 
 /// The word of a class in use at the front. Takes no memory.

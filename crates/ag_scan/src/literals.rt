@@ -45,9 +45,14 @@ impl<'g> Model for Literals<'g> {
 }
 
 /// Whether the text begins with a word.
+#[inline(always)]
 fn begins_with(text: &str, word: &str) -> bool
     ensures { MatchBool result (IsFront word.now text.now) (IsFront word.now text.now → ⊥) }
 {
+    // most words are one byte, which is looked at in place
+    if word.len() == 1 && !text.is_empty() {
+        return first_byte(word) == first_byte(text);
+    }
     text.as_bytes().starts_with(word.as_bytes())
 }
 
@@ -137,47 +142,49 @@ fn linked(alloc: Global, words: &[Word<'_>]) -> Result<Vec<Option<u16>>, NoMemor
 }
 
 /// The longest literal that the text begins with, by the table of the literals.
-fn longest_of<'g>(
+fn longest_of<'w, 'g>(
     texts: &[Text],
-    words: &[Word<'g>],
+    words: &'w [Word<'g>],
     shorter: &[Option<u16>],
     text: &str,
-) -> Option<Word<'g>>
+) -> Option<&'w Word<'g>>
     requires { IsTable texts.now words.now shorter.now }
     ensures { MatchOption result (HasNoFront texts.now text.now)
-        (λ w. IsLongestFront texts.now text.now w) }
+        (λ w. IsLongestFront texts.now text.now w.now) }
 {
     let bound = count_up_to(words, text);
     let index = last_front(words, shorter, bound, text)?;
-    Some(words[index as usize])
+    Some(&words[index as usize])
 }
 
 /// The word of an index, where the text begins with it.
-fn front_at<'g>(words: &[Word<'g>], index: u16, text: &str) -> Option<Word<'g>>
-    ensures there { IfSome result (λ w. slice_get words.now index ≡ Some w) }
-    ensures front { IfSome result (λ w. IsFront w.text.now text.now) }
+#[inline(always)]
+fn front_at<'w, 'g>(words: &'w [Word<'g>], index: u16, text: &str) -> Option<&'w Word<'g>>
+    ensures there { IfSome result (λ w. slice_get words.now index ≡ Some w.now) }
+    ensures front { IfSome result (λ w. IsFront w.now.text.now text.now) }
     ensures none { IfNone result ((w : Word) → slice_get words.now index ≡ Some w
         → IsFront w.text.now text.now → ⊥) }
 {
     match words.get(index as usize) {
-        Some(word) if begins_with(text, word.text) => Some(*word),
+        Some(word) if begins_with(text, word.text) => Some(word),
         _ => None,
     }
 }
 
 /// The longest literal that the text begins with, which is looked for in the whole table only where
 /// several begin with the text's first byte.
-fn longest_by_start<'g>(
+#[inline(always)]
+fn longest_by_start<'w, 'g>(
     texts: &[Text],
-    words: &[Word<'g>],
+    words: &'w [Word<'g>],
     shorter: &[Option<u16>],
     starts: &[Start],
     text: &str,
-) -> Option<Word<'g>>
+) -> Option<&'w Word<'g>>
     requires table { IsTable texts.now words.now shorter.now }
     requires starts { AreTold words.now starts.now (length words.now) }
     ensures { MatchOption result (HasNoFront texts.now text.now)
-        (λ w. IsLongestFront texts.now text.now w) }
+        (λ w. IsLongestFront texts.now text.now w.now) }
 {
     if text.is_empty() {
         return None;
@@ -209,9 +216,10 @@ impl<'g> Literals<'g> {
     }
 
     /// The longest literal that the text begins with. Takes no memory.
-    pub fn longest(&self, text: &str) -> Option<Word<'g>>
+    #[inline(always)]
+    pub fn longest(&self, text: &str) -> Option<&Word<'g>>
         ensures { MatchOption result (HasNoFront self.now text.now)
-            (λ w. IsLongestFront self.now text.now w) }
+            (λ w. IsLongestFront self.now text.now w.now) }
     {
         longest_by_start(
             self.texts,

@@ -31,6 +31,7 @@ fn with_one(start: Start, index: u16) -> Start
 }
 
 /// The byte that a text begins with.
+#[inline(always)]
 pub fn first_byte(text: &str) -> u8
     requires { 1 ≤ length text.now }
     ensures { (rest : List ℕ) × (text.now ≡ result ∷ rest) }

@@ -14,8 +14,8 @@ impl fmt::Display for TableFault {
 
     fn fmt<W: fmt::Write>(&self, f: &mut fmt::Formatter<W>) -> fmt::Result {
         match self {
-            TableFault::Conflict { .. } => write!(f, "L1"),
-            TableFault::NoMemory => write!(f, "NoMemory"),
+            TableFault::Conflict { .. } => f.write_str("L1"),
+            TableFault::NoMemory => f.write_str("NoMemory"),
         }
     }
 }
@@ -32,10 +32,10 @@ impl fmt::Display for ParseFault {
     fn fmt<W: fmt::Write>(&self, f: &mut fmt::Formatter<W>) -> fmt::Result {
         match self {
             ParseFault::Unexpected(at) => write!(f, "P1 at {at}"),
-            ParseFault::TooDeep => write!(f, "P2"),
-            ParseFault::TooManyNodes => write!(f, "P3"),
-            ParseFault::Device => write!(f, "D1"),
-            ParseFault::NoMemory => write!(f, "NoMemory"),
+            ParseFault::TooDeep => f.write_str("P2"),
+            ParseFault::TooManyNodes => f.write_str("P3"),
+            ParseFault::Device => f.write_str("D1"),
+            ParseFault::NoMemory => f.write_str("NoMemory"),
         }
     }
 }

@@ -1,5 +1,5 @@
 -- Looking up a literal by the byte that a text begins with.
-use Rattle.std.proofs.Common.{◌≡◌, ℕ, ◌+◌, ◌<◌, List, ◌∷◌, ◌++◌, length, get_or, Option, Some, None, IfSome, IfNone, MatchOption, slice_get, refl, ap, sym, ◌∙◌, subst, arith}
+use Rattle.std.proofs.Common.{Bor, ◌≡◌, ℕ, ◌+◌, ◌<◌, List, ◌∷◌, ◌++◌, length, get_or, Option, Some, None, IfSome, IfNone, MatchOption, slice_get, refl, ap, sym, ◌∙◌, subst, arith}
 use Rattle.std.proofs.Math.ListN.{set}
 use Rattle.std.proofs.lemmas.List.{length-set, get_or-set_other}
 use Rattle.std.proofs.lemmas.Grind.{get_or-set_at}
@@ -47,14 +47,14 @@ module _ (literals : List (List ℕ)) (words : List Word) (shorter : List (Optio
       let same : i ≡ found.0 = subst (Tells found.0) sole (rw first at (of.3 d)) in
       (found.1, rw same found.2, found.3)
 
-  pub sole_told : (r : Option Word) → IfSome r (λ w. slice_get words i ≡ Some w) → IfSome r (λ w. IsFront w.text.now text) → IfNone r ((w : Word) → slice_get words i ≡ Some w → IsFront w.text.now text → ⊥)
-      → MatchOption r (HasNoFront literals text) (λ w. IsLongestFront literals text w)
+  pub sole_told : (r : Option (Bor Word)) → IfSome r (λ w. slice_get words i ≡ Some w.now) → IfSome r (λ w. IsFront w.now.text.now text) → IfNone r ((w : Word) → slice_get words i ≡ Some w → IsFront w.text.now text → ⊥)
+      → MatchOption r (HasNoFront literals text) (λ w. IsLongestFront literals text w.now)
   sole_told None there front not_here = λ n x at is. (let (w, here, same) = sole_front n x at is in not_here w here (rw same is))
   sole_told (Some w) there front not_here = record {
-    numbered = table.literals_all.numbered i w there;
+    numbered = table.literals_all.numbered i w.now there;
     front = front;
     longest = λ n x at is.
         let (u, here, same) = sole_front n x at is in
-        let one = same_there words i i w u there here refl in
+        let one = same_there words i i w.now u there here refl in
         omega (arith, ap (λ (v : Word). length v.text.now) one, ap length same);
   }

@@ -150,6 +150,11 @@ pub(crate) fn put_node<D: Device>(
     ensures device { BreaksWriter D.is_honest D.failures device.old device.new
         writer.new.is_broken (IsErrOf result ParseFault.Device) }
 {
+    // most nodes have none, and less has to be asked before a record without values is put
+    if texts.is_empty() {
+        writer.put(device, Kind::Node, production, &[])?;
+        return Ok(());
+    }
     writer.put(device, Kind::Node, production, texts)?;
     Ok(())
 }

@@ -81,8 +81,9 @@ fn run<D: Device>(
 /// texts of the tokens of a class among its children.
 ///
 /// Asks for tables of the grammar, a sentence whose tokens fit it, and a writer that was just begun on
-/// the device with pass 0. The tokens are taken one by one, and none is kept but its text. Takes memory for a stack of sixteen bytes an open node but the innermost
-/// one, for the texts of the tokens of a class among the children of open nodes, and for one frame.
+/// the device with pass 0. The tokens are taken one by one, and none is kept but its text. Takes
+/// memory for a stack of sixteen bytes an open node but the innermost one, for the texts of the tokens
+/// of a class among the children of open nodes, and for one frame.
 ///
 /// P1 Unexpected where no tree has these tokens; P2 TooDeep and P3 TooManyNodes where each that has
 /// them is beyond the limit, and each that begins with some of them and goes on with the look-ahead

@@ -25,7 +25,7 @@ pub(crate) fn note(edges: &mut Vec<Edge>, from: usize, to: usize) -> Result<(), 
 }
 
 /// How many items stand in front, up to the first that is not nullable, that one among them.
-fn front_len(nullable: &[bool], items: &[Item]) -> usize
+pub(crate) fn front_len(nullable: &[bool], items: &[Item]) -> usize
     ensures within { result ≤ length items.now }
     ensures front { take result items.now ≡ front (is_marked nullable.now) items.now }
 {
@@ -38,7 +38,7 @@ fn front_len(nullable: &[bool], items: &[Item]) -> usize
 }
 
 /// Notes an edge from each of some items to a left side.
-fn note_front(
+pub(crate) fn note_front(
     edges: &mut Vec<Edge>,
     sizes: Sizes,
     left: usize,
@@ -51,26 +51,6 @@ fn note_front(
         note(edges, sizes.node(*item), left)?;
     }
     Ok(())
-}
-
-/// The edges from the items in front of right sides to the left sides.
-pub(crate) fn first_edges(
-    alloc: Global,
-    grammar: &Grammar,
-    nullable: &[bool],
-) -> Result<Vec<Edge>, NoMemory>
-    ensures { IfOk result (λ edges. AreFirstEdges grammar.now nullable.now edges.items) }
-{
-    let sizes = Sizes::of(grammar);
-    let mut edges = Vec::new(alloc);
-    let productions = grammar.productions();
-    for at in 0..productions.len() {
-        let production = &productions[at];
-        let items = production.items.as_slice();
-        let front = front_len(nullable, items);
-        note_front(&mut edges, sizes, production.left as usize, &items[..front])?;
-    }
-    Ok(edges)
 }
 
 /// Which items may begin with a look-ahead.

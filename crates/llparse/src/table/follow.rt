@@ -44,7 +44,7 @@ fn note_if(edges: &mut Vec<Edge>, from: usize, to: usize, wanted: bool) -> Resul
 }
 
 /// Notes an edge from a left side to each item behind which all are nullable.
-fn note_last(
+pub(crate) fn note_last(
     edges: &mut Vec<Edge>,
     sizes: Sizes,
     nullable: &[bool],
@@ -60,25 +60,6 @@ fn note_last(
         empty = comes(false, is_empty(nullable, items[at]), empty);
     }
     Ok(())
-}
-
-/// The edges from left sides to the items of the right sides that may stand last.
-pub(crate) fn follow_edges(
-    alloc: Global,
-    grammar: &Grammar,
-    nullable: &[bool],
-) -> Result<Vec<Edge>, NoMemory>
-    ensures { IfOk result (λ edges. AreFollowEdges grammar.now nullable.now edges.items) }
-{
-    let sizes = Sizes::of(grammar);
-    let mut edges = Vec::new(alloc);
-    let productions = grammar.productions();
-    for at in 0..productions.len() {
-        let production = &productions[at];
-        let items = production.items.as_slice();
-        note_last(&mut edges, sizes, nullable, production.left as usize, items)?;
-    }
-    Ok(edges)
 }
 
 /// Notes a seed, where that is wanted.

@@ -1,17 +1,17 @@
 //! Which productions predict a look-ahead.
 ghost use Rattle.std.specs.Prelude.{◌≡◌, length, IfOk};
-ghost use Rattle.llparse.specs.table.Comes.{next_by};
-ghost use Rattle.llparse.specs.table.Edges.{IsKnownAhead};
+ghost use Rattle.llparse.specs.table.Comes.{next_by, AreFollowEdges};
+ghost use Rattle.llparse.specs.table.Edges.{AreFirstEdges, IsKnownAhead};
 ghost use Rattle.llparse.specs.table.Predicted.{ArePredicted, AreSets};
 
 use crate::ahead::Ahead;
-use crate::table::first::{first, first_edges};
-use crate::table::follow::{follow, follow_edges, has};
+use crate::table::first::{first, front_len, note_front};
+use crate::table::follow::{follow, has, note_last};
 use crate::table::nodes::Sizes;
 use crate::table::nullable::{is_empty, nullable};
 use ag_grammar::{Grammar, Item};
 use ag_value::NoMemory;
-use closure::Clauses;
+use closure::{Clauses, Edge};
 use std::alloc::Global;
 
 /// A look-ahead comes next along items, or behind them where all are nullable.
@@ -27,6 +27,32 @@ fn is_next(sizes: Sizes, nullable: &[bool], begins: &[bool], items: &[Item], beh
         }
     }
     behind
+}
+
+/// The edges by which what may come first is reached: from the items in front of right sides to the
+/// left sides; and those by which what may follow is: from left sides to the items that may stand
+/// last.
+fn edges_of(
+    alloc: Global,
+    grammar: &Grammar,
+    nullable: &[bool],
+) -> Result<(Vec<Edge>, Vec<Edge>), NoMemory>
+    ensures first { IfOk result (λ edges. AreFirstEdges grammar.now nullable.now edges.0.items) }
+    ensures follow { IfOk result (λ edges. AreFollowEdges grammar.now nullable.now edges.1.items) }
+{
+    let sizes = Sizes::of(grammar);
+    let mut first = Vec::new(alloc);
+    let mut follow = Vec::new(alloc);
+    let productions = grammar.productions();
+    for at in 0..productions.len() {
+        let production = &productions[at];
+        let left = production.left as usize;
+        let items = production.items.as_slice();
+        let front = front_len(nullable, items);
+        note_front(&mut first, sizes, left, &items[..front])?;
+        note_last(&mut follow, sizes, nullable, left, items)?;
+    }
+    Ok((first, follow))
 }
 
 /// What is known of a grammar for all look-aheads: the nullable symbols, and the edges by which
@@ -45,10 +71,9 @@ impl Sets {
     {
         let nullable = nullable(alloc, grammar)?;
         let nodes = Sizes::of(grammar).nodes();
-        let edges = first_edges(alloc, grammar, nullable.as_slice())?;
-        let first = Clauses::of_edges(alloc, edges.as_slice(), nodes)?;
-        let edges = follow_edges(alloc, grammar, nullable.as_slice())?;
-        let follow = Clauses::of_edges(alloc, edges.as_slice(), nodes)?;
+        let edges = edges_of(alloc, grammar, nullable.as_slice())?;
+        let first = Clauses::of_edges(alloc, edges.0.as_slice(), nodes)?;
+        let follow = Clauses::of_edges(alloc, edges.1.as_slice(), nodes)?;
         Ok(Sets {
             nullable,
             first,

@@ -1,4 +1,6 @@
-use Rattle.std.proofs.Common.{Err, ap}
+use Rattle.std.proofs.Common.{[], Err, ap, arith}
+use Rattle.std.proofs.lemmas.List.Elements.{All-nil}
+use Rattle.ag_value.specs.Well.{IsWell}
 use Rattle.std.proofs.lemmas.Result.{err_from_is_err_and}
 use Rattle.treefile.specs.records.TreeFile.{body_of, version_two}
 use Rattle.treefile.specs.declared.body.Kind.TheVariants.{Node}
@@ -8,18 +10,28 @@ use Rattle.llparse.specs.sentence.Refusals.{parse_fault_of}
 use Rattle.llparse.specs.declared.sentence.parse_fault.ParseFault.{ParseFault}
 use Rattle.llparse.proofs.sentence.parser.put_node.Goals as goal
 
+-- where there is no text
 pub returns-in_err-put-clause-adds : goal.returns-in_err-put-clause-adds
 returns-in_err-put-clause-adds g c h =
     let p = err_from_is_err_and c.from_residual.result c.from_residual.ensures.1 in
-    let fault = c.in_err-put.field-0.0 in
-    let texts = c.args.texts.now in
-    rw p.1 (one_refused ParseFault (g.D.Device.content c.args.device.now) (g.D.Device.content c.put.new.device) (body_of Node c.args.production texts) fault (parse_fault_of fault)
-    (is_body version_two Node c.args.production texts c.requires.few c.requires.well)
-    (λ failed. c.in_err-put.ensures.device (ap Err failed) h)
-    (λ want. c.in_err-put.ensures.memory (ap Err want) h))
+    let put = c.in_err-put.ensures in
+    rw p.1 (one_refused ParseFault (g.D.Device.content c.args.device.now) (g.D.Device.content c.put.new.device) (body_of Node c.args.production []) c.in_err-put.field-0.0 (parse_fault_of c.in_err-put.field-0.0)
+    (is_body version_two Node c.args.production [] (omega arith) (All-nil IsWell)) (λ failed. put.device (ap Err failed) h) (λ want. put.memory (ap Err want) h))
+
+pub returns-then-is_empty-clause-adds : goal.returns-then-is_empty-clause-adds
+returns-then-is_empty-clause-adds g c h =
+    one_added ParseFault (g.D.Device.content c.args.device.now) (g.D.Device.content c.put.new.device) (body_of Node c.args.production [])
+    (is_body version_two Node c.args.production [] (omega arith) (All-nil IsWell)) (c.in_ok-put.ensures.frame h)
+
+-- where there are some
+pub returns-in_err-put-2-clause-adds : goal.returns-in_err-put-2-clause-adds
+returns-in_err-put-2-clause-adds g c h =
+    let p = err_from_is_err_and c.from_residual-in_err-put-2.result c.from_residual-in_err-put-2.ensures.1 in
+    let put = c.in_err-put-2.ensures in
+    rw p.1 (one_refused ParseFault (g.D.Device.content c.args.device.now) (g.D.Device.content c.put-2.new.device) (body_of Node c.args.production c.args.texts.now) c.in_err-put-2.field-0.0 (parse_fault_of c.in_err-put-2.field-0.0)
+    (is_body version_two Node c.args.production c.args.texts.now c.requires.few c.requires.well) (λ failed. put.device (ap Err failed) h) (λ want. put.memory (ap Err want) h))
 
 pub returns-clause-adds : goal.returns-clause-adds
 returns-clause-adds g c h =
-    let texts = c.args.texts.now in
-    one_added ParseFault (g.D.Device.content c.args.device.now) (g.D.Device.content c.put.new.device) (body_of Node c.args.production texts)
-    (is_body version_two Node c.args.production texts c.requires.few c.requires.well) (c.in_ok-put.ensures.frame h)
+    one_added ParseFault (g.D.Device.content c.args.device.now) (g.D.Device.content c.put-2.new.device) (body_of Node c.args.production c.args.texts.now)
+    (is_body version_two Node c.args.production c.args.texts.now c.requires.few c.requires.well) (c.in_ok-put-2.ensures.frame h)

@@ -1,0 +1,35 @@
+-- The goals of `edges_of` that are left.
+use Rattle.std.proofs.Common.{◌≡◌, ◌<◌, ◌≤◌, length, arith, ap, ◌∙◌, get_or, List, Contains}
+use Rattle.ag_grammar.specs.declared.grammar.Production.{Production}
+use Rattle.closure.specs.Following.{is_marked}
+use Rattle.llparse.specs.table.Comes.{IsFollowEdge}
+use Rattle.llparse.specs.table.Edges.{IsFirstEdge}
+use Rattle.llparse.proofs.look_ahead.Edges.{contains_none, noted_iff}
+use Rattle.llparse.proofs.look_ahead.Firsts.{edges_more}
+use Rattle.llparse.proofs.look_ahead.Follows.{last_more}
+use Rattle.llparse.proofs.table.predict.edges_of.Goals as goal
+
+pub loop-at-preserved : goal.loop-at-preserved
+loop-at-preserved c =
+    let g = c.args.grammar.now in
+    let n = is_marked c.args.nullable.now in
+    let r = c.index-productions-at.result in
+    let accepted = c.productions-productions.ensures.accepted in
+    let inside : c.loop-at.at < length g.productions = omega (arith, ap length c.productions-productions.ensures.lent, c.loop-at-test.true) in
+    let is : r ≡ get_or g.productions c.loop-at.at r = c.index-productions-at.is ∙ ap (λ (qs : List Production). get_or qs c.loop-at.at r) c.productions-productions.ensures.lent in
+    let left = ap (λ (q : Production). q.left) is in
+    let items = c.as_slice-items.ensures ∙ ap (λ (q : Production). q.items) is in
+    record {
+      first = edges_more g accepted n c.loop-at.at r _ _ _ c.as_slice-items.result.now c.front_len-front.result _ _ _ inside c.of-sizes.ensures.symbols c.of-sizes.ensures.literals left items c.front_len-front.ensures.front c.loop-at.invariant.first c.in_ok-note_front.ensures;
+      follow = last_more g accepted n c.loop-at.at r _ _ _ c.as_slice-items.result.now _ _ _ inside c.of-sizes.ensures.symbols c.of-sizes.ensures.literals left items c.loop-at.invariant.follow c.in_ok-note_last.ensures;
+    }
+
+pub returns-clause-first : goal.returns-clause-first
+returns-clause-first c =
+    let most : length c.args.grammar.now.productions ≤ c.loop-at.at = omega (arith, ap length c.productions-productions.ensures.lent, c.loop-at-test.false) in
+    noted_iff (IsFirstEdge c.args.grammar.now (is_marked c.args.nullable.now)) c.args.grammar.now.productions c.loop-at.at (Contains c.new-first.result.items) _ most (λ e h. contains_none e (rw c.new-first.ensures.items at h)) c.loop-at.invariant.first
+
+pub returns-clause-follow : goal.returns-clause-follow
+returns-clause-follow c =
+    let most : length c.args.grammar.now.productions ≤ c.loop-at.at = omega (arith, ap length c.productions-productions.ensures.lent, c.loop-at-test.false) in
+    noted_iff (IsFollowEdge c.args.grammar.now (is_marked c.args.nullable.now)) c.args.grammar.now.productions c.loop-at.at (Contains c.new-follow.result.items) _ most (λ e h. contains_none e (rw c.new-follow.ensures.items at h)) c.loop-at.invariant.follow
