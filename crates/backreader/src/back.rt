@@ -128,6 +128,7 @@ impl Back {
     /// a call of the device failed. After either that refusal is answered for good, and the device
     /// is left alone. Takes memory for a frame of more than 4,096 bytes, and for want of it nothing
     /// changes.
+    #[inline(always)]
     pub fn back<D: Device>(&mut self, device: &mut D) -> Result<Option<&[u8]>, FrameFault>
         requires { WhenHonest (D.is_honest device.old) (IsOver (D.content device.old) self.old) }
         // How far the reader has come, and that it is one of the same content

@@ -77,6 +77,7 @@ impl Window {
     ///
     /// B2 Damaged where no frame ends there. D1 Device where a call of the device failed. Takes
     /// memory for a frame that has more bytes than the buffer, and for want of it is as before.
+    #[inline(always)]
     #[tactic(auto, unfolding(treefile::specs::ways::Backward::next_before))]
     pub(crate) fn next<D: Device>(&mut self, device: &mut D) -> Result<Option<usize>, FrameFault>
         requires { WhenHonest (D.is_honest device.old)
@@ -159,6 +160,8 @@ impl Window {
     }
 
     /// The length of the body whose frame ends at the offset; `None` where none does.
+    #[cold]
+    #[inline(never)]
     #[tactic(auto, unfolding(treefile::specs::ways::Ending::body_before))]
     fn length_before<D: Device>(&mut self, device: &mut D) -> Result<Option<usize>, DeviceFault>
         requires { WhenHonest (D.is_honest device.old)

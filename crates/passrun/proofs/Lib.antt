@@ -4,7 +4,6 @@ pub mod Damage
 pub mod places
 pub mod Recorded
 pub mod Refusing
-pub mod Stepping
 pub mod steps
 pub mod Telling
 pub mod Totals

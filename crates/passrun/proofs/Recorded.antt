@@ -1,15 +1,16 @@
 -- What is read from the body of a record.
 use Rattle.std.specs.List.{flat_map}
+use Rattle.std.specs.Int.Signed.{mag}
 use Rattle.std.specs.Prelude.{IfOk, OnOk}
-use Rattle.std.proofs.Common.{ℕ, zero, suc, ◌≡◌, ◌+◌, ◌-◌, ◌<◌, ◌≤◌, Bool, true, false, nat_le, if◌then◌else◌, List, [], ◌∷◌, ◌++◌, ◌||◌, All, Some, slice_get, length, take, drop, get_or, Result, Ok, Err, refl, ap, ◌∙◌, sym, subst, arith, append_assoc, append-nil, length-append, length-drop, length-take, pos}
-use Rattle.std.proofs.lemmas.Bool.{le-leb, leb-true, lt-leb}
+use Rattle.std.proofs.Common.{ℕ, ℤ, zero, suc, ◌≡◌, ◌+◌, ◌-◌, ◌^◌, ◌<◌, ◌≤◌, Bool, true, false, nat_le, if◌then◌else◌, List, [], ◌∷◌, ◌++◌, ◌||◌, All, Some, slice_get, length, take, drop, get_or, Result, Ok, Err, refl, ap, ◌∙◌, sym, subst, arith, append_assoc, append-nil, length-append, length-drop, length-take, pos, negsuc}
+use Rattle.std.proofs.lemmas.Bool.{le-leb, leb-true, lt-leb, lt-ltb}
 use Rattle.std.proofs.lemmas.Grind.{flat_map-append}
-use Rattle.std.proofs.lemmas.List.{take_all}
+use Rattle.std.proofs.lemmas.List.{take_all, take_rest}
 use Rattle.std.proofs.lemmas.Option.{slice_get-get_or, slice_get_within}
 use Rattle.std.proofs.lemmas.List.Elements.{All-append, All-drop, All-head, All-nil, All-tail, All-take}
 use Rattle.ag_value.specs.declared.value.Value.{Value, Num}
 use Rattle.ag_value.specs.Spelling.{spelling_of}
-use Rattle.ag_value.specs.Well.{IsWell, is_item}
+use Rattle.ag_value.specs.Well.{IsWell, is_i64, is_item}
 use Rattle.ag_value.proofs.Layers.{weight-Num, depth-Num, fault-Num, item-Num}
 use Rattle.ag_grammar.specs.declared.grammar.Item.{Item}
 use Rattle.ag_grammar.specs.declared.grammar.Item.TheVariants as item
@@ -20,6 +21,7 @@ use Rattle.ag_grammar.specs.grammars.Solution.{left_passes}
 use Rattle.treefile.specs.declared.body.Kind.TheVariants.{Node}
 use Rattle.treefile.specs.records.Listed.{copied_count, copies_count, count_up_to}
 use Rattle.treefile.specs.records.Records.{values_up_to}
+use Rattle.treefile.proofs.records.Spelled.{spelled_apart}
 use Rattle.treefile.proofs.records.Values.{count_of_values, values_well}
 use Rattle.treefile.specs.records.TreeFile.{body_from}
 use Rattle.planchecker.specs.courses.Settings.{Setting}
@@ -27,13 +29,22 @@ use Rattle.passrun.specs.declared.reading.record.RecordFault.{RecordFault}
 use Rattle.passrun.specs.passing.Places.{Table, copied_passes, copies, row_passes}
 use Rattle.passrun.specs.reading.Reading.{AllWell, AreTaken, AreUntaken, IsNodeBody, IsNodeRead, IsNoNode, IsNoNodeBody, IsNoRow, IsTaken, IsUntaken, StandInFront, one_value}
 
--- 0 is well
+-- a number of 64 bits with a sign is well
+pub number_well : (z : ℤ) → mag z < 2 ^ 63 → IsWell (Num z)
+number_well z small =
+    record {
+      formed = ap (λ b. b || is_item (Num z)) (fault-Num z) ∙ (item-Num z ∙ signed z small);
+      shallow = let d = depth-Num z in omega arith;
+      light = let w = weight-Num z in omega arith;
+    }
+  where
+    signed : (z : ℤ) → mag z < 2 ^ 63 → is_i64 z ≡ true
+    signed (pos n) less = lt-ltb n (2 ^ 63) less
+    signed (negsuc n) less = lt-ltb n (2 ^ 63) less
+
+-- and so is 0
 pub zero_well : IsWell (Num (pos 0))
-zero_well = record {
-  formed = ap (λ b. b || is_item (Num (pos 0))) (fault-Num (pos 0)) ∙ item-Num (pos 0);
-  shallow = let d = depth-Num (pos 0) in omega arith;
-  light = let w = weight-Num (pos 0) in omega arith;
-}
+zero_well = number_well (pos 0) (omega arith)
 
 -- values that are the same stand in front,
 pub stand_alone : (old new : List Value) → new ≡ old → StandInFront old new
@@ -57,6 +68,20 @@ taken_place k pass bytes old new one same row =
       row = row ∙ ap (λ b. old ++ (if b then Num (pos 0) ∷ [] else [])) (sym w);
       spelled = ap (λ b. flat_map spelling_of (if b then Num (pos 0) ∷ [] else []) ++ bytes) (sym r);
       only = λ w others well is. sym (is ∙ ap (λ b. flat_map spelling_of (if b then w ∷ [] else []) ++ others) r);
+    }
+
+-- a number whose spelling stands in front is taken for one that an earlier pass gave,
+pub taken_number : (k pass : ℕ) (bytes rest : List ℕ) (z : ℤ) (old new : List Value) → pass < k → IsWell (Num z) → bytes ≡ spelling_of (Num z) ++ rest → new ≡ old ++ Num z ∷ [] → IsTaken (k - 1) k pass bytes rest old new
+taken_number k pass bytes rest z old new less well is row =
+    let r : nat_le pass (k - 1) ≡ true = le-leb pass (k - 1) (omega arith) in
+    let w : nat_le pass k ≡ true = le-leb pass k (omega arith) in
+    let one : (v : Value) (behind : List ℕ) → flat_map spelling_of (one_value (k - 1) pass v) ++ behind ≡ spelling_of v ++ behind = λ v behind. ap (λ b. flat_map spelling_of (if b then v ∷ [] else []) ++ behind) r ∙ ap (λ xs. xs ++ behind) (append-nil (spelling_of v)) in
+    record {
+      value = Num z;
+      well = well;
+      row = row ∙ ap (λ b. old ++ (if b then Num z ∷ [] else [])) (sym w);
+      spelled = is ∙ sym (one (Num z) rest);
+      only = λ v others v_well same. (spelled_apart v (Num z) others rest v_well well (sym (one v others) ∙ sym same ∙ is)).1;
     }
 
 -- and nothing for one of a later pass.
@@ -381,3 +406,8 @@ no_passes_from [] zero past = refl
 no_passes_from [] (suc i) past = refl
 no_passes_from (p ∷ ps) zero past = absurd (omega arith)
 no_passes_from (p ∷ ps) (suc i) past = no_passes_from ps i (omega arith)
+
+-- bytes that begin with 0
+pub tagged : (bytes : List ℕ) → 1 ≤ length bytes → get_or bytes 0 0 ≡ 0 → bytes ≡ 0 ∷ take (length bytes - 1) (drop 1 bytes)
+tagged [] some is = absurd (omega arith)
+tagged (b ∷ bytes) some is = ap (λ c. c ∷ bytes) is ∙ ap (λ bytes. 0 ∷ bytes) (sym (take_rest (b ∷ bytes) 1))

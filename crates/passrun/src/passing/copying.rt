@@ -1,7 +1,7 @@
 //! The copies of children's values in the row of a node.
 
-ghost use Rattle.std.specs.Prelude.{ℕ, ◌≡◌, ◌+◌, ◌-◌, ◌≤◌, ◌++◌, ◌↔◌, IsTrue, List, drop, length, take};
-ghost use Rattle.ag_value.specs.declared.value.Value.{Value as AttributeValue};
+ghost use Rattle.std.specs.Prelude.{ℕ, ◌≡◌, ◌+◌, ◌-◌, ◌<◌, ◌≤◌, ◌++◌, ◌↔◌, IsTrue, List, drop, length, set, take};
+ghost use Rattle.ag_value.specs.declared.value.Value.{Value as AttributeValue, Num};
 ghost use Rattle.passrun.specs.laid.Jobs.{setting};
 ghost use Rattle.passrun.specs.passing.Places.{kept_values};
 ghost use Rattle.passrun.specs.reading.Reading.{Agrees};
@@ -92,18 +92,68 @@ pub(crate) fn keep_row(item: Item, values: &mut Vec<Value>, start: usize)
     }
 }
 
-/// Exchanges values for as many others, one in one step.
+/// Puts a number in the place of a value, and of a number in one step.
 #[inline(always)]
-fn exchange(ours: &mut [Value], theirs: &mut [Value])
+fn put_number(place: &mut Value, number: i64)
+    ensures { place.new ≡ Num number }
+{
+    match place {
+        Value::Num(old) => *old = number,
+        other => *other = Value::Num(number),
+    }
+}
+
+/// Puts a value at an index.
+#[inline(always)]
+pub(crate) fn put_value(values: &mut Vec<Value>, index: usize, value: Value)
+    requires { index < length values.old.items }
+    ensures { values.new.items ≡ set values.old.items index value }
+{
+    if let Value::Num(number) = &value {
+        return put_number(&mut values[index], *number);
+    }
+    values[index] = value;
+}
+
+/// Puts values in the place of as many others, one that is a number in one step.
+#[inline(always)]
+fn take_over(ours: &mut [Value], theirs: &mut [Value])
     requires { length ours.old ≡ length theirs.old }
     ensures ours { ours.new ≡ theirs.old }
-    ensures theirs { theirs.new ≡ ours.old }
+    ensures theirs { length theirs.new ≡ length theirs.old }
 {
     if ours.len() == 1 {
-        std::mem::swap(&mut ours[0], &mut theirs[0]);
-        return;
+        if let Value::Num(number) = &theirs[0] {
+            put_number(&mut ours[0], *number);
+            return;
+        }
     }
     ours.swap_with_slice(theirs);
+}
+
+/// Cuts off the last value, a number in one step.
+#[inline(always)]
+fn cut_last(values: &mut Vec<Value>)
+    ensures { values.new.items ≡ take (length values.old.items - 1) values.old.items }
+{
+    let Some(last) = values.pop() else {
+        return;
+    };
+    // a number has no memory to give back
+    let Value::Num(_) = last else {
+        drop(last);
+        return;
+    };
+}
+
+/// Cuts off the values from an index on, each number in one step.
+#[inline(always)]
+fn cut(values: &mut Vec<Value>, from: usize)
+    ensures { values.new.items ≡ take from values.old.items }
+{
+    while from < values.len() {
+        cut_last(values);
+    }
 }
 
 /// Puts the first values of the last row, which begins at an index, in the place of others, and cuts
@@ -116,6 +166,6 @@ pub(crate) fn hand_over(values: &mut Vec<Value>, from: usize, to: usize, count: 
         ++ drop (to + count) (take from values.old.items)) }
 {
     let (rows, last) = values.split_at_mut(from);
-    exchange(&mut rows[to..to + count], &mut last[..count]);
-    values.truncate(from);
+    take_over(&mut rows[to..to + count], &mut last[..count]);
+    cut(values, from);
 }

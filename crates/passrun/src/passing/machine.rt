@@ -16,7 +16,7 @@ ghost use Rattle.treefile.specs.devices.Device.{LeavesContent, Persists, WhenHon
 ghost use Rattle.treefile.specs.devices.Several.{BothLast};
 
 use crate::laid::job::Job;
-use crate::passing::copying::{alone, behind, hand_over, is_as_told, keep_row};
+use crate::passing::copying::{alone, behind, hand_over, is_as_told, keep_row, put_value};
 use crate::passing::evaluating::evaluate;
 use crate::passing::open_node::OpenNode;
 use crate::passing::putting::put_record;
@@ -192,17 +192,16 @@ impl Machine {
         let semantic = &production.rules.as_slice()[rule as usize];
         let row = job.row(node.production);
         let slots = &row.rules.as_slice()[rule as usize];
-        let spare = Value::Num(0);
         let value = evaluate(
             alloc,
             &semantic.expr,
             slots.args.as_slice(),
             &self.values[node.base..],
-            &spare,
+            &Value::Num(0),
             meter,
         )?;
         let target = node.base + slots.target as usize;
-        self.values[target] = value;
+        put_value(&mut self.values, target, value);
         Ok(node.stepped(node.child))
     }
 
@@ -229,6 +228,25 @@ impl Machine {
         let values = self.values.as_slice();
         let waiting = &mut self.waiting;
         let child = go(job, node, place, values, waiting)?;
+        Ok(child)
+    }
+
+    /// Goes into the child whose record was read last, where that is next.
+    #[inline(always)]
+    pub(crate) fn go_on(&mut self, job: &Job<'_>, node: OpenNode) -> Result<OpenNode, NoMemory>
+        requires job { CanRun job.now }
+        requires runs { RunsSomehow (setting job.now) self.old (Some node) }
+        ensures runs { IfOk result (λ next. Turns (setting job.now)
+            self.old self.new (Some node) (Some next)) }
+        ensures most { IfOk result (λ next.
+            work (setting job.now) self.new (Some next)
+            ≤ work (setting job.now) self.old (Some node)) }
+        ensures begun { self.new.begun ≡ self.old.begun }
+    {
+        let Instr::Go(place) = job.instruction(node) else {
+            return Ok(node);
+        };
+        let child = self.enter(job, node, place)?;
         Ok(child)
     }
 
@@ -273,6 +291,27 @@ impl Machine {
         Ok(Some(outer))
     }
 
+    /// The node behind its next instruction where that puts a child's record that was put already.
+    #[inline(always)]
+    pub(crate) fn put_before(&self, job: &Job<'_>, node: OpenNode) -> OpenNode
+        requires job { CanRun job.now }
+        requires runs { RunsSomehow (setting job.now) self.now (Some node) }
+        ensures runs { Turns (setting job.now) self.now self.now (Some node) (Some result) }
+        ensures most { work (setting job.now) self.now (Some result)
+            ≤ work (setting job.now) self.now (Some node) }
+    {
+        let Instr::Put(place) = job.instruction(node) else {
+            return node;
+        };
+        let Some(row) = job.place(node.production, place) else {
+            unreachable!();
+        };
+        let Item::Symbol(_) = row.item else {
+            return node;
+        };
+        node.stepped(node.child)
+    }
+
     /// Follows the next instruction of the innermost open node. The node that goes on next, none
     /// where the root is done.
     #[inline(always)]
@@ -308,7 +347,10 @@ impl Machine {
             E.is_honest E.failures to.old to.new (IsErrOf result RunFault.Device) }
     {
         match job.instruction(node) {
-            Instr::Get(place) => Ok(Some(self.get(alloc, job, node, place, from)?)),
+            Instr::Get(place) => {
+                let stepped = self.get(alloc, job, node, place, from)?;
+                Ok(Some(self.go_on(job, stepped)?))
+            }
             Instr::Set {
                 place: _,
                 attr: _,
@@ -317,7 +359,12 @@ impl Machine {
             Instr::Def { attr: _, rule } => Ok(Some(self.give(alloc, job, node, rule, meter)?)),
             Instr::Go(place) => Ok(Some(self.enter(job, node, place)?)),
             Instr::Put(place) => Ok(Some(self.put(job, node, place, to)?)),
-            Instr::End => self.end(job, node, to),
+            Instr::End => {
+                let Some(outer) = self.end(job, node, to)? else {
+                    return Ok(None);
+                };
+                Ok(Some(self.put_before(job, outer)))
+            }
         }
     }
 }

@@ -1,6 +1,9 @@
 //! Reading the body of a record: the values of a node, or the text of a token.
 
-ghost use Rattle.std.specs.Prelude.{◌≡◌, ◌≤◌, ◌-◌, [], IfOk, IfSome, IsErrOf, None, OnOk, length};
+ghost use Rattle.std.specs.Prelude.{◌≡◌, ◌<◌, ◌≤◌, ◌-◌, ◌++◌, [], IfOk, IfSome, IsErrOf, None, OnOk, length};
+ghost use Rattle.ag_value.specs.Spelling.{spelling_of};
+ghost use Rattle.ag_value.specs.Well.{IsWell};
+ghost use Rattle.ag_value.specs.declared.value.Value.{Num};
 ghost use Rattle.passrun.specs.laid.Jobs.{CanRun, setting};
 ghost use Rattle.passrun.specs.reading.Reading.{AreTaken, AreUntaken, IsNoNodeBody, IsNoRow, IsNodeBody};
 ghost use Rattle.passrun.specs.reading.Reading.{IsTaken, IsUntaken, IsNodeRead, IsNoNode, StandInFront};
@@ -62,6 +65,68 @@ impl<T: Drop> From<AllocFailed<T>> for RecordFault {
     }
 }
 
+/// The number whose spelling stands in front of bytes, and the bytes behind it.
+#[inline(always)]
+fn number_in(bytes: &[u8]) -> Option<(i64, &[u8])>
+    ensures spelled { IfSome result
+        (λ found. bytes.now ≡ spelling_of (Num found.0) ++ found.1.now) }
+    ensures well { IfSome result (λ found. IsWell (Num found.0)) }
+{
+    let [tag, behind @ ..] = bytes else {
+        return None;
+    };
+    if *tag != 0 || behind.len() < 8 {
+        return None;
+    }
+    let (front, rest) = behind.split_at(8);
+    let number = u64::from_be_bytes([
+        front[0], front[1], front[2], front[3], front[4], front[5], front[6], front[7],
+    ]);
+    Some((number.cast_signed(), rest))
+}
+
+/// Takes the value of an attribute of a pass from the bytes, where an earlier pass gave it.
+#[inline(never)]
+fn read_value<'b>(
+    alloc: Global,
+    pass: u16,
+    k: u16,
+    bytes: &'b [u8],
+    values: &mut Vec<Value>,
+) -> Result<&'b [u8], RecordFault>
+    requires known { pass < k }
+    ensures taken { IfOk result (λ rest. IsTaken (k - 1) k pass bytes.now rest.now
+        values.old.items values.new.items) }
+    ensures untaken { IsErrOf result RecordFault.Damaged → IsUntaken (k - 1) pass bytes.now }
+    ensures front { StandInFront values.old.items values.new.items }
+{
+    let (value, length) = decode(alloc, bytes)?;
+    values.push(value)?;
+    Ok(&bytes[length..])
+}
+
+/// The same, a number in one step.
+#[inline(always)]
+fn take_known<'b>(
+    alloc: Global,
+    pass: u16,
+    k: u16,
+    bytes: &'b [u8],
+    values: &mut Vec<Value>,
+) -> Result<&'b [u8], RecordFault>
+    requires { pass < k }
+    ensures taken { IfOk result (λ rest. IsTaken (k - 1) k pass bytes.now rest.now
+        values.old.items values.new.items) }
+    ensures untaken { IsErrOf result RecordFault.Damaged → IsUntaken (k - 1) pass bytes.now }
+    ensures front { StandInFront values.old.items values.new.items }
+{
+    let Some((number, rest)) = number_in(bytes) else {
+        return read_value(alloc, pass, k, bytes, values);
+    };
+    values.push(Value::Num(number))?;
+    Ok(rest)
+}
+
 /// Takes the value of an attribute of a pass: from the bytes where an earlier pass gave it, and a
 /// number in its place where pass k is to give it.
 #[inline(always)]
@@ -79,9 +144,7 @@ fn take_value<'b>(
     ensures front { StandInFront values.old.items values.new.items }
 {
     if pass < k {
-        let (value, length) = decode(alloc, bytes)?;
-        values.push(value)?;
-        return Ok(&bytes[length..]);
+        return take_known(alloc, pass, k, bytes, values);
     }
     if pass == k {
         values.push(Value::Num(0))?;
@@ -92,6 +155,7 @@ fn take_value<'b>(
 
 /// Takes the values of attributes with these passes from the front of the bytes: numbers stand in the
 /// places of those that pass k is to give. The bytes behind them.
+#[inline(always)]
 fn take_values<'b>(
     alloc: Global,
     passes: &[u16],
@@ -114,6 +178,7 @@ fn take_values<'b>(
 }
 
 /// Takes the row of a node whose values have these passes: no bytes may be left behind it.
+#[inline(always)]
 fn take_row(
     alloc: Global,
     passes: &[u16],

@@ -3,7 +3,7 @@ use Rattle.planchecker.specs.courses.Settings.{setting_of}
 use Rattle.treefile.specs.ways.Beginning.{LeavesBeginning}
 use Rattle.passrun.specs.declared.last.Last.{Last}
 use Rattle.passrun.specs.Rounds.{last_content, other_content}
-use Rattle.passrun.proofs.Stepping.{err_more, passed_from_a, passed_from_b, refused_from_a, refused_from_b}
+use Rattle.passrun.proofs.course.Stepping.{err_more, passed_from_a, passed_from_b, refused_from_a, refused_from_b}
 use Rattle.passrun.proofs.passes.next_pass.Goals as goal
 
 pub returns-in-A-clause-passed : goal.returns-in-A-clause-passed

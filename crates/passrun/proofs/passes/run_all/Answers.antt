@@ -6,7 +6,7 @@ use Rattle.treefile.specs.records.TreeFile.{version_two}
 use Rattle.passrun.specs.Rounds.{HasRunAll, last_content, other_content}
 use Rattle.passrun.specs.declared.last.Last.{Last}
 use Rattle.passrun.specs.declared.last.Last.TheVariants.{A}
-use Rattle.passrun.proofs.Stepping.{all_goes_on, all_refused, all_starts, greatest_most, persists_on, persists_still}
+use Rattle.passrun.proofs.course.Stepping.{all_goes_on, all_refused, all_starts, greatest_most, persists_on, persists_still}
 use Rattle.passrun.proofs.passes.run_all.Goals as goal
 
 pub loop-done-init : goal.loop-done-init

@@ -2,7 +2,7 @@ use Rattle.std.proofs.Common.{Err, Ok, ◌∙◌, arith}
 use Rattle.std.proofs.lemmas.Result.{err_from_is_err_and}
 use Rattle.treefile.proofs.ways.Beginning.{added}
 use Rattle.passrun.specs.declared.run_fault.RunFault.{RunFault}
-use Rattle.passrun.proofs.Stepping.{persists_on}
+use Rattle.passrun.proofs.course.Stepping.{persists_on}
 use Rattle.passrun.proofs.passing.run.run.Goals as goal
 
 pub returns-in_err-next-clause-left : goal.returns-in_err-next-clause-left

@@ -1,5 +1,4 @@
-use Rattle.std.specs.Vec.{with_item}
-use Rattle.std.proofs.Common.{◌+◌, ◌-◌, Some, length, take, drop, pos, refl, ap, ◌∙◌, sym, arith}
+use Rattle.std.proofs.Common.{◌-◌, Some, length, take, drop, pos, ap, ◌∙◌, sym, arith}
 use Rattle.std.proofs.lemmas.List.{take_rest}
 use Rattle.std.proofs.lemmas.List.Elements.{All-drop, All-take, All-same}
 use Rattle.ag_value.specs.declared.value.Value.{Num}
@@ -35,8 +34,8 @@ evaluate-requires-clause-well c =
 pub evaluate-requires-clause-not_full : goal.evaluate-requires-clause-not_full
 evaluate-requires-clause-not_full c = meter_of (setting c.args.job.now) c.requires.job.sound c.args.self.now c.args.node c.args.meter.now c.requires.runs
 
-pub index_mut-requires : goal.index_mut-requires
-index_mut-requires c =
+pub put_value-requires : goal.put_value-requires
+put_value-requires c =
     let job = setting c.args.job.now in
     let h = giver job c.requires.job.sound c.args.self.now c.args.node c.args.meter.now c.args.rule c.productions.result.now c.index-productions-node.result c.as_slice.result.now c.index-as_slice-rule.result c.productions.ensures.lent c.index-productions-node.is c.as_slice.ensures c.index-as_slice-rule.is c.requires.runs c.requires.next in
     let are = slots_found job c.args.node.production c.args.rule c.index-productions-node.result c.index-as_slice-rule.result c.row-row.result.now c.as_slice-2.result.now c.index-as_slice-rule-2.result (c.row-row.ensures c.index-productions-node.result h.there) h.numbered c.as_slice-2.ensures c.index-as_slice-rule-2.is in
@@ -54,7 +53,7 @@ returns-clause-runs c =
     let are = slots_found job c.args.node.production c.args.rule c.index-productions-node.result c.index-as_slice-rule.result c.row-row.result.now c.as_slice-2.result.now c.index-as_slice-rule-2.result (c.row-row.ensures c.index-productions-node.result h.there) h.numbered c.as_slice-2.ensures c.index-as_slice-rule-2.is in
     let v = c.in_ok-value.value in
     let is = lent_value job c.requires.job.sound c.index-productions-node.result c.index-as_slice-rule.result slots m base c.deref.result.now (take (length c.deref.result.now - base) (drop base c.deref.result.now)) c.as_slice-3.result.now (Num (pos 0)) v c.deref.ensures.value (take_rest c.deref.result.now base) c.as_slice-3.ensures c.in_ok-value.ensures.value in
-    given_turns job c.requires.job.sound m (_) c.args.node c.stepped.result c.args.meter.now c.evaluate.new.meter c.args.rule c.index-productions-node.result c.index-as_slice-rule.result slots (Num (pos 0)) v c.requires.next h.there h.numbered are is c.in_ok-value.ensures.well refl c.in_ok-value.ensures.counted c.stepped.ensures
+    given_turns job c.requires.job.sound m c.put_value.new.values c.args.node c.stepped.result c.args.meter.now c.evaluate.new.meter c.args.rule c.index-productions-node.result c.index-as_slice-rule.result slots (Num (pos 0)) v c.requires.next h.there h.numbered are is c.in_ok-value.ensures.well c.put_value.ensures c.in_ok-value.ensures.counted c.stepped.ensures
 
 pub returns-clause-less : goal.returns-clause-less
-returns-clause-less c = given_less (setting c.args.job.now) c.requires.job.sound c.args.self.now (with_item c.args.self.now.values (c.args.node.base + c.index-as_slice-rule-2.result.target) c.in_ok-value.value) c.args.node c.stepped.result c.args.rule c.requires.next c.stepped.ensures
+returns-clause-less c = given_less (setting c.args.job.now) c.requires.job.sound c.args.self.now c.put_value.new.values c.args.node c.stepped.result c.args.rule c.requires.next c.stepped.ensures

@@ -4,20 +4,13 @@ use Rattle.std.proofs.Common.{Err}
 use Rattle.std.proofs.lemmas.Result.{err_from_is_err_and}
 use Rattle.treefile.proofs.ways.Beginning.{none_added}
 use Rattle.passrun.specs.declared.run_fault.RunFault.{RunFault}
-use Rattle.passrun.proofs.Recorded.{if_ok}
 use Rattle.passrun.proofs.passing.machine.Machine.step.Goals as goal
 
 pub give-requires-in-Def-clause-next : goal.give-requires-in-Def-clause-next
 give-requires-in-Def-clause-next g c = (0, c.in-Def.attr, instr.Def c.in-Def.attr c.in-Def.rule, inr (refl, refl), c.in-Def.ensures.there)
 
-pub returns-in_ok-get-in-Get-clause-runs : goal.returns-in_ok-get-in-Get-clause-runs
-returns-in_ok-get-in-Get-clause-runs g c = c.in_ok-get-in-Get.ensures.runs _ _ _ c.requires.runs
-
 pub returns-in_ok-put-in-Put-clause-runs : goal.returns-in_ok-put-in-Put-clause-runs
 returns-in_ok-put-in-Put-clause-runs g c = c.in_ok-put-in-Put.ensures.runs _ _ _ c.requires.runs
-
-pub returns-in-End-clause-runs : goal.returns-in-End-clause-runs
-returns-in-End-clause-runs g c = if_ok c.end.result (λ next turns. turns _ _ _ c.requires.runs) c.end.ensures.runs
 
 pub returns-in_ok-give-in-Set-clause-runs : goal.returns-in_ok-give-in-Set-clause-runs
 returns-in_ok-give-in-Set-clause-runs g c = c.in_ok-give-in-Set.ensures.runs _ _ _ _ c.requires.runs
@@ -25,9 +18,14 @@ returns-in_ok-give-in-Set-clause-runs g c = c.in_ok-give-in-Set.ensures.runs _ _
 pub returns-in_ok-give-in-Def-clause-runs : goal.returns-in_ok-give-in-Def-clause-runs
 returns-in_ok-give-in-Def-clause-runs g c = c.in_ok-give-in-Def.ensures.runs _ _ _ _ c.requires.runs
 
-pub returns-in_err-get-in-Get-clause-left : goal.returns-in_err-get-in-Get-clause-left
-returns-in_err-get-in-Get-clause-left g c =
+pub returns-in_err-stepped-in-Get-clause-left : goal.returns-in_err-stepped-in-Get-clause-left
+returns-in_err-stepped-in-Get-clause-left g c =
     let p = err_from_is_err_and c.from_residual.result c.from_residual.ensures.1 in
+    rw p.1 (λ h. none_added RunFault (g.E.Device.content c.args.to.now) (Err p.0))
+
+pub returns-in_err-go_on-in-Get-clause-left : goal.returns-in_err-go_on-in-Get-clause-left
+returns-in_err-go_on-in-Get-clause-left g c =
+    let p = err_from_is_err_and c.from_residual-in_err-go_on-in-Get.result c.from_residual-in_err-go_on-in-Get.ensures.1 in
     rw p.1 (λ h. none_added RunFault (g.E.Device.content c.args.to.now) (Err p.0))
 
 pub returns-in_err-give-in-Set-clause-left : goal.returns-in_err-give-in-Set-clause-left
