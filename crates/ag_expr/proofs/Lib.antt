@@ -1,2 +1,3 @@
-pub mod language
 pub mod reading
+pub mod language
+pub mod Scopes

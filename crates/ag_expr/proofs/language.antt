@@ -8,7 +8,6 @@ pub mod Manner
 pub mod Numbered
 pub mod Parts
 pub mod Offsets
-pub mod Scopes
 pub mod States
 pub mod Texts
 pub mod Until

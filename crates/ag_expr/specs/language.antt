@@ -1,7 +1,6 @@
 -- The expression language: its syntax.
 pub mod Chains
 pub mod Expression
-pub mod Faults
 pub mod Laws
 pub mod Names
 pub mod Numbers

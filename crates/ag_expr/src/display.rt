@@ -7,7 +7,7 @@ use std::fmt;
 /// The number of the fault, and where it has one its offset: `X2 at 13`.
 impl fmt::Display for ExprFault {
     ghost use Rattle.std.specs.Prelude.{Some};
-    ghost use Rattle.ag_expr.specs.language.Faults.{printed};
+    ghost use Rattle.ag_expr.specs.Printed.{printed};
 
     ghost output = { λ fault. Some (printed fault) };
 

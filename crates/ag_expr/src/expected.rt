@@ -52,23 +52,47 @@ fn gather(
     let operand = can_stand(alloc, before, "1")?;
     if operand {
         found.push(operand_at(alloc, text, before)?)?;
-    } else if can_stand(alloc, before, "_")? {
-        found.push(Expected::NewName)?;
+    } else {
+        note(alloc, before, "_", Expected::NewName, found)?;
     }
-    if can_stand(alloc, before, "==")? {
-        found.push(Expected::Operator)?;
-    } else if can_stand(alloc, before, "*")? {
-        found.push(Expected::TighterOperator)?;
+    if !note(alloc, before, "==", Expected::Operator, found)? {
+        note(alloc, before, "*", Expected::TighterOperator, found)?;
     }
-    for sign in SIGNS {
-        if !(operand && sign == "(") && can_stand(alloc, before, sign)? {
-            found.push(Expected::Sign(sign))?;
-        }
-    }
+    gather_signs(alloc, before, operand, found)?;
     if refused_at(alloc, before)?.is_none() {
         found.push(Expected::End)?;
     }
     Ok(())
+}
+
+/// Gathers the signs that could stand behind a text; not that which begins an operand, where one could.
+fn gather_signs(
+    alloc: Global,
+    before: &str,
+    operand: bool,
+    found: &mut Vec<Expected>,
+) -> Result<(), NoMemory> {
+    for sign in SIGNS {
+        if !(operand && sign == "(") {
+            note(alloc, before, sign, Expected::Sign(sign), found)?;
+        }
+    }
+    Ok(())
+}
+
+/// Notes what could stand behind a text, where this token could. Whether it could.
+fn note(
+    alloc: Global,
+    before: &str,
+    token: &str,
+    expected: Expected,
+    found: &mut Vec<Expected>,
+) -> Result<bool, NoMemory> {
+    let stands = can_stand(alloc, before, token)?;
+    if stands {
+        found.push(expected)?;
+    }
+    Ok(stands)
 }
 
 /// What is said where an operand can stand.
@@ -95,7 +119,7 @@ fn can_stand(alloc: Global, before: &str, token: &str) -> Result<bool, NoMemory>
     }
 }
 
-/// Where a text is refused, which is no expression.
+/// Where a text that is no expression is refused; None where it is one.
 fn refused_at(alloc: Global, text: &str) -> Result<Option<usize>, NoMemory> {
     match read_expr(alloc, text) {
         Ok(_) => Ok(None),

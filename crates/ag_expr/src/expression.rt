@@ -1,18 +1,19 @@
 //! Reading a text as an expression.
 
-ghost use Rattle.std.specs.Prelude.{◌≡◌, [], chars, drop, length, true, IfOk, IfErr};
+ghost use Rattle.std.specs.Prelude.{◌≡◌, [], chars, drop, length, true, Ok, Err, IfOk, IfErr};
 ghost use Rattle.ag_grammar.specs.expressions.Trees.{is_below};
 ghost use Rattle.ag_expr.specs.language.Expression.{ReadsAsExpr, IsRefused, IsAt, Says};
 ghost use Rattle.std.specs.Str.{IsCharBoundary};
-ghost use Rattle.ag_expr.specs.language.State.{IsReadEnded, IsReadToEnd};
+ghost use Rattle.ag_tokens.specs.Parsing.{next, offset};
+ghost use Rattle.ag_expr.specs.language.State.{IsReadEnded, IsReadToEnd, start};
 ghost use Rattle.ag_expr.specs.language.Offsets.{IsFirstOf, IsRead};
 ghost use Rattle.ag_expr.specs.language.Until.{IsFirstUntil, IsReadUntil, IsRefusedUntil};
 ghost use Rattle.ag_expr.specs.language.Until.{ReadsUntil};
 
 use crate::fault::ExprFault;
 use crate::reader::Reader;
-use ag_grammar::Expr;
 use ag_grammar::limits::MOST_LEVELS;
+use ag_grammar::{Expr, Node};
 use ag_tokens::Cursor;
 use std::alloc::Global;
 
@@ -58,15 +59,28 @@ pub fn read_ended<'t>(alloc: Global, cursor: &mut Cursor<'t>) -> Result<(Expr, u
 {
     let tokens = std::mem::replace(cursor, Cursor::new(""));
     let mut reader = Reader::new(alloc, tokens, true);
-    let node = reader.expression(MOST_LEVELS)?;
-    if !reader.sees_semicolon() {
-        return Err(reader.refusal());
-    }
+    let tree = statement(&mut reader)?;
     let (occurrences, rest) = reader.into_parts();
     let at = rest.offset();
     *cursor = rest;
     cursor.bump();
-    Ok((Expr::new(node, occurrences), at))
+    Ok((Expr::new(tree, occurrences), at))
+}
+
+/// Passes the expression in front of a reader that has passed nothing, up to its `;`.
+fn statement(reader: &mut Reader<'_>) -> Result<Node, ExprFault>
+    requires { reader.old ≡ start true reader.old.tokens }
+    ensures read { IfOk result (λ tree. IsReadEnded reader.old.tokens
+        (Ok ((tree, reader.new.listed), offset reader.new.tokens)) (next reader.new.tokens)) }
+    ensures below { IfOk result (λ tree. is_below (length reader.new.listed) tree ≡ true) }
+    ensures refused { IfErr result (λ e.
+        IsReadEnded reader.old.tokens (Err e) reader.new.tokens) }
+{
+    let tree = reader.expression(MOST_LEVELS)?;
+    if !reader.sees_semicolon() {
+        return Err(reader.refusal());
+    }
+    Ok(tree)
 }
 
 /// Reads all that is left as an expression.
@@ -74,10 +88,21 @@ fn whole(mut reader: Reader<'_>) -> Result<Expr, ExprFault>
     requires { reader.scope ≡ [] }
     ensures { IsReadToEnd reader.entry result }
 {
+    let tree = tree_to_end(&mut reader)?;
+    let (occurrences, _) = reader.into_parts();
+    Ok(Expr::new(tree, occurrences))
+}
+
+/// Passes all that is left as an expression.
+fn tree_to_end(reader: &mut Reader<'_>) -> Result<Node, ExprFault>
+    requires { reader.old.scope ≡ [] }
+    ensures read { IfOk result (λ tree. IsReadToEnd reader.old (Ok (tree, reader.new.listed))) }
+    ensures below { IfOk result (λ tree. is_below (length reader.new.listed) tree ≡ true) }
+    ensures refused { IfErr result (λ e. IsReadToEnd reader.old (Err e)) }
+{
     let tree = reader.expression(MOST_LEVELS)?;
     if !reader.is_at_end() {
         return Err(reader.refusal());
     }
-    let (occurrences, _) = reader.into_parts();
-    Ok(Expr::new(tree, occurrences))
+    Ok(tree)
 }

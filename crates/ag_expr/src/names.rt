@@ -19,60 +19,25 @@ pub enum Call {
     Put,
 }
 
-/// The call of one argument that a name is.
-fn unary_call(name: &str) -> Option<UnaryCall>
-    ensures { result ≡ names_spec.unary_call name.now }
-{
-    if name == "len" {
-        Some(UnaryCall::Len)
-    } else if name == "text" {
-        Some(UnaryCall::Text)
-    } else if name == "number" {
-        Some(UnaryCall::Number)
-    } else if name == "keys" {
-        Some(UnaryCall::Keys)
-    } else if name == "iserr" {
-        Some(UnaryCall::IsError)
-    } else {
-        None
-    }
-}
-
-/// The call of two arguments that a name is.
-fn binary_call(name: &str) -> Option<BinaryCall>
-    ensures { result ≡ names_spec.binary_call name.now }
-{
-    if name == "nth" {
-        Some(BinaryCall::Nth)
-    } else if name == "append" {
-        Some(BinaryCall::Append)
-    } else if name == "join" {
-        Some(BinaryCall::Join)
-    } else if name == "get" {
-        Some(BinaryCall::Get)
-    } else if name == "has" {
-        Some(BinaryCall::Has)
-    } else if name == "orelse" {
-        Some(BinaryCall::OrElse)
-    } else {
-        None
-    }
-}
-
 /// The call that a name is.
 pub fn call_of(name: &str) -> Option<Call>
     ensures { result ≡ names_spec.call_of name.now }
 {
-    if let Some(call) = unary_call(name) {
-        return Some(Call::Unary(call));
+    match name {
+        "len" => Some(Call::Unary(UnaryCall::Len)),
+        "text" => Some(Call::Unary(UnaryCall::Text)),
+        "number" => Some(Call::Unary(UnaryCall::Number)),
+        "keys" => Some(Call::Unary(UnaryCall::Keys)),
+        "iserr" => Some(Call::Unary(UnaryCall::IsError)),
+        "nth" => Some(Call::Binary(BinaryCall::Nth)),
+        "append" => Some(Call::Binary(BinaryCall::Append)),
+        "join" => Some(Call::Binary(BinaryCall::Join)),
+        "get" => Some(Call::Binary(BinaryCall::Get)),
+        "has" => Some(Call::Binary(BinaryCall::Has)),
+        "orelse" => Some(Call::Binary(BinaryCall::OrElse)),
+        "put" => Some(Call::Put),
+        _ => None,
     }
-    if let Some(call) = binary_call(name) {
-        return Some(Call::Binary(call));
-    }
-    if name == "put" {
-        return Some(Call::Put);
-    }
-    None
 }
 
 /// Whether a name is that of a form or of an operator.
@@ -141,7 +106,7 @@ impl<'t> Scope<'t> {
     }
 
     /// Takes the innermost name away.
-    #[tactic(auto, using(crate::proofs::language::Scopes::unbound))]
+    #[tactic(auto, using(crate::proofs::Scopes::unbound))]
     pub fn unbind(&mut self)
         ensures { self.new ≡ names_spec.outer self.old }
     {
@@ -149,7 +114,7 @@ impl<'t> Scope<'t> {
     }
 
     /// The number of a bound name: of its innermost binding.
-    #[tactic(auto, using(crate::proofs::language::Scopes::last_lent))]
+    #[tactic(auto, using(crate::proofs::Scopes::last_lent))]
     pub fn number_of(&self, name: &str) -> Option<usize>
         ensures { result ≡ names_spec.number_in self.now name.now }
     {

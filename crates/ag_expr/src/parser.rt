@@ -300,7 +300,7 @@ impl<'t> Reader<'t> {
 
     /// Passes a `let`, whose parts have at most so many levels.
     #[cycle(parsing)]
-    #[tactic(auto, using(crate::proofs::language::Scopes::outer_end), unfolding(crate::specs::language::Reading::let_from))]
+    #[tactic(auto, using(crate::proofs::Scopes::outer_end), unfolding(crate::specs::language::Reading::let_from))]
     fn binding(&mut self, levels: usize) -> Result<Node, ExprFault>
         ensures { Reads (λ all. reading.let_from (expr_in all levels)) self.old result self.new }
     {

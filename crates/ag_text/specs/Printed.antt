@@ -1,6 +1,6 @@
 -- How faults are printed: this project's.
 use Rattle.std.specs.Prelude.{ℕ, List, ◌++◌, codes, decimal}
-use Rattle.ag_expr.specs.language.Faults.{printed as printed_expr}
+use Rattle.ag_expr.specs.Printed.{printed as printed_expr}
 use Rattle.ag_text.specs.declared.fault.TextFault.{TextFault}
 use Rattle.ag_text.specs.declared.fault.TextFault.TheVariants as fault
 

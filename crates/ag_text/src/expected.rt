@@ -118,7 +118,8 @@ fn can_stand(alloc: Global, before: &str, token: &str) -> Result<bool, NoMemory>
     }
 }
 
-/// Where a text is refused, which is no grammar; 0 where that is told of no token.
+/// Where a text that is no grammar is refused, 0 where no token is told as the reason; None where it
+/// is one.
 fn refused_at(alloc: Global, text: &str) -> Result<Option<usize>, NoMemory> {
     match read_grammar(alloc, text.as_bytes()) {
         Ok(_) => Ok(None),

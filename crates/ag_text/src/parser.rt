@@ -1,7 +1,12 @@
 //! Passing the parts of a grammar's text, from its front to its end.
 
+ghost use Rattle.std.specs.Prelude.{◌≡◌, [], Bool, codes};
+ghost use Rattle.ag_tokens.specs.Parsing.{sees};
+ghost use Rattle.ag_tokens.specs.declared.token.Punctuation.TheVariants as punctuation;
+ghost use Rattle.ag_expr.proofs.reading.Steady.{Shortens};
 ghost use Rattle.ag_text.specs.Passing.{Reads};
 ghost use Rattle.ag_text.specs.Reading as reading;
+ghost use Rattle.ag_text.specs.Words as words;
 
 use crate::reader::ended_expr;
 use crate::stop::Stop;
@@ -49,106 +54,128 @@ fn attributes(alloc: Global, cursor: &mut Cursor<'_>, word: &str) -> Result<Item
     names(alloc, cursor)
 }
 
-/// Passes the declaration of a symbol.
-#[tactic(auto, unfolding(crate::specs::Reading::symbol_from))]
-fn symbol(alloc: Global, cursor: &mut Cursor<'_>) -> Result<RawSymbol, Stop>
-    ensures { Reads reading.symbol_from cursor.old result cursor.new }
-{
-    expect_word(cursor, "symbol")?;
-    let name = name(alloc, cursor)?;
-    let syn = attributes(alloc, cursor, "syn")?;
-    let inh = attributes(alloc, cursor, "inh")?;
-    expect(cursor, Punctuation::Semicolon)?;
-    Ok(RawSymbol { name, syn, inh })
+/// A part of a grammar's text that may stand there any number of times, one behind another.
+trait Repeated: Sized {
+    ghost use Rattle.ag_text.specs.Reading.{Parser};
+    ghost use Rattle.ag_tokens.specs.Token.{Token};
+
+    /// The tokens with which one more begins.
+    ghost begins: { Token → Bool };
+
+    /// How one is read.
+    ghost part: { Parser Self };
+
+    /// Whether one more begins in front.
+    fn stands(cursor: &Cursor<'_>) -> bool
+        ensures { result ≡ sees begins cursor.now };
+
+    /// Passes one.
+    fn pass(alloc: Global, cursor: &mut Cursor<'_>) -> Result<Self, Stop>
+        ensures { Reads part cursor.old result cursor.new };
 }
 
-/// Passes the declarations of symbols, as many as stand there.
-#[tactic(auto, using(crate::proofs::Turns::looped, crate::proofs::Grammars::symbol_shortens))]
-fn symbols(alloc: Global, cursor: &mut Cursor<'_>) -> Result<Items<RawSymbol>, Stop>
-    ensures { Reads reading.symbols_from cursor.old result cursor.new }
+/// Passes parts, as many as stand there.
+#[tactic(auto, using(crate::proofs::Turns::looped))]
+fn parts<P: Repeated + Drop>(alloc: Global, cursor: &mut Cursor<'_>) -> Result<Items<P>, Stop>
+    // each takes a token
+    requires { Shortens P.part }
+    ensures { Reads (reading.many P.begins P.part []) cursor.old result cursor.new }
 {
-    let mut symbols = Vec::new(alloc);
-    while sees_word(cursor, "symbol") {
-        let symbol = symbol(alloc, cursor)?;
-        symbols.push(symbol)?;
+    let mut parts = Vec::new(alloc);
+    while P::stands(cursor) {
+        let part = P::pass(alloc, cursor)?;
+        parts.push(part)?;
     }
-    Ok(Items::from_vec(symbols))
+    Ok(Items::from_vec(parts))
 }
 
-/// Passes what stands on the right side of a production, up to a `{`.
-#[tactic(auto, using(crate::proofs::Turns::looped, crate::proofs::Grammars::item_shortens))]
-fn items(alloc: Global, cursor: &mut Cursor<'_>) -> Result<Items<RawItem>, Stop>
-    ensures { Reads reading.items_from cursor.old result cursor.new }
-{
-    let mut items = Vec::new(alloc);
-    while sees_other(cursor, Punctuation::OpenTable) {
-        let item = item(alloc, cursor)?;
-        items.push(item)?;
+/// The declaration of a symbol.
+impl Repeated for RawSymbol {
+    ghost begins = { words.is_word (codes "symbol") };
+
+    ghost part = { reading.symbol_from };
+
+    fn stands(cursor: &Cursor<'_>) -> bool {
+        sees_word(cursor, "symbol")
     }
-    Ok(Items::from_vec(items))
-}
 
-/// Passes a rule.
-#[tactic(auto, unfolding(crate::specs::Reading::rule_from))]
-fn rule(alloc: Global, cursor: &mut Cursor<'_>) -> Result<RawRule, Stop>
-    ensures { Reads reading.rule_from cursor.old result cursor.new }
-{
-    let target = target(alloc, cursor)?;
-    expect(cursor, Punctuation::Equal)?;
-    let expr = ended_expr(alloc, cursor)?;
-    Ok(RawRule { target, expr })
-}
-
-/// Passes the rules of a production, up to a `}`.
-#[tactic(auto, using(crate::proofs::Turns::looped, crate::proofs::Grammars::rule_shortens))]
-fn rules(alloc: Global, cursor: &mut Cursor<'_>) -> Result<Items<RawRule>, Stop>
-    ensures { Reads reading.rules_from cursor.old result cursor.new }
-{
-    let mut rules = Vec::new(alloc);
-    while sees_other(cursor, Punctuation::CloseTable) {
-        let rule = rule(alloc, cursor)?;
-        rules.push(rule)?;
+    #[tactic(auto, unfolding(crate::specs::Reading::symbol_from))]
+    fn pass(alloc: Global, cursor: &mut Cursor<'_>) -> Result<RawSymbol, Stop> {
+        expect_word(cursor, "symbol")?;
+        let name = name(alloc, cursor)?;
+        let syn = attributes(alloc, cursor, "syn")?;
+        let inh = attributes(alloc, cursor, "inh")?;
+        expect(cursor, Punctuation::Semicolon)?;
+        Ok(RawSymbol { name, syn, inh })
     }
-    Ok(Items::from_vec(rules))
 }
 
-/// Passes a production.
-#[tactic(auto, unfolding(crate::specs::Reading::production_from))]
-fn production(alloc: Global, cursor: &mut Cursor<'_>) -> Result<RawProduction, Stop>
-    ensures { Reads reading.production_from cursor.old result cursor.new }
-{
-    let left = name(alloc, cursor)?;
-    expect(cursor, Punctuation::Equal)?;
-    let items = items(alloc, cursor)?;
-    expect(cursor, Punctuation::OpenTable)?;
-    let rules = rules(alloc, cursor)?;
-    expect(cursor, Punctuation::CloseTable)?;
-    Ok(RawProduction { left, items, rules })
-}
+/// What stands on the right side of a production, up to a `{`.
+impl Repeated for RawItem {
+    ghost begins = { reading.is_other_than punctuation.OpenTable };
 
-/// Passes productions, as long as tokens are left.
-#[tactic(auto, using(crate::proofs::Turns::looped, crate::proofs::Grammars::production_shortens))]
-fn productions(alloc: Global, cursor: &mut Cursor<'_>) -> Result<Items<RawProduction>, Stop>
-    ensures { Reads reading.productions_from cursor.old result cursor.new }
-{
-    let mut productions = Vec::new(alloc);
-    while sees_any(cursor) {
-        let production = production(alloc, cursor)?;
-        productions.push(production)?;
+    ghost part = { reading.one_from words.item_in };
+
+    fn stands(cursor: &Cursor<'_>) -> bool {
+        sees_other(cursor, Punctuation::OpenTable)
     }
-    Ok(Items::from_vec(productions))
+
+    fn pass(alloc: Global, cursor: &mut Cursor<'_>) -> Result<RawItem, Stop> {
+        item(alloc, cursor)
+    }
+}
+
+/// A rule of a production, up to a `}`.
+impl Repeated for RawRule {
+    ghost begins = { reading.is_other_than punctuation.CloseTable };
+
+    ghost part = { reading.rule_from };
+
+    fn stands(cursor: &Cursor<'_>) -> bool {
+        sees_other(cursor, Punctuation::CloseTable)
+    }
+
+    #[tactic(auto, unfolding(crate::specs::Reading::rule_from))]
+    fn pass(alloc: Global, cursor: &mut Cursor<'_>) -> Result<RawRule, Stop> {
+        let target = target(alloc, cursor)?;
+        expect(cursor, Punctuation::Equal)?;
+        let expr = ended_expr(alloc, cursor)?;
+        Ok(RawRule { target, expr })
+    }
+}
+
+/// A production, as long as tokens are left.
+impl Repeated for RawProduction {
+    ghost begins = { reading.is_any };
+
+    ghost part = { reading.production_from };
+
+    fn stands(cursor: &Cursor<'_>) -> bool {
+        sees_any(cursor)
+    }
+
+    #[tactic(auto, using(crate::proofs::Grammars::item_shortens, crate::proofs::Grammars::rule_shortens), unfolding(crate::specs::Reading::production_from))]
+    fn pass(alloc: Global, cursor: &mut Cursor<'_>) -> Result<RawProduction, Stop> {
+        let left = name(alloc, cursor)?;
+        expect(cursor, Punctuation::Equal)?;
+        let items = parts(alloc, cursor)?;
+        expect(cursor, Punctuation::OpenTable)?;
+        let rules = parts(alloc, cursor)?;
+        expect(cursor, Punctuation::CloseTable)?;
+        Ok(RawProduction { left, items, rules })
+    }
 }
 
 /// Passes a grammar.
-#[tactic(auto, unfolding(crate::specs::Reading::grammar_from))]
+#[tactic(auto, using(crate::proofs::Grammars::symbol_shortens, crate::proofs::Grammars::production_shortens), unfolding(crate::specs::Reading::grammar_from))]
 fn grammar(alloc: Global, cursor: &mut Cursor<'_>) -> Result<RawGrammar, Stop>
     ensures { Reads reading.grammar_from cursor.old result cursor.new }
 {
     expect_word(cursor, "start")?;
     let start = name(alloc, cursor)?;
     expect(cursor, Punctuation::Semicolon)?;
-    let symbols = symbols(alloc, cursor)?;
-    let productions = productions(alloc, cursor)?;
+    let symbols = parts(alloc, cursor)?;
+    let productions = parts(alloc, cursor)?;
     Ok(RawGrammar {
         start,
         symbols,

@@ -30,6 +30,11 @@ read_to text from j lexed r is i lexes memory =
 
 -- ---- what the parts of reading come to
 
+-- what holds of a fault holds of the answer that passes it on
+pub passed_on : {X : Type 0} (P : Result X ExprFault → Type 0) (r : Result X ExprFault) (e : ExprFault) → IsErrAnd r (λ x. x ≡ e) → P (Err e) → P r
+passed_on P (Ok x) e is holds = absurd is
+passed_on P (Err x) e is holds = subst (λ y. P (Err y)) (sym is) holds
+
 module _ (s : State) where
   -- where no names are bound
   pub unnamed : s.scope ≡ [] → (o : Outcome Node) → expr_in (everything s) max_levels s.scope (input s) ≡ o → expr_from (everything s) max_levels (input s) ≡ o

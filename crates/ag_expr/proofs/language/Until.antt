@@ -1,6 +1,5 @@
 -- An expression that is read up to a semicolon: what is read on the tokens in front of it, and what follows of the text.
-use Rattle.std.proofs.Common.{◌≡◌, ◌≢◌, ℕ, Bool, true, false, List, [], ◌∷◌, ◌++◌, drop, Option, Some, None, Result, Ok, Err, IfOk, IfErr, chars, inl, inr, refl, ap, sym, ◌∙◌, subst, arith}
-use Rattle.std.specs.Result.{IsErrAnd}
+use Rattle.std.proofs.Common.{◌≡◌, ℕ, Bool, true, false, List, [], ◌∷◌, ◌++◌, drop, Option, Some, None, Result, Ok, Err, IfOk, IfErr, chars, inl, inr, refl, ap, sym, ◌∙◌, subst, arith}
 use Rattle.ag_tokens.specs.declared.token.Punctuation.TheVariants as punctuation
 use Rattle.ag_tokens.specs.Ending.{Ending}
 use Rattle.ag_tokens.specs.Ending as ending
@@ -10,7 +9,6 @@ use Rattle.ag_tokens.specs.Token.{Token, mark}
 use Rattle.ag_tokens.specs.Tokens.{Lexes}
 use Rattle.ag_tokens.proofs.Lexes.{same_input}
 use Rattle.ag_expr.specs.declared.fault.ExprFault.{ExprFault}
-use Rattle.ag_expr.specs.declared.fault.ExprFault.TheVariants as fault
 use Rattle.ag_grammar.specs.declared.syntax.node.Node.{Node}
 use Rattle.ag_grammar.specs.declared.syntax.occurrence.Occ.{Occ}
 use Rattle.ag_expr.specs.language.Expression.{max_levels, Says}
@@ -127,11 +125,6 @@ module _ (i : Input) (s : State) (e : Node) (read : expr_from (all i) max_levels
 
   pub all_of : sees is_semicolon s.tokens ≡ true → s.listed ≡ all i
   all_of h = sym (all_at_end s (ap (λ (j : Input). is_end j.ending j.left) tokens_are ∙ grind arith)) ∙ kept.occurrences
-
--- a fault that is answered
-pub refused : (i new : Input) (r : Result Ended ExprFault) (e : ExprFault) → IsErrAnd r (λ x. x ≡ e) → (e ≢ fault.NoMemory → read_until_from i ≡ Err e) → IsReadEnded i r new
-refused i new (Ok x) e is read = absurd is
-refused i new (Err x) e is read = subst (λ y. y ≢ fault.NoMemory → read_until_from i ≡ Err y) (sym is) read
 
 -- ---- what a fault is told of
 

@@ -2,39 +2,20 @@
 use Rattle.std.specs.Prelude.{ℕ, Bool, ◌||◌, ◌+◌, List, [], ◌∷◌, Option, Some, None, cond, bytes_eq, codes, is_some}
 use Rattle.ag_expr.specs.declared.names.Call.{Call}
 use Rattle.ag_expr.specs.declared.names.Call.TheVariants as call
-use Rattle.ag_grammar.specs.declared.syntax.node.UnaryCall.{UnaryCall}
 use Rattle.ag_grammar.specs.declared.syntax.node.UnaryCall.TheVariants as unary
-use Rattle.ag_grammar.specs.declared.syntax.node.BinaryCall.{BinaryCall}
 use Rattle.ag_grammar.specs.declared.syntax.node.BinaryCall.TheVariants as binary
 
 -- ---- the table of calls
 
--- the calls of one argument
-abbrev pub unary_call : List ℕ → Option UnaryCall
-unary_call name =
-    cond (bytes_eq name (codes "len")) (Some unary.Len) (cond (bytes_eq name (codes "text")) (Some unary.Text) (cond (bytes_eq name (codes "number")) (Some unary.Number)
-    (cond (bytes_eq name (codes "keys")) (Some unary.Keys) (cond (bytes_eq name (codes "iserr")) (Some unary.IsError) None))))
-
--- and those of two
-abbrev pub binary_call : List ℕ → Option BinaryCall
-binary_call name =
-    cond (bytes_eq name (codes "nth")) (Some binary.Nth) (cond (bytes_eq name (codes "append")) (Some binary.Append) (cond (bytes_eq name (codes "join")) (Some binary.Join)
-    (cond (bytes_eq name (codes "get")) (Some binary.Get) (cond (bytes_eq name (codes "has")) (Some binary.Has) (cond (bytes_eq name (codes "orelse")) (Some binary.OrElse) None)))))
-
-abbrev pub put_call : List ℕ → Option Call
-put_call name = cond (bytes_eq name (codes "put")) (Some call.Put) None
-
-abbrev pub binary_or_put : Option BinaryCall → List ℕ → Option Call
-binary_or_put (Some c) name = Some (call.Binary c)
-binary_or_put None name = put_call name
-
-abbrev pub unary_or_more : Option UnaryCall → List ℕ → Option Call
-unary_or_more (Some c) name = Some (call.Unary c)
-unary_or_more None name = binary_or_put (binary_call name) name
-
--- the call that a name is
+-- the call that a name is, by the number of its arguments
 abbrev pub call_of : List ℕ → Option Call
-call_of name = unary_or_more (unary_call name) name
+call_of name =
+    cond (bytes_eq name (codes "len")) (Some (call.Unary unary.Len)) (cond (bytes_eq name (codes "text")) (Some (call.Unary unary.Text))
+    (cond (bytes_eq name (codes "number")) (Some (call.Unary unary.Number)) (cond (bytes_eq name (codes "keys")) (Some (call.Unary unary.Keys))
+    (cond (bytes_eq name (codes "iserr")) (Some (call.Unary unary.IsError)) (cond (bytes_eq name (codes "nth")) (Some (call.Binary binary.Nth))
+    (cond (bytes_eq name (codes "append")) (Some (call.Binary binary.Append)) (cond (bytes_eq name (codes "join")) (Some (call.Binary binary.Join))
+    (cond (bytes_eq name (codes "get")) (Some (call.Binary binary.Get)) (cond (bytes_eq name (codes "has")) (Some (call.Binary binary.Has))
+    (cond (bytes_eq name (codes "orelse")) (Some (call.Binary binary.OrElse)) (cond (bytes_eq name (codes "put")) (Some call.Put) None)))))))))))
 
 -- ---- what can be bound
 
