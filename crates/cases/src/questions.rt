@@ -7,6 +7,7 @@ use crate::raw_grammars::chain_told;
 use crate::roots::{root_bytes_told, root_told};
 use crate::sentences::{choice_told, parse_told, scan_told, stand_told, table_told};
 use crate::stuck::{assign_told, stuck_told};
+use ag_grammar::Grammar;
 use rows::{Answers, Mistake, Written, bytes_of, number};
 use std::alloc::Global;
 
@@ -23,79 +24,94 @@ impl Answers for Cases {
         verb: &str,
         rest: &str,
     ) -> Result<String, Mistake> {
-        let text = written.text_or(rest);
-        match verb {
-            "read" => read_told(alloc, text.as_bytes()),
-            "read-bytes" => read_told(alloc, bytes_of(alloc, text)?.as_slice()),
-            "could" => could_told(alloc, text),
-            "check" => check_told(alloc, written.grammar.as_str()),
+        let asked = Asked {
+            alloc,
+            written,
+            verb,
+            rest,
+        };
+        asked.of_texts()
+    }
+}
+
+/// What is asked: by which verb, with what behind it, and what was written above.
+#[derive(Clone, Copy)]
+struct Asked<'a> {
+    alloc: Global,
+    written: &'a Written,
+    verb: &'a str,
+    rest: &'a str,
+}
+
+impl Asked<'_> {
+    /// The grammar that was written.
+    fn grammar(&self) -> Result<Grammar, Mistake> {
+        grammar(self.alloc, self.written.grammar.as_str())
+    }
+
+    /// The text that was written, or else what stands behind the verb.
+    fn text(&self) -> &str {
+        self.written.text_or(self.rest)
+    }
+
+    /// What is told of texts, and of numbers that need no grammar.
+    fn of_texts(&self) -> Result<String, Mistake> {
+        let (alloc, rest) = (self.alloc, self.rest);
+        match self.verb {
+            "read" => read_told(alloc, self.text().as_bytes()),
+            "read-bytes" => read_told(alloc, bytes_of(alloc, self.text())?.as_slice()),
+            "could" => could_told(alloc, self.text()),
+            "check" => check_told(alloc, self.written.grammar.as_str()),
             "chain" => chain_told(alloc, number(rest)?),
             "passes" => passes_told(alloc, rest),
             "list" => list_told(alloc, rest),
-            _ => answer_of_plans(alloc, written, verb, rest),
+            _ => self.of_plans(),
         }
     }
-}
 
-/// What is told of a grammar's parts, and of assignments, code and certificates.
-fn answer_of_plans(
-    alloc: Global,
-    written: &Written,
-    verb: &str,
-    rest: &str,
-) -> Result<String, Mistake> {
-    let text = written.grammar.as_str();
-    match verb {
-        "parts" => Ok(parts_told(alloc, &grammar(alloc, text)?)?),
-        "listing" => listing_told(alloc, &grammar(alloc, text)?),
-        "assign" => assign_told(alloc, &grammar(alloc, text)?),
-        "plan" => plan_told(alloc, &grammar(alloc, text)?, rest),
-        "stuck" => stuck_told(alloc, &grammar(alloc, text)?, rest),
-        _ => answer_of_passes(alloc, written, verb, rest),
-    }
-}
-
-/// What is told of passes, and of the last file.
-fn answer_of_passes(
-    alloc: Global,
-    written: &Written,
-    verb: &str,
-    rest: &str,
-) -> Result<String, Mistake> {
-    let text = written.grammar.as_str();
-    let sentence = written.text_or(rest);
-    match verb {
-        "pass" => pass_told(alloc, &grammar(alloc, text)?, written, rest),
-        "through" => through_told(alloc, &grammar(alloc, text)?, sentence),
-        "run" => run_told(alloc, &grammar(alloc, text)?, sentence),
-        "run-by" => run_by_told(alloc, &grammar(alloc, text)?, rest),
-        "run-bytes" => run_bytes_told(alloc, &grammar(alloc, text)?, written, rest),
-        "root" => root_told(alloc, &grammar(alloc, text)?, sentence),
-        "root-bytes" => root_bytes_told(alloc, &grammar(alloc, text)?, sentence),
-        _ => answer_of_sentences(alloc, written, verb, rest),
-    }
-}
-
-/// What is told of sentences, of the tables that they are parsed by, and of all that needs no
-/// grammar.
-fn answer_of_sentences(
-    alloc: Global,
-    written: &Written,
-    verb: &str,
-    rest: &str,
-) -> Result<String, Mistake> {
-    let text = written.grammar.as_str();
-    let sentence = written.text_or(rest);
-    match verb {
-        "table" => table_told(alloc, &grammar(alloc, text)?),
-        "choice" => choice_told(alloc, &grammar(alloc, text)?, rest),
-        "scan" => scan_told(alloc, &grammar(alloc, text)?, sentence.as_bytes()),
-        "scan-bytes" => {
-            let bytes = bytes_of(alloc, sentence)?;
-            scan_told(alloc, &grammar(alloc, text)?, bytes.as_slice())
+    /// What is told of a grammar's parts, and of assignments, code and certificates.
+    fn of_plans(&self) -> Result<String, Mistake> {
+        let (alloc, rest) = (self.alloc, self.rest);
+        match self.verb {
+            "parts" => Ok(parts_told(alloc, &self.grammar()?)?),
+            "listing" => listing_told(alloc, &self.grammar()?),
+            "assign" => assign_told(alloc, &self.grammar()?),
+            "plan" => plan_told(alloc, &self.grammar()?, rest),
+            "stuck" => stuck_told(alloc, &self.grammar()?, rest),
+            _ => self.of_passes(),
         }
-        "parse" => parse_told(alloc, &grammar(alloc, text)?, sentence),
-        "stand" => stand_told(alloc, &grammar(alloc, text)?, sentence),
-        _ => rows::answer(alloc, written, verb, rest),
+    }
+
+    /// What is told of passes, and of the last file.
+    fn of_passes(&self) -> Result<String, Mistake> {
+        let (alloc, written) = (self.alloc, self.written);
+        match self.verb {
+            "pass" => pass_told(alloc, &self.grammar()?, written, self.rest),
+            "through" => through_told(alloc, &self.grammar()?, self.text()),
+            "run" => run_told(alloc, &self.grammar()?, self.text()),
+            "run-by" => run_by_told(alloc, &self.grammar()?, self.rest),
+            "run-bytes" => run_bytes_told(alloc, &self.grammar()?, written, self.rest),
+            "root" => root_told(alloc, &self.grammar()?, self.text()),
+            "root-bytes" => root_bytes_told(alloc, &self.grammar()?, self.text()),
+            _ => self.of_sentences(),
+        }
+    }
+
+    /// What is told of sentences, of the tables that they are parsed by, and of all that needs no
+    /// grammar.
+    fn of_sentences(&self) -> Result<String, Mistake> {
+        let alloc = self.alloc;
+        match self.verb {
+            "table" => table_told(alloc, &self.grammar()?),
+            "choice" => choice_told(alloc, &self.grammar()?, self.rest),
+            "scan" => scan_told(alloc, &self.grammar()?, self.text().as_bytes()),
+            "scan-bytes" => {
+                let bytes = bytes_of(alloc, self.text())?;
+                scan_told(alloc, &self.grammar()?, bytes.as_slice())
+            }
+            "parse" => parse_told(alloc, &self.grammar()?, self.text()),
+            "stand" => stand_told(alloc, &self.grammar()?, self.text()),
+            _ => rows::answer(alloc, self.written, self.verb, self.rest),
+        }
     }
 }

@@ -96,24 +96,6 @@ fn first_in_rule(
     }
 }
 
-/// The first fault of rules.
-fn first_in_rules(
-    question: Question,
-    declared: &Declared<'_>,
-    items: &[Placed],
-    rules: &[RawRule],
-) -> Option<NormalFault>
-    ensures { result ≡ first_wrong (flat_map (asked_checks question declared.now
-        (map item_placed items.now)) rules.now) }
-{
-    for rule in rules {
-        if let Some(fault) = first_in_rule(question, declared, items, rule) {
-            return Some(fault);
-        }
-    }
-    None
-}
-
 /// The first fault of the rules of a production.
 pub fn first_in_production(
     alloc: Global,
@@ -125,12 +107,12 @@ pub fn first_in_production(
         ≡ first_wrong (asked_in question declared.now production.now)) }
 {
     let items = places_of(alloc, declared, production)?;
-    Ok(first_in_rules(
-        question,
-        declared,
-        items.as_slice(),
-        production.rules.as_slice(),
-    ))
+    for rule in production.rules.as_slice() {
+        if let Some(fault) = first_in_rule(question, declared, items.as_slice(), rule) {
+            return Ok(Some(fault));
+        }
+    }
+    Ok(None)
 }
 
 /// The first fault of the rules of productions.

@@ -1,0 +1,22 @@
+-- The goals of `first_in_production` that are left.
+use Rattle.std.proofs.Common.{◌∙◌, ap, map, sym}
+use Rattle.normalform.specs.faults.Asking.{asked_checks}
+use Rattle.normalform.specs.faults.Faults.{first_wrong}
+use Rattle.normalform.specs.faults.Placed.{item_placed}
+use Rattle.normalform.specs.numbers.Numbers.{placed}
+use Rattle.normalform.proofs.found.Wrong.{wrong_here, wrong_past}
+use Rattle.normalform.proofs.faults.asking.first_in_production.Goals as goal
+
+pub returns-in-Some : goal.returns-in-Some
+returns-in-Some c =
+    let asked = asked_checks c.args.question c.args.declared.now in
+    let items = ap (map item_placed) c.as_slice.ensures.value ∙ c.in_ok-items.ensures in
+    let here = sym c.in-Some.is ∙ c.first_in_rule.ensures ∙ ap (λ xs. first_wrong (asked xs c.rule-item.result)) items in
+    wrong_here (asked (placed c.args.declared.now c.args.production.now)) _ _ _ _ _ c.loop-rule-test.true c.rule-item.is here c.loop-rule.invariant
+
+pub loop-rule-preserved : goal.loop-rule-preserved
+loop-rule-preserved c =
+    let asked = asked_checks c.args.question c.args.declared.now in
+    let items = ap (map item_placed) c.as_slice.ensures.value ∙ c.in_ok-items.ensures in
+    let none = sym c.in_default.is ∙ c.first_in_rule.ensures ∙ ap (λ xs. first_wrong (asked xs c.rule-item.result)) items in
+    wrong_past (asked (placed c.args.declared.now c.args.production.now)) _ _ _ _ c.loop-rule-test.true c.rule-item.is none c.loop-rule.invariant
