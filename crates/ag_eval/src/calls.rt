@@ -106,7 +106,7 @@ pub fn reckoned(operator: Operator, left: &Value, right: &Value) -> Option<Value
     }
 }
 
-/// What grows its first operand by what is in the second one.
+/// An operator or a call whose value is its first operand, grown by the second.
 #[derive(Clone, Copy)]
 pub(crate) enum Growth {
     /// `a ++ b`
@@ -115,8 +115,8 @@ pub(crate) enum Growth {
     Append,
 }
 
-/// The first operand, which has grown: it is copied before where it is lent or bound. What is in the
-/// second one is moved, or copied where it is lent or bound.
+/// The first operand, grown by the second, or the leftmost error of the two. The first is copied before
+/// where it is lent or bound; what is in the second is moved, or copied where it is lent or bound.
 #[tactic(auto, using(crate::proofs::Arguments::no_faults))]
 fn grow<'e>(
     alloc: Global,

@@ -121,7 +121,8 @@ pub fn passes_follow_files()
 {}
 
 /// On the way from the end of a content to its header the root is to come first, and behind a record
-/// its children are, one by one in the direction of the next pass. Where nothing is to come, everything
+/// its children are, which it tells in one way, one by one in the direction of the next pass. What is
+/// awaited are the records of trees of these. Where nothing is to come of the file of a tree, everything
 /// was read.
 pub fn ways_are_followed()
     ensures one { OneRecord }
@@ -133,8 +134,9 @@ pub fn ways_are_followed()
     ensures ends { WayEnds }
 {}
 
-/// Where what is found on the way is not what is to come the content is the file of no tree, and where
-/// too much is to come it is that of none within the limits.
+/// Where a content begins as no tree file of the pass, or what is found on the way is not what is to
+/// come, it is the file of no tree; and where too much is to come it is that of none of so few levels, or
+/// of so few nodes.
 pub fn refusals_are_true()
     ensures breaks { WayBreaks }
     ensures long { WayIsTooLong }
