@@ -33,8 +33,8 @@ impl fmt::Display for Grouped {
     }
 }
 
-/// A text, each character by its number where it controls a terminal or can be taken for a plain
-/// space.
+/// A text, each character by its number where it controls a terminal, can't be seen, or can be taken
+/// for a plain space.
 #[derive(Clone, Copy)]
 pub struct Plain<'a>(pub &'a str);
 
@@ -71,10 +71,21 @@ impl fmt::Display for Found<'_> {
     }
 }
 
-/// A character, by its number where it controls a terminal or can be taken for a plain space.
+/// Whether a character has no shape of its own, or turns the direction of those beside it: a byte order
+/// mark, and what else of Unicode's category Cf is no part of one script.
+fn is_unseen(character: char) -> bool {
+    matches!(
+        character,
+        '\u{ad}' | '\u{61c}' | '\u{180e}' | '\u{200b}'..='\u{200f}' | '\u{202a}'..='\u{202e}'
+            | '\u{2060}'..='\u{206f}' | '\u{feff}' | '\u{e0000}'..='\u{e007f}'
+    )
+}
+
+/// A character, by its number where it controls a terminal, can't be seen, or can be taken for a
+/// plain space.
 fn tell_character<W: fmt::Write>(f: &mut fmt::Formatter<W>, character: char) -> fmt::Result {
     let is_plain = character == ' ' || !character.is_whitespace();
-    if is_plain && !character.is_control() {
+    if is_plain && !character.is_control() && !is_unseen(character) {
         return write!(f, "{character}");
     }
     for part in character.escape_unicode() {
