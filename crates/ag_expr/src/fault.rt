@@ -3,8 +3,7 @@
 ghost use Rattle.std.specs.Prelude.{◌≡◌};
 ghost use Rattle.ag_expr.specs.declared.fault.ExprFault.TheVariants as expr_fault;
 
-use ag_value::NoMemory;
-use std::alloc::{AllocError, AllocFailed};
+use ag_value::OutOfMemory;
 
 /// Why a text is no expression. Offsets are in bytes from the front of the text.
 #[derive(Clone, Copy, Debug, PartialEq, Eq)]
@@ -22,26 +21,10 @@ pub enum ExprFault {
     NoMemory,
 }
 
-impl From<NoMemory> for ExprFault {
+impl<M: OutOfMemory> From<M> for ExprFault {
     ghost from_gives = { λ _ e. e ≡ expr_fault.NoMemory };
 
-    fn from(_error: NoMemory) -> ExprFault {
-        ExprFault::NoMemory
-    }
-}
-
-impl From<AllocError> for ExprFault {
-    ghost from_gives = { λ _ e. e ≡ expr_fault.NoMemory };
-
-    fn from(_error: AllocError) -> ExprFault {
-        ExprFault::NoMemory
-    }
-}
-
-impl<T: Drop> From<AllocFailed<T>> for ExprFault {
-    ghost from_gives = { λ _ e. e ≡ expr_fault.NoMemory };
-
-    fn from(_error: AllocFailed<T>) -> ExprFault {
+    fn from(_error: M) -> ExprFault {
         ExprFault::NoMemory
     }
 }

@@ -3,8 +3,7 @@
 ghost use Rattle.std.specs.Prelude.{◌≡◌};
 ghost use Rattle.ag_scan.specs.declared.fault.ScanFault.TheVariants as scan_fault;
 
-use ag_value::NoMemory;
-use std::alloc::{AllocError, AllocFailed};
+use ag_value::OutOfMemory;
 
 /// Why a sentence has no tokens. Offsets are in bytes from the front of the sentence.
 #[derive(Clone, Copy, Debug, PartialEq, Eq)]
@@ -21,26 +20,10 @@ pub enum ScanFault {
     NoMemory,
 }
 
-impl From<NoMemory> for ScanFault {
+impl<M: OutOfMemory> From<M> for ScanFault {
     ghost from_gives = { λ _ e. e ≡ scan_fault.NoMemory };
 
-    fn from(_error: NoMemory) -> ScanFault {
-        ScanFault::NoMemory
-    }
-}
-
-impl From<AllocError> for ScanFault {
-    ghost from_gives = { λ _ e. e ≡ scan_fault.NoMemory };
-
-    fn from(_error: AllocError) -> ScanFault {
-        ScanFault::NoMemory
-    }
-}
-
-impl<T: Drop> From<AllocFailed<T>> for ScanFault {
-    ghost from_gives = { λ _ e. e ≡ scan_fault.NoMemory };
-
-    fn from(_error: AllocFailed<T>) -> ScanFault {
+    fn from(_error: M) -> ScanFault {
         ScanFault::NoMemory
     }
 }

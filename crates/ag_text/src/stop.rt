@@ -5,8 +5,7 @@ ghost use Rattle.ag_text.specs.Passing.{stop_of};
 ghost use Rattle.ag_text.specs.declared.stop.Stop.TheVariants as stop;
 
 use ag_expr::ExprFault;
-use ag_value::NoMemory;
-use std::alloc::{AllocError, AllocFailed};
+use ag_value::OutOfMemory;
 
 /// Why reading a grammar's tokens stops. Offsets are in bytes from the front of the text.
 #[derive(Clone, Copy, Debug, PartialEq, Eq)]
@@ -19,30 +18,6 @@ pub enum Stop {
     NoMemory,
 }
 
-impl From<NoMemory> for Stop {
-    ghost from_gives = { λ _ e. e ≡ stop.NoMemory };
-
-    fn from(_error: NoMemory) -> Stop {
-        Stop::NoMemory
-    }
-}
-
-impl From<AllocError> for Stop {
-    ghost from_gives = { λ _ e. e ≡ stop.NoMemory };
-
-    fn from(_error: AllocError) -> Stop {
-        Stop::NoMemory
-    }
-}
-
-impl<T: Drop> From<AllocFailed<T>> for Stop {
-    ghost from_gives = { λ _ e. e ≡ stop.NoMemory };
-
-    fn from(_error: AllocFailed<T>) -> Stop {
-        Stop::NoMemory
-    }
-}
-
 /// What a fault of a rule's expression is to a grammar's text.
 pub fn in_expr(fault: ExprFault) -> Stop
     ensures { result ≡ stop_of fault }
@@ -50,5 +25,13 @@ pub fn in_expr(fault: ExprFault) -> Stop
     match fault {
         ExprFault::NoMemory => Stop::NoMemory,
         _ => Stop::InExpr(fault),
+    }
+}
+
+impl<M: OutOfMemory> From<M> for Stop {
+    ghost from_gives = { λ _ e. e ≡ stop.NoMemory };
+
+    fn from(_error: M) -> Stop {
+        Stop::NoMemory
     }
 }

@@ -13,6 +13,16 @@ pub enum NoMemory {
     NoMemory,
 }
 
+/// A fault of which nothing more can be told than that a growth was refused. So a crate's refusal is
+/// made of each by one `From`.
+pub trait OutOfMemory: Drop {}
+
+impl OutOfMemory for AllocError {}
+
+impl<T: Drop> OutOfMemory for AllocFailed<T> {}
+
+impl OutOfMemory for NoMemory {}
+
 impl From<AllocError> for NoMemory {
     ghost from_gives = { λ _ e. e ≡ no_memory.NoMemory };
 
@@ -38,26 +48,10 @@ pub enum ValueFault {
     NoMemory,
 }
 
-impl From<NoMemory> for ValueFault {
+impl<M: OutOfMemory> From<M> for ValueFault {
     ghost from_gives = { λ _ e. e ≡ value_fault.NoMemory };
 
-    fn from(_error: NoMemory) -> ValueFault {
-        ValueFault::NoMemory
-    }
-}
-
-impl From<AllocError> for ValueFault {
-    ghost from_gives = { λ _ e. e ≡ value_fault.NoMemory };
-
-    fn from(_error: AllocError) -> ValueFault {
-        ValueFault::NoMemory
-    }
-}
-
-impl<T: Drop> From<AllocFailed<T>> for ValueFault {
-    ghost from_gives = { λ _ e. e ≡ value_fault.NoMemory };
-
-    fn from(_error: AllocFailed<T>) -> ValueFault {
+    fn from(_error: M) -> ValueFault {
         ValueFault::NoMemory
     }
 }

@@ -13,7 +13,7 @@ mod value;
 mod walks;
 
 pub use boxed::Boxed;
-pub use fault::{NoMemory, ValueFault};
+pub use fault::{NoMemory, OutOfMemory, ValueFault};
 pub use items::Items;
 pub use limits::{MAX_DEPTH, MAX_WEIGHT};
 pub use spelling::decoding::decode;

@@ -18,8 +18,6 @@ use Rattle.treefile.specs.declared.device.DeviceFault.{DeviceFault}
 use Rattle.treefile.specs.declared.device.DeviceFault.TheVariants as device
 use Rattle.treefile.specs.declared.reading.FrameFault.{FrameFault}
 use Rattle.treefile.specs.declared.reading.FrameFault.TheVariants as frame
-use Rattle.treefile.specs.declared.writing.WriteFault.{WriteFault}
-use Rattle.treefile.specs.declared.writing.WriteFault.TheVariants as writing
 use Rattle.aggen.specs.declared.build_fault.BuildFault.{BuildFault}
 use Rattle.aggen.specs.declared.build_fault.BuildFault.TheVariants as build
 use Rattle.aggen.specs.declared.fault.Fault.{Fault}
@@ -88,14 +86,10 @@ build_fault_of (build.Table e) = fault.Table e
 build_fault_of (build.Assign e) = fault.Assign e
 build_fault_of build.NoMemory = fault.NoMemory
 
--- the faults of a device, of writing a tree file, and of reading one
+-- the faults of a device, and of reading a tree file
 abbrev pub device_fault_of : DeviceFault → Fault
 device_fault_of device.Failed = fault.Device
 device_fault_of device.NoMemory = fault.NoMemory
-
-abbrev pub write_fault_of : WriteFault → Fault
-write_fault_of writing.Device = fault.Device
-write_fault_of writing.NoMemory = fault.NoMemory
 
 abbrev pub frame_fault_of : FrameFault → Fault
 frame_fault_of frame.NotATreeFile = fault.NotATreeFile

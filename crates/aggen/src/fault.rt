@@ -4,7 +4,6 @@ ghost use Rattle.std.specs.Prelude.{◌≡◌};
 ghost use Rattle.aggen.specs.Status.{build_fault_of, device_fault_of, expr_fault_of};
 ghost use Rattle.aggen.specs.Status.{frame_fault_of, job_fault_of, listing_fault_of, out_fault_of};
 ghost use Rattle.aggen.specs.Status.{parse_fault_of, run_fault_of, scan_fault_of, status_of};
-ghost use Rattle.aggen.specs.Status.{write_fault_of};
 ghost use Rattle.aggen.specs.declared.fault.Fault.TheVariants as program_fault;
 
 use crate::build_fault::BuildFault;
@@ -21,7 +20,7 @@ use passrun::RunFault;
 use roottext::OutFault;
 use std::alloc::AllocError;
 use thiserror::Error;
-use treefile::{DeviceFault, FileFault, FrameFault, WriteFault};
+use treefile::{DeviceFault, FileFault, FrameFault};
 
 /// Why the program, or a call of it, did not do what it was asked for. Each has a number, which is
 /// printed first.
@@ -114,6 +113,20 @@ impl From<ExprFault> for Fault {
     }
 }
 
+impl From<BuildFault> for Fault {
+    ghost from_gives = { λ fault e. e ≡ build_fault_of fault };
+
+    fn from(fault: BuildFault) -> Fault {
+        match fault {
+            BuildFault::Text(fault) => Fault::Text(fault),
+            BuildFault::Normal(fault) => Fault::Normal(fault),
+            BuildFault::Table(fault) => Fault::Table(fault),
+            BuildFault::Assign(stuck) => Fault::Assign(stuck),
+            BuildFault::NoMemory => Fault::NoMemory,
+        }
+    }
+}
+
 impl From<JobFault> for Fault {
     ghost from_gives = { λ fault e. e ≡ job_fault_of fault };
 
@@ -125,16 +138,21 @@ impl From<JobFault> for Fault {
     }
 }
 
-impl From<BuildFault> for Fault {
-    ghost from_gives = { λ fault e. e ≡ build_fault_of fault };
+impl From<FileFault> for Fault {
+    ghost from_gives = { λ _ e. e ≡ program_fault.File };
 
-    fn from(fault: BuildFault) -> Fault {
+    fn from(_fault: FileFault) -> Fault {
+        Fault::File
+    }
+}
+
+impl From<DeviceFault> for Fault {
+    ghost from_gives = { λ fault e. e ≡ device_fault_of fault };
+
+    fn from(fault: DeviceFault) -> Fault {
         match fault {
-            BuildFault::Text(fault) => Fault::Text(fault),
-            BuildFault::Normal(fault) => Fault::Normal(fault),
-            BuildFault::Table(fault) => Fault::Table(fault),
-            BuildFault::Assign(stuck) => Fault::Assign(stuck),
-            BuildFault::NoMemory => Fault::NoMemory,
+            DeviceFault::Failed => Fault::Device,
+            DeviceFault::NoMemory => Fault::NoMemory,
         }
     }
 }
@@ -184,36 +202,6 @@ impl From<OutFault> for Fault {
             OutFault::Damaged(at) => Fault::Damaged(at),
             OutFault::Device => Fault::Device,
             OutFault::NoMemory => Fault::NoMemory,
-        }
-    }
-}
-
-impl From<FileFault> for Fault {
-    ghost from_gives = { λ _ e. e ≡ program_fault.File };
-
-    fn from(_fault: FileFault) -> Fault {
-        Fault::File
-    }
-}
-
-impl From<DeviceFault> for Fault {
-    ghost from_gives = { λ fault e. e ≡ device_fault_of fault };
-
-    fn from(fault: DeviceFault) -> Fault {
-        match fault {
-            DeviceFault::Failed => Fault::Device,
-            DeviceFault::NoMemory => Fault::NoMemory,
-        }
-    }
-}
-
-impl From<WriteFault> for Fault {
-    ghost from_gives = { λ fault e. e ≡ write_fault_of fault };
-
-    fn from(fault: WriteFault) -> Fault {
-        match fault {
-            WriteFault::Device => Fault::Device,
-            WriteFault::NoMemory => Fault::NoMemory,
         }
     }
 }

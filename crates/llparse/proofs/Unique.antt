@@ -103,9 +103,8 @@ module _ (g : Grammar) where
           let fq : InFollow g q.left (ahead_of r) = subst (λ y. InFollow g y (ahead_of r)) (sym l) f in
           let fq2 : InFollow g q2.left (ahead_of z) = subst (λ y. InFollow g y (ahead_of z)) (sym l2) h in
           let e2 : all_words ts q.items ++ r ≡ all_words us q2.items ++ z = ap (λ y. all_words ts y ++ r) (sym (items_are p q get)) ∙ e ∙ ap (λ y. all_words us y ++ z) (items_are k q2 get2) in
-          let one = predicted p q get ts fits r fq in
           let two : Predicts g q2 (ahead_of (all_words ts q.items ++ r)) = subst (λ y. Predicts g q2 (ahead_of y)) (sym e2) (predicted k q2 get2 us fits2 z fq2) in
-          let same : p ≡ k = one_production free p k q q2 (ahead_of (all_words ts q.items ++ r)) get get2 (l ∙ sym l2) one two in
+          let same : p ≡ k = one_production free p k q q2 (ahead_of (all_words ts q.items ++ r)) get get2 (l ∙ sym l2) (predicted p q get ts fits r fq) two in
           let equal : q2 ≡ q = same_Some q2 q (sym get2 ∙ ap (slice_get g.productions) (sym same) ∙ get) in
           let fits3 : Trs us q.items = subst (λ y. Trs us y.items) equal fits2 in
           let fz : InFollow g q.left (ahead_of z) = subst (λ y. InFollow g y.left (ahead_of z)) equal fq2 in

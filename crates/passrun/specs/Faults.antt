@@ -5,8 +5,8 @@ use Rattle.backreader.specs.declared.turning.TurnFault.{TurnFault}
 use Rattle.backreader.specs.declared.turning.TurnFault.TheVariants as turn_fault
 use Rattle.treefile.specs.declared.reading.FrameFault.{FrameFault}
 use Rattle.treefile.specs.declared.reading.FrameFault.TheVariants as frame_fault
-use Rattle.treefile.specs.declared.writing.WriteFault.{WriteFault}
-use Rattle.treefile.specs.declared.writing.WriteFault.TheVariants as write_fault
+use Rattle.treefile.specs.declared.device.DeviceFault.{DeviceFault}
+use Rattle.treefile.specs.declared.device.DeviceFault.TheVariants as device_fault
 use Rattle.passrun.specs.declared.reading.record.RecordFault.{RecordFault}
 use Rattle.passrun.specs.declared.reading.record.RecordFault.TheVariants as record_fault
 use Rattle.passrun.specs.declared.run_fault.RunFault.{RunFault}
@@ -24,10 +24,10 @@ run_fault_of_frame (frame_fault.Damaged at) = run_fault.Damaged at
 run_fault_of_frame frame_fault.Device = run_fault.Device
 run_fault_of_frame frame_fault.NoMemory = run_fault.NoMemory
 
--- and where a device refuses what is written
-abbrev pub run_fault_of_write : WriteFault → RunFault
-run_fault_of_write write_fault.Device = run_fault.Device
-run_fault_of_write write_fault.NoMemory = run_fault.NoMemory
+-- and where a device that is written refuses
+abbrev pub run_fault_of_device : DeviceFault → RunFault
+run_fault_of_device device_fault.Failed = run_fault.Device
+run_fault_of_device device_fault.NoMemory = run_fault.NoMemory
 
 -- and where a file that was written before can't be turned round, which honest devices never show
 abbrev pub run_fault_of_turn : TurnFault → RunFault

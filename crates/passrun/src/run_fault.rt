@@ -1,13 +1,12 @@
 //! Why a pass did not run to its end.
 
 ghost use Rattle.std.specs.Prelude.{◌≡◌};
-ghost use Rattle.passrun.specs.Faults.{run_fault_of_frame, run_fault_of_turn, run_fault_of_write};
+ghost use Rattle.passrun.specs.Faults.{run_fault_of_device, run_fault_of_frame, run_fault_of_turn};
 ghost use Rattle.passrun.specs.declared.run_fault.RunFault.TheVariants as run_fault;
 
 use ag_value::NoMemory;
 use backreader::TurnFault;
-use std::alloc::{AllocError, AllocFailed};
-use treefile::{FrameFault, WriteFault};
+use treefile::{DeviceFault, FrameFault};
 
 /// Why a pass, all passes or an upgrade did not go to the end. Each call tells what its devices have
 /// then.
@@ -42,13 +41,13 @@ impl From<FrameFault> for RunFault {
     }
 }
 
-impl From<WriteFault> for RunFault {
-    ghost from_gives = { λ fault e. e ≡ run_fault_of_write fault };
+impl From<DeviceFault> for RunFault {
+    ghost from_gives = { λ fault e. e ≡ run_fault_of_device fault };
 
-    fn from(fault: WriteFault) -> RunFault {
+    fn from(fault: DeviceFault) -> RunFault {
         match fault {
-            WriteFault::Device => RunFault::Device,
-            WriteFault::NoMemory => RunFault::NoMemory,
+            DeviceFault::Failed => RunFault::Device,
+            DeviceFault::NoMemory => RunFault::NoMemory,
         }
     }
 }
@@ -71,22 +70,6 @@ impl From<NoMemory> for RunFault {
     ghost from_gives = { λ _ e. e ≡ run_fault.NoMemory };
 
     fn from(_error: NoMemory) -> RunFault {
-        RunFault::NoMemory
-    }
-}
-
-impl From<AllocError> for RunFault {
-    ghost from_gives = { λ _ e. e ≡ run_fault.NoMemory };
-
-    fn from(_error: AllocError) -> RunFault {
-        RunFault::NoMemory
-    }
-}
-
-impl<T: Drop> From<AllocFailed<T>> for RunFault {
-    ghost from_gives = { λ _ e. e ≡ run_fault.NoMemory };
-
-    fn from(_error: AllocFailed<T>) -> RunFault {
         RunFault::NoMemory
     }
 }

@@ -18,9 +18,9 @@ use crate::reading::old_record::{OldRecord, old_record};
 use crate::reading::record::RecordFault;
 use crate::run_fault::RunFault;
 use ag_grammar::{Grammar, Item};
-use ag_value::Value;
+use ag_value::{NoMemory, Value};
 use backreader::{Arity, Back, MOST_LEVELS, MOST_RECORDS, turn};
-use std::alloc::{AllocError, Global};
+use std::alloc::Global;
 use std::slice;
 use treefile::{Device, Kind, Writer};
 
@@ -149,7 +149,7 @@ impl Upgrading {
 }
 
 /// Adds a text, where there is one.
-fn add_text(texts: &mut Vec<Value>, text: Option<Value>) -> Result<(), AllocError>
+fn add_text(texts: &mut Vec<Value>, text: Option<Value>) -> Result<(), NoMemory>
     ensures { OnOk result (texts.new.items ≡ texts.old.items ++ text_list text) }
 {
     if let Some(text) = text {

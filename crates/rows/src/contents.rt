@@ -6,7 +6,7 @@ use crate::words::{
 use ag_value::Value;
 use backreader::{Arity, Back, turn};
 use std::alloc::{AllocError, Global};
-use treefile::{Device, FrameFault, Kind, MemDevice, WriteFault, Writer, last_body, split_body};
+use treefile::{Device, DeviceFault, FrameFault, Kind, MemDevice, Writer, last_body, split_body};
 
 /// How many children the nodes of binary fractions have.
 struct Fractions {}
@@ -136,7 +136,7 @@ fn put_record(
 }
 
 /// What is told of a record that was put.
-fn put_or(put: Result<(), WriteFault>) -> Result<(), Mistake> {
+fn put_or(put: Result<(), DeviceFault>) -> Result<(), Mistake> {
     put.map_err(|_| Mistake::NoMemory)
 }
 

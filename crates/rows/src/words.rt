@@ -1,8 +1,8 @@
 //! The words of which rows are made, and how bytes are printed.
 
-use ag_value::NoMemory;
+use ag_value::OutOfMemory;
 use hex::{FromHexError, decode, encode};
-use std::alloc::{AllocError, AllocFailed, Global};
+use std::alloc::{AllocError, Global};
 use std::fmt::Debug;
 
 /// Why a row asks for nothing that can be told.
@@ -16,20 +16,8 @@ pub enum Mistake {
     NoMemory,
 }
 
-impl From<AllocError> for Mistake {
-    fn from(_error: AllocError) -> Mistake {
-        Mistake::NoMemory
-    }
-}
-
-impl<T: Drop> From<AllocFailed<T>> for Mistake {
-    fn from(_error: AllocFailed<T>) -> Mistake {
-        Mistake::NoMemory
-    }
-}
-
-impl From<NoMemory> for Mistake {
-    fn from(_error: NoMemory) -> Mistake {
+impl<M: OutOfMemory> From<M> for Mistake {
+    fn from(_error: M) -> Mistake {
         Mistake::NoMemory
     }
 }

@@ -2,14 +2,25 @@
 
 ghost use Rattle.std.specs.Prelude.{◌≡◌, ◌≤◌, ◌+◌, ℕ, List, Bool, length, slice_range, IfOk};
 ghost use Rattle.std.specs.Prelude.{IsErrOf, OnOk};
+ghost use Rattle.treefile.specs.declared.device.DeviceFault.TheVariants as device_fault;
 
-/// Why a call of a device gave no answer.
+use ag_value::OutOfMemory;
+
+/// Why a call of a device gave no answer, or why nothing was written to one.
 #[derive(Clone, Copy, Debug, PartialEq, Eq)]
 pub enum DeviceFault {
-    /// The device failed, and counted that.
+    /// D1: the device failed, and counted that, now or at an earlier call of a broken writer.
     Failed,
     /// A growth was refused.
     NoMemory,
+}
+
+impl<M: OutOfMemory> From<M> for DeviceFault {
+    ghost from_gives = { λ _ e. e ≡ device_fault.NoMemory };
+
+    fn from(_error: M) -> DeviceFault {
+        DeviceFault::NoMemory
+    }
 }
 
 /// Bytes that grow at their end: a file, or memory that stands for one.

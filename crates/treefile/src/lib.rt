@@ -26,4 +26,4 @@ pub use tree_laws::{
     passes_follow_files, records_are_read, records_tell_trees, refusals_are_true, root_is_last,
     trees_are_read_back, ways_are_followed, worked_files, worked_records, worked_way,
 };
-pub use writing::{WriteFault, Writer};
+pub use writing::Writer;

@@ -7,10 +7,8 @@ ghost use Rattle.ag_value.specs.Spelling.{spelling_of};
 ghost use Rattle.ag_value.specs.Well.{IsWell};
 ghost use Rattle.treefile.specs.devices.Device.{AppendsFront, LeavesContent, Persists, WhenHonest};
 ghost use Rattle.treefile.specs.ways.Ending.{IsBody};
-ghost use Rattle.treefile.specs.devices.Faults.{write_fault_of};
 ghost use Rattle.treefile.specs.ways.Puts.{SettlesPut};
 ghost use Rattle.treefile.specs.records.TreeFile.{body_of, frame, header, version_two};
-ghost use Rattle.treefile.specs.declared.writing.WriteFault.TheVariants as write_fault;
 
 use crate::body::Kind;
 use crate::device::{Device, DeviceFault};
@@ -18,42 +16,6 @@ use crate::layout::header_of;
 use ag_value::{NoMemory, Value, encode};
 use std::alloc::{AllocError, Global};
 use std::marker::Model;
-
-/// Why nothing was written.
-#[derive(Clone, Copy, Debug, PartialEq, Eq)]
-pub enum WriteFault {
-    /// D1: a call of the device failed, now or at an earlier call of a broken writer.
-    Device,
-    /// A growth was refused.
-    NoMemory,
-}
-
-impl From<DeviceFault> for WriteFault {
-    ghost from_gives = { λ fault e. e ≡ write_fault_of fault };
-
-    fn from(fault: DeviceFault) -> WriteFault {
-        match fault {
-            DeviceFault::Failed => WriteFault::Device,
-            DeviceFault::NoMemory => WriteFault::NoMemory,
-        }
-    }
-}
-
-impl From<AllocError> for WriteFault {
-    ghost from_gives = { λ _ e. e ≡ write_fault.NoMemory };
-
-    fn from(_error: AllocError) -> WriteFault {
-        WriteFault::NoMemory
-    }
-}
-
-impl From<NoMemory> for WriteFault {
-    ghost from_gives = { λ _ e. e ≡ write_fault.NoMemory };
-
-    fn from(_error: NoMemory) -> WriteFault {
-        WriteFault::NoMemory
-    }
-}
 
 /// Writes the records of a tree file, each as one frame at the end of a device. It holds no device:
 /// each call takes the one that it was begun on. It is seen as how many frames were put, and
@@ -76,21 +38,21 @@ impl Model for Writer {
 impl Writer {
     /// A writer of a file of a pass: takes away what the device has, and appends the header.
     ///
-    /// D1 Device where the device failed: it has what it had, or a beginning of the header. Takes
+    /// D1 Failed where the device failed: it has what it had, or a beginning of the header. Takes
     /// memory for the header where the device does, and for want of it leaves the device empty.
-    pub fn begin<D: Device>(alloc: Global, device: &mut D, pass: u16) -> Result<Writer, WriteFault>
+    pub fn begin<D: Device>(alloc: Global, device: &mut D, pass: u16) -> Result<Writer, DeviceFault>
         ensures header { OnOk result
             (WhenHonest (D.is_honest device.old)
             (D.content device.new ≡ header version_two pass)) }
         ensures fresh { IfOk result (λ writer. writer ≡ record { written = 0; is_broken = false }) }
         // D1: what the device had, or a beginning of the header
-        ensures device { IsErrOf result WriteFault.Device → WhenHonest (D.is_honest device.old)
+        ensures device { IsErrOf result DeviceFault.Failed → WhenHonest (D.is_honest device.old)
             ((D.content device.new ≡ D.content device.old)
             ⊎ AppendsFront (header version_two pass) [] (D.content device.new)) }
-        ensures memory { IsErrOf result WriteFault.NoMemory →
+        ensures memory { IsErrOf result DeviceFault.NoMemory →
             WhenHonest (D.is_honest device.old) (D.content device.new ≡ []) }
         ensures persists { Persists (D.is_honest device.old) (D.is_honest device.new)
-            (D.failures device.old) (D.failures device.new) (IsErrOf result WriteFault.Device) }
+            (D.failures device.old) (D.failures device.new) (IsErrOf result DeviceFault.Failed) }
     {
         device.clear()?;
         device.append(&header_of(pass))?;
@@ -107,7 +69,7 @@ impl Writer {
     /// Asks for at most 272 values, each of them well, and for fewer than u64::MAX frames put
     /// before.
     ///
-    /// D1 Device where the device failed: it has a beginning of the frame more, and the writer is
+    /// D1 Failed where the device failed: it has a beginning of the frame more, and the writer is
     /// broken. A broken writer answers this for good, and doesn't touch the device. For want of
     /// memory nothing changes.
     #[inline(always)]
@@ -117,7 +79,7 @@ impl Writer {
         kind: Kind,
         number: u16,
         values: &[Value],
-    ) -> Result<(), WriteFault>
+    ) -> Result<(), DeviceFault>
         requires few { length values.now ≤ version_two.most_values }
         requires well { All IsWell values.now }
         requires room { self.old.written < 2 ^ 64 - 1 }
@@ -129,26 +91,26 @@ impl Writer {
             (self.new ≡ record self.old { written = self.old.written + 1 }) }
 
         // D1: a beginning of the frame, and a broken writer
-        ensures device { IsErrOf result WriteFault.Device → WhenHonest (D.is_honest device.old)
+        ensures device { IsErrOf result DeviceFault.Failed → WhenHonest (D.is_honest device.old)
             (AppendsFront (frame (body_of kind number values.now))
             (D.content device.old) (D.content device.new)) }
-        ensures breaks { IsErrOf result WriteFault.Device →
+        ensures breaks { IsErrOf result DeviceFault.Failed →
             self.new ≡ record self.old { is_broken = true } }
         ensures broken { self.old.is_broken ≡ true →
-            IsErrOf result WriteFault.Device × (device.new ≡ device.old) }
+            IsErrOf result DeviceFault.Failed × (device.new ≡ device.old) }
 
         // no memory: nothing changes
-        ensures memory { IsErrOf result WriteFault.NoMemory →
+        ensures memory { IsErrOf result DeviceFault.NoMemory →
             LeavesContent (D.is_honest device.old) (D.content device.old) (D.content device.new) }
-        ensures unchanged { IsErrOf result WriteFault.NoMemory → self.new ≡ self.old }
+        ensures unchanged { IsErrOf result DeviceFault.NoMemory → self.new ≡ self.old }
 
         ensures persists { Persists (D.is_honest device.old) (D.is_honest device.new)
             (D.failures device.old) (D.failures device.new)
-            (IsErrOf result WriteFault.Device × (self.old.is_broken ≡ false)) }
+            (IsErrOf result DeviceFault.Failed × (self.old.is_broken ≡ false)) }
     {
         // A broken writer doesn't touch the device.
         if self.is_broken {
-            return Err(WriteFault::Device);
+            return Err(DeviceFault::Failed);
         }
         if values.is_empty() {
             let answer = device.append(&bare_frame(kind, number));
@@ -173,7 +135,7 @@ impl Writer {
     /// Asks for a body of 3 to 285,212,675 bytes, and for fewer than u64::MAX frames put before.
     ///
     /// Refuses as `put` does.
-    pub fn put_body<D: Device>(&mut self, device: &mut D, body: &[u8]) -> Result<(), WriteFault>
+    pub fn put_body<D: Device>(&mut self, device: &mut D, body: &[u8]) -> Result<(), DeviceFault>
         requires body { IsBody version_two body.now }
         requires room { self.old.written < 2 ^ 64 - 1 }
         ensures frame { OnOk result (WhenHonest (D.is_honest device.old)
@@ -181,18 +143,18 @@ impl Writer {
         ensures writer { SettlesPut device.old device.new self.old self.new result }
 
         // D1: a beginning of the frame
-        ensures device { IsErrOf result WriteFault.Device → WhenHonest (D.is_honest device.old)
+        ensures device { IsErrOf result DeviceFault.Failed → WhenHonest (D.is_honest device.old)
             (AppendsFront (frame body.now) (D.content device.old) (D.content device.new)) }
 
         // no memory: nothing changes
-        ensures memory { IsErrOf result WriteFault.NoMemory →
+        ensures memory { IsErrOf result DeviceFault.NoMemory →
             LeavesContent (D.is_honest device.old) (D.content device.old) (D.content device.new) }
         ensures persists { Persists (D.is_honest device.old) (D.is_honest device.new)
             (D.failures device.old) (D.failures device.new)
-            (IsErrOf result WriteFault.Device × (self.old.is_broken ≡ false)) }
+            (IsErrOf result DeviceFault.Failed × (self.old.is_broken ≡ false)) }
     {
         if self.is_broken {
-            return Err(WriteFault::Device);
+            return Err(DeviceFault::Failed);
         }
         self.buffer.clear();
         self.buffer.extend_from_slice(body)?;
@@ -203,26 +165,21 @@ impl Writer {
 
     /// What a device's answer to an append of a frame means: the frame is counted, or the writer is
     /// broken, or nothing.
-    fn settle(&mut self, answer: Result<(), DeviceFault>) -> Result<(), WriteFault>
+    #[inline(always)]
+    fn settle(&mut self, answer: Result<(), DeviceFault>) -> Result<(), DeviceFault>
         requires { self.old.written < 2 ^ 64 - 1 }
-        ensures counted { OnOk answer ((result ≡ Ok tt)
-            × (self.new ≡ record self.old { written = self.old.written + 1 })) }
-        ensures breaks { IsErrOf answer DeviceFault.Failed → IsErrOf result WriteFault.Device
-            × (self.new ≡ record self.old { is_broken = true }) }
-        ensures unchanged { IsErrOf answer DeviceFault.NoMemory →
-            IsErrOf result WriteFault.NoMemory × (self.new ≡ self.old) }
+        ensures same { result ≡ answer }
+        ensures counted { OnOk result (self.new ≡ record self.old { written = self.old.written + 1 }) }
+        ensures breaks { IsErrOf result DeviceFault.Failed →
+            self.new ≡ record self.old { is_broken = true } }
+        ensures unchanged { IsErrOf result DeviceFault.NoMemory → self.new ≡ self.old }
     {
         match answer {
-            Ok(()) => {
-                self.written += 1;
-                Ok(())
-            }
-            Err(DeviceFault::Failed) => {
-                self.is_broken = true;
-                Err(WriteFault::Device)
-            }
-            Err(DeviceFault::NoMemory) => Err(WriteFault::NoMemory),
+            Ok(()) => self.written += 1,
+            Err(DeviceFault::Failed) => self.is_broken = true,
+            Err(DeviceFault::NoMemory) => {}
         }
+        answer
     }
 
     /// How many frames were put.

@@ -69,8 +69,7 @@ module _ (g : Grammar) where
   open_next os s ws t is (node k ts, vs, (q, get, left, fits), e, c) =
       let split : ws ≡ all_words ts q.items ++ vs = e ∙ ap (λ x. all_words ts x ++ vs) (unique.items_are g k q get) in
       let f : InFollow g q.left (ahead_of vs) = subst (λ x. InFollow g x (ahead_of vs)) (sym left) (follow_of os s is (node k ts) vs t c) in
-      let predicts = unique.predicted g k q get ts fits vs f in
-      (k, q, get, left, subst (λ x. Predicts g q (ahead_of x)) (sym split) predicts, (ts, vs, fits, split, c))
+      (k, q, get, left, subst (λ x. Predicts g q (ahead_of x)) (sym split) (unique.predicted g k q get ts fits vs f), (ts, vs, fits, split, c))
 
   pub open_back : (os : List Open) (s : ℕ) (ws : List Lexeme) (t : Tree) (k : ℕ) (q : Production) → IsProduction g k q → q.left ≡ s
       → Completes g (open_at k none q.items) os ws t → Wants g os s ws t

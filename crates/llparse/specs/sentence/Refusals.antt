@@ -1,15 +1,15 @@
--- Which fault a refused write is, and what is broken then (this project's).
+-- Which fault that of a device is, and what is broken then (this project's).
 use Rattle.std.specs.Prelude.{◌≡◌, ℕ, Bool, true}
 use Rattle.treefile.specs.devices.Device.{Persists}
-use Rattle.treefile.specs.declared.writing.WriteFault.{WriteFault}
-use Rattle.treefile.specs.declared.writing.WriteFault.TheVariants as write_fault
+use Rattle.treefile.specs.declared.device.DeviceFault.{DeviceFault}
+use Rattle.treefile.specs.declared.device.DeviceFault.TheVariants as device_fault
 use Rattle.llparse.specs.declared.sentence.parse_fault.ParseFault.{ParseFault}
 use Rattle.llparse.specs.declared.sentence.parse_fault.ParseFault.TheVariants as parse_fault
 
 -- of a call that writes: the device failed, or a growth was refused
-abbrev pub parse_fault_of : WriteFault → ParseFault
-parse_fault_of write_fault.Device = parse_fault.Device
-parse_fault_of write_fault.NoMemory = parse_fault.NoMemory
+abbrev pub parse_fault_of : DeviceFault → ParseFault
+parse_fault_of device_fault.Failed = parse_fault.Device
+parse_fault_of device_fault.NoMemory = parse_fault.NoMemory
 
 -- the device failed, or a growth was refused
 abbrev pub IsWant : ParseFault → Type 0

@@ -4,8 +4,7 @@ ghost use Rattle.llparse.specs.sentence.Refusals.{parse_fault_of};
 ghost use Rattle.llparse.specs.declared.sentence.parse_fault.ParseFault.TheVariants as parse_fault;
 
 use ag_value::NoMemory;
-use std::alloc::{AllocError, AllocFailed};
-use treefile::WriteFault;
+use treefile::DeviceFault;
 
 /// Why a sentence was not parsed.
 #[derive(Clone, Copy, Debug, PartialEq, Eq)]
@@ -31,29 +30,13 @@ impl From<NoMemory> for ParseFault {
     }
 }
 
-impl From<AllocError> for ParseFault {
-    ghost from_gives = { λ _ e. e ≡ parse_fault.NoMemory };
-
-    fn from(_error: AllocError) -> ParseFault {
-        ParseFault::NoMemory
-    }
-}
-
-impl<T: Drop> From<AllocFailed<T>> for ParseFault {
-    ghost from_gives = { λ _ e. e ≡ parse_fault.NoMemory };
-
-    fn from(_error: AllocFailed<T>) -> ParseFault {
-        ParseFault::NoMemory
-    }
-}
-
-impl From<WriteFault> for ParseFault {
+impl From<DeviceFault> for ParseFault {
     ghost from_gives = { λ fault e. e ≡ parse_fault_of fault };
 
-    fn from(fault: WriteFault) -> ParseFault {
+    fn from(fault: DeviceFault) -> ParseFault {
         match fault {
-            WriteFault::Device => ParseFault::Device,
-            WriteFault::NoMemory => ParseFault::NoMemory,
+            DeviceFault::Failed => ParseFault::Device,
+            DeviceFault::NoMemory => ParseFault::NoMemory,
         }
     }
 }

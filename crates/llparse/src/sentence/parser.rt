@@ -124,7 +124,7 @@ fn put_leaf<D: Device>(
     let values = [Value::Text(Text::from_str(alloc, lex)?)];
     writer.put(device, Kind::Token, class, &values)?;
     let [text] = values;
-    texts.push(text)?;
+    texts.push(text).map_err(|_| ParseFault::NoMemory)?;
     Ok(())
 }
 
@@ -233,7 +233,9 @@ impl<'t> Parser<'t> {
     {
         let node = new_node(tables, &self.tokens, symbol, self.texts.len())?;
         self.has_room()?;
-        self.waiting.push(outer)?;
+        let Ok(()) = self.waiting.push(outer) else {
+            return Err(ParseFault::NoMemory);
+        };
         self.count += 1;
         Ok(node)
     }

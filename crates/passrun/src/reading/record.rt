@@ -8,7 +8,6 @@ ghost use Rattle.passrun.specs.laid.Jobs.{CanRun, setting};
 ghost use Rattle.passrun.specs.reading.Reading.{AreTaken, AreUntaken, IsNoNodeBody, IsNoRow, IsNodeBody};
 ghost use Rattle.passrun.specs.reading.Reading.{IsTaken, IsUntaken, IsNodeRead, IsNoNode, StandInFront};
 ghost use Rattle.passrun.specs.reading.Reading.{IsTextOf, IsTokenRead, IsNoToken, IsRead, IsNoRecord};
-ghost use Rattle.passrun.specs.declared.reading.record.RecordFault.TheVariants as record_fault;
 ghost use Rattle.passrun.specs.Faults.{record_fault_of};
 ghost use Rattle.planchecker.specs.courses.Settings.{setting_of};
 
@@ -16,9 +15,9 @@ use crate::laid::job::Job;
 use crate::laid::rows::row_passes;
 use ag_grammar::limits::MOST_TOKEN_BYTES;
 use ag_grammar::{Grammar, Item, Terminal};
-use ag_value::{NoMemory, Value, ValueFault, decode};
+use ag_value::{Value, ValueFault, decode};
 use planchecker::Plan;
-use std::alloc::{AllocError, AllocFailed, Global};
+use std::alloc::Global;
 use treefile::{Kind, split_body};
 
 /// Why no record was read.
@@ -38,30 +37,6 @@ impl From<ValueFault> for RecordFault {
             ValueFault::Malformed => RecordFault::Damaged,
             ValueFault::NoMemory => RecordFault::NoMemory,
         }
-    }
-}
-
-impl From<AllocError> for RecordFault {
-    ghost from_gives = { λ _ e. e ≡ record_fault.NoMemory };
-
-    fn from(_error: AllocError) -> RecordFault {
-        RecordFault::NoMemory
-    }
-}
-
-impl From<NoMemory> for RecordFault {
-    ghost from_gives = { λ _ e. e ≡ record_fault.NoMemory };
-
-    fn from(_error: NoMemory) -> RecordFault {
-        RecordFault::NoMemory
-    }
-}
-
-impl<T: Drop> From<AllocFailed<T>> for RecordFault {
-    ghost from_gives = { λ _ e. e ≡ record_fault.NoMemory };
-
-    fn from(_error: AllocFailed<T>) -> RecordFault {
-        RecordFault::NoMemory
     }
 }
 
@@ -101,7 +76,9 @@ fn read_value<'b>(
     ensures front { StandInFront values.old.items values.new.items }
 {
     let (value, length) = decode(alloc, bytes)?;
-    values.push(value)?;
+    let Ok(()) = values.push(value) else {
+        return Err(RecordFault::NoMemory);
+    };
     Ok(&bytes[length..])
 }
 
@@ -123,7 +100,9 @@ fn take_known<'b>(
     let Some((number, rest)) = number_in(bytes) else {
         return read_value(alloc, pass, k, bytes, values);
     };
-    values.push(Value::Num(number))?;
+    let Ok(()) = values.push(Value::Num(number)) else {
+        return Err(RecordFault::NoMemory);
+    };
     Ok(rest)
 }
 
@@ -147,7 +126,9 @@ fn take_value<'b>(
         return take_known(alloc, pass, k, bytes, values);
     }
     if pass == k {
-        values.push(Value::Num(0))?;
+        let Ok(()) = values.push(Value::Num(0)) else {
+            return Err(RecordFault::NoMemory);
+        };
         return Ok(bytes);
     }
     Ok(bytes)
@@ -248,7 +229,9 @@ pub fn read_node(
         return Err(RecordFault::Damaged);
     };
     let production = &grammar.productions()[number as usize];
-    let passes = row_passes(alloc, grammar, plan, production)?;
+    let Ok(passes) = row_passes(alloc, grammar, plan, production) else {
+        return Err(RecordFault::NoMemory);
+    };
     take_row(alloc, passes.as_slice(), k, spellings, values)?;
     Ok(number)
 }
@@ -309,7 +292,9 @@ fn read_token(
     ensures none { IsErrOf result RecordFault.Damaged → IsNoToken class body.now }
 {
     let text = text_in(alloc, class, body)?;
-    values.push(text)?;
+    let Ok(()) = values.push(text) else {
+        return Err(RecordFault::NoMemory);
+    };
     Ok(())
 }
 

@@ -8,8 +8,8 @@ use Rattle.treefile.specs.ways.Beginning.{AddsFrames, BeginsFile, LeavesBeginnin
 use Rattle.treefile.specs.devices.Device.{AppendsFront}
 use Rattle.treefile.specs.ways.Ending.{IsBody}
 use Rattle.treefile.specs.records.TreeFile.{file, frame, header, version_two}
-use Rattle.treefile.specs.declared.writing.WriteFault.{WriteFault}
-use Rattle.treefile.specs.declared.writing.WriteFault.TheVariants as write_fault
+use Rattle.treefile.specs.declared.device.DeviceFault.{DeviceFault}
+use Rattle.treefile.specs.declared.device.DeviceFault.TheVariants as device_fault
 
 -- no body, and one
 no_body : All (IsBody version_two) []
@@ -22,9 +22,9 @@ one_body body sound = All-cons (IsBody version_two) body [] sound no_body
 header_begins : (pass : ℕ) (content : List ℕ) → AppendsFront (header version_two pass) [] content → BeginsFile pass content
 header_begins pass content put = record { bodies = []; sound = no_body; front = (put.0, put.1 ∙ ap (take put.0) (sym (append-nil (header version_two pass)))) }
 
-pub not_begun : (pass : ℕ) (old now : List ℕ) (f : WriteFault) → (f ≡ write_fault.Device → (now ≡ old) ⊎ AppendsFront (header version_two pass) [] now) → (f ≡ write_fault.NoMemory → now ≡ []) → LeavesBeginning pass old now
-not_begun pass old now write_fault.Device failed want = elim (failed refl) [ inl same ↦ inl same | inr front ↦ inr (header_begins pass now front) ]
-not_begun pass old now write_fault.NoMemory failed want = inr (header_begins pass now (0, want refl))
+pub not_begun : (pass : ℕ) (old now : List ℕ) (f : DeviceFault) → (f ≡ device_fault.Failed → (now ≡ old) ⊎ AppendsFront (header version_two pass) [] now) → (f ≡ device_fault.NoMemory → now ≡ []) → LeavesBeginning pass old now
+not_begun pass old now device_fault.Failed failed want = elim (failed refl) [ inl same ↦ inl same | inr front ↦ inr (header_begins pass now front) ]
+not_begun pass old now device_fault.NoMemory failed want = inr (header_begins pass now (0, want refl))
 
 module _ (E : Type 0) where
   -- nothing was put
@@ -52,11 +52,11 @@ module _ (E : Type 0) where
   pub one_added : (old now body : List ℕ) → IsBody version_two body → now ≡ old ++ frame body → AddsFrames {E = E} old now (Ok tt)
   one_added old now body sound is = (body ∷ [], one_body body sound, is ∙ ap (λ (xs : List ℕ). old ++ xs) (sym (append-nil (frame body))))
 
-  pub one_refused : (old now body : List ℕ) (f : WriteFault) (fault : E) → IsBody version_two body → (f ≡ write_fault.Device → AppendsFront (frame body) old now) → (f ≡ write_fault.NoMemory → now ≡ old) → AddsFrames old now (Err fault)
-  one_refused old now body write_fault.Device fault sound front same =
+  pub one_refused : (old now body : List ℕ) (f : DeviceFault) (fault : E) → IsBody version_two body → (f ≡ device_fault.Failed → AppendsFront (frame body) old now) → (f ≡ device_fault.NoMemory → now ≡ old) → AddsFrames old now (Err fault)
+  one_refused old now body device_fault.Failed fault sound front same =
       let put = front refl in
       (body ∷ [], one_body body sound, (put.0, put.1 ∙ ap (λ (xs : List ℕ). old ++ take put.0 xs) (sym (append-nil (frame body)))))
-  one_refused old now body write_fault.NoMemory fault sound front same = ([], no_body, (0, same refl ∙ sym (append-nil old)))
+  one_refused old now body device_fault.NoMemory fault sound front same = ([], no_body, (0, same refl ∙ sym (append-nil old)))
 
   -- frames were put behind a header
   pub frames_begin : (pass : ℕ) (old content : List ℕ) (r : Result (Unit {0}) E) → old ≡ header version_two pass → AddsFrames old content r → BeginsFile pass content

@@ -1,17 +1,10 @@
--- Which fault a call answers where a call of its device, or a growth, was refused. This project's.
+-- Which fault a call that reads answers where a call of its device, or a growth, was refused. This project's.
 use Rattle.treefile.specs.declared.device.DeviceFault.{DeviceFault}
 use Rattle.treefile.specs.declared.device.DeviceFault.TheVariants as device_fault
 use Rattle.treefile.specs.declared.reading.FrameFault.{FrameFault}
 use Rattle.treefile.specs.declared.reading.FrameFault.TheVariants as frame_fault
-use Rattle.treefile.specs.declared.writing.WriteFault.{WriteFault}
-use Rattle.treefile.specs.declared.writing.WriteFault.TheVariants as write_fault
 
--- of a call that reads: the device failed, or it was short of memory
+-- the device failed, or it was short of memory
 abbrev pub frame_fault_of : DeviceFault → FrameFault
 frame_fault_of device_fault.Failed = frame_fault.Device
 frame_fault_of device_fault.NoMemory = frame_fault.NoMemory
-
--- of a call that writes: likewise
-abbrev pub write_fault_of : DeviceFault → WriteFault
-write_fault_of device_fault.Failed = write_fault.Device
-write_fault_of device_fault.NoMemory = write_fault.NoMemory

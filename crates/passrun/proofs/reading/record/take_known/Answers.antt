@@ -8,4 +8,5 @@ pub returns-clause-taken : goal.returns-clause-taken
 returns-clause-taken c =
     let number = c.in-Some.number in
     let same : cast_signed w64 (cast_unsigned w64 number) ≡ number = search rules in
-    taken_number c.args.k c.args.pass c.args.bytes.now c.in-Some.rest.now number c.args.values.now.items c.push.new.self.items c.requires c.in-Some.ensures.well c.in-Some.ensures.spelled (c.in_ok-push.ensures.items ∙ ap (λ z. c.args.values.now.items ++ Num z ∷ []) same)
+    let pushed : c.push.new.self.items ≡ c.args.values.now.items ++ Num (cast_signed w64 (cast_unsigned w64 number)) ∷ [] = search rules in
+    taken_number c.args.k c.args.pass c.args.bytes.now c.in-Some.rest.now number c.args.values.now.items c.push.new.self.items c.requires c.in-Some.ensures.well c.in-Some.ensures.spelled (pushed ∙ ap (λ z. c.args.values.now.items ++ Num z ∷ []) same)

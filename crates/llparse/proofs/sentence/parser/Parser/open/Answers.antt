@@ -1,4 +1,4 @@
-use Rattle.std.proofs.Common.{◌<◌, ◌∷◌, length, reverse, arith}
+use Rattle.std.proofs.Common.{rules, ◌≡◌, ◌++◌, [], ◌<◌, ◌∷◌, length, reverse, arith}
 use Rattle.std.proofs.lemmas.List.{length-reverse}
 use Rattle.std.proofs.lemmas.Result.{err_from_is_err_and}
 use Rattle.ag_grammar.specs.grammars.Tree.{most_depth, most_nodes}
@@ -23,13 +23,13 @@ returns-in_err-has_room-clause-refuses c =
 
 pub returns-clause-opens : goal.returns-clause-opens
 returns-clause-opens c = λ g honest front bytes has a.
-    let k = task_of g c.args.self.now.tokens.list honest front in
     let room = c.in_ok-has_room.ensures.room in
     let levels : length (c.args.outer ∷ reverse c.args.self.now.waiting.items) < most_depth = omega (arith, length-reverse c.args.self.now.waiting.items, room.0) in
-    let opened = on_open k c.args.tables.now has.1 c.args.symbol c.in_ok-node.node.production c.in_ok-node.node.base (c.args.outer ∷ reverse c.args.self.now.waiting.items) c.args.self.now.tokens.taken c.args.self.now.count (made_by c.args.self.now bytes) c.in_ok-node.ensures.chosen (omega (arith, c.in_ok-node.ensures.base, c.len.ensures)) room.1 levels a in
-    rw (c.in_ok-node.ensures.begins, on_top c.args.self.now.waiting.items c.push.new.self.items c.args.outer c.in_ok-push.ensures.items) opened
+    let opened = on_open (task_of g c.args.self.now.tokens.list honest front) c.args.tables.now has.1 c.args.symbol c.in_ok-node.node.production c.in_ok-node.node.base (c.args.outer ∷ reverse c.args.self.now.waiting.items) c.args.self.now.tokens.taken c.args.self.now.count (made_by c.args.self.now bytes) c.in_ok-node.ensures.chosen (omega (arith, c.in_ok-node.ensures.base, c.len.ensures)) room.1 levels a in
+    let pushed : c.push.new.self.items ≡ c.args.self.now.waiting.items ++ c.args.outer ∷ [] = search rules in
+    rw (c.in_ok-node.ensures.begins, on_top c.args.self.now.waiting.items c.push.new.self.items c.args.outer pushed) opened
 
 pub returns-clause-steps : goal.returns-clause-steps
 returns-clause-steps c = λ g.
-    let fewer = fewer_opened g most_nodes (c.args.outer ∷ reverse c.args.self.now.waiting.items) c.in_ok-node.node.production c.in_ok-node.node.base c.args.self.now.count c.in_ok-has_room.ensures.room.1 in
-    rw (c.in_ok-node.ensures.begins, on_top c.args.self.now.waiting.items c.push.new.self.items c.args.outer c.in_ok-push.ensures.items) fewer
+    let pushed : c.push.new.self.items ≡ c.args.self.now.waiting.items ++ c.args.outer ∷ [] = search rules in
+    rw (c.in_ok-node.ensures.begins, on_top c.args.self.now.waiting.items c.push.new.self.items c.args.outer pushed) (fewer_opened g most_nodes (c.args.outer ∷ reverse c.args.self.now.waiting.items) c.in_ok-node.node.production c.in_ok-node.node.base c.args.self.now.count c.in_ok-has_room.ensures.room.1)
