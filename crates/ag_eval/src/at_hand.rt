@@ -87,6 +87,23 @@ impl<'e, V: Environment> Evaluation<'e, V> {
         }
     }
 
+    /// The number that an expression is, where it is one that is an occurrence or a literal.
+    #[inline(always)]
+    pub fn number(&self) -> Option<i64>
+        ensures { IfSome result (λ n. value.Num n
+            ≡ value_of self.now.expr.now.0 (V.lent self.now.env.now)) }
+    {
+        let value = match self.tree() {
+            Node::Literal(literal) => literal.value(),
+            Node::Occurrence(k) => self.occurrence(*k),
+            _ => return None,
+        };
+        let Value::Num(number) = value else {
+            return None;
+        };
+        Some(*number)
+    }
+
     /// The value of an expression that is an occurrence, or a literal within the limits, lent.
     #[inline(always)]
     pub fn lent_value(&self) -> Option<&'e Value>

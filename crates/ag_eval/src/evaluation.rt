@@ -250,6 +250,24 @@ impl<'e, V: Environment> Evaluation<'e, V> {
         }
         Ok(Operand::owned(list.into_list()))
     }
+
+    /// The value of the expression.
+    #[inline(never)]
+    fn value(&self) -> Result<Value, NoMemory>
+        ensures value { IfOk result (λ v. v
+            ≡ value_of self.now.expr.now.0 (V.lent self.now.env.now)) }
+        ensures well { IfOk result (λ v. IsWell v) }
+    {
+        if let Some(value) = self.lent_value() {
+            return copied(self.alloc, value);
+        }
+        let mut bindings = Bindings::new(self.alloc);
+        if let Some(value) = self.reckoned_value(&bindings) {
+            return Ok(value);
+        }
+        let operand = self.operand_of(self.tree(), &mut bindings)?;
+        Ok(operand.into_owned(self.alloc, &bindings)?.into_value())
+    }
 }
 
 /// Whether a call has its first argument's value, whatever the second is.
@@ -297,6 +315,7 @@ fn decided(condition: &Value) -> Result<bool, ErrorCode>
 /// goes into a list or table, or grows; of the part that `nth` or `get` takes of what the expression
 /// made; and of what it made and bound, where another name is bound to that too. The meter counts
 /// one more, also where memory is refused.
+#[inline(always)]
 pub fn eval<V: Environment>(
     alloc: Global,
     expr: &Expr,
@@ -312,13 +331,8 @@ pub fn eval<V: Environment>(
 {
     meter.count_one();
     let evaluation = Evaluation::new(alloc, expr, env);
-    if let Some(value) = evaluation.lent_value() {
-        return copied(alloc, value);
+    if let Some(number) = evaluation.number() {
+        return Ok(Value::Num(number));
     }
-    let mut bindings = Bindings::new(alloc);
-    if let Some(value) = evaluation.reckoned_value(&bindings) {
-        return Ok(value);
-    }
-    let operand = evaluation.operand_of(evaluation.tree(), &mut bindings)?;
-    Ok(operand.into_owned(alloc, &bindings)?.into_value())
+    evaluation.value()
 }

@@ -64,7 +64,7 @@ impl Writer {
     }
 
     /// Appends the frame of a record by one call of the device. Takes memory for the frame, where
-    /// there are more than two values, or one that is no number.
+    /// there are more than three values, or one that is no number.
     ///
     /// Asks for at most 272 values, each of them well, and for fewer than u64::MAX frames put
     /// before.
@@ -121,6 +121,10 @@ impl Writer {
             return self.settle(answer);
         }
         if let Some(frame) = pair_frame(kind, number, values) {
+            let answer = device.append(&frame);
+            return self.settle(answer);
+        }
+        if let Some(frame) = triple_frame(kind, number, values) {
             let answer = device.append(&frame);
             return self.settle(answer);
         }
@@ -234,6 +238,37 @@ fn frame_of_pair(kind: Kind, number: u16, first: i64, second: i64) -> [u8; 25]
     let [other, i, j, k, l, m, n, o, p] = number_spelling(second);
     [
         kind, high, low, tag, a, b, c, d, e, f, g, h, other, i, j, k, l, m, n, o, p, 0, 0, 0, 21,
+    ]
+}
+
+/// The frame of a record whose three values are numbers, none where others stand there.
+#[inline(always)]
+fn triple_frame(kind: Kind, number: u16, values: &[Value]) -> Option<[u8; 34]>
+    ensures { IfSome result (λ it. it ≡ frame (body_of kind number values.now)) }
+{
+    match values {
+        [Value::Num(first), Value::Num(second), Value::Num(third)] => {
+            Some(frame_of_triple(kind, number, *first, *second, *third))
+        }
+        _ => None,
+    }
+}
+
+/// The frame of a record with these three numbers.
+#[tactic(auto, using(ag_value::proofs::Layers::spellings))]
+#[inline(always)]
+fn frame_of_triple(kind: Kind, number: u16, first: i64, second: i64, third: i64) -> [u8; 34]
+    ensures { result ≡ frame (body_of kind number
+        (Value.Num first ∷ Value.Num second ∷ Value.Num third ∷ [])) }
+{
+    let kind = kind.byte();
+    let [high, low] = number.to_be_bytes();
+    let [tag, a, b, c, d, e, f, g, h] = number_spelling(first);
+    let [other, i, j, k, l, m, n, o, p] = number_spelling(second);
+    let [last, q, r, s, t, u, v, w, x] = number_spelling(third);
+    [
+        kind, high, low, tag, a, b, c, d, e, f, g, h, other, i, j, k, l, m, n, o, p, last, q, r, s,
+        t, u, v, w, x, 0, 0, 0, 30,
     ]
 }
 

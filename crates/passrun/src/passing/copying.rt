@@ -158,6 +158,7 @@ fn cut(values: &mut Vec<Value>, from: usize)
 
 /// Puts the first values of the last row, which begins at an index, in the place of others, and cuts
 /// the row off.
+#[inline(always)]
 pub(crate) fn hand_over(values: &mut Vec<Value>, from: usize, to: usize, count: usize)
     requires front { to + count ≤ from }
     requires row { from + count ≤ length values.old.items }
