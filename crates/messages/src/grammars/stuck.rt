@@ -91,6 +91,8 @@ struct Example<'a> {
     strike: Strike,
     odd: Delay<'a>,
     even: Delay<'a>,
+    /// Whether it is one rule that does both, by the same argument.
+    is_one: bool,
 }
 
 /// The example that a strike of a pass from right to left makes.
@@ -100,6 +102,7 @@ fn example_with<'a>(strike: Strike, stuck: &Stuck, raw: &'a RawGrammar) -> Optio
         strike,
         odd: Delay::of(strike, Direction::RightToLeft, raw)?,
         even: Delay::of(other, Direction::LeftToRight, raw)?,
+        is_one: strike == other,
     })
 }
 
@@ -125,10 +128,15 @@ fn tell_example(
 ) -> Result<(), AllocError> {
     write!(words.found, ". ")?;
     tell_attribute(&mut words.found, raw, example.strike)?;
-    write!(words.found, " waits from right to left, since ")?;
-    tell_delay(&mut words.found, text, &example.odd)?;
-    write!(words.found, ", and from left to right, since ")?;
-    tell_delay(&mut words.found, text, &example.even)?;
+    if example.is_one {
+        write!(words.found, " waits in both directions, since ")?;
+        tell_delay(&mut words.found, text, &example.odd)?;
+    } else {
+        write!(words.found, " waits from right to left, since ")?;
+        tell_delay(&mut words.found, text, &example.odd)?;
+        write!(words.found, ", and from left to right, since ")?;
+        tell_delay(&mut words.found, text, &example.even)?;
+    }
     write!(
         words.help,
         "give each direction attributes of its own, and let no value wait for itself"
