@@ -1,10 +1,13 @@
 //! Values that are at hand before an operand is made of them: of literals, occurrences and bound
 //! names, and the numbers that chains of these give.
 
-ghost use Rattle.std.specs.Prelude.{◌≡◌, length, map, true, IfOk, IfSome, MatchOption, []};
+ghost use Rattle.std.specs.Prelude.{ℕ, ℤ, ◌≡◌, ◌+◌, ◌-◌, ◌^◌, ◌<◌, length, map, true, [], IfOk, IfSome};
+ghost use Rattle.std.specs.Prelude.{MatchOption, None};
 ghost use Rattle.ag_value.specs.Well.{IsWell, is_item};
+ghost use Rattle.ag_value.specs.declared.value.Value.{Value as AttributeValue};
 ghost use Rattle.ag_value.specs.declared.value.Value.TheVariants as value;
 ghost use Rattle.ag_grammar.specs.expressions.Evaluation.{chain_value, value_in, value_of};
+ghost use Rattle.ag_grammar.specs.declared.syntax.node.Node.TheVariants as node;
 ghost use Rattle.ag_grammar.specs.expressions.Trees.{all_below, is_within};
 ghost use Rattle.ag_grammar.specs.values.Fitting.{fit};
 ghost use Rattle.ag_grammar.specs.values.Operators.{applied};
@@ -15,8 +18,9 @@ use crate::calls::reckoned;
 use crate::environment::Environment;
 use crate::evaluation::Evaluation;
 use crate::measured::Measured;
+use crate::meter::Meter;
 use crate::operand::{Held, Operand};
-use ag_grammar::{Literal, Node, Operator};
+use ag_grammar::{Expr, Literal, Node, Operator};
 use ag_value::{ErrorCode, MAX_DEPTH, MAX_WEIGHT, NoMemory, Value, copy, depth, weight};
 use std::alloc::Global;
 
@@ -131,6 +135,27 @@ impl<'e, V: Environment> Evaluation<'e, V> {
         };
         self.chained_number(first.get(), others.as_slice(), bindings)
     }
+}
+
+/// The number that an expression is, where it is a literal one: then the meter counts one evaluation
+/// more, and no environment is asked for. Any other expression is not evaluated. Takes no memory.
+#[inline(always)]
+pub fn eval_number(expr: &Expr, meter: &mut Meter) -> Option<i64>
+    requires not_full { meter.old < 2 ^ 64 - 1 }
+    ensures value { IfSome result (λ n. (lent : ℕ → AttributeValue)
+        → value.Num n ≡ value_of expr.now.0 lent) }
+    ensures counted { IfSome result (λ _. meter.new ≡ meter.old + 1) }
+    ensures none { result ≡ None → (n : ℤ) → expr.now.0 ≡ node.Literal (value.Num n) → ⊥ }
+    ensures kept { result ≡ None → meter.new ≡ meter.old }
+{
+    let Node::Literal(literal) = expr.tree() else {
+        return None;
+    };
+    let Value::Num(value) = literal.value() else {
+        return None;
+    };
+    meter.count_one();
+    Some(*value)
 }
 
 /// Another value in the place of one.

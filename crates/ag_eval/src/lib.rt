@@ -13,6 +13,7 @@ mod measured;
 mod meter;
 mod operand;
 
+pub use at_hand::eval_number;
 pub use environment::Environment;
 pub use evaluation::eval;
 pub use meter::Meter;

@@ -25,6 +25,10 @@ pub record IsRowOf (c : Setting) (p : ℕ) (q : Production) (row : ProductionRow
   pub places : row.places ≡ place_rows c q
   pub slots : (r : ℕ) (u : Rule) → slice_get q.rules r ≡ Some u → (s : RuleSlots) × (slice_get row.rules r ≡ Some s) × AreSlotsOf c q u s
 
+-- A row is that of the production of number p, if there is one.
+abbrev pub IsRowAt : Setting → ℕ → ProductionRow → Type 0
+IsRowAt c p row = (q : Production) → IsProduction c.grammar p q → IsRowOf c p q row
+
 -- A table has such a row for each production.
 abbrev pub IsLayout : Setting → List ProductionRow → Type 0
 IsLayout c rows = (p : ℕ) (q : Production) → IsProduction c.grammar p q → (row : ProductionRow) × (slice_get rows p ≡ Some row) × IsRowOf c p q row

@@ -22,6 +22,10 @@ pub record Runs (c : Setting) (honest : Bool) (content : List ℕ) (to_honest : 
 abbrev pub RunsFrom : Setting → Bool → List ℕ → Machine → Option OpenNode → Type 0
 RunsFrom c honest content m next = (to_honest : Bool) × (to : List ℕ) × (meter : ℕ) × Runs c honest content to_honest to meter m next
 
+-- onto a second device, whatever the first one and the meter are;
+abbrev pub RunsTo : Setting → Bool → List ℕ → Machine → Option OpenNode → Type 0
+RunsTo c to_honest to m next = (honest : Bool) × (content : List ℕ) × (meter : ℕ) × Runs c honest content to_honest to meter m next
+
 -- with a meter, whatever the devices are;
 abbrev pub RunsAt : Setting → ℕ → Machine → Option OpenNode → Type 0
 RunsAt c meter m next = (honest : Bool) × (content : List ℕ) × (to_honest : Bool) × (to : List ℕ) × Runs c honest content to_honest to meter m next

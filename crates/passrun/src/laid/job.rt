@@ -4,7 +4,7 @@ ghost use Rattle.std.specs.Prelude.{◌≡◌, ◌<◌, ◌≤◌, ◌+◌, ◌-
 ghost use Rattle.ag_grammar.specs.declared.grammar.Production.{Production};
 ghost use Rattle.ag_grammar.specs.grammars.AttributeGrammar.{IsProduction};
 ghost use Rattle.passrun.specs.laid.Jobs.{CanRun, setting};
-ghost use Rattle.passrun.specs.laid.Layouts.{IsRowOf};
+ghost use Rattle.passrun.specs.laid.Layouts.{IsRowAt};
 ghost use Rattle.passrun.specs.laid.Laid.{place_rows};
 ghost use Rattle.passrun.specs.passing.Places.{copied_passes};
 ghost use Rattle.passrun.specs.laid.Slots.{stored_width};
@@ -40,46 +40,49 @@ impl Job<'_> {
     pub(crate) fn row(&self, production: u16) -> &ProductionRow
         requires job { CanRun self.now }
         requires there { production < length self.now.grammar.now.productions }
-        ensures { (q : Production) → IsProduction self.now.grammar.now production q →
-            IsRowOf (setting self.now) production q result.now }
+        ensures { IsRowAt (setting self.now) production result.now }
     {
         &self.layout.productions.as_slice()[production as usize]
     }
 
-    /// The instructions of the pass for a production, none where it has none.
-    pub(crate) fn list(&self, production: u16) -> &[Instr]
-        requires job { CanRun self.now }
-        requires there { production < length self.now.grammar.now.productions }
-        ensures { result.now ≡ list_at (setting self.now) production }
+    /// The instructions of the pass for an open node, by what the pass asks of its production.
+    fn list<'r>(&self, asked: &'r ProductionRow, node: OpenNode) -> &'r [Instr]
+        requires asked { IsRowAt (setting self.now) node.production asked.now }
+        requires there { node.production < length self.now.grammar.now.productions }
+        ensures { result.now ≡ list_at (setting self.now) node.production }
     {
-        self.row(production).list.as_slice()
+        asked.list.as_slice()
     }
 
-    /// The instruction that an open node has next.
-    pub(crate) fn instruction(&self, node: OpenNode) -> Instr
-        requires job { CanRun self.now }
+    /// The instruction that an open node has next, by what the pass asks of its production.
+    pub(crate) fn instruction(&self, asked: &ProductionRow, node: OpenNode) -> Instr
+        requires asked { IsRowAt (setting self.now) node.production asked.now }
         requires there { node.production < length self.now.grammar.now.productions }
         requires next { node.at < length (list_at (setting self.now) node.production) }
         ensures there { slice_get (list_at (setting self.now) node.production) node.at
             ≡ Some result }
         ensures room { node.at + 1 < 2 ^ 64 }
     {
-        let list = self.list(node.production);
+        let list = self.list(asked, node);
         if node.at < list.len() {
             return list[node.at];
         }
         unreachable!()
     }
 
-    /// What stands at a place of a production, with the copies of its values.
-    pub(crate) fn place(&self, production: u16, place: u16) -> Option<PlaceRow>
-        requires job { CanRun self.now }
-        requires there { production < length self.now.grammar.now.productions }
-        ensures { (q : Production) → IsProduction self.now.grammar.now production q →
+    /// What stands at a place of an open node, with the copies of its values, by what the pass asks
+    /// of its production.
+    pub(crate) fn place(
+        &self,
+        asked: &ProductionRow,
+        node: OpenNode,
+        place: u16,
+    ) -> Option<PlaceRow>
+        requires asked { IsRowAt (setting self.now) node.production asked.now }
+        ensures { (q : Production) → IsProduction self.now.grammar.now node.production q →
             result ≡ slice_get (place_rows (setting self.now) q) place }
     {
-        let row = self.row(production);
-        row.places.as_slice().get(place as usize).copied()
+        asked.places.as_slice().get(place as usize).copied()
     }
 
     /// How many values the row of a node of a production has.

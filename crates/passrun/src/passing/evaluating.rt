@@ -1,12 +1,14 @@
 //! The value of a rule at a node.
 
 ghost use Rattle.std.specs.Prelude.{◌≡◌, ◌+◌, ◌-◌, ◌^◌, ◌<◌, All, IfOk, get_or, length};
-ghost use Rattle.std.specs.Prelude.{slice_index};
+ghost use Rattle.std.specs.Prelude.{pos, slice_index};
 ghost use Rattle.ag_grammar.specs.expressions.Evaluation.{value_of};
 ghost use Rattle.ag_value.specs.Well.{IsWell};
+ghost use Rattle.ag_value.specs.declared.value.Value.{Num};
 
-use ag_eval::{Environment, Meter, eval};
-use ag_grammar::Expr;
+use crate::laid::laying::RuleSlots;
+use ag_eval::{Environment, Meter, eval, eval_number};
+use ag_grammar::{Expr, Rule};
 use ag_value::{NoMemory, Value};
 use std::alloc::Global;
 
@@ -33,30 +35,53 @@ impl<'a> Environment for Lender<'a> {
     }
 }
 
-/// The value of a rule's expression, where its arguments stand in these slots of a node's values.
-#[tactic(auto, using(crate::proofs::steps::Lending::are_well))]
+/// The value of a rule, where its arguments stand in its slots of a node's values.
 #[inline(always)]
 pub(crate) fn evaluate(
+    alloc: Global,
+    rule: &Rule,
+    slots: &RuleSlots,
+    values: &[Value],
+    meter: &mut Meter,
+) -> Result<Value, NoMemory>
+    requires slots { length slots.now.args ≡ length rule.now.expr.1 }
+    requires well { All IsWell values.now }
+    requires not_full { meter.old < 2 ^ 64 - 1 }
+    ensures value { IfOk result (λ v. v ≡ value_of rule.now.expr.0
+        (λ k. get_or values.now (slice_index slots.now.args k) (Num (pos 0)))) }
+    ensures well { IfOk result (λ v. IsWell v) }
+    ensures counted { meter.new ≡ meter.old + 1 }
+{
+    // a literal number asks for no values
+    if let Some(number) = eval_number(&rule.expr, meter) {
+        return Ok(Value::Num(number));
+    }
+    evaluate_over(alloc, &rule.expr, slots.args.as_slice(), values, meter)
+}
+
+/// The value of an expression, where that of each occurrence stands in its slot among these.
+#[tactic(auto, using(crate::proofs::steps::Lending::are_well))]
+#[inline(always)]
+fn evaluate_over(
     alloc: Global,
     expr: &Expr,
     slots: &[u16],
     values: &[Value],
-    spare: &Value,
     meter: &mut Meter,
 ) -> Result<Value, NoMemory>
     requires slots { length slots.now ≡ length expr.now.1 }
     requires well { All IsWell values.now }
-    requires spare { IsWell spare.now }
     requires not_full { meter.old < 2 ^ 64 - 1 }
     ensures value { IfOk result (λ v. v ≡ value_of expr.now.0
-        (λ k. get_or values.now (slice_index slots.now k) spare.now)) }
+        (λ k. get_or values.now (slice_index slots.now k) (Num (pos 0)))) }
     ensures well { IfOk result (λ v. IsWell v) }
     ensures counted { meter.new ≡ meter.old + 1 }
 {
+    let spare = Value::Num(0);
     let env = Lender {
         values,
         slots,
-        spare,
+        spare: &spare,
     };
     eval(alloc, expr, &env, meter)
 }

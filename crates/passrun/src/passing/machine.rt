@@ -6,16 +6,18 @@ ghost use Rattle.passcode.specs.declared.instr.Instr.TheVariants as instr;
 ghost use Rattle.passrun.specs.passing.Passing.{IsPassing, GoesOn};
 ghost use Rattle.passrun.specs.passing.Ahead.{IsRunFault, IsWant};
 ghost use Rattle.passrun.specs.laid.Jobs.{CanRun, setting};
+ghost use Rattle.passrun.specs.laid.Layouts.{IsRowAt};
 ghost use Rattle.passrun.specs.passing.Nodes.{left_at};
 ghost use Rattle.passrun.specs.passing.Putting.{AddsFrames, LeavesFrames};
-ghost use Rattle.passrun.specs.passing.Running.{GivesNext, Runs, RunsAt, RunsFrom, RunsSomehow, Turns};
-ghost use Rattle.passrun.specs.passing.Running.{TurnsAt, TurnsFrom, TurnsTo};
+ghost use Rattle.passrun.specs.passing.Running.{GivesNext, Runs, RunsAt, RunsFrom, RunsSomehow, RunsTo};
+ghost use Rattle.passrun.specs.passing.Running.{Turns, TurnsAt, TurnsFrom, TurnsTo};
 ghost use Rattle.passrun.specs.passing.Working.{work};
 ghost use Rattle.planchecker.specs.courses.Settings.{list_at};
 ghost use Rattle.treefile.specs.devices.Device.{LeavesContent, Persists, WhenHonest};
 ghost use Rattle.treefile.specs.devices.Several.{BothLast};
 
 use crate::laid::job::Job;
+use crate::laid::laying::ProductionRow;
 use crate::passing::copying::{alone, behind, hand_over, is_as_told, keep_row, put_value};
 use crate::passing::evaluating::evaluate;
 use crate::passing::open_node::OpenNode;
@@ -77,11 +79,13 @@ impl Machine {
         &mut self,
         alloc: Global,
         job: &Job<'_>,
+        asked: &ProductionRow,
         node: OpenNode,
         place: u16,
         from: &mut D,
     ) -> Result<OpenNode, RunFault>
         requires job { CanRun job.now }
+        requires asked { IsRowAt (setting job.now) node.production asked.now }
         requires runs { RunsFrom (setting job.now) (D.is_honest from.old) (D.content from.old)
             self.old (Some node) }
         requires next { slice_get (list_at (setting job.now) node.production) node.at
@@ -90,6 +94,7 @@ impl Machine {
         ensures runs { IfOk result (λ next. TurnsFrom (setting job.now)
             (D.is_honest from.old) (D.is_honest from.new)
             (D.content from.old) (D.content from.new) self.old self.new (Some node) (Some next)) }
+        ensures production { IfOk result (λ next. next.production ≡ node.production) }
         ensures refused { IfErr result (λ f. WhenHonest (D.is_honest from.old)
             (IsRunFault (setting job.now) (D.content from.old) f)) }
         ensures less { IfOk result (λ next.
@@ -101,7 +106,7 @@ impl Machine {
         ensures persists { Persists (D.is_honest from.old) (D.is_honest from.new)
             (D.failures from.old) (D.failures from.new) (IsErrOf result RunFault.Device) }
     {
-        let Some(row) = job.place(node.production, place) else {
+        let Some(row) = job.place(asked, node, place) else {
             unreachable!();
         };
         let open_count = self.waiting.len() + 1;
@@ -130,11 +135,13 @@ impl Machine {
     pub(crate) fn put<E: Device>(
         &mut self,
         job: &Job<'_>,
+        asked: &ProductionRow,
         node: OpenNode,
         place: u16,
         to: &mut E,
     ) -> Result<OpenNode, RunFault>
         requires job { CanRun job.now }
+        requires asked { IsRowAt (setting job.now) node.production asked.now }
         requires runs { RunsSomehow (setting job.now) self.old (Some node) }
         requires next { slice_get (list_at (setting job.now) node.production) node.at
             ≡ Some (instr.Put place) }
@@ -154,7 +161,7 @@ impl Machine {
         ensures persists { Persists (E.is_honest to.old) (E.is_honest to.new)
             (E.failures to.old) (E.failures to.new) (IsErrOf result RunFault.Device) }
     {
-        let Some(row) = job.place(node.production, place) else {
+        let Some(row) = job.place(asked, node, place) else {
             unreachable!();
         };
         let Item::Terminal(_) = row.item else {
@@ -172,16 +179,19 @@ impl Machine {
         &mut self,
         alloc: Global,
         job: &Job<'_>,
+        asked: &ProductionRow,
         node: OpenNode,
         rule: u16,
         meter: &mut Meter,
     ) -> Result<OpenNode, NoMemory>
         requires job { CanRun job.now }
+        requires asked { IsRowAt (setting job.now) node.production asked.now }
         requires runs { RunsAt (setting job.now) meter.old self.old (Some node) }
         requires next { GivesNext (setting job.now) node rule }
         requires room { node.at + 1 < 2 ^ 64 }
         ensures runs { IfOk result (λ next. TurnsAt (setting job.now) meter.old meter.new
             self.old self.new (Some node) (Some next)) }
+        ensures production { IfOk result (λ next. next.production ≡ node.production) }
         ensures rises { meter.old ≤ meter.new }
         ensures less { IfOk result (λ next.
             work (setting job.now) self.new (Some next)
@@ -190,16 +200,8 @@ impl Machine {
     {
         let production = &job.grammar.productions()[node.production as usize];
         let semantic = &production.rules.as_slice()[rule as usize];
-        let row = job.row(node.production);
-        let slots = &row.rules.as_slice()[rule as usize];
-        let value = evaluate(
-            alloc,
-            &semantic.expr,
-            slots.args.as_slice(),
-            &self.values[node.base..],
-            &Value::Num(0),
-            meter,
-        )?;
+        let slots = &asked.rules.as_slice()[rule as usize];
+        let value = evaluate(alloc, semantic, slots, &self.values[node.base..], meter)?;
         let target = node.base + slots.target as usize;
         put_value(&mut self.values, target, value);
         Ok(node.stepped(node.child))
@@ -233,8 +235,14 @@ impl Machine {
 
     /// Goes into the child whose record was read last, where that is next.
     #[inline(always)]
-    pub(crate) fn go_on(&mut self, job: &Job<'_>, node: OpenNode) -> Result<OpenNode, NoMemory>
+    pub(crate) fn go_on(
+        &mut self,
+        job: &Job<'_>,
+        asked: &ProductionRow,
+        node: OpenNode,
+    ) -> Result<OpenNode, NoMemory>
         requires job { CanRun job.now }
+        requires asked { IsRowAt (setting job.now) node.production asked.now }
         requires runs { RunsSomehow (setting job.now) self.old (Some node) }
         ensures runs { IfOk result (λ next. Turns (setting job.now)
             self.old self.new (Some node) (Some next)) }
@@ -243,7 +251,7 @@ impl Machine {
             ≤ work (setting job.now) self.old (Some node)) }
         ensures begun { self.new.begun ≡ self.old.begun }
     {
-        let Instr::Go(place) = job.instruction(node) else {
+        let Instr::Go(place) = job.instruction(asked, node) else {
             return Ok(node);
         };
         let child = self.enter(job, node, place)?;
@@ -283,7 +291,8 @@ impl Machine {
         };
         let values = behind(self.values.as_slice(), node.base);
         put_record(Kind::Node, node.production, values, &mut self.writer, to)?;
-        let Some(row) = job.place(outer.production, outer.place) else {
+        let asked = job.row(outer.production);
+        let Some(row) = job.place(asked, outer, outer.place) else {
             unreachable!();
         };
         let copied = outer.base + row.start as usize;
@@ -300,10 +309,11 @@ impl Machine {
         ensures most { work (setting job.now) self.now (Some result)
             ≤ work (setting job.now) self.now (Some node) }
     {
-        let Instr::Put(place) = job.instruction(node) else {
+        let asked = job.row(node.production);
+        let Instr::Put(place) = job.instruction(asked, node) else {
             return node;
         };
-        let Some(row) = job.place(node.production, place) else {
+        let Some(row) = job.place(asked, node, place) else {
             unreachable!();
         };
         let Item::Symbol(_) = row.item else {
@@ -312,8 +322,51 @@ impl Machine {
         node.stepped(node.child)
     }
 
-    /// Follows the next instruction of the innermost open node. The node that goes on next, none
-    /// where the root is done.
+    /// Ends a node where that is next, and goes behind the putting of its record. The node that goes on
+    /// next, none where the root is done.
+    #[inline(always)]
+    pub(crate) fn leave<E: Device>(
+        &mut self,
+        job: &Job<'_>,
+        asked: &ProductionRow,
+        node: OpenNode,
+        to: &mut E,
+    ) -> Result<Option<OpenNode>, RunFault>
+        requires job { CanRun job.now }
+        requires asked { IsRowAt (setting job.now) node.production asked.now }
+        requires runs { RunsTo (setting job.now) (E.is_honest to.old) (E.content to.old)
+            self.old (Some node) }
+        ensures runs { IfOk result (λ next. TurnsTo (setting job.now)
+            (E.is_honest to.old) (E.is_honest to.new)
+            (E.content to.old) (E.content to.new) self.old self.new (Some node) next) }
+        ensures added { OnOk result (AddsFrames (E.is_honest to.old)
+            (E.content to.old) (E.content to.new)) }
+        ensures left { IfErr result (LeavesFrames (E.is_honest to.old)
+            (E.content to.old) (E.content to.new)) }
+        ensures want { IfErr result IsWant }
+        ensures most { IfOk result (λ next.
+            work (setting job.now) self.new next
+            ≤ work (setting job.now) self.old (Some node)) }
+        ensures less { slice_get (list_at (setting job.now) node.production) node.at
+            ≡ Some instr.End → IfOk result (λ next.
+            work (setting job.now) self.new next
+            < work (setting job.now) self.old (Some node)) }
+        ensures begun { self.new.begun ≡ self.old.begun }
+        ensures persists { Persists (E.is_honest to.old) (E.is_honest to.new)
+            (E.failures to.old) (E.failures to.new) (IsErrOf result RunFault.Device) }
+    {
+        let Instr::End = job.instruction(asked, node) else {
+            return Ok(Some(node));
+        };
+        let Some(outer) = self.end(job, node, to)? else {
+            return Ok(None);
+        };
+        Ok(Some(self.put_before(job, outer)))
+    }
+
+    /// Follows the next instruction of the innermost open node, and with it the one behind it where
+    /// that enters the child that was read, or ends the node. The node that goes on next, none where
+    /// the root is done.
     #[inline(always)]
     pub(crate) fn step<D: Device, E: Device>(
         &mut self,
@@ -346,25 +399,22 @@ impl Machine {
         ensures devices { BothLast D.is_honest D.failures from.old from.new
             E.is_honest E.failures to.old to.new (IsErrOf result RunFault.Device) }
     {
-        match job.instruction(node) {
+        let asked = job.row(node.production);
+        let ended = match job.instruction(asked, node) {
             Instr::Get(place) => {
-                let stepped = self.get(alloc, job, node, place, from)?;
-                Ok(Some(self.go_on(job, stepped)?))
+                let stepped = self.get(alloc, job, asked, node, place, from)?;
+                return Ok(Some(self.go_on(job, asked, stepped)?));
             }
             Instr::Set {
                 place: _,
                 attr: _,
                 rule,
-            } => Ok(Some(self.give(alloc, job, node, rule, meter)?)),
-            Instr::Def { attr: _, rule } => Ok(Some(self.give(alloc, job, node, rule, meter)?)),
-            Instr::Go(place) => Ok(Some(self.enter(job, node, place)?)),
-            Instr::Put(place) => Ok(Some(self.put(job, node, place, to)?)),
-            Instr::End => {
-                let Some(outer) = self.end(job, node, to)? else {
-                    return Ok(None);
-                };
-                Ok(Some(self.put_before(job, outer)))
-            }
-        }
+            } => return Ok(Some(self.give(alloc, job, asked, node, rule, meter)?)),
+            Instr::Def { attr: _, rule } => self.give(alloc, job, asked, node, rule, meter)?,
+            Instr::Go(place) => return Ok(Some(self.enter(job, node, place)?)),
+            Instr::Put(place) => return Ok(Some(self.put(job, asked, node, place, to)?)),
+            Instr::End => node,
+        };
+        self.leave(job, asked, ended, to)
     }
 }

@@ -4,5 +4,5 @@ use Rattle.passrun.proofs.laid.job.Job.list.Goals as goal
 
 pub returns : goal.returns
 returns c =
-    let q = some_at c.args.self.now.grammar.now.productions c.args.production c.requires.there in
-    c.as_slice.ensures ∙ (c.row.ensures q.0 q.1).list
+    let q = some_at c.args.self.now.grammar.now.productions c.args.node.production c.requires.there in
+    c.as_slice.ensures ∙ (c.requires.asked q.0 q.1).list

@@ -33,8 +33,8 @@ put_record-requires-clause-well g c =
 pub put_record-requires-clause-room : goal.put_record-requires-clause-room
 put_record-requires-clause-room g c = put_room (setting c.args.job.now) c.requires.job.sound c.args.self.now c.args.node c.requires.runs
 
-pub place-requires-clause-there : goal.place-requires-clause-there
-place-requires-clause-there g c =
+pub row-asked-requires-clause-there : goal.row-asked-requires-clause-there
+row-asked-requires-clause-there g c =
     let h = waited_for (setting c.args.job.now) c.requires.job.sound c.args.self.now c.pop.new.self.items c.args.node c.in-Some.outer c.requires.runs c.requires.next c.in-Some.ensures.items in
     slice_get_within c.args.job.now.grammar.now.productions c.in-Some.outer.production h.production h.there
 
