@@ -89,6 +89,10 @@ module _ (g : Grammar) (sentence : List ℕ) (rows : List (List ℕ)) (code : Li
   never_refused t start run.Device ha hb tree within file told = tt
   never_refused t start run.NoMemory ha hb tree within file told = tt
 
+-- the files are left too where less is supposed of the devices
+pub files_supposed : (g : Grammar) (sentence : List ℕ) (rows : List (List ℕ)) (ha hb ha' hb' : Bool) (a b : List ℕ) (report : Report) → (ha' ≡ true → ha ≡ true) → (hb' ≡ true → hb ≡ true) → LeavesFiles g sentence rows ha hb a b report → LeavesFiles g sentence rows ha' hb' a b report
+files_supposed g sentence rows ha hb ha' hb' a b report first second files = record { tree = files.tree; one = files.one; greatest = files.greatest; left = λ x y. files.left (first x) (second y) }
+
 -- the one tree of a sentence, as parsing tells it
 pub one_tree : (g : Grammar) (sentence : List ℕ) (t : Tree) → IsTreeOfSentence g sentence t → ((t u : Tree) → IsTreeOfSentence g sentence t → IsTreeOfSentence g sentence u → t ≡ u) → IsWithinLimits most_depth most_nodes t → IsOneTree (IsTreeOfSentence g sentence) t
 one_tree g sentence t is one within = record { is_tree = is; only = λ s other. one s t other is; within = within }

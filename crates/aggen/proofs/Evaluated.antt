@@ -166,3 +166,7 @@ module _ (g : Grammar) (rows : List (List ℕ)) (code : Lists) (least : IsLeastP
   root_refused old new (out.Damaged at) told = λ h i k. root_of (Err (out.Damaged at)) told h i k
   root_refused old new out.Device told = tt
   root_refused old new out.NoMemory told = tt
+
+-- the files are left too where less is supposed of the devices
+pub files_of_tree_supposed : (g : Grammar) (rows : List (List ℕ)) (ht ha hb ht' ha' hb' : Bool) (content a b : List ℕ) (report : Report) → (ht' ≡ true → ht ≡ true) → (ha' ≡ true → ha ≡ true) → (hb' ≡ true → hb ≡ true) → LeavesFilesOfTree g rows ht ha hb content a b report → LeavesFilesOfTree g rows ht' ha' hb' content a b report
+files_of_tree_supposed g rows ht ha hb ht' ha' hb' content a b report zeroth first second files = record { greatest = files.greatest; left = λ t x y. files.left (zeroth t) (first x) (second y) }

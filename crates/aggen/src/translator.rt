@@ -141,14 +141,14 @@ impl Translator {
         ensures count { (t : Tree) → IsTreeOfSentence self.now sentence.now t
             → IfOk result (λ count. count ≡ node_count t) }
         ensures file { (t : Tree) → IsTreeOfSentence self.now sentence.now t
-            → OnOk result (WhenHonest (D.is_honest device.old)
+            → OnOk result (WhenHonest (D.is_honest device.new)
             (IsFirstFile version_two self.now t (D.content device.new))) }
 
         // a refusal: what it says of the sentence is true
         ensures refused { IfErr result (λ e. IsSentenceFault self.now sentence.now e) }
         ensures untouched { IfErr result (λ e. IsScanFault e → device.new ≡ device.old) }
         // what the device had, or a beginning of a file of pass 0
-        ensures left { OnErr result (WhenHonest (D.is_honest device.old)
+        ensures left { OnErr result (WhenHonest (D.is_honest device.new)
             (LeavesBeginning 0 (D.content device.old) (D.content device.new))) }
         ensures persists { Persists (D.is_honest device.old) (D.is_honest device.new)
             (D.failures device.old) (D.failures device.new) (IsErrOf result Fault.Device) }
@@ -185,12 +185,12 @@ impl Translator {
     ) -> Result<Report, Fault>
         // the translation theorem
         ensures translates { IfOk result (λ report. TranslatesSentence self.now sentence.now
-            (D.is_honest a.old) (D.is_honest b.old) (D.content a.new) (D.content b.new)
+            (D.is_honest a.new) (D.is_honest b.new) (D.content a.new) (D.content b.new)
             (W.contents out.old) (W.contents out.new) report) }
 
         // a refusal: what it says of the sentence is true
         ensures refused { IfErr result (λ e. IsTranslationFault self.now sentence.now
-            (D.is_honest a.old) (D.is_honest b.old)
+            (D.is_honest a.new) (D.is_honest b.new)
             (W.contents out.old) (W.contents out.new) e) }
         ensures kept { IfErr result (λ e. e ≢ Fault.Write → out.new ≡ out.old) }
         // O2, whatever the devices gave back
@@ -231,19 +231,19 @@ impl Translator {
     ) -> Result<Report, Fault>
         // the translation theorem, for the tree of a file
         ensures evaluates { IfOk result (λ report. EvaluatesTree self.now
-            (T.is_honest tree.old) (D.is_honest a.old) (D.is_honest b.old)
+            (T.is_honest tree.new) (D.is_honest a.new) (D.is_honest b.new)
             (T.content tree.old) (D.content a.new) (D.content b.new)
             (W.contents out.old) (W.contents out.new) report) }
 
         // a refusal: what it says of the content is true
         ensures refused { IfErr result (λ e. IsEvaluationFault self.now
-            (T.is_honest tree.old) (D.is_honest a.old) (D.is_honest b.old)
+            (T.is_honest tree.new) (D.is_honest a.new) (D.is_honest b.new)
             (T.content tree.old) (W.contents out.old) (W.contents out.new) e) }
         ensures kept { IfErr result (λ e. e ≢ Fault.Write → out.new ≡ out.old) }
         // O2, whatever the devices gave back
         ensures begins { IsErrOf result Fault.Write →
             BeginsText (W.contents out.old) (W.contents out.new) }
-        ensures content { LeavesContent (T.is_honest tree.old)
+        ensures content { LeavesContent (T.is_honest tree.new)
             (T.content tree.old) (T.content tree.new) }
         // D1 only where the number of failures rose on one of the three
         ensures devices { ThreeLast T.is_honest T.failures tree.old tree.new
@@ -274,16 +274,16 @@ impl Translator {
         to: &mut F,
     ) -> Result<u32, Fault>
         // an answer: the one tree of the old file is brought over
-        ensures upgraded { IfOk result (λ count. WhenHonest (D.is_honest old.old)
-            (WhenHonest (E.is_honest mid.old) (IsUpgraded self.now (D.content old.old)
-            (E.content mid.new) (F.is_honest to.old) (F.content to.new) count))) }
+        ensures upgraded { IfOk result (λ count. WhenHonest (D.is_honest old.new)
+            (WhenHonest (E.is_honest mid.new) (IsUpgraded self.now (D.content old.old)
+            (E.content mid.new) (F.is_honest to.new) (F.content to.new) count))) }
         // a refusal: what it says of the old content is true
         ensures refused { IfErr result (λ e. IsOldFileFault self.now
-            (D.is_honest old.old) (E.is_honest mid.old) (D.content old.old) e) }
+            (D.is_honest old.new) (E.is_honest mid.new) (D.content old.old) e) }
         // what the third device had, or a beginning of a file of pass 0
-        ensures left { OnErr result (WhenHonest (F.is_honest to.old)
+        ensures left { OnErr result (WhenHonest (F.is_honest to.new)
             (LeavesBeginning 0 (F.content to.old) (F.content to.new))) }
-        ensures content { LeavesContent (D.is_honest old.old)
+        ensures content { LeavesContent (D.is_honest old.new)
             (D.content old.old) (D.content old.new) }
         // D1 only where the number of failures rose on one of the three
         ensures devices { ThreeLast D.is_honest D.failures old.old old.new

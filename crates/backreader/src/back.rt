@@ -62,11 +62,11 @@ impl Back {
     /// Device where a call of the device failed. Takes memory for a buffer of 4,096 bytes.
     pub fn start<D: Device>(alloc: Global, device: &mut D) -> Result<Back, FrameFault>
         // The number of the pass, and B1, exactly as the content has them
-        ensures told { WhenHonest (D.is_honest device.old) (Told (λ back. back.progress.pass) result
+        ensures told { WhenHonest (D.is_honest device.new) (Told (λ back. back.progress.pass) result
             (pass_in version_two (D.content device.old))) }
-        ensures started { IfOk result (IsStarted version_two (D.is_honest device.old)
+        ensures started { IfOk result (IsStarted version_two (D.is_honest device.new)
             (D.content device.old)) }
-        ensures content { LeavesContent (D.is_honest device.old)
+        ensures content { LeavesContent (D.is_honest device.new)
             (D.content device.old) (D.content device.new) }
         // D1 only where the number of failures rose
         ensures persists { Persists (D.is_honest device.old) (D.is_honest device.new)
@@ -79,11 +79,11 @@ impl Back {
     /// first four are not `AGT1`.
     pub fn start_old<D: Device>(alloc: Global, device: &mut D) -> Result<Back, FrameFault>
         // The number of the pass, and B1, exactly as the content has them
-        ensures told { WhenHonest (D.is_honest device.old) (Told (λ back. back.progress.pass) result
+        ensures told { WhenHonest (D.is_honest device.new) (Told (λ back. back.progress.pass) result
             (pass_in version_one (D.content device.old))) }
-        ensures started { IfOk result (IsStarted version_one (D.is_honest device.old)
+        ensures started { IfOk result (IsStarted version_one (D.is_honest device.new)
             (D.content device.old)) }
-        ensures content { LeavesContent (D.is_honest device.old)
+        ensures content { LeavesContent (D.is_honest device.new)
             (D.content device.old) (D.content device.new) }
         // D1 only where the number of failures rose
         ensures persists { Persists (D.is_honest device.old) (D.is_honest device.new)
@@ -99,11 +99,11 @@ impl Back {
         device: &mut D,
     ) -> Result<Back, FrameFault>
         // The number of the pass, and B1, exactly as the content has them
-        ensures told { WhenHonest (D.is_honest device.old) (Told (λ back. back.progress.pass) result
+        ensures told { WhenHonest (D.is_honest device.new) (Told (λ back. back.progress.pass) result
             (pass_in (version_of version) (D.content device.old))) }
-        ensures started { IfOk result (IsStarted (version_of version) (D.is_honest device.old)
+        ensures started { IfOk result (IsStarted (version_of version) (D.is_honest device.new)
             (D.content device.old)) }
-        ensures content { LeavesContent (D.is_honest device.old)
+        ensures content { LeavesContent (D.is_honest device.new)
             (D.content device.old) (D.content device.new) }
         // D1 only where the number of failures rose
         ensures persists { Persists (D.is_honest device.old) (D.is_honest device.new)
@@ -133,14 +133,14 @@ impl Back {
         requires { WhenHonest (D.is_honest device.old) (IsOver (D.content device.old) self.old) }
         // How far the reader has come, and that it is one of the same content
         ensures* after { sem 𝓛 (follows_so the_row the_row self.entry.ghost_name none (λ _ _. ⊤)
-            (λ now. HasRead (D.is_honest device.old) (D.content device.old) self.old
+            (λ now. HasRead (D.is_honest device.new) (D.content device.old) self.old
             (lent_body (λ body. body.now) result) now)) }
         // The body, None and B2, exactly as the content has them
-        ensures told { self.old.progress.fault ≡ None → WhenHonest (D.is_honest device.old)
+        ensures told { self.old.progress.fault ≡ None → WhenHonest (D.is_honest device.new)
             (Told (option_map (λ body. body.now)) result
             (next_before self.old.progress.version (D.content device.old) self.old.progress.at)) }
         // Want of memory only where the frame has more bytes than the buffer of `start`
-        ensures memory { self.old.progress.fault ≡ None → WhenHonest (D.is_honest device.old)
+        ensures memory { self.old.progress.fault ≡ None → WhenHonest (D.is_honest device.new)
             (IsErrOf result FrameFault.NoMemory →
             IsLarge (next_before self.old.progress.version (D.content device.old) self.old.progress.at)) }
         // Whatever the device is, a body is lent that may stand in a frame and stood before
@@ -152,7 +152,7 @@ impl Back {
         ensures file { IsErrOf result FrameFault.NotATreeFile → self.old.progress.fault ≢ None }
         ensures broken { IfSome self.old.progress.fault
             (λ fault. (result ≡ Err fault) × (device.new ≡ device.old)) }
-        ensures content { LeavesContent (D.is_honest device.old)
+        ensures content { LeavesContent (D.is_honest device.new)
             (D.content device.old) (D.content device.new) }
         // D1 only where the number of failures rose, but for a reader that it broke before
         ensures persists { Persists (D.is_honest device.old) (D.is_honest device.new)

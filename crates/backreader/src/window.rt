@@ -82,12 +82,12 @@ impl Window {
     pub(crate) fn next<D: Device>(&mut self, device: &mut D) -> Result<Option<usize>, FrameFault>
         requires { WhenHonest (D.is_honest device.old)
             (StandBefore (D.content device.old) self.old.at (unread self.old)) }
-        ensures told { WhenHonest (D.is_honest device.old) (Told (option_map (taken self.new)) result
+        ensures told { WhenHonest (D.is_honest device.new) (Told (option_map (taken self.new)) result
             (next_before (version_of self.old.version) (D.content device.old) self.old.at)) }
-        ensures memory { WhenHonest (D.is_honest device.old)
+        ensures memory { WhenHonest (D.is_honest device.new)
             (IsErrOf result FrameFault.NoMemory →
             IsLarge (next_before (version_of self.old.version) (D.content device.old) self.old.at)) }
-        ensures stand { WhenHonest (D.is_honest device.old)
+        ensures stand { WhenHonest (D.is_honest device.new)
             (StandBefore (D.content device.old) self.new.at (unread self.new)) }
         ensures moved { IfOk result (λ found. IfSome found
             (λ count. self.new.at + count + length_bytes ≡ self.old.at)) }
@@ -101,7 +101,7 @@ impl Window {
         ensures greatest { IfOk result (λ found. IfSome found
             (λ count. count ≤ greatest_body (version_of self.old.version))) }
         ensures file { IsErrOf result FrameFault.NotATreeFile → ⊥ }
-        ensures content { LeavesContent (D.is_honest device.old)
+        ensures content { LeavesContent (D.is_honest device.new)
             (D.content device.old) (D.content device.new) }
         ensures persists { Persists (D.is_honest device.old) (D.is_honest device.new)
             (D.failures device.old) (D.failures device.new) (IsErrOf result FrameFault.Device) }
@@ -166,12 +166,12 @@ impl Window {
     fn length_before<D: Device>(&mut self, device: &mut D) -> Result<Option<usize>, DeviceFault>
         requires { WhenHonest (D.is_honest device.old)
             (StandBefore (D.content device.old) self.old.at (unread self.old)) }
-        ensures found { WhenHonest (D.is_honest device.old)
+        ensures found { WhenHonest (D.is_honest device.new)
             (IfOk result (λ found. IfSome found
             (λ count. body_before (version_of self.old.version) (D.content device.old) self.old.at
             ≡ Ok (slice_range (D.content device.old)
             (self.old.at - length_bytes - count) (self.old.at - length_bytes))))) }
-        ensures none { WhenHonest (D.is_honest device.old)
+        ensures none { WhenHonest (D.is_honest device.new)
             (IfOk result (λ found. IfNone found
             (body_before (version_of self.old.version) (D.content device.old) self.old.at
             ≡ Err (Damaged self.old.at)))) }
@@ -180,13 +180,13 @@ impl Window {
         ensures least { IfOk result (λ found. IfSome found (λ count. least_body ≤ count)) }
         ensures greatest { IfOk result (λ found. IfSome found
             (λ count. count ≤ greatest_body (version_of self.old.version))) }
-        ensures stand { WhenHonest (D.is_honest device.old)
+        ensures stand { WhenHonest (D.is_honest device.new)
             (StandBefore (D.content device.old) self.new.at (unread self.new)) }
         ensures kept { Keeps self.old self.new }
         ensures at { self.new.at ≡ self.old.at }
         ensures version { self.new.version ≡ self.old.version }
         ensures memory { TakesNoMemory result }
-        ensures content { LeavesContent (D.is_honest device.old)
+        ensures content { LeavesContent (D.is_honest device.new)
             (D.content device.old) (D.content device.new) }
         ensures persists { Persists (D.is_honest device.old) (D.is_honest device.new)
             (D.failures device.old) (D.failures device.new) (IsErrOf result DeviceFault.Failed) }
@@ -259,13 +259,13 @@ impl Window {
         requires stand { WhenHonest (D.is_honest device.old)
             (StandBefore (D.content device.old) self.old.at (unread self.old)) }
         ensures enough { OnOk result (count ≤ self.new.to - self.new.from) }
-        ensures stand { WhenHonest (D.is_honest device.old)
+        ensures stand { WhenHonest (D.is_honest device.new)
             (StandBefore (D.content device.old) self.new.at (unread self.new)) }
         ensures kept { Keeps self.old self.new }
         ensures at { self.new.at ≡ self.old.at }
         ensures version { self.new.version ≡ self.old.version }
         ensures memory { TakesNoMemory result }
-        ensures content { LeavesContent (D.is_honest device.old)
+        ensures content { LeavesContent (D.is_honest device.new)
             (D.content device.old) (D.content device.new) }
         ensures persists { Persists (D.is_honest device.old) (D.is_honest device.new)
             (D.failures device.old) (D.failures device.new) (IsErrOf result DeviceFault.Failed) }
@@ -285,13 +285,13 @@ impl Window {
             (StandBefore (D.content device.old) self.old.at (unread self.old)) }
         ensures full { OnOk result (self.new.to - self.new.from
             ≡ min (vec_len self.old.buffer) (self.old.at - header_bytes)) }
-        ensures stand { WhenHonest (D.is_honest device.old)
+        ensures stand { WhenHonest (D.is_honest device.new)
             (StandBefore (D.content device.old) self.new.at (unread self.new)) }
         ensures kept { Keeps self.old self.new }
         ensures at { self.new.at ≡ self.old.at }
         ensures version { self.new.version ≡ self.old.version }
         ensures memory { TakesNoMemory result }
-        ensures content { LeavesContent (D.is_honest device.old)
+        ensures content { LeavesContent (D.is_honest device.new)
             (D.content device.old) (D.content device.new) }
         ensures persists { Persists (D.is_honest device.old) (D.is_honest device.new)
             (D.failures device.old) (D.failures device.new) (IsErrOf result DeviceFault.Failed) }
@@ -335,13 +335,13 @@ fn read_part<D: Device>(
     requires within { to ≤ length buffer.old }
     requires there { WhenHonest (D.is_honest device.old)
         (at + (to - from) ≤ length (D.content device.old)) }
-    ensures read { WhenHonest (D.is_honest device.old) (OnOk result (slice_range buffer.new from to
+    ensures read { WhenHonest (D.is_honest device.new) (OnOk result (slice_range buffer.new from to
         ≡ slice_range (D.content device.old) at (at + (to - from)))) }
     ensures behind { drop to buffer.new ≡ drop to buffer.old }
     ensures bytes { IsBytes buffer.new }
     ensures length { length buffer.new ≡ length buffer.old }
     ensures memory { TakesNoMemory result }
-    ensures content { LeavesContent (D.is_honest device.old)
+    ensures content { LeavesContent (D.is_honest device.new)
         (D.content device.old) (D.content device.new) }
     ensures persists { Persists (D.is_honest device.old) (D.is_honest device.new)
         (D.failures device.old) (D.failures device.new) (IsErrOf result DeviceFault.Failed) }

@@ -85,7 +85,7 @@ impl Report {
         tree: &mut D,
         path: &str,
     ) -> Report
-        ensures content { LeavesContent (D.is_honest tree.old)
+        ensures content { LeavesContent (D.is_honest tree.new)
             (D.content tree.old) (D.content tree.new) }
         // nothing tells of a device that failed
         ensures persists { Persists (D.is_honest tree.old) (D.is_honest tree.new)
@@ -108,7 +108,7 @@ impl Report {
         old_path: &str,
         path: &str,
     ) -> Report
-        ensures content { LeavesContent (D.is_honest old.old)
+        ensures content { LeavesContent (D.is_honest old.new)
             (D.content old.old) (D.content old.new) }
         // nothing tells of a device that failed
         ensures persists { Persists (D.is_honest old.old) (D.is_honest old.new)
@@ -129,7 +129,7 @@ impl Report {
 
     /// The report with what is wrong with the tree in a file, or with its translation.
     fn with_tree<D: Device>(mut self, alloc: Global, kept: Kept<'_>, tree: &mut D) -> Report
-        ensures content { LeavesContent (D.is_honest tree.old)
+        ensures content { LeavesContent (D.is_honest tree.new)
             (D.content tree.old) (D.content tree.new) }
         ensures persists { Persists (D.is_honest tree.old) (D.is_honest tree.new)
             (D.failures tree.old) (D.failures tree.new) ⊥ }

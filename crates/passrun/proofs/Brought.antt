@@ -1,5 +1,5 @@
 -- Bringing the records of a file of version 1 over: what was read and what is to come, one tree after the other.
-use Rattle.std.proofs.Common.{◌≡◌, ℕ, suc, ◌+◌, ◌-◌, ◌<◌, ◌≤◌, inl, inr, Bool, List, [], ◌∷◌, ◌++◌, All, length, reverse, pos, get_or, take, drop, ◌⊎◌, Option, Some, None, Ok, Err, refl, ap, sym, subst, ◌∙◌, append_assoc, append-nil, length-append, arith}
+use Rattle.std.proofs.Common.{◌≡◌, ℕ, suc, ◌+◌, ◌-◌, ◌<◌, ◌≤◌, inl, inr, Bool, true, List, [], ◌∷◌, ◌++◌, All, length, reverse, pos, get_or, take, drop, ◌⊎◌, Option, Some, None, Ok, Err, refl, ap, sym, subst, ◌∙◌, append_assoc, append-nil, length-append, arith}
 use Rattle.std.specs.List.{flat_map}
 use Rattle.std.specs.Option.{IfSome}
 use Rattle.ag_value.specs.Well.{IsWell}
@@ -243,6 +243,10 @@ module _ (g : Grammar) (accepted : IsAccepted g) (content : List ℕ) where
       }
 
   -- more were, in front of those that had been
+  -- the same where less is supposed of the other device
+  abbrev pub brought_supposed : (front xs : List Item) (level : ℕ) (before now : Progress) (honest then : Bool) (out_old out_now : List ℕ) (texts : List Value) → (honest ≡ true → then ≡ true) → Brought g content front xs level before now then out_old out_now texts → Brought g content front xs level before now honest out_old out_now texts
+  brought_supposed front xs level before now honest then out_old out_now texts supposed brought = record { trees = brought.trees; fits = brought.fits; deep = brought.deep; read = brought.read; nodes = brought.nodes; on = brought.on; written = λ h. brought.written (supposed h); texts_are = brought.texts_are }
+
   pub more_brought : (front xs ys : List Item) (level : ℕ) (before between now : Progress) (honest : Bool) (out_old out_between out_now : List ℕ) (texts others : List Value)
       → Brought g content (front ++ xs) ys level before between honest out_old out_between texts → Brought g content [] xs level between now honest out_between out_now others
       → Brought g content front (xs ++ ys) level before now honest out_old out_now (texts ++ others)

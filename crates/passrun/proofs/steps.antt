@@ -9,4 +9,5 @@ pub mod Ruled
 pub mod Running
 pub mod Stays
 pub mod Steps
+pub mod Supposed
 pub mod Turning

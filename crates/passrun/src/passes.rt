@@ -56,17 +56,17 @@ fn next_pass<D: Device>(
     requires behind { (passes : ℕ) × IsGreatest passes plan.now.0 × (done + 1 ≤ passes) }
     requires room { done < 65535 }
     requires meter { meter.old ≤ 2 ^ 63 }
-    ensures passed { WhenHonest (D.is_honest a.old) (WhenHonest (D.is_honest b.old)
+    ensures passed { WhenHonest (D.is_honest a.new) (WhenHonest (D.is_honest b.new)
         (IfOk result (λ p. IsPassedOn (setting_of grammar.now plan.now (done + 1)) last
         (D.content a.old) (D.content b.old) (D.content a.new) (D.content b.new)
         p.nodes (meter.new - meter.old)))) }
-    ensures refused { IfErr result (λ f. WhenHonest (D.is_honest a.old)
-        (WhenHonest (D.is_honest b.old) (IsRunFault (setting_of grammar.now plan.now (done + 1))
+    ensures refused { IfErr result (λ f. WhenHonest (D.is_honest a.new)
+        (WhenHonest (D.is_honest b.new) (IsRunFault (setting_of grammar.now plan.now (done + 1))
         (last_content last (D.content a.old) (D.content b.old)) f))) }
-    ensures kept { WhenHonest (D.is_honest a.old) (WhenHonest (D.is_honest b.old)
+    ensures kept { WhenHonest (D.is_honest a.new) (WhenHonest (D.is_honest b.new)
         (last_content last (D.content a.new) (D.content b.new)
         ≡ last_content last (D.content a.old) (D.content b.old))) }
-    ensures left { OnErr result (WhenHonest (D.is_honest a.old) (WhenHonest (D.is_honest b.old)
+    ensures left { OnErr result (WhenHonest (D.is_honest a.new) (WhenHonest (D.is_honest b.new)
         (LeavesBeginning (done + 1) (other_content last (D.content a.old) (D.content b.old))
         (other_content last (D.content a.new) (D.content b.new))))) }
     ensures counts { IfOk result (λ p. (p.read ≡ p.nodes) × (p.written ≡ p.nodes)) }
@@ -133,15 +133,15 @@ pub fn run_all<D: Device>(
     requires last { (passes : ℕ) × IsGreatest passes plan.now.0 × (first ≤ passes + 1) }
     requires meter { meter.old ≤ 2 ^ 62 }
     ensures passed { (passes : ℕ) → IsGreatest passes plan.now.0 →
-        WhenHonest (D.is_honest a.old) (WhenHonest (D.is_honest b.old)
+        WhenHonest (D.is_honest a.new) (WhenHonest (D.is_honest b.new)
         (IfOk result (λ r. HasRunAll grammar.now (passes_of plan.now.0) (first - 1) passes
         (D.content a.old) r.0 (D.content a.new) (D.content b.new) (meter.new - meter.old) r.1))) }
     // R1, P2 and P3 only where they are true of the first file
-    ensures refused { IfErr result (λ f. WhenHonest (D.is_honest a.old)
-        (WhenHonest (D.is_honest b.old)
+    ensures refused { IfErr result (λ f. WhenHonest (D.is_honest a.new)
+        (WhenHonest (D.is_honest b.new)
         (IsRunFault (setting_of grammar.now plan.now first) (D.content a.old) f))) }
     // what the refused pass read still stands; the other device has what it had, or a beginning
-    ensures left { OnErr result (WhenHonest (D.is_honest a.old) (WhenHonest (D.is_honest b.old)
+    ensures left { OnErr result (WhenHonest (D.is_honest a.new) (WhenHonest (D.is_honest b.new)
         (LeavesRound grammar.now (passes_of plan.now.0) (first - 1) (D.content a.old)
         (D.content b.old) (D.content a.new) (D.content b.new)))) }
     // whatever the devices give back

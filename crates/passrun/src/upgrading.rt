@@ -53,13 +53,13 @@ impl Upgrading {
         requires ready { IsReady (D.is_honest from.old) (D.content from.old)
             self.old.back self.old.writer }
         requires place { stored_items (item ∷ []) ≡ item ∷ [] }
-        ensures taken { IfOk result (λ r. HasTaken grammar.now item level (D.is_honest from.old)
+        ensures taken { IfOk result (λ r. HasTaken grammar.now item level (D.is_honest from.new)
             (D.content from.old) self.old.back self.new.back r) }
         ensures writer { self.new.writer ≡ self.old.writer }
-        ensures refused { IfErr result (λ f. WhenHonest (D.is_honest from.old)
+        ensures refused { IfErr result (λ f. WhenHonest (D.is_honest from.new)
             (IsUnbrought grammar.now (D.content from.old) (item ∷ []) level
             self.old.back.progress f)) }
-        ensures content { LeavesContent (D.is_honest from.old)
+        ensures content { LeavesContent (D.is_honest from.new)
             (D.content from.old) (D.content from.new) }
         ensures persists { Persists (D.is_honest from.old) (D.is_honest from.new)
             (D.failures from.old) (D.failures from.new) (IsErrOf result RunFault.Device) }
@@ -95,21 +95,21 @@ impl Upgrading {
         requires accepted { IsAccepted grammar.now }
         requires ready { IsReady (D.is_honest from.old) (D.content from.old)
             self.old.back self.old.writer }
-        ensures brought { IfOk result (λ text. WhenHonest (D.is_honest from.old)
+        ensures brought { IfOk result (λ text. WhenHonest (D.is_honest from.new)
             (Brought grammar.now (D.content from.old) [] (item ∷ []) level
             self.old.back.progress self.new.back.progress
-            (E.is_honest to.old) (E.content to.old) (E.content to.new) (text_list text))) }
-        ensures refused { IfErr result (λ f. WhenHonest (D.is_honest from.old)
+            (E.is_honest to.new) (E.content to.old) (E.content to.new) (text_list text))) }
+        ensures refused { IfErr result (λ f. WhenHonest (D.is_honest from.new)
             (IsUnbrought grammar.now (D.content from.old) (item ∷ []) level
             self.old.back.progress f)) }
-        ensures ready { OnOk result (IsReady (D.is_honest from.old) (D.content from.old)
+        ensures ready { OnOk result (IsReady (D.is_honest from.new) (D.content from.old)
             self.new.back self.new.writer) }
         ensures well { IfOk result (λ text. IfSome text IsWell) }
         // As many records were written as were read
         ensures balanced { OnOk result
             (self.new.writer.written + self.old.back.progress.records
             ≡ self.old.writer.written + self.new.back.progress.records) }
-        ensures content { LeavesContent (D.is_honest from.old)
+        ensures content { LeavesContent (D.is_honest from.new)
             (D.content from.old) (D.content from.new) }
         ensures devices { BothLast D.is_honest D.failures from.old from.new
             E.is_honest E.failures to.old to.new (IsErrOf result RunFault.Device) }
@@ -167,11 +167,11 @@ fn bring<D: Device, E: Device>(
     to: &mut E,
 ) -> Result<(), RunFault>
     ensures accepted { IsAccepted grammar.now }
-    ensures brought { OnOk result (WhenHonest (D.is_honest from.old)
-        (IsBrought grammar.now (D.content from.old) (E.is_honest to.old) (E.content to.new))) }
-    ensures refused { IfErr result (λ f. WhenHonest (D.is_honest from.old)
+    ensures brought { OnOk result (WhenHonest (D.is_honest from.new)
+        (IsBrought grammar.now (D.content from.old) (E.is_honest to.new) (E.content to.new))) }
+    ensures refused { IfErr result (λ f. WhenHonest (D.is_honest from.new)
         (IsUpgradeFault grammar.now (D.content from.old) f)) }
-    ensures content { LeavesContent (D.is_honest from.old)
+    ensures content { LeavesContent (D.is_honest from.new)
         (D.content from.old) (D.content from.new) }
     ensures devices { BothLast D.is_honest D.failures from.old from.new
         E.is_honest E.failures to.old to.new (IsErrOf result RunFault.Device) }
@@ -249,16 +249,16 @@ pub fn upgrade<D: Device, E: Device, F: Device>(
     to: &mut F,
 ) -> Result<u32, RunFault>
     // an answer: the tree is brought over, by way of its records from right to left
-    ensures upgraded { IfOk result (λ count. WhenHonest (D.is_honest old.old)
-        (WhenHonest (E.is_honest mid.old) (IsUpgraded grammar.now (D.content old.old)
-        (E.content mid.new) (F.is_honest to.old) (F.content to.new) count))) }
+    ensures upgraded { IfOk result (λ count. WhenHonest (D.is_honest old.new)
+        (WhenHonest (E.is_honest mid.new) (IsUpgraded grammar.now (D.content old.old)
+        (E.content mid.new) (F.is_honest to.new) (F.content to.new) count))) }
     // a refusal: what it says of the old content is true
-    ensures refused { IfErr result (λ f. WhenHonest (D.is_honest old.old)
-        (WhenHonest (E.is_honest mid.old) (IsUpgradeFault grammar.now (D.content old.old) f))) }
+    ensures refused { IfErr result (λ f. WhenHonest (D.is_honest old.new)
+        (WhenHonest (E.is_honest mid.new) (IsUpgradeFault grammar.now (D.content old.old) f))) }
     // what the third device had, or a beginning of a file of pass 0
-    ensures left { IfErr result (λ _. WhenHonest (F.is_honest to.old)
+    ensures left { IfErr result (λ _. WhenHonest (F.is_honest to.new)
         (LeavesBeginning 0 (F.content to.old) (F.content to.new))) }
-    ensures content { LeavesContent (D.is_honest old.old) (D.content old.old) (D.content old.new) }
+    ensures content { LeavesContent (D.is_honest old.new) (D.content old.old) (D.content old.new) }
     // D1 only where the number of failures rose on one of the three
     ensures devices { ThreeLast D.is_honest D.failures old.old old.new
         E.is_honest E.failures mid.old mid.new F.is_honest F.failures to.old to.new

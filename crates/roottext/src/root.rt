@@ -79,9 +79,9 @@ fn last_value<D: Device>(
 ) -> Result<Value, FrameFault>
     requires plan { IsPlan grammar.now plan.now.0 plan.now.1 }
     requires out { IsOut grammar.now out }
-    ensures found { WhenHonest (D.is_honest device.old)
+    ensures found { WhenHonest (D.is_honest device.new)
         (FindsValue grammar.now plan.now.0 (D.content device.old) result) }
-    ensures content { LeavesContent (D.is_honest device.old)
+    ensures content { LeavesContent (D.is_honest device.new)
         (D.content device.old) (D.content device.new) }
     ensures persists { Persists (D.is_honest device.old) (D.is_honest device.new)
         (D.failures device.old) (D.failures device.new) (IsErrOf result FrameFault.Device) }
@@ -117,12 +117,12 @@ pub fn root_text<D: Device>(
 ) -> Result<Text, OutFault>
     requires plan { IsPlan grammar.now plan.now.0 plan.now.1 }
     // the text, O1, B1 and B2, exactly as the content has them
-    ensures found { WhenHonest (D.is_honest device.old)
+    ensures found { WhenHonest (D.is_honest device.new)
         (FindsText grammar.now plan.now.0 (D.content device.old) result) }
     // of a tree's file the translation, or O1 with it
-    ensures root { WhenHonest (D.is_honest device.old)
+    ensures root { WhenHonest (D.is_honest device.new)
         (TellsRoot grammar.now plan.now.0 (D.content device.old) result) }
-    ensures content { LeavesContent (D.is_honest device.old)
+    ensures content { LeavesContent (D.is_honest device.new)
         (D.content device.old) (D.content device.new) }
     // D1 only where the number of failures rose
     ensures persists { Persists (D.is_honest device.old) (D.is_honest device.new)

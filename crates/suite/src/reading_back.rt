@@ -43,7 +43,7 @@ impl Device for LyingDevice {
 
 /// The bodies of a tree file, from the last to the first.
 fn bodies_back<D: Device>(alloc: Global, device: &mut D) -> Result<Vec<Vec<u8>>, Fail>
-    ensures { WhenHonest (D.is_honest device.old)
+    ensures { WhenHonest (D.is_honest device.new)
         (IfOk result (λ found. ReadsBack version_two (D.content device.old)
         (length (D.content device.old)) (map (λ body. body.items) found.items))) }
 {

@@ -6,17 +6,17 @@ ghost use Rattle.std.specs.Io.KnownBytes.{Appends, Keeps};
 ghost use Rattle.treefile.specs.devices.Appending.{AppendsToFile};
 ghost use Rattle.treefile.specs.devices.Device.{Appends as DeviceAppends, Clears, HasRisen, LeavesContent};
 ghost use Rattle.treefile.specs.devices.Device.{Persists, TakesNoMemory, WhenHonest, most_failures};
-ghost use Rattle.treefile.specs.devices.Files.{FilePersists, IsNew, StaysBroken, content_of, taken};
+ghost use Rattle.treefile.specs.devices.Files.{FilePersists, IsNew, StaysBroken, content_of, is_honest_of, taken};
 
 use crate::device::{Device, DeviceFault};
+use noted_file::{NotedFile, Record};
 use std::alloc::Global;
 use std::fs::{OpenFile, OpenOptions};
-use std::io::{Read, Seek, SeekFrom, Write};
+use std::io::{self, Read, Seek, Write};
 use std::marker::Model;
 use std::rt::Files;
-use std::{fs, io};
 
-/// How many bytes are gathered at most before they are written out.
+/// The greatest number of bytes that are gathered before they are written to the file.
 const GATHERED_BYTES: usize = 65_536;
 
 /// Why a file is no device.
@@ -37,44 +37,41 @@ pub enum Access {
     Broken,
 }
 
-/// A device over a file. What is appended is gathered in memory, at most 65,536 bytes of it. It is
-/// written out where more comes, before `len` and `read_at` look at the file, and by `finish`: a
-/// device that is let go without `finish` loses what it has gathered. A write that fails is a
-/// failed call, and so is each call after it. The file may be honest, but nothing shows that.
+/// A device over a file. It gathers appended bytes in memory, at most 65,536 of them, and writes
+/// them to the file when more arrive, before `len` and `read_at` use the file, and in `finish`: a
+/// device that is dropped without `finish` loses the bytes that it has gathered. After a failed
+/// write every call fails.
+///
+/// A record, which occupies no memory, has each call on the file with its answer. The model reads
+/// the content of the file and its honesty off that record: the file is honest if each length and
+/// each byte that it returned agrees with what was written to it.
 #[derive(Drop)]
 pub struct FileDevice<F> {
-    file: F,
+    file: NotedFile<F>,
     gathered: Vec<u8>,
     access: Access,
     failed: u64,
 }
 
 impl<F> Model for FileDevice<F> {
-    ghost use Rattle.std.specs.Prelude.{[], false};
     ghost use Rattle.treefile.specs.devices.Files.{Gathering};
 
     ghost Value = { Gathering F };
 
     ghost view = { λ d. record {
-      file = d.file;
+      file = d.file.file;
+      events = d.file.events;
       access = d.access;
       failures = d.failed;
       gathered = d.gathered.items;
-      stored = [];
-      is_honest = false;
     } };
-}
-
-/// Fills `out` with the bytes of a file from an offset on.
-fn fill_from<F: Read + Seek>(file: &mut F, at: u64, out: &mut [u8]) -> io::Result<()> {
-    file.seek(SeekFrom::Start(at))?;
-    file.read_exact(out)
 }
 
 impl<F> FileDevice<F> {
     /// A device over an open file. Takes no memory.
-    fn over(alloc: Global, file: F, access: Access) -> FileDevice<F>
-        ensures file { result.file ≡ file }
+    fn over(alloc: Global, file: NotedFile<F>, access: Access) -> FileDevice<F>
+        ensures file { result.file ≡ file.file }
+        ensures events { result.events ≡ file.events }
         ensures access { result.access ≡ access }
         ensures gathered { result.gathered ≡ [] }
         ensures failures { result.failures ≡ 0 }
@@ -100,10 +97,10 @@ impl<F> FileDevice<F> {
     }
 }
 
-impl<F: Write> FileDevice<F> {
-    /// The answer of a call that wrote to the file: a write that failed is a failed call, and there
-    /// are only failed calls from then on.
-    fn told(&mut self, written: io::Result<()>) -> Result<(), DeviceFault>
+impl<F: Read + Write + Seek + OpenFile> FileDevice<F> {
+    /// Returns the result of a write to the file. A failed write is counted and breaks the device:
+    /// every later call fails.
+    fn check_write(&mut self, written: io::Result<()>) -> Result<(), DeviceFault>
         ensures ok { OnOk written ((result ≡ Ok tt) × (self.new ≡ self.old)) }
         ensures err { OnErr written (IsErrOf result DeviceFault.Failed) }
         ensures breaks { OnErr written (self.new
@@ -119,7 +116,8 @@ impl<F: Write> FileDevice<F> {
         }
     }
 
-    /// Writes out what is gathered. Takes no memory.
+    /// Writes the gathered bytes to the file, so that the file has the whole content of the device.
+    /// Fails with `Failed` (D1) if that write or an earlier one failed. Takes no memory.
     pub fn finish(&mut self) -> Result<(), DeviceFault>
         ensures taken { OnOk result
             (Keeps (taken F.contents self.old) (taken F.contents self.new)) }
@@ -127,7 +125,7 @@ impl<F: Write> FileDevice<F> {
         ensures access { OnOk result (self.new.access ≡ self.old.access) }
         ensures breaks { OnErr result (self.new.access ≡ Access.Broken) }
         ensures broken { StaysBroken self.old self.new (IsErrOf result DeviceFault.Failed) }
-        ensures content { LeavesContent self.old.is_honest (content_of self.old)
+        ensures content { LeavesContent (is_honest_of self.new) (content_of self.old)
             (content_of self.new) }
         ensures persists { FilePersists self.old self.new (IsErrOf result DeviceFault.Failed) }
         ensures memory { TakesNoMemory result }
@@ -138,8 +136,8 @@ impl<F: Write> FileDevice<F> {
         if self.gathered.is_empty() {
             return Ok(());
         }
-        let written = self.file.write_all(self.gathered.as_slice());
-        self.told(written)?;
+        let written = self.file.append(self.gathered.as_slice());
+        self.check_write(written)?;
         self.gathered.clear();
         Ok(())
     }
@@ -161,7 +159,7 @@ impl<F: Write> FileDevice<F> {
     #[cold]
     #[inline(never)]
     fn append_slowly(&mut self, bytes: &[u8]) -> Result<(), DeviceFault>
-        ensures content { WhenHonest self.old.is_honest
+        ensures content { WhenHonest (is_honest_of self.new)
             (DeviceAppends bytes.now (content_of self.old) (content_of self.new) result) }
         ensures persists { FilePersists self.old self.new (IsErrOf result DeviceFault.Failed) }
         ensures file { AppendsToFile F.contents bytes.now self.old self.new result }
@@ -173,44 +171,47 @@ impl<F: Write> FileDevice<F> {
             self.finish()?;
         }
         if GATHERED_BYTES <= bytes.len() {
-            let written = self.file.write_all(bytes);
-            return self.told(written);
+            let written = self.file.append(bytes);
+            return self.check_write(written);
         }
         self.gather(bytes)
     }
 }
 
 impl<F: Read + Write + Seek + OpenFile> FileDevice<F> {
-    /// A device over the file of this path, which is made where there is none; what it had stays until
-    /// it is cleared. F1 where that can't be done. Takes no memory.
+    /// Opens the file at `path` for reading and appending, and creates it if there is none. An
+    /// existing content stays until `clear`. `before` is the record that the device continues:
+    /// `Record::new()`. Fails with F1 if the file can't be opened. Takes no memory.
     pub fn create<Rt: Files<File = F>>(
         rt: &Rt,
         alloc: Global,
         path: &str,
+        before: Record,
     ) -> Result<FileDevice<F>, FileFault>
-        ensures { IfOk result (IsNew Access.Writing) }
+        ensures { IfOk result (IsNew Access.Writing path.now before.events) }
     {
-        match OpenOptions::new()
-            .read(true)
-            .append(true)
-            .create(true)
-            .open(rt, path)
-        {
+        let mut how = OpenOptions::new();
+        how.read(true).append(true).create(true);
+        match NotedFile::open(rt, &how, path, before) {
             Ok(file) => Ok(FileDevice::over(alloc, file, Access::Writing)),
             Err(_) => Err(FileFault::File),
         }
     }
 
-    /// A device over the file of this path, which is only read: to append to it or to clear it is a
-    /// failed call. F1 where it can't be opened. Takes no memory.
+    /// Opens the file at `path` for reading only: `append` and `clear` fail. `before` is the record
+    /// that the device continues: `Record::new()`. Fails with F1 if the file can't be opened. Takes
+    /// no memory.
     pub fn existing<Rt: Files<File = F>>(
         rt: &Rt,
         alloc: Global,
         path: &str,
+        before: Record,
     ) -> Result<FileDevice<F>, FileFault>
-        ensures { IfOk result (IsNew Access.Reading) }
+        ensures { IfOk result (IsNew Access.Reading path.now before.events) }
     {
-        match fs::open(rt, path) {
+        let mut how = OpenOptions::new();
+        how.read(true);
+        match NotedFile::open(rt, &how, path, before) {
             Ok(file) => Ok(FileDevice::over(alloc, file, Access::Reading)),
             Err(_) => Err(FileFault::File),
         }
@@ -220,14 +221,14 @@ impl<F: Read + Write + Seek + OpenFile> FileDevice<F> {
 impl<F: Read + Write + Seek + OpenFile> Device for FileDevice<F> {
     ghost content = { content_of };
 
-    ghost is_honest = { λ d. d.is_honest };
+    ghost is_honest = { is_honest_of };
 
     ghost failures = { λ d. d.failures };
 
     fn len(&mut self) -> Result<u64, DeviceFault>
-        ensures length { WhenHonest self.old.is_honest
+        ensures length { WhenHonest (is_honest_of self.new)
             (IfOk result (λ n. n ≡ length (content_of self.old))) }
-        ensures content { LeavesContent self.old.is_honest (content_of self.old)
+        ensures content { LeavesContent (is_honest_of self.new) (content_of self.old)
             (content_of self.new) }
         ensures persists { FilePersists self.old self.new (IsErrOf result DeviceFault.Failed) }
         ensures memory { TakesNoMemory result }
@@ -240,14 +241,14 @@ impl<F: Read + Write + Seek + OpenFile> Device for FileDevice<F> {
         ensures broken { StaysBroken self.old self.new (IsErrOf result DeviceFault.Failed) }
     {
         self.finish()?;
-        match self.file.metadata() {
-            Ok(metadata) => Ok(metadata.len()),
+        match self.file.len() {
+            Ok(len) => Ok(len),
             Err(_) => Err(self.fail()),
         }
     }
 
     fn append(&mut self, bytes: &[u8]) -> Result<(), DeviceFault>
-        ensures content { WhenHonest self.old.is_honest
+        ensures content { WhenHonest (is_honest_of self.new)
             (DeviceAppends bytes.now (content_of self.old) (content_of self.new) result) }
         ensures persists { FilePersists self.old self.new (IsErrOf result DeviceFault.Failed) }
         ensures file { AppendsToFile F.contents bytes.now self.old self.new result }
@@ -260,10 +261,10 @@ impl<F: Read + Write + Seek + OpenFile> Device for FileDevice<F> {
     }
 
     fn read_at(&mut self, at: u64, out: &mut [u8]) -> Result<(), DeviceFault>
-        ensures bytes { WhenHonest self.old.is_honest
+        ensures bytes { WhenHonest (is_honest_of self.new)
             (at + length out.old ≤ length (content_of self.old) →
             OnOk result (out.new ≡ slice_range (content_of self.old) at (at + length out.old))) }
-        ensures content { LeavesContent self.old.is_honest (content_of self.old)
+        ensures content { LeavesContent (is_honest_of self.new) (content_of self.old)
             (content_of self.new) }
         ensures persists { FilePersists self.old self.new (IsErrOf result DeviceFault.Failed) }
         ensures memory { TakesNoMemory result }
@@ -274,18 +275,19 @@ impl<F: Read + Write + Seek + OpenFile> Device for FileDevice<F> {
         ensures broken { StaysBroken self.old self.new (IsErrOf result DeviceFault.Failed) }
     {
         self.finish()?;
-        match fill_from(&mut self.file, at, out) {
+        match self.file.read_at(at, out) {
             Ok(()) => Ok(()),
             Err(_) => Err(self.fail()),
         }
     }
 
     fn clear(&mut self) -> Result<(), DeviceFault>
-        ensures content { WhenHonest self.old.is_honest
+        ensures content { WhenHonest (is_honest_of self.new)
             (Clears (content_of self.old) (content_of self.new) result) }
         ensures persists { FilePersists self.old self.new (IsErrOf result DeviceFault.Failed) }
         ensures memory { TakesNoMemory result }
         ensures gathered { OnOk result (self.new.gathered ≡ []) }
+        ensures kept { OnErr result (self.new.gathered ≡ self.old.gathered) }
         ensures reading { self.old.access ≡ Access.Reading → IsErrOf result DeviceFault.Failed }
         ensures access { OnOk result (self.new.access ≡ self.old.access) }
         ensures broken { StaysBroken self.old self.new (IsErrOf result DeviceFault.Failed) }
@@ -293,7 +295,7 @@ impl<F: Read + Write + Seek + OpenFile> Device for FileDevice<F> {
         if self.access != Access::Writing {
             return Err(self.fail());
         }
-        if self.file.set_len(0).is_err() {
+        if self.file.truncate().is_err() {
             return Err(self.fail());
         }
         self.gathered.clear();

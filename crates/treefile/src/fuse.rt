@@ -77,9 +77,9 @@ impl<D: Device> Device for FuseDevice<D> {
     ghost failures = { λ d. failures_of D.failures d };
 
     fn len(&mut self) -> Result<u64, DeviceFault>
-        ensures length { WhenHonest (D.is_honest self.old.inner)
+        ensures length { WhenHonest (D.is_honest self.new.inner)
             (IfOk result (λ n. n ≡ length (D.content self.old.inner))) }
-        ensures content { LeavesContent (D.is_honest self.old.inner) (D.content self.old.inner)
+        ensures content { LeavesContent (D.is_honest self.new.inner) (D.content self.old.inner)
             (D.content self.new.inner) }
         ensures persists { FusePersists D.is_honest D.failures self.old self.new
             (IsErrOf result DeviceFault.Failed) }
@@ -93,7 +93,7 @@ impl<D: Device> Device for FuseDevice<D> {
     }
 
     fn append(&mut self, bytes: &[u8]) -> Result<(), DeviceFault>
-        ensures content { WhenHonest (D.is_honest self.old.inner)
+        ensures content { WhenHonest (D.is_honest self.new.inner)
             (Appends bytes.now (D.content self.old.inner) (D.content self.new.inner) result) }
         ensures persists { FusePersists D.is_honest D.failures self.old self.new
             (IsErrOf result DeviceFault.Failed) }
@@ -106,12 +106,12 @@ impl<D: Device> Device for FuseDevice<D> {
     }
 
     fn read_at(&mut self, at: u64, out: &mut [u8]) -> Result<(), DeviceFault>
-        ensures bytes { WhenHonest (D.is_honest self.old.inner)
+        ensures bytes { WhenHonest (D.is_honest self.new.inner)
             (at + length out.old ≤ length (D.content self.old.inner) →
             OnOk result
             (out.new
             ≡ slice_range (D.content self.old.inner) at (at + length out.old))) }
-        ensures content { LeavesContent (D.is_honest self.old.inner) (D.content self.old.inner)
+        ensures content { LeavesContent (D.is_honest self.new.inner) (D.content self.old.inner)
             (D.content self.new.inner) }
         ensures persists { FusePersists D.is_honest D.failures self.old self.new
             (IsErrOf result DeviceFault.Failed) }
@@ -125,7 +125,7 @@ impl<D: Device> Device for FuseDevice<D> {
     }
 
     fn clear(&mut self) -> Result<(), DeviceFault>
-        ensures content { WhenHonest (D.is_honest self.old.inner)
+        ensures content { WhenHonest (D.is_honest self.new.inner)
             (Clears (D.content self.old.inner) (D.content self.new.inner) result) }
         ensures persists { FusePersists D.is_honest D.failures self.old self.new
             (IsErrOf result DeviceFault.Failed) }

@@ -58,13 +58,13 @@ impl From<AllocError> for FrameFault {
 pub fn pass_in<D: Device>(version: FileVersion, device: &mut D, end: u64) -> Result<u16, FrameFault>
     requires { WhenHonest (D.is_honest device.old) (end ≡ length (D.content device.old)) }
     // The number, and B1, exactly as the content has them
-    ensures told { WhenHonest (D.is_honest device.old)
+    ensures told { WhenHonest (D.is_honest device.new)
         (Told (λ pass. pass) result (pass_in (version_of version) (D.content device.old))) }
-    ensures bytes { WhenHonest (D.is_honest device.old)
+    ensures bytes { WhenHonest (D.is_honest device.new)
         (OnOk result (IsBytes (take header_bytes (D.content device.old)))) }
     ensures room { OnOk result (header_bytes ≤ end) }
     ensures memory { IsErrOf result FrameFault.NoMemory → ⊥ }
-    ensures content { LeavesContent (D.is_honest device.old)
+    ensures content { LeavesContent (D.is_honest device.new)
         (D.content device.old) (D.content device.new) }
     ensures persists { Persists (D.is_honest device.old) (D.is_honest device.new)
         (D.failures device.old) (D.failures device.new) (IsErrOf result FrameFault.Device) }
@@ -93,9 +93,9 @@ fn has_magic(version: FileVersion, bytes: &[u8]) -> bool
 fn number_before<D: Device>(device: &mut D, at: u64) -> Result<u32, DeviceFault>
     requires room { length_bytes ≤ at }
     requires within { WhenHonest (D.is_honest device.old) (at ≤ length (D.content device.old)) }
-    ensures found { WhenHonest (D.is_honest device.old)
+    ensures found { WhenHonest (D.is_honest device.new)
         (IfOk result (λ found. found ≡ number_before (D.content device.old) at)) }
-    ensures content { LeavesContent (D.is_honest device.old)
+    ensures content { LeavesContent (D.is_honest device.new)
         (D.content device.old) (D.content device.new) }
     ensures persists { Persists (D.is_honest device.old) (D.is_honest device.new)
         (D.failures device.old) (D.failures device.new) (IsErrOf result DeviceFault.Failed) }
@@ -129,13 +129,13 @@ fn bytes_at<D: Device>(
     count: usize,
 ) -> Result<Vec<u8>, FrameFault>
     requires { WhenHonest (D.is_honest device.old) (at + count ≤ length (D.content device.old)) }
-    ensures found { WhenHonest (D.is_honest device.old)
+    ensures found { WhenHonest (D.is_honest device.new)
         (IfOk result
         (λ found. found.items ≡ slice_range (D.content device.old) at (at + count))) }
     ensures count { IfOk result (λ found. length found.items ≡ count) }
     ensures memory { IfErr result
         (λ fault. (fault ≡ FrameFault.Device) ⊎ (fault ≡ FrameFault.NoMemory)) }
-    ensures content { LeavesContent (D.is_honest device.old)
+    ensures content { LeavesContent (D.is_honest device.new)
         (D.content device.old) (D.content device.new) }
     ensures persists { Persists (D.is_honest device.old) (D.is_honest device.new)
         (D.failures device.old) (D.failures device.new) (IsErrOf result FrameFault.Device) }
@@ -149,9 +149,9 @@ fn bytes_at<D: Device>(
 #[tactic(auto, unfolding(crate::specs::ways::Ending::body_before))]
 fn body_before<D: Device>(alloc: Global, device: &mut D, at: u64) -> Result<Vec<u8>, FrameFault>
     requires { WhenHonest (D.is_honest device.old) (at ≤ length (D.content device.old)) }
-    ensures told { WhenHonest (D.is_honest device.old)
+    ensures told { WhenHonest (D.is_honest device.new)
         (Told (λ body. body.items) result (body_before version_two (D.content device.old) at)) }
-    ensures content { LeavesContent (D.is_honest device.old)
+    ensures content { LeavesContent (D.is_honest device.new)
         (D.content device.old) (D.content device.new) }
     ensures persists { Persists (D.is_honest device.old) (D.is_honest device.new)
         (D.failures device.old) (D.failures device.new) (IsErrOf result FrameFault.Device) }
@@ -177,9 +177,9 @@ fn body_before<D: Device>(alloc: Global, device: &mut D, at: u64) -> Result<Vec<
 #[tactic(auto, unfolding(crate::specs::ways::Ending::last_body_of))]
 pub fn last_body<D: Device>(alloc: Global, device: &mut D) -> Result<Vec<u8>, FrameFault>
     // The body, B1 and B2, exactly as the content has it
-    ensures told { WhenHonest (D.is_honest device.old)
+    ensures told { WhenHonest (D.is_honest device.new)
         (Told (λ body. body.items) result (last_body_of version_two (D.content device.old))) }
-    ensures content { LeavesContent (D.is_honest device.old)
+    ensures content { LeavesContent (D.is_honest device.new)
         (D.content device.old) (D.content device.new) }
     // D1 only where the number of failures rose
     ensures persists { Persists (D.is_honest device.old) (D.is_honest device.new)

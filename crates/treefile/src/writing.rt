@@ -42,15 +42,15 @@ impl Writer {
     /// memory for the header where the device does, and for want of it leaves the device empty.
     pub fn begin<D: Device>(alloc: Global, device: &mut D, pass: u16) -> Result<Writer, DeviceFault>
         ensures header { OnOk result
-            (WhenHonest (D.is_honest device.old)
+            (WhenHonest (D.is_honest device.new)
             (D.content device.new ≡ header version_two pass)) }
         ensures fresh { IfOk result (λ writer. writer ≡ record { written = 0; is_broken = false }) }
         // D1: what the device had, or a beginning of the header
-        ensures device { IsErrOf result DeviceFault.Failed → WhenHonest (D.is_honest device.old)
+        ensures device { IsErrOf result DeviceFault.Failed → WhenHonest (D.is_honest device.new)
             ((D.content device.new ≡ D.content device.old)
             ⊎ AppendsFront (header version_two pass) [] (D.content device.new)) }
         ensures memory { IsErrOf result DeviceFault.NoMemory →
-            WhenHonest (D.is_honest device.old) (D.content device.new ≡ []) }
+            WhenHonest (D.is_honest device.new) (D.content device.new ≡ []) }
         ensures persists { Persists (D.is_honest device.old) (D.is_honest device.new)
             (D.failures device.old) (D.failures device.new) (IsErrOf result DeviceFault.Failed) }
     {
@@ -84,14 +84,14 @@ impl Writer {
         requires well { All IsWell values.now }
         requires room { self.old.written < 2 ^ 64 - 1 }
         ensures frame { OnOk result
-            (WhenHonest (D.is_honest device.old)
+            (WhenHonest (D.is_honest device.new)
             (D.content device.new
             ≡ D.content device.old ++ frame (body_of kind number values.now))) }
         ensures counted { OnOk result
             (self.new ≡ record self.old { written = self.old.written + 1 }) }
 
         // D1: a beginning of the frame, and a broken writer
-        ensures device { IsErrOf result DeviceFault.Failed → WhenHonest (D.is_honest device.old)
+        ensures device { IsErrOf result DeviceFault.Failed → WhenHonest (D.is_honest device.new)
             (AppendsFront (frame (body_of kind number values.now))
             (D.content device.old) (D.content device.new)) }
         ensures breaks { IsErrOf result DeviceFault.Failed →
@@ -101,7 +101,7 @@ impl Writer {
 
         // no memory: nothing changes
         ensures memory { IsErrOf result DeviceFault.NoMemory →
-            LeavesContent (D.is_honest device.old) (D.content device.old) (D.content device.new) }
+            LeavesContent (D.is_honest device.new) (D.content device.old) (D.content device.new) }
         ensures unchanged { IsErrOf result DeviceFault.NoMemory → self.new ≡ self.old }
 
         ensures persists { Persists (D.is_honest device.old) (D.is_honest device.new)
@@ -142,17 +142,17 @@ impl Writer {
     pub fn put_body<D: Device>(&mut self, device: &mut D, body: &[u8]) -> Result<(), DeviceFault>
         requires body { IsBody version_two body.now }
         requires room { self.old.written < 2 ^ 64 - 1 }
-        ensures frame { OnOk result (WhenHonest (D.is_honest device.old)
+        ensures frame { OnOk result (WhenHonest (D.is_honest device.new)
             (D.content device.new ≡ D.content device.old ++ frame body.now)) }
         ensures writer { SettlesPut device.old device.new self.old self.new result }
 
         // D1: a beginning of the frame
-        ensures device { IsErrOf result DeviceFault.Failed → WhenHonest (D.is_honest device.old)
+        ensures device { IsErrOf result DeviceFault.Failed → WhenHonest (D.is_honest device.new)
             (AppendsFront (frame body.now) (D.content device.old) (D.content device.new)) }
 
         // no memory: nothing changes
         ensures memory { IsErrOf result DeviceFault.NoMemory →
-            LeavesContent (D.is_honest device.old) (D.content device.old) (D.content device.new) }
+            LeavesContent (D.is_honest device.new) (D.content device.old) (D.content device.new) }
         ensures persists { Persists (D.is_honest device.old) (D.is_honest device.new)
             (D.failures device.old) (D.failures device.new)
             (IsErrOf result DeviceFault.Failed × (self.old.is_broken ≡ false)) }

@@ -38,11 +38,11 @@ pub(crate) fn run_tree<T: Device, D: Device>(
 ) -> Result<Report, Fault>
     requires least { IsLeastPlan translator.now plan.now.0 plan.now.1 }
     ensures left { IfOk result (λ report. LeavesFilesOfTree translator.now plan.now.0
-        (T.is_honest tree.old) (D.is_honest a.old) (D.is_honest b.old) (T.content tree.old)
+        (T.is_honest tree.new) (D.is_honest a.new) (D.is_honest b.new) (T.content tree.old)
         (D.content a.new) (D.content b.new) report) }
-    ensures refused { IfErr result (λ e. IsPassesFault translator.now (T.is_honest tree.old)
-        (D.is_honest a.old) (D.is_honest b.old) (T.content tree.old) e) }
-    ensures content { LeavesContent (T.is_honest tree.old)
+    ensures refused { IfErr result (λ e. IsPassesFault translator.now (T.is_honest tree.new)
+        (D.is_honest a.new) (D.is_honest b.new) (T.content tree.old) e) }
+    ensures content { LeavesContent (T.is_honest tree.new)
         (T.content tree.old) (T.content tree.new) }
     ensures devices { ThreeLast T.is_honest T.failures tree.old tree.new
         D.is_honest D.failures a.old a.new D.is_honest D.failures b.old b.new

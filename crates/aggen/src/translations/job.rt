@@ -31,12 +31,12 @@ pub fn run_job<R: Read + Drop, D: Device, W: Write>(
 ) -> Result<Report, Fault>
     // the translation theorem, for the grammar and the sentence of the job
     ensures translates { IfOk result (λ report. TranslatesJob (R.remaining reader)
-        (D.is_honest a.old) (D.is_honest b.old) (D.content a.new) (D.content b.new)
+        (D.is_honest a.new) (D.is_honest b.new) (D.content a.new) (D.content b.new)
         (W.contents out.old) (W.contents out.new) report) }
 
     // a refusal: what it says of the bytes, the grammar or the sentence is true
     ensures refused { IfErr result (λ e. IsJobRefusal (R.remaining reader)
-        (D.is_honest a.old) (D.is_honest b.old)
+        (D.is_honest a.new) (D.is_honest b.new)
         (W.contents out.old) (W.contents out.new) e) }
     ensures kept { IfErr result (λ e. e ≢ Fault.Write → out.new ≡ out.old) }
     // O2, whatever the devices gave back

@@ -34,9 +34,9 @@ pub(crate) fn leave_files<D: Device>(
 ) -> Result<Report, Fault>
     requires least { IsLeastPlan translator.now plan.now.0 plan.now.1 }
     ensures left { IfOk result (λ report. LeavesFiles translator.now sentence.now plan.now.0
-        (D.is_honest a.old) (D.is_honest b.old) (D.content a.new) (D.content b.new) report) }
+        (D.is_honest a.new) (D.is_honest b.new) (D.content a.new) (D.content b.new) report) }
     ensures refused { IfErr result (λ e. IsFilesFault translator.now sentence.now
-        (D.is_honest a.old) (D.is_honest b.old) e) }
+        (D.is_honest a.new) (D.is_honest b.new) e) }
     ensures untouched { IfErr result (λ e. IsScanFault e → a.new ≡ a.old) }
     ensures b_untouched { IfErr result (λ e. IsRefusedSentence e → b.new ≡ b.old) }
     ensures devices { BothLast D.is_honest D.failures a.old a.new
@@ -65,11 +65,11 @@ pub(crate) fn last_text<D: Device>(
     b: &mut D,
 ) -> Result<Text, OutFault>
     requires plan { IsPlan grammar.now plan.now.0 plan.now.1 }
-    ensures root { WhenHonest (D.is_honest a.old) (WhenHonest (D.is_honest b.old)
+    ensures root { WhenHonest (D.is_honest a.new) (WhenHonest (D.is_honest b.new)
         (TellsRoot grammar.now plan.now.0
         (last_content last (D.content a.old) (D.content b.old)) result)) }
-    ensures a_content { LeavesContent (D.is_honest a.old) (D.content a.old) (D.content a.new) }
-    ensures b_content { LeavesContent (D.is_honest b.old) (D.content b.old) (D.content b.new) }
+    ensures a_content { LeavesContent (D.is_honest a.new) (D.content a.old) (D.content a.new) }
+    ensures b_content { LeavesContent (D.is_honest b.new) (D.content b.old) (D.content b.new) }
     ensures devices { BothLast D.is_honest D.failures a.old a.new
         D.is_honest D.failures b.old b.new (IsErrOf result OutFault.Device) }
 {

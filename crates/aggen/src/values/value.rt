@@ -34,7 +34,7 @@ pub fn show_value<D: Device, W: Write>(
     device: &mut D,
     out: &mut W,
 ) -> Result<(), Fault>
-    ensures shows { OnOk result (WhenHonest (D.is_honest device.old)
+    ensures shows { OnOk result (WhenHonest (D.is_honest device.new)
         (Shows text.now (W.contents out.old) (W.contents out.new) (D.content device.new))) }
 
     // X exactly where no expression without occurrences is related to the text, and the device is
@@ -48,13 +48,13 @@ pub fn show_value<D: Device, W: Write>(
     ensures occurs { (at : ℕ) → OccursAt text.now at → IsErrAnd result (IsUnexpectedAt at) }
 
     // an honest device gives back what was written; D1 only where it failed
-    ensures undamaged { WhenHonest (D.is_honest device.old) (IfErr result (λ e. ¬ (IsDamage e))) }
+    ensures undamaged { WhenHonest (D.is_honest device.new) (IfErr result (λ e. ¬ (IsDamage e))) }
     ensures persists { Persists (D.is_honest device.old) (D.is_honest device.new)
         (D.failures device.old) (D.failures device.new) (IsErrOf result Fault.Device) }
 
     // nothing is written before all is known, and no refusal but O2 comes after something was
     ensures kept { IfErr result (λ e. e ≢ Fault.Write → out.new ≡ out.old) }
-    ensures write { IsErrOf result Fault.Write → WhenHonest (D.is_honest device.old)
+    ensures write { IsErrOf result Fault.Write → WhenHonest (D.is_honest device.new)
         (ShowsBeginning text.now (W.contents out.old) (W.contents out.new)) }
     ensures kinds { IfErr result IsShowFault }
 

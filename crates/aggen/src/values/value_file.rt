@@ -19,7 +19,7 @@ use treefile::{Device, Kind, Writer, last_body, split_body};
 pub fn write_file<D: Device>(alloc: Global, device: &mut D, value: Value) -> Result<(), Fault>
     requires { IsWell value }
     ensures ok { OnOk result
-        (WhenHonest (D.is_honest device.old) (D.content device.new ≡ file_of value)) }
+        (WhenHonest (D.is_honest device.new) (D.content device.new ≡ file_of value)) }
     ensures err { IfErr result IsWant }
     ensures persists { Persists (D.is_honest device.old) (D.is_honest device.new)
         (D.failures device.old) (D.failures device.new) (IsErrOf result Fault.Device) }
@@ -32,17 +32,17 @@ pub fn write_file<D: Device>(alloc: Global, device: &mut D, value: Value) -> Res
 /// The value in the last record of a tree file. B2 Damaged at the file's end where that record is
 /// no token of number 0 with exactly one value; B1, B2 and D1 as `last_body` answers them.
 pub fn read_file<D: Device>(alloc: Global, device: &mut D) -> Result<Value, Fault>
-    ensures found { WhenHonest (D.is_honest device.old) (IfOk result
+    ensures found { WhenHonest (D.is_honest device.new) (IfOk result
         (λ value. last_body_of version_two (D.content device.old)
         ≡ Ok (body_of Kind.Token 0 (value ∷ [])))) }
     ensures well { IfOk result (λ value. IsWell value) }
-    ensures read { WhenHonest (D.is_honest device.old)
+    ensures read { WhenHonest (D.is_honest device.new)
         ((value : AttributeValue) → IsWell value → D.content device.old ≡ file_of value →
         MatchResult result (λ found. found ≡ value) IsWant) }
     ensures err { IfErr result IsFileFault }
-    ensures offset { WhenHonest (D.is_honest device.old)
+    ensures offset { WhenHonest (D.is_honest device.new)
         ((at : ℕ) → IsErrOf result (Fault.Damaged at) → at ≡ length (D.content device.old)) }
-    ensures content { LeavesContent (D.is_honest device.old)
+    ensures content { LeavesContent (D.is_honest device.new)
         (D.content device.old) (D.content device.new) }
     ensures persists { Persists (D.is_honest device.old) (D.is_honest device.new)
         (D.failures device.old) (D.failures device.new) (IsErrOf result Fault.Device) }

@@ -44,7 +44,7 @@ pub persists_on : {E : Type 0} (a b d : Bool) (x y z : ℕ) → Persists a b x y
 persists_on a b d x y z p q =
     let first = p.kept in
     let second = q.kept in
-    record { honest = q.honest ∙ p.honest; kept = omega arith; bounded = λ h. q.bounded (p.bounded h); cause = λ h. absurd h }
+    record { honest = λ h. p.honest (q.honest h); kept = omega arith; bounded = λ h. q.bounded (p.bounded h); cause = λ h. absurd h }
 
 -- an open node has a production
 pub within : (k : Task) (node : OpenNode) (p : Parser) (bytes : List ℕ) → IsBetween k node p bytes → node.production < length k.grammar.productions

@@ -1,5 +1,5 @@
 //! How far a sentence is parsed, and the steps that go on with it.
-ghost use Rattle.std.specs.Prelude.{◌≡◌, ◌≤◌, ◌<◌, ◌+◌, ◌++◌, ◌∷◌, [], ℕ, false, All};
+ghost use Rattle.std.specs.Prelude.{◌≡◌, ◌≤◌, ◌<◌, ◌+◌, ◌++◌, ◌∷◌, [], ℕ, Bool, true, false, All};
 ghost use Rattle.std.specs.Prelude.{drop, length, Some, None};
 ghost use Rattle.std.specs.Prelude.{option_map, IfErr, IfOk, IfSome, IsErrOf, OnErr, OnOk};
 ghost use Rattle.ag_value.specs.Well.{IsWell};
@@ -109,13 +109,13 @@ fn put_leaf<D: Device>(
     requires text { IsTokenText lex.now }
     requires room { writer.old.written < most_nodes }
     requires fine { writer.old.is_broken ≡ false }
-    ensures frame { OnOk result (WhenHonest (D.is_honest device.old)
+    ensures frame { OnOk result (WhenHonest (D.is_honest device.new)
         (D.content device.new ≡ D.content device.old ++ leaf_frame class lex.now)) }
     ensures kept { OnOk result
         (texts.new.items ≡ texts.old.items ++ Value.Text lex.now ∷ []) }
     ensures counted { OnOk result
         (writer.new ≡ record writer.old { written = writer.old.written + 1 }) }
-    ensures adds { WhenHonest (D.is_honest device.old)
+    ensures adds { WhenHonest (D.is_honest device.new)
         (AddsFrames (D.content device.old) (D.content device.new) result) }
     ensures refuses { IfErr result IsWant }
     ensures device { BreaksWriter D.is_honest D.failures device.old device.new
@@ -140,11 +140,11 @@ pub(crate) fn put_node<D: Device>(
     requires well { All IsWell texts.now }
     requires room { writer.old.written < most_nodes }
     requires fine { writer.old.is_broken ≡ false }
-    ensures frame { OnOk result (WhenHonest (D.is_honest device.old)
+    ensures frame { OnOk result (WhenHonest (D.is_honest device.new)
         (D.content device.new ≡ D.content device.old ++ node_frame production texts.now)) }
     ensures counted { OnOk result
         (writer.new ≡ record writer.old { written = writer.old.written + 1 }) }
-    ensures adds { WhenHonest (D.is_honest device.old)
+    ensures adds { WhenHonest (D.is_honest device.new)
         (AddsFrames (D.content device.old) (D.content device.new) result) }
     ensures refuses { IfErr result IsWant }
     ensures device { BreaksWriter D.is_honest D.failures device.old device.new
@@ -254,9 +254,11 @@ impl<'t> Parser<'t> {
         requires written { writer.old.written + length self.old.waiting.items + 1
             ≡ self.old.count }
         requires fine { writer.old.is_broken ≡ false }
-        ensures takes { OnOk result ((node : OpenNode)
+        // for whatever is supposed of the device, where it makes it honest
+        ensures takes { OnOk result ((node : OpenNode) (honest : Bool)
+            → (honest ≡ true → D.is_honest device.new ≡ true)
             → Writes (HasTokens self.old.tokens.list) self.old.tokens.list
-            (D.is_honest device.old) (D.content device.old) (D.content device.new)
+            honest (D.content device.old) (D.content device.new)
             (λ k. Faces k (item.Terminal terminal) node self.old)
             (λ k. IsBetween k node self.new)) }
         ensures refuses { (node : OpenNode)
@@ -268,7 +270,7 @@ impl<'t> Parser<'t> {
         ensures written { OnOk result
             (writer.new.written + length self.new.waiting.items + 1 ≡ self.new.count) }
         ensures fine { OnOk result (writer.new.is_broken ≡ false) }
-        ensures adds { WhenHonest (D.is_honest device.old)
+        ensures adds { WhenHonest (D.is_honest device.new)
             (AddsFrames (D.content device.old) (D.content device.new) result) }
         ensures device { BreaksWriter D.is_honest D.failures device.old device.new
             writer.new.is_broken (IsErrOf result ParseFault.Device) }

@@ -40,12 +40,12 @@ fn run<D: Device>(
     requires tokens { FitAll (vocabulary_of grammar.now) sentence.now }
     requires begun { writer.old ≡ record { written = 0; is_broken = false } }
     ensures parsed { IfOk result (λ count. IsParsed (task_of grammar.now sentence.now
-        (D.is_honest device.old) (D.content device.old)) count (D.content device.new)) }
+        (D.is_honest device.new) (D.content device.old)) count (D.content device.new)) }
     ensures written { IfOk result (λ count. writer.new
         ≡ record { written = count; is_broken = false }) }
     ensures refused { IfErr result (IsRefused (task_of grammar.now sentence.now
-        (D.is_honest device.old) (D.content device.old)) (offset_at sentence.now)) }
-    ensures left { IfErr result (λ fault. WhenHonest (D.is_honest device.old)
+        (D.is_honest device.new) (D.content device.old)) (offset_at sentence.now)) }
+    ensures left { IfErr result (λ fault. WhenHonest (D.is_honest device.new)
         (AddsFrames (D.content device.old) (D.content device.new) (Err fault))) }
     ensures device { BreaksWriter D.is_honest D.failures device.old device.new
         writer.new.is_broken (IsErrOf result ParseFault.Device) }
@@ -114,7 +114,7 @@ pub fn parse<D: Device>(
     ensures count { (t : Tree) → IsTreeWith grammar.now (words_of sentence.now) t
         → IfOk result (λ count. count ≡ node_count t) }
     ensures file { (t : Tree) → IsTreeWith grammar.now (words_of sentence.now) t
-        → OnOk result (WhenHonest (D.is_honest device.old)
+        → OnOk result (WhenHonest (D.is_honest device.new)
         (IsFirstFile version_two grammar.now t (D.content device.new))) }
     ensures written { IfOk result (λ count. writer.new
         ≡ record { written = count; is_broken = false }) }
@@ -130,7 +130,7 @@ pub fn parse<D: Device>(
         → LeavesOnlyLarger most_nodes grammar.now (words_of sentence.now) }
 
     // a refusal leaves a beginning of a file of pass 0, maybe its header alone
-    ensures left { IfErr result (λ _. WhenHonest (D.is_honest device.old)
+    ensures left { IfErr result (λ _. WhenHonest (D.is_honest device.new)
         (BeginsFile 0 (D.content device.new))) }
 
     // the writer is broken where the device failed, and for no other cause

@@ -54,7 +54,7 @@ pub fn tell_tree<D: Device>(
     kept: Kept<'_>,
     tree: &mut D,
 ) -> Result<(), AllocError>
-    ensures content { LeavesContent (D.is_honest tree.old)
+    ensures content { LeavesContent (D.is_honest tree.new)
         (D.content tree.old) (D.content tree.new) }
     // nothing tells of a device that failed
     ensures persists { Persists (D.is_honest tree.old) (D.is_honest tree.new)

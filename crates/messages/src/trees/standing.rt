@@ -20,7 +20,7 @@ pub struct Frame {
 /// The frame that ends at an offset of a file of a version. None where none does, or where it can't be
 /// read. Takes no memory.
 pub fn frame_before<D: Device>(version: FileVersion, tree: &mut D, end: u64) -> Option<Frame>
-    ensures content { LeavesContent (D.is_honest tree.old)
+    ensures content { LeavesContent (D.is_honest tree.new)
         (D.content tree.old) (D.content tree.new) }
     ensures persists { Persists (D.is_honest tree.old) (D.is_honest tree.new)
         (D.failures tree.old) (D.failures tree.new) ⊥ }
@@ -53,7 +53,7 @@ pub fn awaited_at<D: Device>(
     tree: &mut D,
     at: u64,
 ) -> Option<Vec<Item>>
-    ensures content { LeavesContent (D.is_honest tree.old)
+    ensures content { LeavesContent (D.is_honest tree.new)
         (D.content tree.old) (D.content tree.new) }
     ensures persists { Persists (D.is_honest tree.old) (D.is_honest tree.new)
         (D.failures tree.old) (D.failures tree.new) ⊥ }

@@ -159,13 +159,13 @@ greatest_most rows a b f h = elim f.there [
 
 -- a device that nothing was done to, and one on which something more was done
 pub persists_still : (honest : Bool) (failures : ℕ) → Persists honest honest failures failures ⊥
-persists_still honest failures = record { honest = refl; kept = omega arith; bounded = λ few. few; cause = λ f. absurd f }
+persists_still honest failures = record { honest = λ h. h; kept = omega arith; bounded = λ few. few; cause = λ f. absurd f }
 
 pub persists_on : (h0 h1 h2 : Bool) (f0 f1 f2 : ℕ) → Persists h0 h1 f0 f1 ⊥ → Persists h1 h2 f1 f2 ⊥ → Persists h0 h2 f0 f2 ⊥
 persists_on h0 h1 h2 f0 f1 f2 old new =
     let a = old.kept in
     let b = new.kept in
-    record { honest = new.honest ∙ old.honest; kept = omega arith; bounded = λ few. new.bounded (old.bounded few); cause = λ f. absurd f }
+    record { honest = λ h. old.honest (new.honest h); kept = omega arith; bounded = λ few. new.bounded (old.bounded few); cause = λ f. absurd f }
 
 -- a failure that has risen since a later moment has risen since an earlier one
 pub risen_since : (before now later : ℕ) → before ≤ now → HasRisen now later → HasRisen before later

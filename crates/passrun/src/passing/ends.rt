@@ -54,15 +54,15 @@ pub(crate) fn begin<D: Device, E: Device>(
     ensures runs { IfOk result (λ m. Runs (setting job.now)
         (D.is_honest from.new) (D.content from.new)
         (E.is_honest to.new) (E.content to.new) meter.now m (Some (first_at m.root 0))) }
-    ensures header { OnOk result (WhenHonest (E.is_honest to.old)
+    ensures header { OnOk result (WhenHonest (E.is_honest to.new)
         (E.content to.new ≡ header version_two (setting job.now).write)) }
     // what the second device had, or a beginning of the file
-    ensures left { OnErr result (WhenHonest (E.is_honest to.old)
+    ensures left { OnErr result (WhenHonest (E.is_honest to.new)
         (LeavesBeginning (setting job.now).write (E.content to.old) (E.content to.new))) }
-    ensures refused { IfErr result (λ f. WhenHonest (D.is_honest from.old)
+    ensures refused { IfErr result (λ f. WhenHonest (D.is_honest from.new)
         (IsRunFault (setting job.now) (D.content from.old) f)) }
     ensures begun { IfOk result (λ m. m.begun ≡ meter.now) }
-    ensures content { LeavesContent (D.is_honest from.old)
+    ensures content { LeavesContent (D.is_honest from.new)
         (D.content from.old) (D.content from.new) }
     // D1 only where the number of failures rose on one of the two
     ensures devices { BothLast D.is_honest D.failures from.old from.new
@@ -98,17 +98,17 @@ pub(crate) fn finish<D: Device, E: Device>(
         (E.is_honest to.old) (E.content to.old) machine.old None }
     ensures passed { (meter : ℕ) → Runs (setting job.now) (D.is_honest from.old)
         (D.content from.old) (E.is_honest to.old) (E.content to.old) meter machine.old None →
-        WhenHonest (D.is_honest from.old) (WhenHonest (E.is_honest to.old)
+        WhenHonest (D.is_honest from.new) (WhenHonest (E.is_honest to.new)
         (IfOk result (λ p. IsPassed (setting job.now) (D.content from.old) (E.content to.new)
         p.nodes (meter - machine.old.begun)))) }
-    ensures left { IfErr result (LeavesFrames (E.is_honest to.old)
+    ensures left { IfErr result (LeavesFrames (E.is_honest to.new)
         (E.content to.old) (E.content to.new)) }
-    ensures refused { IfErr result (λ f. WhenHonest (D.is_honest from.old)
+    ensures refused { IfErr result (λ f. WhenHonest (D.is_honest from.new)
         (IsRunFault (setting job.now) (D.content from.old) f)) }
     ensures counts { IfOk result (λ p. (p.read ≡ p.nodes) × (p.written ≡ p.nodes)) }
     // whatever the devices give back
     ensures few { IfOk result (λ p. p.nodes ≤ most_nodes) }
-    ensures content { LeavesContent (D.is_honest from.old)
+    ensures content { LeavesContent (D.is_honest from.new)
         (D.content from.old) (D.content from.new) }
     // D1 only where the number of failures rose on one of the two
     ensures devices { BothLast D.is_honest D.failures from.old from.new

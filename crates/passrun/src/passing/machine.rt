@@ -95,13 +95,13 @@ impl Machine {
             (D.is_honest from.old) (D.is_honest from.new)
             (D.content from.old) (D.content from.new) self.old self.new (Some node) (Some next)) }
         ensures production { IfOk result (λ next. next.production ≡ node.production) }
-        ensures refused { IfErr result (λ f. WhenHonest (D.is_honest from.old)
+        ensures refused { IfErr result (λ f. WhenHonest (D.is_honest from.new)
             (IsRunFault (setting job.now) (D.content from.old) f)) }
         ensures less { IfOk result (λ next.
             work (setting job.now) self.new (Some next)
             < work (setting job.now) self.old (Some node)) }
         ensures begun { self.new.begun ≡ self.old.begun }
-        ensures content { LeavesContent (D.is_honest from.old)
+        ensures content { LeavesContent (D.is_honest from.new)
             (D.content from.old) (D.content from.new) }
         ensures persists { Persists (D.is_honest from.old) (D.is_honest from.new)
             (D.failures from.old) (D.failures from.new) (IsErrOf result RunFault.Device) }
@@ -149,9 +149,9 @@ impl Machine {
         ensures runs { IfOk result (λ next. TurnsTo (setting job.now)
             (E.is_honest to.old) (E.is_honest to.new)
             (E.content to.old) (E.content to.new) self.old self.new (Some node) (Some next)) }
-        ensures added { OnOk result (AddsFrames (E.is_honest to.old)
+        ensures added { OnOk result (AddsFrames (E.is_honest to.new)
             (E.content to.old) (E.content to.new)) }
-        ensures left { IfErr result (LeavesFrames (E.is_honest to.old)
+        ensures left { IfErr result (LeavesFrames (E.is_honest to.new)
             (E.content to.old) (E.content to.new)) }
         ensures want { IfErr result IsWant }
         ensures less { IfOk result (λ next.
@@ -274,9 +274,9 @@ impl Machine {
         ensures runs { IfOk result (λ next. TurnsTo (setting job.now)
             (E.is_honest to.old) (E.is_honest to.new)
             (E.content to.old) (E.content to.new) self.old self.new (Some node) next) }
-        ensures added { OnOk result (AddsFrames (E.is_honest to.old)
+        ensures added { OnOk result (AddsFrames (E.is_honest to.new)
             (E.content to.old) (E.content to.new)) }
-        ensures left { IfErr result (LeavesFrames (E.is_honest to.old)
+        ensures left { IfErr result (LeavesFrames (E.is_honest to.new)
             (E.content to.old) (E.content to.new)) }
         ensures want { IfErr result IsWant }
         ensures less { IfOk result (λ next.
@@ -339,9 +339,9 @@ impl Machine {
         ensures runs { IfOk result (λ next. TurnsTo (setting job.now)
             (E.is_honest to.old) (E.is_honest to.new)
             (E.content to.old) (E.content to.new) self.old self.new (Some node) next) }
-        ensures added { OnOk result (AddsFrames (E.is_honest to.old)
+        ensures added { OnOk result (AddsFrames (E.is_honest to.new)
             (E.content to.old) (E.content to.new)) }
-        ensures left { IfErr result (LeavesFrames (E.is_honest to.old)
+        ensures left { IfErr result (LeavesFrames (E.is_honest to.new)
             (E.content to.old) (E.content to.new)) }
         ensures want { IfErr result IsWant }
         ensures most { IfOk result (λ next.
@@ -383,17 +383,17 @@ impl Machine {
         ensures runs { IfOk result (λ next. Runs (setting job.now)
             (D.is_honest from.new) (D.content from.new)
             (E.is_honest to.new) (E.content to.new) meter.new self.new next) }
-        ensures added { OnOk result (AddsFrames (E.is_honest to.old)
+        ensures added { OnOk result (AddsFrames (E.is_honest to.new)
             (E.content to.old) (E.content to.new)) }
-        ensures left { IfErr result (LeavesFrames (E.is_honest to.old)
+        ensures left { IfErr result (LeavesFrames (E.is_honest to.new)
             (E.content to.old) (E.content to.new)) }
-        ensures refused { IfErr result (λ f. WhenHonest (D.is_honest from.old)
+        ensures refused { IfErr result (λ f. WhenHonest (D.is_honest from.new)
             (IsRunFault (setting job.now) (D.content from.old) f)) }
         ensures less { IfOk result (λ next.
             work (setting job.now) self.new next < work (setting job.now) self.old (Some node)) }
         ensures begun { self.new.begun ≡ self.old.begun }
         ensures rises { meter.old ≤ meter.new }
-        ensures content { LeavesContent (D.is_honest from.old)
+        ensures content { LeavesContent (D.is_honest from.new)
             (D.content from.old) (D.content from.new) }
         // D1 only where the number of failures rose on one of the two
         ensures devices { BothLast D.is_honest D.failures from.old from.new

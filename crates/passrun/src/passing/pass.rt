@@ -38,14 +38,14 @@ pub(crate) fn run_job<D: Device, E: Device>(
 ) -> Result<Passed, RunFault>
     requires job { CanRun job.now }
     requires meter { meter.old ≤ 2 ^ 63 }
-    ensures passed { WhenHonest (D.is_honest from.old) (WhenHonest (E.is_honest to.old)
+    ensures passed { WhenHonest (D.is_honest from.new) (WhenHonest (E.is_honest to.new)
         (IfOk result (λ p. IsPassed (setting job.now) (D.content from.old) (E.content to.new)
         p.nodes (meter.new - meter.old)))) }
     // R1, P2 and P3 only where they are true of the file
-    ensures refused { IfErr result (λ f. WhenHonest (D.is_honest from.old)
+    ensures refused { IfErr result (λ f. WhenHonest (D.is_honest from.new)
         (IsRunFault (setting job.now) (D.content from.old) f)) }
     // what the second device had, or a beginning of the file
-    ensures left { OnErr result (WhenHonest (E.is_honest to.old)
+    ensures left { OnErr result (WhenHonest (E.is_honest to.new)
         (LeavesBeginning (setting job.now).write (E.content to.old) (E.content to.new))) }
     ensures counts { IfOk result (λ p. (p.read ≡ p.nodes) × (p.written ≡ p.nodes)) }
     // whatever the devices give back
@@ -53,7 +53,7 @@ pub(crate) fn run_job<D: Device, E: Device>(
     // whatever the devices give back
     ensures rises { meter.old ≤ meter.new }
     ensures meter { OnOk result (meter.new ≤ meter.old + 2 ^ 36) }
-    ensures content { LeavesContent (D.is_honest from.old)
+    ensures content { LeavesContent (D.is_honest from.new)
         (D.content from.old) (D.content from.new) }
     // D1 only where the number of failures rose on one of the two
     ensures devices { BothLast D.is_honest D.failures from.old from.new
@@ -94,20 +94,20 @@ pub fn run_pass<D: Device, E: Device>(
     requires first { 1 ≤ pass }
     requires last { (passes : ℕ) × IsGreatest passes plan.now.0 × (pass ≤ passes) }
     requires meter { meter.old ≤ 2 ^ 63 }
-    ensures passed { WhenHonest (D.is_honest from.old) (WhenHonest (E.is_honest to.old)
+    ensures passed { WhenHonest (D.is_honest from.new) (WhenHonest (E.is_honest to.new)
         (IfOk result (λ p. IsPassed (setting_of grammar.now plan.now pass) (D.content from.old)
         (E.content to.new) p.nodes (meter.new - meter.old)))) }
     // of whichever tree and values the file is: there is only one tree
-    ensures told { WhenHonest (D.is_honest from.old) (WhenHonest (E.is_honest to.old)
+    ensures told { WhenHonest (D.is_honest from.new) (WhenHonest (E.is_honest to.new)
         (IfOk result (λ p. RunsPass version_two grammar.now (passes_of plan.now.0) (pass - 1)
         (D.content from.old) (E.content to.new)
         × CountsPass grammar.now (passes_of plan.now.0) (pass - 1) (D.content from.old)
         p.nodes (meter.new - meter.old)))) }
     // R1, P2 and P3 only where they are true of the file
-    ensures refused { IfErr result (λ f. WhenHonest (D.is_honest from.old)
+    ensures refused { IfErr result (λ f. WhenHonest (D.is_honest from.new)
         (IsRunFault (setting_of grammar.now plan.now pass) (D.content from.old) f)) }
     // what the second device had, or a beginning of the file
-    ensures left { OnErr result (WhenHonest (E.is_honest to.old)
+    ensures left { OnErr result (WhenHonest (E.is_honest to.new)
         (LeavesBeginning pass (E.content to.old) (E.content to.new))) }
     ensures counts { IfOk result (λ p. (p.read ≡ p.nodes) × (p.written ≡ p.nodes)) }
     // whatever the devices give back
@@ -115,7 +115,7 @@ pub fn run_pass<D: Device, E: Device>(
     // whatever the devices give back
     ensures rises { meter.old ≤ meter.new }
     ensures meter { OnOk result (meter.new ≤ meter.old + 2 ^ 36) }
-    ensures content { LeavesContent (D.is_honest from.old)
+    ensures content { LeavesContent (D.is_honest from.new)
         (D.content from.old) (D.content from.new) }
     // D1 only where the number of failures rose on one of the two
     ensures devices { BothLast D.is_honest D.failures from.old from.new

@@ -26,10 +26,10 @@ pub(crate) fn put_record<E: Device>(
     requires room { writer.old.written < 2 ^ 64 - 1 }
     requires whole { writer.old.is_broken ≡ false }
     ensures put { OnOk result (HasPut kind number values.now
-        (E.is_honest to.old) (E.content to.old) (E.content to.new) writer.old writer.new) }
-    ensures added { OnOk result (AddsFrames (E.is_honest to.old)
+        (E.is_honest to.new) (E.content to.old) (E.content to.new) writer.old writer.new) }
+    ensures added { OnOk result (AddsFrames (E.is_honest to.new)
         (E.content to.old) (E.content to.new)) }
-    ensures left { IfErr result (LeavesFrames (E.is_honest to.old)
+    ensures left { IfErr result (LeavesFrames (E.is_honest to.new)
         (E.content to.old) (E.content to.new)) }
     ensures want { IfErr result IsWant }
     ensures persists { Persists (E.is_honest to.old) (E.is_honest to.new)

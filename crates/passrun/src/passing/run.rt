@@ -31,15 +31,15 @@ pub(crate) fn run<D: Device, E: Device>(
         (E.is_honest to.old) (E.content to.old) meter.old machine.old (Some root) }
     ensures runs { OnOk result (Runs (setting job.now) (D.is_honest from.new) (D.content from.new)
         (E.is_honest to.new) (E.content to.new) meter.new machine.new None) }
-    ensures added { OnOk result (AddsFrames (E.is_honest to.old)
+    ensures added { OnOk result (AddsFrames (E.is_honest to.new)
         (E.content to.old) (E.content to.new)) }
-    ensures left { IfErr result (LeavesFrames (E.is_honest to.old)
+    ensures left { IfErr result (LeavesFrames (E.is_honest to.new)
         (E.content to.old) (E.content to.new)) }
-    ensures refused { IfErr result (λ f. WhenHonest (D.is_honest from.old)
+    ensures refused { IfErr result (λ f. WhenHonest (D.is_honest from.new)
         (IsRunFault (setting job.now) (D.content from.old) f)) }
     ensures begun { OnOk result (machine.new.begun ≡ machine.old.begun) }
     ensures rises { meter.old ≤ meter.new }
-    ensures content { LeavesContent (D.is_honest from.old)
+    ensures content { LeavesContent (D.is_honest from.new)
         (D.content from.old) (D.content from.new) }
     // D1 only where the number of failures rose on one of the two
     ensures devices { BothLast D.is_honest D.failures from.old from.new

@@ -34,11 +34,11 @@ pub(crate) fn fetch<D: Device>(
     requires version { back.old.progress.version ≡ version_two }
     requires unbroken { back.old.progress.fault ≡ None }
     ensures fetched { IfOk result (λ p. HasFetched (setting job.now) item p open_count
-        (D.is_honest from.old) (D.content from.old) back.old back.new
+        (D.is_honest from.new) (D.content from.old) back.old back.new
         values.old.items values.new.items) }
-    ensures refused { IfErr result (λ f. WhenHonest (D.is_honest from.old)
+    ensures refused { IfErr result (λ f. WhenHonest (D.is_honest from.new)
         (IsUnfetched (setting job.now) item open_count (D.content from.old) back.old f)) }
-    ensures content { LeavesContent (D.is_honest from.old)
+    ensures content { LeavesContent (D.is_honest from.new)
         (D.content from.old) (D.content from.new) }
     ensures persists { Persists (D.is_honest from.old) (D.is_honest from.new)
         (D.failures from.old) (D.failures from.new) (IsErrOf result RunFault.Device) }

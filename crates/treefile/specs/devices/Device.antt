@@ -13,20 +13,20 @@ most_failures = 2 ^ 64 - 1
 abbrev pub HasRisen : ℕ → ℕ → Type 0
 HasRisen before now = (before < now) ⊎ (now ≡ most_failures)
 
--- What a call keeps of a device besides its content. The device is honest exactly where it was. The number of
--- failures never falls, passes the most that is counted only where it had passed it, and has risen where the call's
--- answer is that the device failed.
+-- What a call keeps of a device besides its content. A device that is honest after the call was honest before it: a call can show
+-- that a device is dishonest, and no call makes it honest again. The number of failures never falls, stays within the greatest
+-- number that is counted, and rises if the call answers that the device failed.
 pub record Persists (honest_before honest_now : Bool) (before now : ℕ) (failed : Type 0) : Type 0 where
-  pub honest : honest_now ≡ honest_before
+  pub honest : honest_now ≡ true → honest_before ≡ true
   pub kept : before ≤ now
   pub bounded : before ≤ most_failures → now ≤ most_failures
   pub cause : failed → HasRisen before now
 
--- the fact holds where the device is honest
+-- the fact holds if the device is honest
 abbrev pub WhenHonest : Bool → Type 0 → Type 0
 WhenHonest honest fact = honest ≡ true → fact
 
--- where the device is honest, the content is as before
+-- if the device is honest, its content is as before
 abbrev pub LeavesContent : Bool → List ℕ → List ℕ → Type 0
 LeavesContent honest old new = WhenHonest honest (new ≡ old)
 

@@ -1,52 +1,67 @@
--- A device over a file: what is known of it, and what its calls do. All of this is this project's.
-use Rattle.std.specs.Prelude.{◌≡◌, ℕ, Bool, List, [], ◌∷◌, ◌++◌, Option, Some, None, refl}
+-- A device over a file, and what its calls do. All of this is this project's.
+use Rattle.std.specs.Prelude.{◌≡◌, ℕ, Bool, List, [], ◌∷◌, ◌++◌, Option, Some, None, true, refl}
 use Rattle.std.specs.Io.KnownBytes.{append_known}
+use Rattle.noted_file.specs.Calls.{Event, append_event, initial_event, open_event, read_event, replay, truncate_event}
 use Rattle.treefile.specs.devices.Device.{Persists}
 use Rattle.treefile.specs.declared.file.Access.{Access}
 use Rattle.treefile.specs.declared.file.Access.TheVariants.{Writing, Broken}
 
--- The file, what may be done with it, and how many calls failed; the bytes that were appended and aren't written out yet;
--- the bytes that the file has, and whether it gives back what was written to it. Of these two no clause tells anything:
--- a reader may believe them of a file, and nobody can prove them of one.
+-- The file, its calls with their answers (newest first), what may be done with it, the number of failed calls, and the bytes
+-- that were appended to the device and are not written to the file yet.
 pub record Gathering (F : Type 0) : Type 0 where
   pub file : F
+  pub events : List Event
   pub access : Access
   pub failures : ℕ
   pub gathered : List ℕ
-  pub stored : List ℕ
-  pub is_honest : Bool
 
--- the bytes of a device over a file: what the file has, and then what isn't written out yet
+-- the content of the device: the content that the file must have after its calls, then the bytes that are not written yet
 abbrev pub content_of : {F : Type 0} → Gathering F → List ℕ
-content_of device = device.stored ++ device.gathered
+content_of device = (replay device.events).stored ++ device.gathered
 
--- Where it is known which bytes a file has taken: these, and then what isn't written out yet. A device over such a file
--- has taken them all.
+-- whether each length and each byte that the file has returned so far agrees with what was written to it
+abbrev pub is_honest_of : {F : Type 0} → Gathering F → Bool
+is_honest_of device = (replay device.events).is_honest
+
+-- Where the bytes that a file has taken are known: these, then the bytes that are not written yet.
 abbrev pub taken : {F : Type 0} → (F → Option (List ℕ)) → Gathering F → Option (List ℕ)
 taken contents device = append_known (contents device.file) device.gathered
 
--- A device over a file just opened: nothing waits to be written, and no call failed.
-pub record IsNew {F : Type 0} (use_of_file : Access) (device : Gathering F) : Type 0 where
+-- A device over a file that was just opened at this path: no bytes are gathered, no call has failed, and the record of calls
+-- continues the given one.
+pub record IsNew {F : Type 0} (use_of_file : Access) (path : List ℕ) (before : List Event) (device : Gathering F) : Type 0 where
   pub access : device.access ≡ use_of_file
   pub gathered : device.gathered ≡ []
   pub failures : device.failures ≡ 0
+  pub events : device.events ≡ open_event path ∷ before
 
 -- what a call leaves of a device over a file besides its content
 abbrev pub FilePersists : {F : Type 0} → Gathering F → Gathering F → Type 0 → Type 0
-FilePersists old new failed = Persists old.is_honest new.is_honest old.failures new.failures failed
+FilePersists old new failed = Persists (is_honest_of old) (is_honest_of new) old.failures new.failures failed
 
--- Where a write failed before, this call fails, and there are only failed calls from then on.
+-- After a failed write every call fails.
 pub record StaysBroken {F : Type 0} (old new : Gathering F) (failed : Type 0) : Type 0 where
   pub fails : old.access ≡ Broken → failed
   pub stays : old.access ≡ Broken → new.access ≡ Broken
 
--- a file that took two bytes, while a third one waits
+-- a truncated file that took two bytes, and a third byte that is gathered
 abbrev pub third_waits : Gathering (List ℕ)
-third_waits = record { file = 7 ∷ 8 ∷ []; access = Writing; failures = 0; gathered = 9 ∷ []; stored = []; is_honest = Bool.false }
+third_waits = record { file = 7 ∷ 8 ∷ []; events = append_event true (7 ∷ 8 ∷ []) ∷ truncate_event true ∷ open_event [] ∷ initial_event (6 ∷ []) ∷ []; access = Writing; failures = 0; gathered = 9 ∷ [] }
 
 pub taken_of_three : taken Some third_waits ≡ Some (7 ∷ 8 ∷ 9 ∷ [])
 taken_of_three = refl
 
--- of a file that tells nothing, nothing is known of the device
+-- nothing is known of the device if nothing is known of the file
 pub taken_unknown : taken (λ _. None) third_waits ≡ None
 taken_unknown = refl
+
+-- the content of the device has all three, and no answer was wrong so far
+pub content_of_three : content_of third_waits ≡ 7 ∷ 8 ∷ 9 ∷ []
+content_of_three = refl
+
+pub three_honest : is_honest_of third_waits ≡ true
+three_honest = refl
+
+-- a file that returns another byte than was written is not honest
+pub other_byte : is_honest_of (record third_waits { events = read_event 1 true (5 ∷ []) ∷ third_waits.events }) ≡ Bool.false
+other_byte = refl

@@ -23,7 +23,7 @@ pub record ThreeLast {D E F : Type 0} (honest : D → Bool) (failures : D → �
 -- a call that failed by its second device: of the first three calls had failed before, and of the second none
 pub second_failed : BothLast {D = ℕ} {E = ℕ} (λ _. true) (λ n. n) 3 3 (λ _. true) (λ n. n) 0 1 (Unit {0})
 second_failed = record {
-  first = record { honest = refl; kept = lit≤ tt; bounded = λ most. most; cause = λ none. absurd none };
-  second = record { honest = refl; kept = lit≤ tt; bounded = λ most. lit≤ tt; cause = λ none. absurd none };
+  first = record { honest = λ same. same; kept = lit≤ tt; bounded = λ most. most; cause = λ none. absurd none };
+  second = record { honest = λ same. same; kept = lit≤ tt; bounded = λ most. lit≤ tt; cause = λ none. absurd none };
   cause = λ failed. inr (inl (lit< tt));
 }

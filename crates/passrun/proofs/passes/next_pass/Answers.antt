@@ -12,7 +12,7 @@ returns-in-A-clause-passed g c = λ ha hb.
 
 pub returns-in-A-clause-refused : goal.returns-in-A-clause-refused
 returns-in-A-clause-refused g c =
-    refused_from_a (setting_of c.args.grammar.now c.args.plan.now (c.args.done + 1)) (g.D.Device.content c.args.a.now) (g.D.Device.content c.args.b.now) (g.D.Device.is_honest c.args.a.now) (g.D.Device.is_honest c.args.b.now) c.args.last c.in-A.is c.run_pass.result c.run_pass.ensures.refused
+    refused_from_a (setting_of c.args.grammar.now c.args.plan.now (c.args.done + 1)) (g.D.Device.content c.args.a.now) (g.D.Device.content c.args.b.now) (g.D.Device.is_honest c.run_pass.new.from) (g.D.Device.is_honest c.run_pass.new.to) c.args.last c.in-A.is c.run_pass.result c.run_pass.ensures.refused
 
 pub returns-in-B-clause-passed : goal.returns-in-B-clause-passed
 returns-in-B-clause-passed g c = λ ha hb.
@@ -20,7 +20,7 @@ returns-in-B-clause-passed g c = λ ha hb.
 
 pub returns-in-B-clause-refused : goal.returns-in-B-clause-refused
 returns-in-B-clause-refused g c =
-    refused_from_b (setting_of c.args.grammar.now c.args.plan.now (c.args.done + 1)) (g.D.Device.content c.args.a.now) (g.D.Device.content c.args.b.now) (g.D.Device.is_honest c.args.b.now) (g.D.Device.is_honest c.args.a.now) c.args.last c.in-B.is c.run_pass-in-B.result c.run_pass-in-B.ensures.refused
+    refused_from_b (setting_of c.args.grammar.now c.args.plan.now (c.args.done + 1)) (g.D.Device.content c.args.a.now) (g.D.Device.content c.args.b.now) (g.D.Device.is_honest c.run_pass-in-B.new.from) (g.D.Device.is_honest c.run_pass-in-B.new.to) c.args.last c.in-B.is c.run_pass-in-B.result c.run_pass-in-B.ensures.refused
 
 pub returns-in-A-clause-kept : goal.returns-in-A-clause-kept
 returns-in-A-clause-kept g c = λ ha hb.

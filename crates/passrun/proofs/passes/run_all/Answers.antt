@@ -57,8 +57,8 @@ loop-done-preserved g c =
       runs = λ ha hb.
           let next : c.loop-done.done + 1 ≡ suc c.loop-done.done = omega arith in
           let total : c.next_pass.new.meter - c.args.meter.now ≡ (c.loop-done.meter - c.args.meter.now) + (c.next_pass.new.meter - c.loop-done.meter) = omega arith in
-          all_goes_on c.args.grammar.now c.args.plan.now (c.args.first - 1) c.loop-done.done (c.loop-done.done + 1) (g.D.Device.content c.args.a.now) (g.D.Device.content c.loop-done.a) (g.D.Device.content c.loop-done.b) (g.D.Device.content c.next_pass.new.a) (g.D.Device.content c.next_pass.new.b) c.loop-done.last (c.loop-done.meter - c.args.meter.now) (c.next_pass.new.meter - c.loop-done.meter) c.loop-done.sum c.in_ok-passed.passed c.start-start.ensures.accepted c.requires.plan.legal low next (old.runs ha hb)
-          (c.in_ok-passed.ensures.passed (old.a_persists.honest ∙ ha) (old.b_persists.honest ∙ hb)) same_read same_written (c.next_pass.new.meter - c.args.meter.now) c.other-last.result c.one_more-sum.result total c.other-last.ensures sum;
+          all_goes_on c.args.grammar.now c.args.plan.now (c.args.first - 1) c.loop-done.done (c.loop-done.done + 1) (g.D.Device.content c.args.a.now) (g.D.Device.content c.loop-done.a) (g.D.Device.content c.loop-done.b) (g.D.Device.content c.next_pass.new.a) (g.D.Device.content c.next_pass.new.b) c.loop-done.last (c.loop-done.meter - c.args.meter.now) (c.next_pass.new.meter - c.loop-done.meter) c.loop-done.sum c.in_ok-passed.passed c.start-start.ensures.accepted c.requires.plan.legal low next (old.runs (c.in_ok-passed.ensures.devices.first.honest ha) (c.in_ok-passed.ensures.devices.second.honest hb))
+          (c.in_ok-passed.ensures.passed ha hb) same_read same_written (c.next_pass.new.meter - c.args.meter.now) c.other-last.result c.one_more-sum.result total c.other-last.ensures sum;
     }
 
 pub returns-clause-passed : goal.returns-clause-passed
@@ -77,8 +77,8 @@ returns-in_err-passed-clause-refused g c =
     let old = c.loop-done.invariant in
     let said = c.in_err-passed.ensures.refused in
     rw (p.1, p.2) (λ ha hb.
-    all_refused c.args.grammar.now c.args.plan.now c.args.first c.loop-done.done (c.loop-done.done + 1) (g.D.Device.content c.args.a.now) (g.D.Device.content c.loop-done.a) (g.D.Device.content c.loop-done.b) c.loop-done.last (c.loop-done.meter - c.args.meter.now) c.loop-done.sum next c.requires.first old.low (old.runs ha hb)
-    c.in_err-passed.field-0.0 (said (old.a_persists.honest ∙ ha) (old.b_persists.honest ∙ hb)))
+    all_refused c.args.grammar.now c.args.plan.now c.args.first c.loop-done.done (c.loop-done.done + 1) (g.D.Device.content c.args.a.now) (g.D.Device.content c.loop-done.a) (g.D.Device.content c.loop-done.b) c.loop-done.last (c.loop-done.meter - c.args.meter.now) c.loop-done.sum next c.requires.first old.low (old.runs (c.in_err-passed.ensures.devices.first.honest ha) (c.in_err-passed.ensures.devices.second.honest hb))
+    c.in_err-passed.field-0.0 (said ha hb))
 
 pub returns-in_err-passed-clause-left : goal.returns-in_err-passed-clause-left
 returns-in_err-passed-clause-left g c =
@@ -90,18 +90,16 @@ returns-in_err-passed-clause-left g c =
     let kept = c.in_err-passed.ensures.kept in
     let left = c.in_err-passed.ensures.left in
     rw p.1 (λ ha hb.
-    let is = old.a_persists.honest ∙ ha in
-    let too = old.b_persists.honest ∙ hb in
-    let ran = old.runs ha hb in
+    let ran = old.runs (c.in_err-passed.ensures.devices.first.honest ha) (c.in_err-passed.ensures.devices.second.honest hb) in
     record {
       done = c.loop-done.done;
       which = last;
       before = other_content last a b;
       far = old.low;
-      runs = subst (λ (now : List ℕ). RunsPasses version_two c.args.grammar.now (passes_of c.args.plan.now.0) (c.args.first - 1) c.loop-done.done (g.D.Device.content c.args.a.now) now (other_content last a b)) (sym (kept is too)) ran.runs;
+      runs = subst (λ (now : List ℕ). RunsPasses version_two c.args.grammar.now (passes_of c.args.plan.now.0) (c.args.first - 1) c.loop-done.done (g.D.Device.content c.args.a.now) now (other_content last a b)) (sym (kept ha hb)) ran.runs;
       held = ran.held;
       none = λ same.
           let first : last ≡ A = (ran.nothing same).0 in
-          (first, subst (λ (w : Last). last_content w (g.D.Device.content c.next_pass.new.a) (g.D.Device.content c.next_pass.new.b) ≡ g.D.Device.content c.args.a.now) first (kept is too ∙ ran.fresh same), subst (λ (w : Last). other_content w a b ≡ g.D.Device.content c.args.b.now) (sym first) (old.far same));
-      left = left is too;
+          (first, subst (λ (w : Last). last_content w (g.D.Device.content c.next_pass.new.a) (g.D.Device.content c.next_pass.new.b) ≡ g.D.Device.content c.args.a.now) first (kept ha hb ∙ ran.fresh same), subst (λ (w : Last). other_content w a b ≡ g.D.Device.content c.args.b.now) (sym first) (old.far same));
+      left = left ha hb;
     })

@@ -31,8 +31,9 @@ returns-in_err-tree-clause-refused g c =
     let start = c.in_ok-back.ensures in
     let content = g.D.Device.content c.args.from.now in
     rw (p.1, p.2) (λ honest.
-    let here = begins_at grammar c.start.ensures.accepted content c.in_ok-back.back.progress.pass c.in_ok-back.back.progress (start.told honest) (sym c.pass.ensures ∙ c.if-pass-ne0.false) (start.started.end honest) start.started.fresh in
-    let refused = subst (λ (bytes : List ℕ). IsUnbrought grammar bytes (item.Symbol c.start.result ∷ []) 1 c.in_ok-back.back.progress c.in_err-tree.field-0.0) (start.content honest) (c.in_err-tree.ensures.refused (start.persists.honest ∙ honest)) in
+    let z = c.in_err-tree.ensures.devices.first.honest honest in
+    let here = begins_at grammar c.start.ensures.accepted content c.in_ok-back.back.progress.pass c.in_ok-back.back.progress (start.told z) (sym c.pass.ensures ∙ c.if-pass-ne0.false) (start.started.end z) start.started.fresh in
+    let refused = subst (λ (bytes : List ℕ). IsUnbrought grammar bytes (item.Symbol c.start.result ∷ []) 1 c.in_ok-back.back.progress c.in_err-tree.field-0.0) (start.content z) (c.in_err-tree.ensures.refused honest) in
     subst (λ (s : ℕ). IsUnbrought grammar content (item.Symbol s ∷ []) 1 c.in_ok-back.back.progress c.in_err-tree.field-0.0) c.start.ensures.value refused [] here)
 
 -- no frame can be read behind the tree
@@ -47,12 +48,13 @@ returns-in_err-back-2-clause-refused g c =
     let now = c.tree.new.self.back.progress in
     let fault = c.in_err-back-2.field-0.0 in
     rw (p.1, p.2) (λ honest.
-    let is = start.persists.honest ∙ honest in
-    let same = tree.content is ∙ start.content honest in
-    let brought = subst (λ (s : ℕ). Brought grammar content [] (item.Symbol s ∷ []) 1 before now (g.E.Device.is_honest c.begin.new.device) (g.E.Device.content c.begin.new.device) (g.E.Device.content c.tree.new.to) (text_list c.in_ok-tree.field-0)) c.start.ensures.value
-    (subst (λ (bytes : List ℕ). Brought grammar bytes [] (item.Symbol c.start.result ∷ []) 1 before now (g.E.Device.is_honest c.begin.new.device) (g.E.Device.content c.begin.new.device) (g.E.Device.content c.tree.new.to) (text_list c.in_ok-tree.field-0)) (start.content honest) (tree.brought is)) in
-    let here = begins_at grammar c.start.ensures.accepted content before.pass before (start.told honest) (sym c.pass.ensures ∙ c.if-pass-ne0.false) (start.started.end honest) start.started.fresh in
-    let told = rw tree.ready.version at (c.in_err-back-2.ensures.told tree.ready.unbroken (tree.devices.first.honest ∙ is)) in
+    let is = c.in_err-back-2.ensures.persists.honest honest in
+    let z = tree.devices.first.honest is in
+    let same = tree.content is ∙ start.content z in
+    let brought = subst (λ (s : ℕ). Brought grammar content [] (item.Symbol s ∷ []) 1 before now (g.E.Device.is_honest c.tree.new.to) (g.E.Device.content c.begin.new.device) (g.E.Device.content c.tree.new.to) (text_list c.in_ok-tree.field-0)) c.start.ensures.value
+    (subst (λ (bytes : List ℕ). Brought grammar bytes [] (item.Symbol c.start.result ∷ []) 1 before now (g.E.Device.is_honest c.tree.new.to) (g.E.Device.content c.begin.new.device) (g.E.Device.content c.tree.new.to) (text_list c.in_ok-tree.field-0)) (start.content z) (tree.brought is)) in
+    let here = begins_at grammar c.start.ensures.accepted content before.pass before (start.told z) (sym c.pass.ensures ∙ c.if-pass-ne0.false) (start.started.end z) start.started.fresh in
+    let told = rw tree.ready.version at (c.in_err-back-2.ensures.told tree.ready.unbroken honest) in
     fault_behind grammar c.start.ensures.accepted body_of content now fault (brought.on [] here) (subst (λ (bytes : List ℕ). Told body_of (Err fault) (next_before version_one bytes now.at)) same told))
 
 -- a frame is left over
@@ -64,13 +66,14 @@ returns-then-is_some-clause-refused g c honest =
     let tree = c.in_ok-tree.ensures in
     let before = c.in_ok-back.back.progress in
     let now = c.tree.new.self.back.progress in
-    let is = start.persists.honest ∙ honest in
-    let same = tree.content is ∙ start.content honest in
-    let brought = subst (λ (s : ℕ). Brought grammar content [] (item.Symbol s ∷ []) 1 before now (g.E.Device.is_honest c.begin.new.device) (g.E.Device.content c.begin.new.device) (g.E.Device.content c.tree.new.to) (text_list c.in_ok-tree.field-0)) c.start.ensures.value
-    (subst (λ (bytes : List ℕ). Brought grammar bytes [] (item.Symbol c.start.result ∷ []) 1 before now (g.E.Device.is_honest c.begin.new.device) (g.E.Device.content c.begin.new.device) (g.E.Device.content c.tree.new.to) (text_list c.in_ok-tree.field-0)) (start.content honest) (tree.brought is)) in
-    let here = begins_at grammar c.start.ensures.accepted content before.pass before (start.told honest) (sym c.pass.ensures ∙ c.if-pass-ne0.false) (start.started.end honest) start.started.fresh in
+    let is = c.in_ok-back-2.ensures.persists.honest honest in
+    let z = tree.devices.first.honest is in
+    let same = tree.content is ∙ start.content z in
+    let brought = subst (λ (s : ℕ). Brought grammar content [] (item.Symbol s ∷ []) 1 before now (g.E.Device.is_honest c.tree.new.to) (g.E.Device.content c.begin.new.device) (g.E.Device.content c.tree.new.to) (text_list c.in_ok-tree.field-0)) c.start.ensures.value
+    (subst (λ (bytes : List ℕ). Brought grammar bytes [] (item.Symbol c.start.result ∷ []) 1 before now (g.E.Device.is_honest c.tree.new.to) (g.E.Device.content c.begin.new.device) (g.E.Device.content c.tree.new.to) (text_list c.in_ok-tree.field-0)) (start.content z) (tree.brought is)) in
+    let here = begins_at grammar c.start.ensures.accepted content before.pass before (start.told z) (sym c.pass.ensures ∙ c.if-pass-ne0.false) (start.started.end z) start.started.fresh in
     let some = some_lent c.in_ok-back-2.field-0 (sym c.is_some.ensures ∙ c.if-is_some.true) in
-    let told = rw tree.ready.version at (c.in_ok-back-2.ensures.told tree.ready.unbroken (tree.devices.first.honest ∙ is)) in
+    let told = rw tree.ready.version at (c.in_ok-back-2.ensures.told tree.ready.unbroken honest) in
     left_over grammar c.start.ensures.accepted content now c.end-end.result some.0 c.end-end.ensures (brought.on [] here) (subst (λ (bytes : List ℕ). next_before version_one bytes now.at ≡ Ok (Some some.0)) same (told ∙ ap Ok some.1))
 
 -- all of the tree
@@ -83,16 +86,17 @@ returns-clause-brought g c honest =
     let tree = c.in_ok-tree.ensures in
     let before = c.in_ok-back.back.progress in
     let back = c.tree.new.self.back in
-    let to = g.E.Device.is_honest c.args.to.now in
+    let to = g.E.Device.is_honest c.tree.new.to in
     let out_old = g.E.Device.content c.begin.new.device in
     let out = g.E.Device.content c.tree.new.to in
     let texts = text_list c.in_ok-tree.field-0 in
-    let is = start.persists.honest ∙ honest in
-    let same = tree.content is ∙ start.content honest in
-    let there = subst (λ (bytes : List ℕ). Brought grammar bytes [] (item.Symbol c.start.result ∷ []) 1 before back.progress (g.E.Device.is_honest c.begin.new.device) out_old out texts) (start.content honest) (tree.brought is) in
-    let brought = subst (λ (b : Bool). Brought grammar content [] (item.Symbol grammar.start ∷ []) 1 before back.progress b out_old out texts) begin.persists.honest (subst (λ (s : ℕ). Brought grammar content [] (item.Symbol s ∷ []) 1 before back.progress (g.E.Device.is_honest c.begin.new.device) out_old out texts) c.start.ensures.value there) in
-    let here = begins_at grammar c.start.ensures.accepted content before.pass before (start.told honest) (sym c.pass.ensures ∙ c.if-pass-ne0.false) (start.started.end honest) start.started.fresh in
+    let is = c.in_ok-back-2.ensures.persists.honest honest in
+    let z = tree.devices.first.honest is in
+    let same = tree.content is ∙ start.content z in
+    let there = subst (λ (bytes : List ℕ). Brought grammar bytes [] (item.Symbol c.start.result ∷ []) 1 before back.progress (g.E.Device.is_honest c.tree.new.to) out_old out texts) (start.content z) (tree.brought is) in
+    let brought = subst (λ (s : ℕ). Brought grammar content [] (item.Symbol s ∷ []) 1 before back.progress to out_old out texts) c.start.ensures.value there in
+    let here = begins_at grammar c.start.ensures.accepted content before.pass before (start.told z) (sym c.pass.ensures ∙ c.if-pass-ne0.false) (start.started.end z) start.started.fresh in
     let none = none_lent c.in_ok-back-2.field-0 (sym c.is_some.ensures ∙ c.if-is_some.false) in
-    let told = rw tree.ready.version at (c.in_ok-back-2.ensures.told tree.ready.unbroken (tree.devices.first.honest ∙ is)) in
-    whole_brought grammar c.start.ensures.accepted content before back to out_old out texts here (start.started.end honest) start.started.fresh brought (subst (λ (bytes : List ℕ). IsOver bytes back) (start.content honest) (tree.ready.over is)) tree.ready.few
-    (subst (λ (bytes : List ℕ). next_before version_one bytes back.progress.at ≡ Ok None) same (told ∙ ap Ok none)) (λ h. begin.header h)
+    let told = rw tree.ready.version at (c.in_ok-back-2.ensures.told tree.ready.unbroken honest) in
+    whole_brought grammar c.start.ensures.accepted content before back to out_old out texts here (start.started.end z) start.started.fresh brought (subst (λ (bytes : List ℕ). IsOver bytes back) (start.content z) (tree.ready.over is)) tree.ready.few
+    (subst (λ (bytes : List ℕ). next_before version_one bytes back.progress.at ≡ Ok None) same (told ∙ ap Ok none)) (λ h. begin.header (tree.devices.second.honest h))

@@ -11,12 +11,12 @@ returns-in_err-count-clause-refused g c =
     let content = g.D.Device.content c.args.old.now in
     let mid = g.E.Device.content c.bring.new.to in
     rw (p.1, p.2) (λ honest mid_honest.
-    turned_fault grammar c.in_ok-bring.ensures.accepted content mid (g.F.Device.is_honest c.args.to.now) (g.F.Device.content c.turn.new.to) (subst (λ (b : Bool). IsBrought grammar content b mid) mid_honest (c.in_ok-bring.ensures.brought honest)) c.in_err-count.field-0.0 (c.in_err-count.ensures.told (c.in_ok-bring.ensures.devices.second.honest ∙ mid_honest)))
+    turned_fault grammar c.in_ok-bring.ensures.accepted content mid (g.F.Device.is_honest c.turn.new.to) (g.F.Device.content c.turn.new.to) (subst (λ (b : Bool). IsBrought grammar content b mid) (c.in_err-count.ensures.devices.first.honest mid_honest) (c.in_ok-bring.ensures.brought honest)) c.in_err-count.field-0.0 (c.in_err-count.ensures.told mid_honest))
 
 pub returns-clause-upgraded : goal.returns-clause-upgraded
 returns-clause-upgraded g c honest mid_honest =
     let grammar = c.args.grammar.now in
     let content = g.D.Device.content c.args.old.now in
     let mid = g.E.Device.content c.bring.new.to in
-    subst (λ (between : List ℕ). IsUpgraded grammar content between (g.F.Device.is_honest c.args.to.now) (g.F.Device.content c.turn.new.to) c.in_ok-count.count) (sym (c.turn.ensures.content (c.in_ok-bring.ensures.devices.second.honest ∙ mid_honest)))
-    (turned_tree grammar c.in_ok-bring.ensures.accepted content mid (g.F.Device.is_honest c.args.to.now) (g.F.Device.content c.turn.new.to) (subst (λ (b : Bool). IsBrought grammar content b mid) mid_honest (c.in_ok-bring.ensures.brought honest)) c.in_ok-count.count (c.in_ok-count.ensures.told (c.in_ok-bring.ensures.devices.second.honest ∙ mid_honest)))
+    subst (λ (between : List ℕ). IsUpgraded grammar content between (g.F.Device.is_honest c.turn.new.to) (g.F.Device.content c.turn.new.to) c.in_ok-count.count) (sym (c.turn.ensures.content mid_honest))
+    (turned_tree grammar c.in_ok-bring.ensures.accepted content mid (g.F.Device.is_honest c.turn.new.to) (g.F.Device.content c.turn.new.to) (subst (λ (b : Bool). IsBrought grammar content b mid) (c.in_ok-count.ensures.devices.first.honest mid_honest) (c.in_ok-bring.ensures.brought honest)) c.in_ok-count.count (c.in_ok-count.ensures.told mid_honest))

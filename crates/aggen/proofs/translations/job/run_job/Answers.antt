@@ -16,8 +16,8 @@ returns-in_err-translator-clause-refused g c =
 
 pub returns-clause-refused : goal.returns-clause-refused
 returns-clause-refused g c =
-    let ha = g.D.Device.is_honest c.args.a.now in
-    let hb = g.D.Device.is_honest c.args.b.now in
+    let ha = g.D.Device.is_honest c.translate.new.a in
+    let hb = g.D.Device.is_honest c.translate.new.b in
     let old = g.W.Write.contents c.args.out.now in
     let new = g.W.Write.contents c.translate.new.out in
     no_translation (g.R.Read.remaining c.args.reader) c.in_ok-job.job.0 c.in_ok-job.job.1 ha hb old new c.in_ok-job.ensures.job c.in_ok-translator.translator

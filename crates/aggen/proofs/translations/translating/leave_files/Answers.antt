@@ -13,8 +13,8 @@ pub returns-in_err-last-clause-refused : goal.returns-in_err-last-clause-refused
 returns-in_err-last-clause-refused g c =
     let p = err_from_is_err_and c.from_residual-in_err-last.result c.from_residual-in_err-last.ensures.1 in
     let tree = c.in_ok-nodes.ensures.tree in
-    rw (p.1, p.2) (never_refused c.args.translator.now c.args.sentence.now c.args.plan.now.0 c.args.plan.now.1 c.grammar.ensures.accepted c.requires.least.plan tree.0 (g.D.Device.content c.parse_tree.new.device) c.in_err-last.field-0.0 (g.D.Device.is_honest c.args.a.now) (g.D.Device.is_honest c.args.b.now) tree.1.tree.tree (c.in_ok-nodes.ensures.limits tree.0 tree.1) (c.in_ok-nodes.ensures.file tree.0 tree.1)
-    (λ x y. subst (λ (z : Grammar). IsRunFault (setting_of z c.args.plan.now 1) (g.D.Device.content c.parse_tree.new.device) c.in_err-last.field-0.0) c.grammar.ensures.grammar (c.in_err-last.ensures.refused (c.in_ok-nodes.ensures.persists.honest ∙ x) y)))
+    rw (p.1, p.2) (never_refused c.args.translator.now c.args.sentence.now c.args.plan.now.0 c.args.plan.now.1 c.grammar.ensures.accepted c.requires.least.plan tree.0 (g.D.Device.content c.parse_tree.new.device) c.in_err-last.field-0.0 (g.D.Device.is_honest c.run_all.new.a) (g.D.Device.is_honest c.run_all.new.b) tree.1.tree.tree (c.in_ok-nodes.ensures.limits tree.0 tree.1) (λ h. c.in_ok-nodes.ensures.file tree.0 tree.1 (c.in_err-last.ensures.devices.first.honest h))
+    (λ x y. subst (λ (z : Grammar). IsRunFault (setting_of z c.args.plan.now 1) (g.D.Device.content c.parse_tree.new.device) c.in_err-last.field-0.0) c.grammar.ensures.grammar (c.in_err-last.ensures.refused x y)))
 
 -- all passes ran over the one tree of the sentence
 pub returns-clause-left : goal.returns-clause-left
@@ -29,6 +29,6 @@ returns-clause-left g c =
       one = one_tree c.args.translator.now c.args.sentence.now tree.0 tree.1 c.in_ok-nodes.ensures.one (c.in_ok-nodes.ensures.limits tree.0 tree.1);
       greatest = greatest;
       left = λ x y.
-          let ran : HasRunAll c.args.translator.now (passes_of c.args.plan.now.0) 0 c.passes.result (g.D.Device.content c.parse_tree.new.device) c.in_ok-last.last (g.D.Device.content c.run_all.new.a) (g.D.Device.content c.run_all.new.b) (c.run_all.new.meter - c.new-meter.result) c.in_ok-last.passed = subst (λ (z : Grammar). HasRunAll z (passes_of c.args.plan.now.0) 0 c.passes.result (g.D.Device.content c.parse_tree.new.device) c.in_ok-last.last (g.D.Device.content c.run_all.new.a) (g.D.Device.content c.run_all.new.b) (c.run_all.new.meter - c.new-meter.result) c.in_ok-last.passed) c.grammar.ensures.grammar (c.in_ok-last.ensures.passed c.passes.result greatest (c.in_ok-nodes.ensures.persists.honest ∙ x) y) in
-          are_left c.args.translator.now c.args.sentence.now c.args.plan.now.0 c.args.plan.now.1 c.grammar.ensures.accepted c.requires.least.plan tree.0 (g.D.Device.content c.parse_tree.new.device) (g.D.Device.content c.run_all.new.a) (g.D.Device.content c.run_all.new.b) (record { nodes = c.in_ok-nodes.nodes; passes = c.passes.result; evals = c.count.result; read = c.in_ok-last.passed.read; written = c.in_ok-last.passed.written; last = c.in_ok-last.last }) c.in_ok-last.passed greatest tree.1.tree.tree (c.in_ok-nodes.ensures.file tree.0 tree.1 x) (subst (λ n. HasRunAll c.args.translator.now (passes_of c.args.plan.now.0) 0 c.passes.result (g.D.Device.content c.parse_tree.new.device) c.in_ok-last.last (g.D.Device.content c.run_all.new.a) (g.D.Device.content c.run_all.new.b) n c.in_ok-last.passed) evals ran) (c.in_ok-nodes.ensures.count tree.0 tree.1) refl refl;
+          let ran : HasRunAll c.args.translator.now (passes_of c.args.plan.now.0) 0 c.passes.result (g.D.Device.content c.parse_tree.new.device) c.in_ok-last.last (g.D.Device.content c.run_all.new.a) (g.D.Device.content c.run_all.new.b) (c.run_all.new.meter - c.new-meter.result) c.in_ok-last.passed = subst (λ (z : Grammar). HasRunAll z (passes_of c.args.plan.now.0) 0 c.passes.result (g.D.Device.content c.parse_tree.new.device) c.in_ok-last.last (g.D.Device.content c.run_all.new.a) (g.D.Device.content c.run_all.new.b) (c.run_all.new.meter - c.new-meter.result) c.in_ok-last.passed) c.grammar.ensures.grammar (c.in_ok-last.ensures.passed c.passes.result greatest x y) in
+          are_left c.args.translator.now c.args.sentence.now c.args.plan.now.0 c.args.plan.now.1 c.grammar.ensures.accepted c.requires.least.plan tree.0 (g.D.Device.content c.parse_tree.new.device) (g.D.Device.content c.run_all.new.a) (g.D.Device.content c.run_all.new.b) (record { nodes = c.in_ok-nodes.nodes; passes = c.passes.result; evals = c.count.result; read = c.in_ok-last.passed.read; written = c.in_ok-last.passed.written; last = c.in_ok-last.last }) c.in_ok-last.passed greatest tree.1.tree.tree (c.in_ok-nodes.ensures.file tree.0 tree.1 (c.in_ok-last.ensures.devices.first.honest x)) (subst (λ n. HasRunAll c.args.translator.now (passes_of c.args.plan.now.0) 0 c.passes.result (g.D.Device.content c.parse_tree.new.device) c.in_ok-last.last (g.D.Device.content c.run_all.new.a) (g.D.Device.content c.run_all.new.b) n c.in_ok-last.passed) evals ran) (c.in_ok-nodes.ensures.count tree.0 tree.1) refl refl;
     }

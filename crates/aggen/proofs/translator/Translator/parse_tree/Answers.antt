@@ -36,8 +36,7 @@ returns-clause-file g c = λ t is.
     let i : IsTreeOfSentence c.self.inside.grammar c.args.sentence.now t = rw c.self.view_is is in
     let cut = c.in_ok-tokens.ensures.tokens in
     let h = c.in_ok-count.ensures.file t (with_tokens _ c.self.invariant.0 c.args.sentence.now _ cut t i) in
-    let b = c.begin.ensures.persists in
-    rw (sym c.self.view_is) (λ honest. h (b.honest ∙ honest))
+    rw (sym c.self.view_is) (λ honest. h honest)
 
 -- what a refusal of the tokens, and of their tree, tells of the sentence
 pub returns-in_err-tokens-clause-refused : goal.returns-in_err-tokens-clause-refused
@@ -61,4 +60,4 @@ returns-in_err-writer-clause-left g c =
 pub returns-in_err-count-clause-left : goal.returns-in_err-count-clause-left
 returns-in_err-count-clause-left g c =
     let p = err_from_is_err_and c.from_residual-in_err-count.result c.from_residual-in_err-count.ensures.1 in
-    rw p.1 (λ h. inr (c.in_err-count.ensures.left (c.begin.ensures.persists.honest ∙ h)))
+    rw p.1 (λ h. inr (c.in_err-count.ensures.left h))

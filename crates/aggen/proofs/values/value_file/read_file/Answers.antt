@@ -12,7 +12,7 @@ returns-in_err-body-clause-read g c = λ honest value well is.
 
 pub returns-clause-read : goal.returns-clause-read
 returns-clause-read g c = λ honest value well is.
-    let body = body_told _ _ _ (ap (last_body_of version_two) is ∙ last_of value well) (c.in_ok-body.ensures.told honest) in
+    let body = body_told _ _ _ (ap (last_body_of version_two) is ∙ last_of value well) (c.in_ok-body.ensures.told (c.in_ok-end.ensures.persists.honest honest)) in
     value_told value c.value_in.result (c.value_in.ensures.read value well (c.as_slice.ensures.value ∙ body))
 
 pub returns-in_err-body-clause-offset : goal.returns-in_err-body-clause-offset

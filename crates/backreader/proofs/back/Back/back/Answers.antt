@@ -23,7 +23,7 @@ returns-in-Ok-None g c =
         refl,
         (λ _. tt),
         record {
-          over = λ h. record { window = c.in-Ok-None.ensures.stand h; header = (c.requires h).header };
+          over = λ h. record { window = c.in-Ok-None.ensures.stand h; header = (c.requires (c.in-Ok-None.ensures.persists.honest h)).header };
           progress = ap (λ v. record (now c.next.new.self.at) { version = version_of v }) c.in-Ok-None.ensures.version ∙ ap now stays ∙ ap (λ (state : BackState). state.progress) c.self.view_is;
           want = search rules;
         },
@@ -61,7 +61,7 @@ returns-in-Ok-Some g c =
         refl,
         (λ _. tt),
         record {
-          over = λ h. record { window = c.in-Ok-Some.ensures.stand h; header = (c.requires h).header };
+          over = λ h. record { window = c.in-Ok-Some.ensures.stand h; header = (c.requires (c.in-Ok-Some.ensures.persists.honest h)).header };
           progress = ap (λ v. record (now new.at) { version = version_of v }) c.in-Ok-Some.ensures.version ∙ ap now here ∙ ap (λ (state : BackState). progress_after state.progress (Ok (Some body))) c.self.view_is;
           want = search rules;
         },
@@ -94,7 +94,7 @@ returns-in-Err g c =
         refl,
         (λ _. tt),
         record {
-          over = λ h. record { window = c.in-Err.ensures.stand h; header = (c.requires h).header };
+          over = λ h. record { window = c.in-Err.ensures.stand h; header = (c.requires (c.in-Err.ensures.persists.honest h)).header };
           progress = version ∙ after ∙ ap (λ (state : BackState). progress_after state.progress (Err fault)) c.self.view_is;
           want = λ is.
               let same : fault ≡ NoMemory = cc in

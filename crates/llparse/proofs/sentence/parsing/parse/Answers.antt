@@ -19,10 +19,10 @@ pub returns-clause-one : goal.returns-clause-one
 returns-clause-one g c = one_parse c.args.grammar.now c.args.tables.now c.requires.tables (words_of c.args.sentence.now)
 
 pub returns-clause-file : goal.returns-clause-file
-returns-clause-file g c = file_of c.args.grammar.now c.args.sentence.now (g.D.Device.is_honest c.args.device.now) (g.D.Device.content c.args.device.now) (g.D.Device.content c.run.new.device) c.run.result c.run.ensures.parsed c.requires.header
+returns-clause-file g c = file_of c.args.grammar.now c.args.sentence.now (g.D.Device.is_honest c.run.new.device) (g.D.Device.content c.args.device.now) (g.D.Device.content c.run.new.device) c.run.result c.run.ensures.parsed (λ h. c.requires.header (c.run.ensures.device.persists.honest h))
 
 pub returns-clause-none : goal.returns-clause-none
-returns-clause-none g c = none_of c.args.grammar.now c.args.sentence.now (g.D.Device.is_honest c.args.device.now) (g.D.Device.content c.args.device.now) (g.D.Device.content c.run.new.device) c.run.result c.run.ensures.refused
+returns-clause-none g c = none_of c.args.grammar.now c.args.sentence.now (g.D.Device.is_honest c.run.new.device) (g.D.Device.content c.args.device.now) (g.D.Device.content c.run.new.device) c.run.result c.run.ensures.refused
 
 pub returns-clause-left : goal.returns-clause-left
-returns-clause-left g c = left_of (g.D.Device.is_honest c.args.device.now) (g.D.Device.content c.args.device.now) (g.D.Device.content c.run.new.device) c.run.result c.requires.header c.run.ensures.left
+returns-clause-left g c = left_of (g.D.Device.is_honest c.run.new.device) (g.D.Device.content c.args.device.now) (g.D.Device.content c.run.new.device) c.run.result (λ h. c.requires.header (c.run.ensures.device.persists.honest h)) c.run.ensures.left

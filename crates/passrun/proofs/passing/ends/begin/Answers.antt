@@ -7,7 +7,7 @@ use Rattle.passrun.specs.Damage.{IsReadable, source}
 use Rattle.passrun.proofs.Damage.{other_pass, readable, tellable}
 use Rattle.passrun.proofs.Refusing.{not_started, root_unfetched}
 use Rattle.passrun.proofs.course.Ending.{begun_runs}
-use Rattle.std.proofs.Common.{Err, Ok, inr}
+use Rattle.std.proofs.Common.{Err, Ok, inr, refl}
 use Rattle.treefile.proofs.ways.Beginning.{frames_begin, none_added, not_begun}
 use Rattle.passrun.specs.declared.run_fault.RunFault.{RunFault}
 use Rattle.passrun.proofs.passing.ends.begin.Goals as goal
@@ -17,12 +17,12 @@ returns-clause-runs g c =
     let start = c.in_ok-back.ensures in
     let begin = c.in_ok-writer.ensures in
     let root = c.in_ok-root.ensures in
-    begun_runs (setting c.args.job.now) c.requires.job.sound c.in_ok-root.root c.args.meter.now c.count.result c.start-2.result (g.D.Device.is_honest c.start.new.device) (g.D.Device.is_honest c.fetch.new.from) (g.E.Device.is_honest c.begin.new.device) (g.D.Device.content c.start.new.device) (g.D.Device.content c.fetch.new.from) (g.E.Device.content c.begin.new.device)
-    c.in_ok-back.back c.fetch.new.back c.in_ok-writer.writer c.new-values.result c.fetch.new.values c.new.result c.new-values.ensures.items c.new.ensures.items c.start-2.ensures.value c.count.ensures root.fetched root.persists.honest root.content
-    (λ w. let z = sym start.persists.honest ∙ w in subst (IsReadable (source (setting c.args.job.now))) (sym (start.content z)) (readable (source (setting c.args.job.now)) (tellable (setting c.args.job.now) c.requires.job.sound) (g.D.Device.content c.args.from.now) c.in_ok-back.back.progress.pass (start.told z) (sym c.pass.ensures ∙ c.if-pass-file_pass.false ∙ c.file_pass.ensures)))
-    (λ w. let z = sym start.persists.honest ∙ w in subst (λ (bytes : List ℕ). IsOver bytes c.in_ok-back.back) (sym (start.content z)) (start.started.over z))
-    (λ w. let z = sym start.persists.honest ∙ w in start.started.end z ∙ ap (λ (bytes : List ℕ). length bytes) (sym (start.content z)))
-    start.started.fresh start.started.version start.started.unbroken (λ w. begin.header (sym begin.persists.honest ∙ w)) begin.fresh c.requires.meter
+    begun_runs (setting c.args.job.now) c.requires.job.sound c.in_ok-root.root c.args.meter.now c.count.result c.start-2.result (g.D.Device.is_honest c.fetch.new.from) (g.D.Device.is_honest c.fetch.new.from) (g.E.Device.is_honest c.begin.new.device) (g.D.Device.content c.start.new.device) (g.D.Device.content c.fetch.new.from) (g.E.Device.content c.begin.new.device)
+    c.in_ok-back.back c.fetch.new.back c.in_ok-writer.writer c.new-values.result c.fetch.new.values c.new.result c.new-values.ensures.items c.new.ensures.items c.start-2.ensures.value c.count.ensures root.fetched refl root.content
+    (λ w. let z = root.persists.honest w in subst (IsReadable (source (setting c.args.job.now))) (sym (start.content z)) (readable (source (setting c.args.job.now)) (tellable (setting c.args.job.now) c.requires.job.sound) (g.D.Device.content c.args.from.now) c.in_ok-back.back.progress.pass (start.told z) (sym c.pass.ensures ∙ c.if-pass-file_pass.false ∙ c.file_pass.ensures)))
+    (λ w. let z = root.persists.honest w in subst (λ (bytes : List ℕ). IsOver bytes c.in_ok-back.back) (sym (start.content z)) (start.started.over z))
+    (λ w. let z = root.persists.honest w in start.started.end z ∙ ap (λ (bytes : List ℕ). length bytes) (sym (start.content z)))
+    start.started.fresh start.started.version start.started.unbroken (λ w. begin.header w) begin.fresh c.requires.meter
 
 pub returns-in_err-back-clause-refused : goal.returns-in_err-back-clause-refused
 returns-in_err-back-clause-refused g c =
@@ -36,9 +36,10 @@ returns-in_err-root-clause-refused g c =
     let f = c.in_err-root.field-0.0 in
     let start = c.in_ok-back.ensures in
     rw (p.1, p.2) (λ honest.
-    let same = start.content honest in
+    let z = c.in_err-root.ensures.persists.honest honest in
+    let same = start.content z in
     subst (λ (bytes : List ℕ). IsRunFault job bytes f) same
-    (root_unfetched job c.requires.job.sound c.start-2.result (g.D.Device.content c.start.new.device) c.in_ok-back.back f c.start-2.ensures.value (subst (IsReadable (source job)) (sym same) (readable (source job) (tellable job c.requires.job.sound) (g.D.Device.content c.args.from.now) c.in_ok-back.back.progress.pass (start.told honest) (sym c.pass.ensures ∙ c.if-pass-file_pass.false ∙ c.file_pass.ensures))) (start.started.end honest ∙ ap (λ (bytes : List ℕ). length bytes) (sym same)) start.started.fresh (c.in_err-root.ensures.refused (start.persists.honest ∙ honest))))
+    (root_unfetched job c.requires.job.sound c.start-2.result (g.D.Device.content c.start.new.device) c.in_ok-back.back f c.start-2.ensures.value (subst (IsReadable (source job)) (sym same) (readable (source job) (tellable job c.requires.job.sound) (g.D.Device.content c.args.from.now) c.in_ok-back.back.progress.pass (start.told z) (sym c.pass.ensures ∙ c.if-pass-file_pass.false ∙ c.file_pass.ensures))) (start.started.end z ∙ ap (λ (bytes : List ℕ). length bytes) (sym same)) start.started.fresh (c.in_err-root.ensures.refused honest)))
 
 pub returns-then-pass-file_pass-clause-refused : goal.returns-then-pass-file_pass-clause-refused
 returns-then-pass-file_pass-clause-refused g c = λ honest.

@@ -21,7 +21,7 @@ pub returns-in_err-run-clause-left : goal.returns-in_err-run-clause-left
 returns-in_err-run-clause-left g c =
     let begun = c.in_ok-machine.ensures in
     let p = err_from_is_err_and c.from_residual-in_err-run.result c.from_residual-in_err-run.ensures.1 in
-    rw p.1 (λ h. inr (frames_begin RunFault c.args.job.now.pass (g.E.Device.content c.begin.new.to) (g.E.Device.content c.run.new.to) (Err p.0) (begun.header h) (c.in_err-run.ensures.left (begun.devices.second.honest ∙ h))))
+    rw p.1 (λ h. inr (frames_begin RunFault c.args.job.now.pass (g.E.Device.content c.begin.new.to) (g.E.Device.content c.run.new.to) (Err p.0) (begun.header (c.in_err-run.ensures.devices.second.honest h)) (c.in_err-run.ensures.left h)))
 
 pub returns-clause-left : goal.returns-clause-left
 returns-clause-left g c =
@@ -30,8 +30,8 @@ returns-clause-left g c =
     let from = g.E.Device.content c.begin.new.to in
     let between = g.E.Device.content c.run.new.to in
     let now = g.E.Device.content c.finish.new.to in
-    on_err _ (LeavesFrames (g.E.Device.is_honest c.run.new.to) between now) c.finish.result
+    on_err _ (LeavesFrames (g.E.Device.is_honest c.finish.new.to) between now) c.finish.result
     (λ f left h.
-    let is = begun.devices.second.honest ∙ h in
-    inr (frames_begin RunFault c.args.job.now.pass from now (Err f) (begun.header h) (added RunFault from between now (Err f) (ran.added is) (left (ran.devices.second.honest ∙ is)))))
+    let is = c.finish.ensures.devices.second.honest h in
+    inr (frames_begin RunFault c.args.job.now.pass from now (Err f) (begun.header (ran.devices.second.honest is)) (added RunFault from between now (Err f) (ran.added is) (left h))))
     c.finish.ensures.left

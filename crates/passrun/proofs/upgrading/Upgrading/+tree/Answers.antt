@@ -13,7 +13,7 @@ use Rattle.backreader.specs.BackState.{Progress}
 use Rattle.passrun.specs.Upgrading.{Brought, HasTaken, IsOf, IsUnbrought, text_list}
 use Rattle.treefile.specs.records.TreeFile.{body_of, frame}
 use Rattle.treefile.specs.declared.body.Kind.TheVariants.{Node, Token}
-use Rattle.passrun.proofs.Brought.{next_brought, next_refused, node_brought, node_of, none_brought, one_text, text_is_well, token_brought}
+use Rattle.passrun.proofs.Brought.{brought_supposed, next_brought, next_refused, node_brought, node_of, none_brought, one_text, text_is_well, token_brought}
 use Rattle.treefile.proofs.ways.Backward.{All-reverse}
 use Rattle.passrun.proofs.Recorded.{production_is}
 use Rattle.passrun.proofs.upgrading.Upgrading.+tree.Goals as goal
@@ -29,8 +29,8 @@ record-requires-clause-place g t c = c.if-not-has_place.ensures []
 -- a token
 pub returns-in-Token-clause-brought : goal.returns-in-Token-clause-brought
 returns-in-Token-clause-brought g t c honest =
-    let h = subst (HasTaken c.args.grammar.now c.args.item c.args.level (g.D.Device.is_honest c.args.from.now) (g.D.Device.content c.args.from.now) c.args.self.now.back c.record.new.self.back) c.in-Token.is c.in_ok-production.ensures.taken in
-    token_brought c.args.grammar.now c.requires.accepted (g.D.Device.content c.args.from.now) c.args.item c.args.level c.in-Token.class c.in-Token.text c.args.self.now.back.progress c.record.new.self.back.progress (g.E.Device.is_honest c.args.to.now) (g.E.Device.content c.args.to.now) (g.E.Device.content c.put_record.new.to)
+    let h = subst (HasTaken c.args.grammar.now c.args.item c.args.level (g.D.Device.is_honest c.record.new.from) (g.D.Device.content c.args.from.now) c.args.self.now.back c.record.new.self.back) c.in-Token.is c.in_ok-production.ensures.taken in
+    token_brought c.args.grammar.now c.requires.accepted (g.D.Device.content c.args.from.now) c.args.item c.args.level c.in-Token.class c.in-Token.text c.args.self.now.back.progress c.record.new.self.back.progress (g.E.Device.is_honest c.put_record.new.to) (g.E.Device.content c.args.to.now) (g.E.Device.content c.put_record.new.to)
     (c.if-not-has_place.ensures []) h.is h.deep (h.found honest) (ap (λ (p : Progress). p.at) h.progress) (ap (λ (p : Progress). p.records) h.progress) (λ h. c.in_ok-put_record-in-Token.ensures.put.there h ∙ ap (λ vs. g.E.Device.content c.args.to.now ++ frame (body_of Token c.in-Token.class vs)) c.from_ref.ensures.value)
 
 -- a node
@@ -50,6 +50,7 @@ loop-at-init g t c =
       content = λ honest. c.in_ok-production.ensures.content honest;
       from_persists = search rules;
       to_persists = search rules;
+      since = λ h. h;
       ready = search rules;
       balanced = omega (arith, records, ap (λ w. w.written) c.in_ok-production.ensures.writer);
       well = subst (All IsWell) (sym c.new-texts.ensures.items) (All-nil IsWell);
@@ -74,13 +75,14 @@ returns-in_err-text-clause-refused g t c =
     let now = c.loop-at.self.back.progress in
     let f = c.in_err-text.field-0.0 in
     let level : c.args.level + 1 ≡ suc c.args.level = omega arith in
-    let h = subst (HasTaken grammar c.args.item c.args.level (g.D.Device.is_honest c.args.from.now) content c.args.self.now.back c.record.new.self.back) c.in-Node.is c.in_ok-production.ensures.taken in
+    let h = subst (HasTaken grammar c.args.item c.args.level (g.D.Device.is_honest c.record.new.from) content c.args.self.now.back c.record.new.self.back) c.in-Node.is c.in_ok-production.ensures.taken in
     rw (p.1, p.2) (λ honest.
-    let refused = subst (λ (bytes : List ℕ). IsUnbrought grammar bytes (get_or items (c.loop-at.at - 1) (item.Symbol 0) ∷ []) (c.args.level + 1) now f) (so_far.content honest) (c.in_err-text.ensures.refused (so_far.from_persists.honest ∙ honest)) in
-    next_refused grammar c.requires.accepted content c.args.item c.in-Node.production items c.loop-at.at c.args.level (item.Symbol 0) c.args.self.now.back.progress c.record.new.self.back.progress now h.is (g.E.Device.is_honest c.args.to.now) (g.E.Device.content c.args.to.now) (g.E.Device.content c.loop-at.to) c.loop-at.texts.items f
-    (c.if-not-has_place.ensures []) (h.found honest) (ap (λ (p : Progress). p.at) h.progress) (ap (λ (p : Progress). p.records) h.progress)
+    let is = c.in_err-text.ensures.devices.first.honest honest in
+    let refused = subst (λ (bytes : List ℕ). IsUnbrought grammar bytes (get_or items (c.loop-at.at - 1) (item.Symbol 0) ∷ []) (c.args.level + 1) now f) (so_far.content is) (c.in_err-text.ensures.refused honest) in
+    next_refused grammar c.requires.accepted content c.args.item c.in-Node.production items c.loop-at.at c.args.level (item.Symbol 0) c.args.self.now.back.progress c.record.new.self.back.progress now h.is (g.E.Device.is_honest c.loop-at.to) (g.E.Device.content c.args.to.now) (g.E.Device.content c.loop-at.to) c.loop-at.texts.items f
+    (c.if-not-has_place.ensures []) (h.found (so_far.since is)) (ap (λ (p : Progress). p.at) h.progress) (ap (λ (p : Progress). p.records) h.progress)
     (items_are grammar c.in-Node.production c.productions.result.now c.index-productions-production.result items c.productions.ensures.lent c.as_slice-items.ensures)
-    c.loop-at-test.true c.loop-at.auto.at (so_far.brought honest) (subst (λ n. IsUnbrought grammar content (get_or items (c.loop-at.at - 1) (item.Symbol 0) ∷ []) n now f) level refused))
+    c.loop-at-test.true c.loop-at.auto.at (so_far.brought is) (subst (λ n. IsUnbrought grammar content (get_or items (c.loop-at.at - 1) (item.Symbol 0) ∷ []) n now f) level refused))
 
 pub loop-at-preserved : goal.loop-at-preserved
 loop-at-preserved g t c =
@@ -97,18 +99,20 @@ loop-at-preserved g t c =
     let added : c.add_text.new.texts.items ≡ c.loop-at.texts.items ++ text_list text = c.in_ok-add_text.ensures in
     let level : c.args.level + 1 ≡ suc c.args.level = omega arith in
     record {
-      content = λ h. c.in_ok-text.ensures.content (so_far.from_persists.honest ∙ h) ∙ so_far.content h;
+      content = λ h. c.in_ok-text.ensures.content h ∙ so_far.content (c.in_ok-text.ensures.devices.first.honest h);
       from_persists = search rules;
       to_persists = search rules;
+      since = λ h. so_far.since (c.in_ok-text.ensures.devices.first.honest h);
       ready = search rules;
       balanced = search rules;
       well = subst (All IsWell) (sym added) (All-append IsWell c.loop-at.texts.items (text_list text) so_far.well (text_is_well text c.in_ok-text.ensures.well));
       few = omega (arith, ap (λ vs. length vs) added, length-append c.loop-at.texts.items (text_list text), one_text text, so_far.few, c.loop-at-test.true);
       brought = λ honest.
-          let read = subst (λ (bytes : List ℕ). Brought grammar bytes [] (child ∷ []) (c.args.level + 1) between now (g.E.Device.is_honest c.loop-at.to) out_between out_now (text_list text)) (so_far.content honest) (c.in_ok-text.ensures.brought (so_far.from_persists.honest ∙ honest)) in
-          let next = subst (λ (b : Bool). Brought grammar content [] (child ∷ []) (c.args.level + 1) between now b out_between out_now (text_list text)) so_far.to_persists.honest read in
-          next_brought grammar c.requires.accepted content items c.loop-at.at (suc c.args.level) (item.Symbol 0) c.record.new.self.back.progress between now (g.E.Device.is_honest c.args.to.now) (g.E.Device.content c.args.to.now) out_between out_now c.loop-at.texts.items (text_list text) c.add_text.new.texts.items
-          c.loop-at-test.true c.loop-at.auto.at (so_far.brought honest) (subst (λ n. Brought grammar content [] (child ∷ []) n between now (g.E.Device.is_honest c.args.to.now) out_between out_now (text_list text)) level next) added;
+          let is = c.in_ok-text.ensures.devices.first.honest honest in
+          let to = g.E.Device.is_honest c.tree.new.to in
+          let next = subst (λ (bytes : List ℕ). Brought grammar bytes [] (child ∷ []) (c.args.level + 1) between now to out_between out_now (text_list text)) (so_far.content is) (c.in_ok-text.ensures.brought honest) in
+          next_brought grammar c.requires.accepted content items c.loop-at.at (suc c.args.level) (item.Symbol 0) c.record.new.self.back.progress between now to (g.E.Device.content c.args.to.now) out_between out_now c.loop-at.texts.items (text_list text) c.add_text.new.texts.items
+          c.loop-at-test.true c.loop-at.auto.at (brought_supposed grammar c.requires.accepted content _ _ _ _ between to (g.E.Device.is_honest c.loop-at.to) (g.E.Device.content c.args.to.now) out_between c.loop-at.texts.items c.in_ok-text.ensures.devices.second.honest (so_far.brought is)) (subst (λ n. Brought grammar content [] (child ∷ []) n between now to out_between out_now (text_list text)) level next) added;
     }
 
 -- the texts, turned round
@@ -138,14 +142,15 @@ returns-clause-brought g t c honest =
     let content = g.D.Device.content c.args.from.now in
     let items = c.as_slice-items.result.now in
     let texts = c.loop-at.texts in
-    let to = g.E.Device.is_honest c.args.to.now in
+    let to = g.E.Device.is_honest c.put_record-2.new.to in
     let out_between = g.E.Device.content c.loop-at.to in
     let out_now = g.E.Device.content c.put_record-2.new.to in
-    let h = subst (HasTaken grammar c.args.item c.args.level (g.D.Device.is_honest c.args.from.now) content c.args.self.now.back c.record.new.self.back) c.in-Node.is c.in_ok-production.ensures.taken in
+    let h = subst (HasTaken grammar c.args.item c.args.level (g.D.Device.is_honest c.record.new.from) content c.args.self.now.back c.record.new.self.back) c.in-Node.is c.in_ok-production.ensures.taken in
     let same = turned texts.items c.reverse.new.self c.as_slice.result.now texts.len (c.reverse.ensures.after ∙ ap reverse c.as_mut_slice.ensures.value) (omega (arith, texts.ok.0)) c.as_slice.ensures.value in
     let none : c.loop-at.at ≡ 0 = omega (arith, c.loop-at-test.false) in
-    let whole = subst (λ n. Brought grammar content (take n items) (drop n items) (suc c.args.level) c.record.new.self.back.progress c.loop-at.self.back.progress to (g.E.Device.content c.args.to.now) out_between texts.items) none (so_far.brought honest) in
+    let whole = subst (λ n. Brought grammar content (take n items) (drop n items) (suc c.args.level) c.record.new.self.back.progress c.loop-at.self.back.progress to (g.E.Device.content c.args.to.now) out_between texts.items) none
+    (brought_supposed grammar c.requires.accepted content _ _ _ _ c.loop-at.self.back.progress to (g.E.Device.is_honest c.loop-at.to) (g.E.Device.content c.args.to.now) out_between texts.items c.in_ok-put_record.ensures.persists.honest (so_far.brought honest)) in
     node_brought grammar c.requires.accepted content c.args.item c.args.level c.in-Node.production c.args.self.now.back.progress c.record.new.self.back.progress c.loop-at.self.back.progress to (g.E.Device.content c.args.to.now) out_between out_now texts.items
-    (c.if-not-has_place.ensures []) h.is h.deep (h.found honest) (ap (λ (p : Progress). p.at) h.progress) (ap (λ (p : Progress). p.records) h.progress) items
+    (c.if-not-has_place.ensures []) h.is h.deep (h.found (so_far.since honest)) (ap (λ (p : Progress). p.at) h.progress) (ap (λ (p : Progress). p.records) h.progress) items
     (items_are grammar c.in-Node.production c.productions.result.now c.index-productions-production.result items c.productions.ensures.lent c.as_slice-items.ensures)
-    whole (λ is. c.in_ok-put_record.ensures.put.there (so_far.to_persists.honest ∙ is) ∙ ap (λ vs. out_between ++ frame (body_of Node c.in-Node.production vs)) same)
+    whole (λ is. c.in_ok-put_record.ensures.put.there is ∙ ap (λ vs. out_between ++ frame (body_of Node c.in-Node.production vs)) same)

@@ -1,4 +1,4 @@
-use Rattle.std.proofs.Common.{◌≡◌, ◌+◌, ◌-◌, ◌≤◌, suc, All, drop, take, length}
+use Rattle.std.proofs.Common.{◌≡◌, true, ◌+◌, ◌-◌, ◌≤◌, suc, All, drop, take, length}
 use Rattle.ag_value.specs.Well.{IsWell}
 use Rattle.passrun.specs.Upgrading.{Brought, IsReady}
 use Rattle.treefile.specs.devices.Device.{LeavesContent, Persists, WhenHonest}
@@ -11,12 +11,13 @@ decreases-tree g l = 257 - l.level
 abbrev pub invariant-loop-at : goal.invariant-loop-at
 invariant-loop-at g l =
     record {
-      content : LeavesContent (g.D.Device.is_honest l.fn.from) (g.D.Device.content l.fn.from) (g.D.Device.content l.from);
+      content : LeavesContent (g.D.Device.is_honest l.from) (g.D.Device.content l.fn.from) (g.D.Device.content l.from);
       from_persists : Persists (g.D.Device.is_honest l.fn.from) (g.D.Device.is_honest l.from) (g.D.Device.failures l.fn.from) (g.D.Device.failures l.from) ⊥;
       to_persists : Persists (g.E.Device.is_honest l.fn.to) (g.E.Device.is_honest l.to) (g.E.Device.failures l.fn.to) (g.E.Device.failures l.to) ⊥;
-      ready : IsReady (g.D.Device.is_honest l.fn.from) (g.D.Device.content l.fn.from) l.self.back l.self.writer;
+      since : WhenHonest (g.D.Device.is_honest l.from) (g.D.Device.is_honest l.initial.from ≡ true);
+      ready : IsReady (g.D.Device.is_honest l.from) (g.D.Device.content l.fn.from) l.self.back l.self.writer;
       balanced : l.self.writer.written + l.fn.self.back.progress.records + 1 ≡ l.fn.self.writer.written + l.self.back.progress.records;
       well : All IsWell l.texts.items;
       few : length l.texts.items + l.at ≤ length l.items;
-      brought : WhenHonest (g.D.Device.is_honest l.fn.from) (Brought l.grammar (g.D.Device.content l.fn.from) (take l.at l.items) (drop l.at l.items) (suc l.level) l.initial.self.back.progress l.self.back.progress (g.E.Device.is_honest l.fn.to) (g.E.Device.content l.fn.to) (g.E.Device.content l.to) l.texts.items);
+      brought : WhenHonest (g.D.Device.is_honest l.from) (Brought l.grammar (g.D.Device.content l.fn.from) (take l.at l.items) (drop l.at l.items) (suc l.level) l.initial.self.back.progress l.self.back.progress (g.E.Device.is_honest l.to) (g.E.Device.content l.fn.to) (g.E.Device.content l.to) l.texts.items);
     }

@@ -42,8 +42,8 @@ put_leaf-requires-clause-text g c =
     (subst (λ (t : Terminal). IsTokenOf (vocabulary_of c.requires.fits.0) t c.in_ok-lex.lex.now) c.in-Class.is fits).1
 
 pub returns-clause-takes : goal.returns-clause-takes
-returns-clause-takes g c = λ node gr front has b.
-    let task = task_of gr c.args.self.now.tokens.list (g.D.Device.is_honest c.args.device.now) front in
+returns-clause-takes g c = λ node honest below gr front has b.
+    let task = task_of gr c.args.self.now.tokens.list honest front in
     let fs = node ∷ reverse c.args.self.now.waiting.items in
     let taken = c.args.self.now.tokens.taken in
     let count = c.args.self.now.count in
@@ -62,7 +62,7 @@ returns-clause-takes g c = λ node gr front has b.
           rw (w.self-is, w.device-is)
           (subst (λ (h : Handed). Between task fs h.taken (count + 1) made) (sym passed)
           (class task w.in-Class.class lex fs taken count now made rest word (subst (λ (t : Terminal). IsTokenOf (vocabulary_of gr) t lex) is fits).1
-          w.in_ok-put_leaf.ensures.frame w.in_ok-put_leaf.ensures.kept room.1 levels (subst (λ (t : Terminal). Before task (item.Terminal t) fs taken count now) is b)))
+          (λ h. w.in_ok-put_leaf.ensures.frame ((rw w.device-is at below) h)) w.in_ok-put_leaf.ensures.kept room.1 levels (subst (λ (t : Terminal). Before task (item.Terminal t) fs taken count now) is b)))
       | in_default w ↦
           let is = w.in_default.is in
           let passed = c.advance.ensures ∙ ap (λ (p : Parser). handed p.tokens.list (p.tokens.taken + 1)) w.self-is in

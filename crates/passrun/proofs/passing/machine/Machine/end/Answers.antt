@@ -3,6 +3,7 @@ use Rattle.std.proofs.lemmas.List.Elements.{All-drop, All-same}
 use Rattle.std.proofs.lemmas.Option.{slice_get_within}
 use Rattle.ag_value.specs.Well.{IsWell}
 use Rattle.passrun.specs.laid.Jobs.{setting}
+use Rattle.passrun.proofs.steps.Supposed.{turns_to}
 use Rattle.passrun.proofs.steps.Turning.{ended_turns, no_waited, none_popped, own_of, popped_none, put_room, root_turns, some_is, waited_for, waited_place, whole_of}
 use Rattle.passrun.proofs.places.Widths.{few_values}
 use Rattle.passrun.proofs.course.Working.{ended_less}
@@ -58,8 +59,9 @@ hand_over-requires-clause-row g c =
 
 pub returns-clause-runs : goal.returns-clause-runs
 returns-clause-runs g c =
-    ended_turns (setting c.args.job.now) c.requires.job.sound c.args.self.now c.hand_over.new.values c.pop.new.self c.put_record.new.writer (g.E.Device.is_honest c.args.to.now) (g.E.Device.is_honest c.put_record.new.to) (g.E.Device.content c.args.to.now) (g.E.Device.content c.put_record.new.to) c.args.node c.in-Some.outer c.in-Some-place.row c.behind-values.result.now (c.in-Some.outer.base + c.in-Some-place.row.start)
-    c.requires.runs c.requires.next c.in-Some.ensures.items c.in-Some-place.ensures refl (c.behind-values.ensures ∙ ap (drop c.args.node.base) c.as_slice.ensures.value) c.in_ok-put_record.ensures.put c.in_ok-put_record.ensures.persists.honest c.hand_over.ensures
+    turns_to (setting c.args.job.now) (g.E.Device.is_honest c.args.to.now) (g.E.Device.is_honest c.put_record.new.to) (g.E.Device.content c.args.to.now) (g.E.Device.content c.put_record.new.to) c.args.self.now _ (Some c.args.node) _ c.in_ok-put_record.ensures.persists.honest
+    (ended_turns (setting c.args.job.now) c.requires.job.sound c.args.self.now c.hand_over.new.values c.pop.new.self c.put_record.new.writer (g.E.Device.is_honest c.put_record.new.to) (g.E.Device.is_honest c.put_record.new.to) (g.E.Device.content c.args.to.now) (g.E.Device.content c.put_record.new.to) c.args.node c.in-Some.outer c.in-Some-place.row c.behind-values.result.now (c.in-Some.outer.base + c.in-Some-place.row.start)
+    c.requires.runs c.requires.next c.in-Some.ensures.items c.in-Some-place.ensures refl (c.behind-values.ensures ∙ ap (drop c.args.node.base) c.as_slice.ensures.value) c.in_ok-put_record.ensures.put refl c.hand_over.ensures)
 
 pub returns-clause-less : goal.returns-clause-less
 returns-clause-less g c = ended_less (setting c.args.job.now) c.requires.job.sound c.args.self.now c.hand_over.new.values c.pop.new.self c.put_record.new.writer c.args.node (Some c.in-Some.outer) c.requires.runs c.in-Some.ensures.items (λ is. absurd (some_is c.in-Some.outer is))

@@ -1,7 +1,8 @@
-use Rattle.std.proofs.Common.{ap, ◌∙◌, ◌+◌, drop, take, length, arith}
+use Rattle.std.proofs.Common.{ap, refl, ◌∙◌, ◌+◌, drop, take, length, arith}
 use Rattle.std.proofs.lemmas.List.Elements.{All-drop, All-take, All-same}
 use Rattle.ag_value.specs.Well.{IsWell}
 use Rattle.passrun.specs.laid.Jobs.{setting}
+use Rattle.passrun.proofs.steps.Supposed.{turns_to}
 use Rattle.passrun.proofs.steps.Turning.{left_turns, no_row, put_room, put_turns, symbol_there, text_within, whole_of}
 use Rattle.passrun.proofs.course.Working.{put_less}
 use Rattle.std.proofs.Common.{Some}
@@ -36,8 +37,9 @@ put_record-requires-clause-room g c = put_room (setting c.args.job.now) c.requir
 pub returns-clause-runs : goal.returns-clause-runs
 returns-clause-runs g c =
     let text = c.args.node.base + c.in-Some.row.start in
-    put_turns (setting c.args.job.now) c.requires.job.sound c.args.self.now c.put_record.new.writer (g.E.Device.is_honest c.args.to.now) (g.E.Device.is_honest c.put_record.new.to) (g.E.Device.content c.args.to.now) (g.E.Device.content c.put_record.new.to) c.args.node c.stepped-2.result c.args.place c.in-Some.row c.in-Terminal.field-0 c.alone-values.result.now
-    c.requires.runs c.requires.next c.in-Some.ensures c.in-Terminal.is (c.alone-values.ensures ∙ ap (λ vs. take 1 (drop text vs)) c.as_slice.ensures.value) c.in_ok-put_record.ensures.put c.in_ok-put_record.ensures.persists.honest c.stepped-2.ensures
+    turns_to (setting c.args.job.now) (g.E.Device.is_honest c.args.to.now) (g.E.Device.is_honest c.put_record.new.to) (g.E.Device.content c.args.to.now) (g.E.Device.content c.put_record.new.to) c.args.self.now _ (Some c.args.node) _ c.in_ok-put_record.ensures.persists.honest
+    (put_turns (setting c.args.job.now) c.requires.job.sound c.args.self.now c.put_record.new.writer (g.E.Device.is_honest c.put_record.new.to) (g.E.Device.is_honest c.put_record.new.to) (g.E.Device.content c.args.to.now) (g.E.Device.content c.put_record.new.to) c.args.node c.stepped-2.result c.args.place c.in-Some.row c.in-Terminal.field-0 c.alone-values.result.now
+    c.requires.runs c.requires.next c.in-Some.ensures c.in-Terminal.is (c.alone-values.ensures ∙ ap (λ vs. take 1 (drop text vs)) c.as_slice.ensures.value) c.in_ok-put_record.ensures.put refl c.stepped-2.ensures)
 
 pub returns-clause-less : goal.returns-clause-less
 returns-clause-less g c = put_less (setting c.args.job.now) c.requires.job.sound c.args.self.now c.put_record.new.writer c.args.node c.stepped-2.result c.args.place c.requires.runs c.requires.next c.stepped-2.ensures

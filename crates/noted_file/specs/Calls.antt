@@ -1,0 +1,78 @@
+-- The calls of a file, and the answers of a file that keeps what is written to it. All of this is this project's.
+use Rattle.std.specs.Prelude.{◌≡◌, ℕ, zero, suc, ◌==◌, Bool, true, false, not, ◌&&◌, ◌||◌, if◌then◌else◌, List, [], ◌∷◌, ◌++◌, length, take, drop, slice_index, bytes_eq, refl}
+
+-- A call with its answer: the kind of call (0 to 5), an offset or a length, whether it succeeded, and bytes.
+abbrev pub Event : Type 0
+Event = ℕ × ℕ × Bool × List ℕ
+
+-- before all calls: the content of the file when it is opened
+abbrev pub initial_event : List ℕ → Event
+initial_event bytes = (0, 0, true, bytes)
+
+-- the file at this path was opened
+abbrev pub open_event : List ℕ → Event
+open_event path = (1, 0, true, path)
+
+-- the length of the file was asked for, and this was the answer
+abbrev pub length_event : Bool → ℕ → Event
+length_event ok len = (2, len, ok, [])
+
+-- these bytes were to be appended
+abbrev pub append_event : Bool → List ℕ → Event
+append_event ok bytes = (3, 0, ok, bytes)
+
+-- bytes were read from an offset on, and these came
+abbrev pub read_event : ℕ → Bool → List ℕ → Event
+read_event at ok bytes = (4, at, ok, bytes)
+
+-- the file was to be truncated to length 0
+abbrev pub truncate_event : Bool → Event
+truncate_event ok = (5, 0, ok, [])
+
+-- an event from the numbers that are passed to `note`
+abbrev pub event_of : List ℕ → List ℕ → Event
+event_of numbers bytes = (slice_index numbers 0, slice_index numbers 1, slice_index numbers 2 == 1, bytes)
+
+-- The content that a file must have after its calls, and whether every answer agreed with that.
+pub record Replay : Type 0 where
+  pub stored : List ℕ
+  pub is_honest : Bool
+
+-- whether a content has these bytes at an offset
+abbrev pub has_bytes_at : List ℕ → ℕ → List ℕ → Bool
+has_bytes_at stored at bytes = bytes_eq (take (length bytes) (drop at stored)) bytes
+
+-- A failed call changes nothing and shows nothing. A successful append or truncation did what it was to do. A length or bytes
+-- that were returned agree with the content, or the file is not honest from then on.
+abbrev pub after_call : ℕ → ℕ → Bool → List ℕ → Replay → Replay
+after_call zero number ok bytes file = record file { stored = bytes }
+after_call (suc zero) number ok bytes file = file
+after_call (suc (suc zero)) len ok bytes file = record file { is_honest = file.is_honest && (not ok || (len == length file.stored)) }
+after_call (suc (suc (suc zero))) number ok bytes file = record file { stored = if ok then file.stored ++ bytes else file.stored }
+after_call (suc (suc (suc (suc zero)))) at ok bytes file = record file { is_honest = file.is_honest && (not ok || has_bytes_at file.stored at bytes) }
+after_call (suc (suc (suc (suc (suc more))))) number ok bytes file = record file { stored = if ok then [] else file.stored }
+
+-- the file after these calls, newest first
+abbrev pub replay : List Event → Replay
+replay [] = record { stored = []; is_honest = true }
+replay (e ∷ earlier) = after_call e.0 e.1 e.2 e.3 (replay earlier)
+
+-- the record of a file that is not open yet
+abbrev pub IsFresh : List Event → Type 0
+IsFresh events = (bytes : List ℕ) × (events ≡ initial_event bytes ∷ [])
+
+-- a file of one byte, to which two are appended, is three bytes long
+pub length_of_three : (replay (length_event true 3 ∷ append_event true (8 ∷ 9 ∷ []) ∷ open_event [] ∷ initial_event (7 ∷ []) ∷ [])).is_honest ≡ true
+length_of_three = refl
+
+-- one that answers two is not honest, and is not honest again after it answers three
+pub length_of_two : (replay (length_event true 3 ∷ length_event true 2 ∷ append_event true (8 ∷ 9 ∷ []) ∷ open_event [] ∷ initial_event (7 ∷ []) ∷ [])).is_honest ≡ false
+length_of_two = refl
+
+-- a truncated file contains only what was appended since
+pub content_after_truncation : (replay (read_event 0 true (9 ∷ []) ∷ append_event true (9 ∷ []) ∷ truncate_event true ∷ open_event [] ∷ initial_event (7 ∷ []) ∷ [])) ≡ record { stored = 9 ∷ []; is_honest = true }
+content_after_truncation = refl
+
+-- a file that returns a byte from before its truncation is not honest
+pub byte_from_before : (replay (read_event 0 true (7 ∷ []) ∷ append_event true (9 ∷ []) ∷ truncate_event true ∷ open_event [] ∷ initial_event (7 ∷ []) ∷ [])).is_honest ≡ false
+byte_from_before = refl

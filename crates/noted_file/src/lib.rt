@@ -1,0 +1,8 @@
+//! A file that records each call made on it, with the answer, in ghost state: the record occupies no memory.
+#![tactic(auto)]
+
+mod noted;
+mod record;
+
+pub use noted::NotedFile;
+pub use record::Record;

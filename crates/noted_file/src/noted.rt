@@ -1,0 +1,113 @@
+//! Each function makes one call to the operating system and then records it with its answer. No
+//! clause can say that the call was made: these lines are to be read.
+ghost use Rattle.std.specs.Prelude.{◌≡◌, ◌∷◌, true, false, is_ok, length, IfOk, MatchResult, OnOk};
+ghost use Rattle.std.specs.Io.KnownBytes.{Appends};
+ghost use Rattle.noted_file.specs.Calls.{append_event, length_event, open_event, read_event};
+ghost use Rattle.noted_file.specs.Calls.{truncate_event};
+
+use crate::record::Record;
+use std::fs::{OpenFile, OpenOptions};
+use std::io::{self, Read, Seek, SeekFrom, Write};
+use std::marker::Model;
+use std::rt::Files;
+
+const OPEN: u64 = 1;
+
+const LENGTH: u64 = 2;
+
+const APPEND: u64 = 3;
+
+const READ: u64 = 4;
+
+const TRUNCATE: u64 = 5;
+
+/// An open file with the record of its calls. Contracts see both.
+#[derive(Drop)]
+pub struct NotedFile<F> {
+    file: F,
+    calls: Record,
+}
+
+impl<F> Model for NotedFile<F> {
+    ghost use Rattle.noted_file.specs.Noted.{Noted};
+
+    ghost Value = { Noted F };
+
+    ghost view = { λ n. record { file = n.file; events = n.calls.events } };
+}
+
+/// Fills `out` with the bytes of a file from offset `at` on.
+fn fill_from<F: Read + Seek>(file: &mut F, at: u64, out: &mut [u8]) -> io::Result<()> {
+    file.seek(SeekFrom::Start(at))?;
+    file.read_exact(out)
+}
+
+impl<F: Read + Write + Seek + OpenFile> NotedFile<F> {
+    /// Opens the file at `path` with the options `how`. Fails as the system does.
+    pub fn open<Rt: Files<File = F>>(
+        rt: &Rt,
+        how: &OpenOptions,
+        path: &str,
+        before: Record,
+    ) -> io::Result<NotedFile<F>>
+        ensures { IfOk result (λ noted. noted.events ≡ open_event path.now ∷ before.events) }
+    {
+        let file = how.open(rt, path)?;
+        let mut calls = before;
+        calls.note(&[OPEN, 0, 1], path.as_bytes());
+        Ok(NotedFile { file, calls })
+    }
+
+    /// Returns the length of the file in bytes.
+    pub fn len(&mut self) -> io::Result<u64>
+        ensures noted { MatchResult result
+            (λ n. self.new.events ≡ length_event true n ∷ self.old.events)
+            (λ _. self.new.events ≡ length_event false 0 ∷ self.old.events) }
+        ensures file { self.new.file ≡ self.old.file }
+    {
+        match self.file.metadata() {
+            Ok(metadata) => {
+                let len = metadata.len();
+                self.calls.note(&[LENGTH, len, 1], &[]);
+                Ok(len)
+            }
+            Err(error) => {
+                self.calls.note(&[LENGTH, 0, 0], &[]);
+                Err(error)
+            }
+        }
+    }
+
+    /// Appends bytes to the file.
+    pub fn append(&mut self, bytes: &[u8]) -> io::Result<()>
+        ensures noted { self.new.events
+            ≡ append_event (is_ok result) bytes.now ∷ self.old.events }
+        ensures taken { OnOk result
+            (Appends (F.contents self.old.file) (F.contents self.new.file) bytes.now) }
+    {
+        let answer = self.file.write_all(bytes);
+        self.calls
+            .note(&[APPEND, 0, u64::from(answer.is_ok())], bytes);
+        answer
+    }
+
+    /// Fills `out` with the bytes of the file from offset `at` on.
+    pub fn read_at(&mut self, at: u64, out: &mut [u8]) -> io::Result<()>
+        ensures noted { self.new.events
+            ≡ read_event at (is_ok result) out.new ∷ self.old.events }
+    {
+        let answer = fill_from(&mut self.file, at, out);
+        self.calls.note(&[READ, at, u64::from(answer.is_ok())], out);
+        answer
+    }
+
+    /// Truncates the file to length 0.
+    pub fn truncate(&mut self) -> io::Result<()>
+        ensures noted { self.new.events ≡ truncate_event (is_ok result) ∷ self.old.events }
+    {
+        let answer = self.file.set_len(0);
+        self.calls
+            .note(&[TRUNCATE, 0, u64::from(answer.is_ok())], &[]);
+        answer
+    }
+}
