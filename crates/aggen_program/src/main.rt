@@ -14,15 +14,16 @@ mod translations;
 use aggen::{
     Fault, Translator, print_code, print_counts, print_plan, show_value, source_of, status,
 };
-use agoutput::{nodes_line, write_text};
+use aggen_files::{parse_to_file, upgrade_file};
 use command::{Paths, Request, UpgradePaths, request_of};
 use messages::Report;
+use noted_file::Record;
 use std::alloc::{AllocError, Global};
 use std::process::ExitCode;
 use std::rt::{Env, Files};
 use std::{fs, io};
 use translations::{evaluate_file, run_files, run_input, sentence_in, translator_in};
-use treefile::{Device, FileDevice, MemDevice};
+use treefile::{FileDevice, MemDevice};
 
 /// A file that can be opened, and neither read nor written.
 const FOLDER: &str = "/";
@@ -80,7 +81,7 @@ fn answer<R: Files + Input + Print>(
         Request::Plan(path) => print_of(rt, alloc, path, Part::Plan),
         Request::Code(path) => print_of(rt, alloc, path, Part::Code),
         Request::Parse(paths) => parse_file(rt, alloc, &paths),
-        Request::Upgrade(paths) => upgrade_file(rt, alloc, &paths),
+        Request::Upgrade(paths) => convert_file(rt, alloc, &paths),
     }
 }
 
@@ -135,8 +136,8 @@ fn print_of<R: Files + Print>(rt: &R, alloc: Global, path: &str, part: Part) -> 
     }
 }
 
-/// Makes the tree file of the sentence in a file, and prints how many nodes its tree has. The
-/// grammar is read first, then the sentence, and only then is the tree file made.
+/// Writes the tree file of the sentence in a file, and prints the number of its nodes. The grammar is
+/// read first, then the sentence, and only then is the tree file created.
 fn parse_file<R: Files + Print>(rt: &R, alloc: Global, paths: &Paths<'_>) -> Result<(), Report> {
     let translator = translator_in(rt, alloc, paths.grammar)?;
     let sentence = sentence_in(rt, alloc, paths.sentence)?;
@@ -150,7 +151,8 @@ fn parse_file<R: Files + Print>(rt: &R, alloc: Global, paths: &Paths<'_>) -> Res
     }
 }
 
-/// Makes the tree file of a sentence, and prints how many nodes its tree has.
+/// Opens the file at `path`, writes the tree file of a sentence there, and prints the number of its
+/// nodes.
 fn write_tree<R: Files + Print>(
     rt: &R,
     alloc: Global,
@@ -158,33 +160,25 @@ fn write_tree<R: Files + Print>(
     sentence: &[u8],
     path: &str,
 ) -> Result<(), Fault> {
-    let mut device = FileDevice::create(rt, alloc, path)?;
-    let count = translator.parse_tree(sentence, &mut device)?;
-    device.finish()?;
-    print_nodes(rt, alloc, count)
-}
-
-/// Prints how many nodes a tree has.
-fn print_nodes<R: Print>(rt: &R, alloc: Global, count: u32) -> Result<(), Fault> {
-    let line = nodes_line(alloc, count)?;
+    let mut tree = FileDevice::create(rt, alloc, path, Record::new())?;
     let mut out = io::writer(rt);
-    write_text(&mut out, line.as_str())?;
+    parse_to_file(alloc, translator, sentence, &mut tree, &mut out)?;
     Ok(())
 }
 
-/// Makes the tree file of version 2 of the tree in a file of version 1, and prints how many nodes it
-/// has. The grammar is read first, then the old file is opened, and only then is the other one made.
-fn upgrade_file<R: Files + Print>(
+/// Converts a tree file of version 1 to version 2, and prints the number of its nodes. The grammar is
+/// read first, then the old file is opened, and only then is the other one created.
+fn convert_file<R: Files + Print>(
     rt: &R,
     alloc: Global,
     paths: &UpgradePaths<'_>,
 ) -> Result<(), Report> {
     let translator = translator_in(rt, alloc, paths.grammar)?;
-    let mut old = match FileDevice::existing(rt, alloc, paths.old) {
+    let mut old = match FileDevice::existing(rt, alloc, paths.old, Record::new()) {
         Ok(old) => old,
         Err(fault) => return Err(Report::of_file(alloc, Fault::from(fault), paths.old)),
     };
-    match write_upgraded(rt, alloc, &translator, &mut old, paths.tree) {
+    match write_converted(rt, alloc, &translator, &mut old, paths.tree) {
         Ok(()) => Ok(()),
         Err(fault) => Err(Report::of_old_tree(
             alloc,
@@ -197,19 +191,17 @@ fn upgrade_file<R: Files + Print>(
     }
 }
 
-/// Makes the tree file of version 2 of an old tree, and prints how many nodes it has. What stands
-/// between the two files is in memory. Where they are one, all of the old tree has been read before
-/// the new one is written.
-fn write_upgraded<R: Files + Print, D: Device>(
+/// Opens the file at `path`, converts the tree file of `old` to it, and prints the number of its
+/// nodes.
+fn write_converted<R: Files + Print>(
     rt: &R,
     alloc: Global,
     translator: &Translator,
-    old: &mut D,
+    old: &mut FileDevice<R::File>,
     path: &str,
 ) -> Result<(), Fault> {
-    let mut tree = FileDevice::create(rt, alloc, path)?;
-    let mut mid = MemDevice::new(alloc);
-    let count = translator.upgrade(old, &mut mid, &mut tree)?;
-    tree.finish()?;
-    print_nodes(rt, alloc, count)
+    let mut tree = FileDevice::create(rt, alloc, path, Record::new())?;
+    let mut out = io::writer(rt);
+    upgrade_file(alloc, translator, old, &mut tree, &mut out)?;
+    Ok(())
 }

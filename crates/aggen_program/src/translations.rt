@@ -3,7 +3,9 @@
 use crate::command::{EvalPaths, RunPaths};
 use ag_job::Job;
 use aggen::{Fault, Translator, source_of};
+use aggen_files::WorkFiles;
 use messages::Report;
+use noted_file::Record;
 use std::alloc::Global;
 use std::io;
 use std::rt::Files;
@@ -42,14 +44,12 @@ pub fn evaluate_file<R: Files + Print>(
     paths: &EvalPaths<'_>,
 ) -> Result<(), Report> {
     let translator = translator_in(rt, alloc, paths.grammar)?;
-    let mut tree = match FileDevice::existing(rt, alloc, paths.tree) {
+    let mut tree = match FileDevice::existing(rt, alloc, paths.tree, Record::new()) {
         Ok(tree) => tree,
         Err(fault) => return Err(Report::of_file(alloc, Fault::from(fault), paths.tree)),
     };
-    let mut a = MemDevice::new(alloc);
-    let mut b = MemDevice::new(alloc);
     let mut out = io::writer(rt);
-    match translator.evaluate_tree(&mut tree, &mut a, &mut b, &mut out) {
+    match aggen_files::evaluate_file(alloc, &translator, &mut tree, &mut out) {
         Ok(_) => Ok(()),
         Err(fault) => Err(Report::of_tree(alloc, fault, &translator, &mut tree, paths.tree)),
     }
@@ -110,7 +110,7 @@ fn run_in_folder<R: Files + Print>(
     }
 }
 
-/// Makes the tree files in a folder, and translates a sentence by way of them.
+/// Opens the tree files in a folder, and translates a sentence by way of them.
 fn translate_in<R: Files + Print>(
     rt: &R,
     alloc: Global,
@@ -118,13 +118,8 @@ fn translate_in<R: Files + Print>(
     sentence: &[u8],
     folder: &str,
 ) -> Result<(), Fault> {
-    let first = format!(in alloc; "{folder}/a.agt")?;
-    let second = format!(in alloc; "{folder}/b.agt")?;
-    let mut a = FileDevice::create(rt, alloc, first.as_str())?;
-    let mut b = FileDevice::create(rt, alloc, second.as_str())?;
+    let mut files = WorkFiles::open(rt, alloc, folder, Record::new(), Record::new())?;
     let mut out = io::writer(rt);
-    translator.translate(sentence, &mut a, &mut b, &mut out)?;
-    a.finish()?;
-    b.finish()?;
+    files.translate(alloc, translator, sentence, &mut out)?;
     Ok(())
 }

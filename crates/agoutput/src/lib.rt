@@ -13,4 +13,4 @@ pub use code_listing::write_code;
 pub use fault::{ListingFault, TextOutFault};
 pub use lines::{counts_line, nodes_line, value_line};
 pub use plan_listing::write_plan;
-pub use writing::write_text;
+pub use writing::{write_bytes, write_text};

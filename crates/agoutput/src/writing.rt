@@ -1,4 +1,4 @@
-//! Writing a text until all of it is taken.
+//! Writing bytes until the writer has taken all of them.
 
 ghost use Rattle.std.specs.Prelude.{OnErr, OnOk};
 ghost use Rattle.std.specs.Io.KnownBytes.{Appends};
@@ -7,16 +7,16 @@ ghost use Rattle.agoutput.specs.Writing.{AppendsBeginning};
 use crate::fault::TextOutFault;
 use std::io::Write;
 
-/// Writes a text, one write after another until all its bytes are taken. Takes no memory.
+/// Writes bytes, one write after another until the writer has taken all of them. Takes no memory.
 ///
-/// O2 Write where a write fails or takes no byte; a beginning of the text has gone out then.
+/// Fails with O2 Write if a write fails or takes no byte; a prefix of the bytes is written then.
 #[tactic(auto, using(crate::proofs::Written::one_more, crate::proofs::Written::beginning))]
-pub fn write_text<W: Write>(out: &mut W, text: &str) -> Result<(), TextOutFault>
-    ensures ok { OnOk result (Appends (W.contents out.old) (W.contents out.new) text.now) }
+pub fn write_bytes<W: Write>(out: &mut W, bytes: &[u8]) -> Result<(), TextOutFault>
+    ensures ok { OnOk result (Appends (W.contents out.old) (W.contents out.new) bytes.now) }
     ensures err { OnErr result
-        (AppendsBeginning (W.contents out.old) (W.contents out.new) text.now) }
+        (AppendsBeginning (W.contents out.old) (W.contents out.new) bytes.now) }
 {
-    let mut rest = text.as_bytes();
+    let mut rest = bytes;
     while !rest.is_empty() {
         match out.write(rest) {
             Ok(0) => return Err(TextOutFault::Write),
@@ -28,4 +28,13 @@ pub fn write_text<W: Write>(out: &mut W, text: &str) -> Result<(), TextOutFault>
         }
     }
     Ok(())
+}
+
+/// Writes a text as `write_bytes` writes its bytes. Takes no memory.
+pub fn write_text<W: Write>(out: &mut W, text: &str) -> Result<(), TextOutFault>
+    ensures ok { OnOk result (Appends (W.contents out.old) (W.contents out.new) text.now) }
+    ensures err { OnErr result
+        (AppendsBeginning (W.contents out.old) (W.contents out.new) text.now) }
+{
+    write_bytes(out, text.as_bytes())
 }

@@ -1,9 +1,9 @@
 use Rattle.std.proofs.Common.{length}
 use Rattle.agoutput.specs.Writing.{HasWritten}
-use Rattle.agoutput.proofs.writing.write_text.Given as goal
+use Rattle.agoutput.proofs.writing.write_bytes.Given as goal
 
 abbrev pub invariant-loop-rest : goal.invariant-loop-rest
-invariant-loop-rest g l = HasWritten (g.W.Write.contents l.initial.out) (g.W.Write.contents l.out) l.text l.rest
+invariant-loop-rest g l = HasWritten (g.W.Write.contents l.initial.out) (g.W.Write.contents l.out) l.bytes l.rest
 
 abbrev pub decreases-loop-rest : goal.decreases-loop-rest
 decreases-loop-rest g l = length l.rest

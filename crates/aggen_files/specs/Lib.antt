@@ -1,0 +1,5 @@
+pub mod Opening
+pub mod Paths
+pub mod Printing
+pub mod Stored
+pub mod Trees

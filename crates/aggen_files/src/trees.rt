@@ -1,0 +1,119 @@
+//! Tree files: the file of a sentence's tree, the translation of a tree in a file, and the conversion
+//! of files of version 1.
+
+ghost use Rattle.std.specs.Prelude.{◌≡◌, ◌≢◌, true, IfErr, IfOk, IsErrOf, OnErr, OnOk};
+ghost use Rattle.std.specs.Io.KnownBytes.{Appends};
+ghost use Rattle.ag_grammar.specs.grammars.Tree.{IsWithinLimits, Tree, node_count};
+ghost use Rattle.ag_grammar.specs.grammars.Tree.{most_depth, most_nodes};
+ghost use Rattle.agoutput.specs.Lines.{nodes_line};
+ghost use Rattle.treefile.specs.devices.Device.{LeavesContent, WhenHonest};
+ghost use Rattle.treefile.specs.devices.Files.{content_of, is_honest_of};
+ghost use Rattle.treefile.specs.records.FirstFile.{IsFirstFile};
+ghost use Rattle.treefile.specs.records.TreeFile.{version_two};
+ghost use Rattle.aggen.specs.Sentences.{IsTreeOfSentence};
+ghost use Rattle.aggen.specs.Translation.{BeginsText};
+ghost use Rattle.aggen_files.specs.Stored.{stored_of};
+ghost use Rattle.aggen_files.specs.Trees.{EvaluatesFile, IsConversionFault, IsFileEvaluationFault};
+ghost use Rattle.aggen_files.specs.Trees.{IsParsingFault, UpgradesFile};
+
+use crate::count::print_count;
+use aggen::{Fault, Report, Translator};
+use std::alloc::Global;
+use std::fs::OpenFile;
+use std::io::{Read, Seek, Write};
+use treefile::{FileDevice, MemDevice};
+
+/// Writes the file of a sentence's tree to `tree`, in place of what it has, and then prints the
+/// number of the tree's nodes.
+///
+/// Fails as `Translator::parse_tree` and `print_count` do.
+pub fn parse_to_file<F: Read + Write + Seek + OpenFile, W: Write>(
+    alloc: Global,
+    translator: &Translator,
+    sentence: &[u8],
+    tree: &mut FileDevice<F>,
+    out: &mut W,
+) -> Result<u32, Fault>
+    // the sentence has one tree, it is within the limits, and the file has it
+    ensures tree { IfOk result (λ _. (t : Tree) × IsTreeOfSentence translator.now sentence.now t) }
+    ensures one { (t u : Tree) → IsTreeOfSentence translator.now sentence.now t
+        → IsTreeOfSentence translator.now sentence.now u → t ≡ u }
+    ensures limits { (t : Tree) → IsTreeOfSentence translator.now sentence.now t
+        → OnOk result (IsWithinLimits most_depth most_nodes t) }
+    ensures count { (t : Tree) → IsTreeOfSentence translator.now sentence.now t
+        → IfOk result (λ count. count ≡ node_count t) }
+    ensures file { (t : Tree) → IsTreeOfSentence translator.now sentence.now t
+        → OnOk result (WhenHonest (is_honest_of tree.new)
+        (IsFirstFile version_two translator.now t (stored_of tree.new))) }
+    ensures printed { IfOk result (λ count.
+        Appends (W.contents out.old) (W.contents out.new) (nodes_line count)) }
+    ensures refused { IfErr result (IsParsingFault translator.now sentence.now) }
+    ensures kept { IfErr result (λ e. e ≢ Fault.Write → out.new ≡ out.old) }
+{
+    let parsed = translator.parse_tree(sentence, tree);
+    let finished = tree.finish();
+    let count = parsed?;
+    finished?;
+    print_count(alloc, count, out)?;
+    Ok(count)
+}
+
+/// Translates the tree in the file of `tree`, which stays as it is, and prints the translation. The
+/// files of the passes are in memory.
+///
+/// Fails as `Translator::evaluate_tree` does.
+pub fn evaluate_file<F: Read + Write + Seek + OpenFile, W: Write>(
+    alloc: Global,
+    translator: &Translator,
+    tree: &mut FileDevice<F>,
+    out: &mut W,
+) -> Result<Report, Fault>
+    // the translation theorem, of the tree in the file
+    ensures evaluates { IfOk result (λ report. EvaluatesFile translator.now
+        (is_honest_of tree.new) (content_of tree.old)
+        (W.contents out.old) (W.contents out.new) report) }
+    ensures refused { IfErr result (IsFileEvaluationFault translator.now (is_honest_of tree.new)
+        (content_of tree.old) (W.contents out.old) (W.contents out.new)) }
+    ensures kept { IfErr result (λ e. e ≢ Fault.Write → out.new ≡ out.old) }
+    ensures begins { IsErrOf result Fault.Write →
+        BeginsText (W.contents out.old) (W.contents out.new) }
+    ensures content { LeavesContent (is_honest_of tree.new)
+        (content_of tree.old) (content_of tree.new) }
+{
+    let mut a = MemDevice::new(alloc);
+    let mut b = MemDevice::new(alloc);
+    translator.evaluate_tree(tree, &mut a, &mut b, out)
+}
+
+/// Converts the tree file of version 1 of `old` to version 2: writes it to `tree`, in place of what
+/// it has, and then prints the number of the tree's nodes. The file of `old` stays as it is. The
+/// records in between are in memory, and all of `old` is read before `tree` is written, so both may
+/// be one file.
+///
+/// Fails as `Translator::upgrade` and `print_count` do.
+pub fn upgrade_file<F: Read + Write + Seek + OpenFile, W: Write>(
+    alloc: Global,
+    translator: &Translator,
+    old: &mut FileDevice<F>,
+    tree: &mut FileDevice<F>,
+    out: &mut W,
+) -> Result<u32, Fault>
+    ensures upgraded { IfOk result (λ count. UpgradesFile translator.now
+        (is_honest_of old.new) (content_of old.old)
+        (is_honest_of tree.new) (stored_of tree.new) count) }
+    ensures printed { IfOk result (λ count.
+        Appends (W.contents out.old) (W.contents out.new) (nodes_line count)) }
+    ensures refused { IfErr result (IsConversionFault translator.now
+        (is_honest_of old.new) (content_of old.old)) }
+    ensures kept { IfErr result (λ e. e ≢ Fault.Write → out.new ≡ out.old) }
+    ensures content { LeavesContent (is_honest_of old.new)
+        (content_of old.old) (content_of old.new) }
+{
+    let mut between = MemDevice::new(alloc);
+    let converted = translator.upgrade(old, &mut between, tree);
+    let finished = tree.finish();
+    let count = converted?;
+    finished?;
+    print_count(alloc, count, out)?;
+    Ok(count)
+}

@@ -1,0 +1,129 @@
+//! The two tree files of a translation, in a folder.
+
+ghost use Rattle.std.specs.Prelude.{◌≡◌, ◌≢◌, IfErr, IfOk, IsErrOf, OnErr, OnOk};
+ghost use Rattle.treefile.specs.devices.Files.{IsNew, content_of, is_honest_of};
+ghost use Rattle.treefile.specs.devices.Several.{BothLast};
+ghost use Rattle.aggen.specs.Translating.{IsTranslationFault, TranslatesSentence};
+ghost use Rattle.aggen.specs.Translation.{BeginsText};
+ghost use Rattle.aggen_files.specs.Opening.{IsOpeningFault};
+ghost use Rattle.aggen_files.specs.Paths.{path_of_a, path_of_b};
+ghost use Rattle.aggen_files.specs.Stored.{StoresContent, stored_of};
+
+use aggen::{Fault, Report, Translator};
+use agoutput::write_bytes;
+use noted_file::Record;
+use std::alloc::{AllocError, Global};
+use std::fs::OpenFile;
+use std::io::{Read, Seek, Write};
+use std::rt::Files;
+use treefile::{DeviceFault, FileDevice};
+
+/// The tree files a.agt and b.agt of a folder, which the passes of a translation read and write in
+/// turns.
+#[derive(Drop)]
+pub struct WorkFiles<F> {
+    pub a: FileDevice<F>,
+    pub b: FileDevice<F>,
+}
+
+/// Returns the path of the file `name` in a folder.
+fn path_in(alloc: Global, folder: &str, name: &str) -> Result<String, AllocError>
+    ensures { IfOk result (λ path. string_bytes path ≡ folder.now ++ name.now) }
+{
+    let mut path = String::from_str(alloc, folder)?;
+    path.push_str(name)?;
+    Ok(path)
+}
+
+impl<F: Read + Write + Seek + OpenFile> WorkFiles<F> {
+    /// Opens a.agt and b.agt in a folder, and creates those that are missing. Their contents stay
+    /// until a translation clears them. `first` and `second` are the records that their devices
+    /// continue: `Record::new()`.
+    ///
+    /// Fails with F1 if a file can't be opened, and with NoMemory if there is no memory for a path.
+    pub fn open<R: Files<File = F>>(
+        rt: &R,
+        alloc: Global,
+        folder: &str,
+        first: Record,
+        second: Record,
+    ) -> Result<WorkFiles<F>, Fault>
+        ensures a { IfOk result (λ files.
+            IsNew Access.Writing (path_of_a folder.now) first.events files.a) }
+        ensures b { IfOk result (λ files.
+            IsNew Access.Writing (path_of_b folder.now) second.events files.b) }
+        ensures refused { IfErr result IsOpeningFault }
+    {
+        let a = path_in(alloc, folder, "/a.agt")?;
+        let b = path_in(alloc, folder, "/b.agt")?;
+        Ok(WorkFiles {
+            a: FileDevice::create(rt, alloc, a.as_str(), first)?,
+            b: FileDevice::create(rt, alloc, b.as_str(), second)?,
+        })
+    }
+
+    /// Writes to both files what their devices have gathered, to the second one also if the first
+    /// one fails.
+    fn finish(&mut self) -> Result<(), DeviceFault>
+        ensures a { OnOk result (StoresContent self.old.a self.new.a) }
+        ensures b { OnOk result (StoresContent self.old.b self.new.b) }
+        ensures failed { OnErr result (IsErrOf result DeviceFault.Failed) }
+        ensures devices { BothLast is_honest_of (λ d. d.failures) self.old.a self.new.a
+            is_honest_of (λ d. d.failures) self.old.b self.new.b
+            (IsErrOf result DeviceFault.Failed) }
+    {
+        let first = self.a.finish();
+        let second = self.b.finish();
+        first?;
+        second
+    }
+
+    /// Translates a sentence by way of the two files, and prints the translation once both have
+    /// their whole contents. Both are also written out after a refusal.
+    ///
+    /// Fails as `Translator::translate` does; with NoMemory also if there is no memory for the
+    /// translation's bytes, and with D1 if a file could not be written out. Only with O2 has
+    /// anything been printed.
+    pub fn translate<W: Write>(
+        &mut self,
+        alloc: Global,
+        translator: &Translator,
+        sentence: &[u8],
+        out: &mut W,
+    ) -> Result<Report, Fault>
+        // the translation theorem, of the contents of the two files
+        ensures translates { IfOk result (λ report. TranslatesSentence translator.now sentence.now
+            (is_honest_of self.new.a) (is_honest_of self.new.b)
+            (stored_of self.new.a) (stored_of self.new.b)
+            (W.contents out.old) (W.contents out.new) report) }
+        ensures refused { IfErr result (λ e. IsTranslationFault translator.now sentence.now
+            (is_honest_of self.new.a) (is_honest_of self.new.b)
+            (W.contents out.old) (W.contents out.new) e) }
+        ensures kept { IfErr result (λ e. e ≢ Fault.Write → out.new ≡ out.old) }
+        ensures begins { IsErrOf result Fault.Write →
+            BeginsText (W.contents out.old) (W.contents out.new) }
+        ensures devices { BothLast is_honest_of (λ d. d.failures) self.old.a self.new.a
+            is_honest_of (λ d. d.failures) self.old.b self.new.b
+            (IsErrOf result Fault.Device) }
+    {
+        let mut text = Vec::new(alloc);
+        let translated = translator.translate(sentence, &mut self.a, &mut self.b, &mut text);
+        let finished = self.finish();
+        let report = of_buffered(translated)?;
+        finished?;
+        write_bytes(out, text.as_slice())?;
+        Ok(report)
+    }
+}
+
+/// Returns the result of a translation into memory: a failed write there is want of memory.
+fn of_buffered(translated: Result<Report, Fault>) -> Result<Report, Fault>
+    ensures ok { OnOk translated (result ≡ translated) }
+    ensures err { IfErr translated (λ e. e ≢ Fault.Write → result ≡ translated) }
+    ensures write { IsErrOf translated Fault.Write → IsErrOf result Fault.NoMemory }
+{
+    match translated {
+        Err(Fault::Write) => Err(Fault::NoMemory),
+        other => other,
+    }
+}
