@@ -111,9 +111,9 @@ pub fn upgrade_file<F: Read + Write + Seek + OpenFile, W: Write>(
 {
     let mut between = MemDevice::new(alloc);
     let converted = translator.upgrade(old, &mut between, tree);
-    let finished = tree.finish();
+    let written = tree.finish();
     let count = converted?;
-    finished?;
+    written?;
     print_count(alloc, count, out)?;
     Ok(count)
 }

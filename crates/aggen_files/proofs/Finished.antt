@@ -1,0 +1,73 @@
+-- What holds of a translation into memory holds once its bytes are printed and the files are written out.
+use Rattle.std.proofs.Common.{◌≡◌, ◌≢◌, List, [], ◌++◌, ℕ, Bool, true, Option, Some, refl, sym, subst, ◌∙◌}
+use Rattle.std.specs.Io.KnownBytes.{Appends}
+use Rattle.ag_grammar.specs.grammars.AttributeGrammar.{Grammar}
+use Rattle.ag_grammar.specs.grammars.Solution.{IsTranslation}
+use Rattle.ag_value.specs.declared.value.Value.{Text}
+use Rattle.agoutput.specs.Writing.{AppendsBeginning}
+use Rattle.treefile.specs.devices.Device.{WhenHonest}
+use Rattle.aggen.specs.Sentences.{IsTreeOfSentence}
+use Rattle.aggen.specs.Translating.{IsTranslationFault, TranslatesSentence}
+use Rattle.aggen.specs.Translation.{BeginsTranslation}
+use Rattle.aggen.specs.declared.fault.Fault.{Fault}
+use Rattle.aggen.specs.declared.fault.Fault.TheVariants as fault
+use Rattle.aggen.specs.declared.translations.report.Report.{Report}
+
+module _ (g : Grammar) (sentence : List ℕ) (ha hb ha' hb' : Bool) (first : ha' ≡ true → ha ≡ true) (second : hb' ≡ true → hb ≡ true) where
+  -- all bytes were printed
+  pub translated : (a b a' b' bytes : List ℕ) (old new : Option (List ℕ)) (report : Report)
+      → (ha' ≡ true → a' ≡ a) → (hb' ≡ true → b' ≡ b)
+      → TranslatesSentence g sentence ha hb a b (Some []) (Some bytes) report
+      → Appends old new bytes → TranslatesSentence g sentence ha' hb' a' b' old new report
+  translated a b a' b' bytes old new report same_a same_b told printed = record {
+    tree = told.tree;
+    one = told.one;
+    assignment = told.assignment;
+    passes = told.passes;
+    plan = told.plan;
+    translated = λ x y. let is = told.translated (first x) (second y) in rw (same_a x, same_b y) (record {
+      values = is.values;
+      leaves = is.leaves;
+      text = is.text;
+      root = is.root;
+      written = subst (λ (w : List ℕ). Appends old new w) is.written printed;
+      report_is = is.report_is;
+    });
+  }
+
+  -- a prefix of them was
+  pub begun : (a b bytes : List ℕ) (old new : Option (List ℕ)) (report : Report)
+      → TranslatesSentence g sentence ha hb a b (Some []) (Some bytes) report
+      → AppendsBeginning old new bytes
+      → WhenHonest ha' (WhenHonest hb' (BeginsTranslation (IsTreeOfSentence g sentence) g old new))
+  begun a b bytes old new report told printed x y = let is = told.translated (first x) (second y) in record {
+    tree = told.tree;
+    one = told.one;
+    values = is.values;
+    solves = is.leaves.solution.solves;
+    front = printed.front;
+    rest = printed.rest;
+    root = subst (λ (w : List ℕ). IsTranslation g is.values (Text w)) (sym is.written ∙ printed.cut) is.root;
+    written = printed.put;
+  }
+
+  -- a refusal says as much where less is supposed of the files, and nothing but O2 speaks of the bytes printed
+  pub refused : (old new old' new' : Option (List ℕ)) (e : Fault) → e ≢ fault.Write
+      → IsTranslationFault g sentence ha hb old new e → IsTranslationFault g sentence ha' hb' old' new' e
+  refused old new old' new' (fault.Scan f) other told = told
+  refused old new old' new' (fault.Parse f) other told = told
+  refused old new old' new' (fault.Run f) other told = λ x y. told (first x) (second y)
+  refused old new old' new' (fault.NoText v) other told = λ x y. told (first x) (second y)
+  refused old new old' new' fault.NotATreeFile other told = λ x y. told (first x) (second y)
+  refused old new old' new' (fault.Damaged at) other told = λ x y. told (first x) (second y)
+  refused old new old' new' fault.Write other told = absurd (other refl)
+  refused old new old' new' fault.Device other told = tt
+  refused old new old' new' fault.NoMemory other told = tt
+  refused old new old' new' fault.Usage other told = told
+  refused old new old' new' fault.File other told = told
+  refused old new old' new' (fault.Expr f) other told = told
+  refused old new old' new' (fault.Text f) other told = told
+  refused old new old' new' (fault.Normal f) other told = told
+  refused old new old' new' (fault.Table f) other told = told
+  refused old new old' new' (fault.Assign s) other told = told
+  refused old new old' new' (fault.Job f) other told = told
