@@ -3,6 +3,7 @@
 #![tactic(auto)]
 
 mod cutting;
+mod display;
 mod fault;
 mod job;
 pub mod laws;

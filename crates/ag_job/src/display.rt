@@ -1,0 +1,30 @@
+//! How the faults of a job are printed.
+
+use crate::fault::JobFault;
+use std::error::Error;
+use std::fmt;
+
+/// The number of the fault, then what is wrong and what to do: `J2 the job can't be read`.
+impl fmt::Display for JobFault {
+    ghost use Rattle.std.specs.Prelude.{Some};
+    ghost use Rattle.ag_job.specs.Printed.{printed};
+
+    ghost output = { λ fault. Some (printed fault) };
+
+    fn fmt<W: fmt::Write>(&self, f: &mut fmt::Formatter<W>) -> fmt::Result {
+        match self {
+            JobFault::NoSeparator => write!(
+                f,
+                "J1 no line is exactly `%%`, write one between the grammar and its sentence"
+            ),
+            JobFault::Read => write!(f, "J2 the job can't be read"),
+            JobFault::TooLong => write!(
+                f,
+                "J3 the job has more than 2,097,156 bytes, give grammar and sentence in files of their own"
+            ),
+            JobFault::NoMemory => write!(f, "NoMemory a request for memory was refused"),
+        }
+    }
+}
+
+impl Error for JobFault {}
