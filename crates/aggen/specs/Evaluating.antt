@@ -12,10 +12,10 @@ use Rattle.planchecker.specs.courses.Settings.{setting_of}
 use Rattle.passrun.specs.Damage.{ShowsAt, source}
 use Rattle.passrun.specs.declared.run_fault.RunFault.{RunFault}
 use Rattle.passrun.specs.declared.run_fault.RunFault.TheVariants as run
-use Rattle.passrun.specs.Rounds.{last_content}
+use Rattle.passrun.specs.Rounds.{LeavesSolution, last_content}
 use Rattle.treefile.specs.devices.Device.{WhenHonest}
 use Rattle.aggen.specs.Translating.{ArePassesOf}
-use Rattle.aggen.specs.Translation.{BeginsTranslation, Evaluates, HasNoText, IsOneTree, IsReport, IsTreeInFile, LeavesSolution, before_last}
+use Rattle.aggen.specs.Translation.{BeginsTranslation, Evaluates, HasNoText, IsOneTree, IsReport, IsTreeInFile, before_last}
 use Rattle.aggen.specs.declared.fault.Fault.{Fault}
 use Rattle.aggen.specs.declared.fault.Fault.TheVariants as fault
 use Rattle.aggen.specs.declared.translations.report.Report.{Report}

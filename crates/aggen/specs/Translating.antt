@@ -7,11 +7,11 @@ use Rattle.ag_grammar.specs.grammars.Solution.{Valuation}
 use Rattle.ag_grammar.specs.grammars.Tree.{Tree}
 use Rattle.passassign.specs.Rows.{IsGreatest, passes_of}
 use Rattle.passcode.specs.Rows.{Lists}
-use Rattle.passrun.specs.Rounds.{last_content, other_content}
+use Rattle.passrun.specs.Rounds.{LeavesSolution, last_content, other_content}
 use Rattle.treefile.specs.devices.Device.{WhenHonest}
 use Rattle.aggen.specs.Building.{IsLeastPlan}
 use Rattle.aggen.specs.Sentences.{IsParseFaultOf, IsScanFaultOf, IsTreeOfSentence}
-use Rattle.aggen.specs.Translation.{BeginsTranslation, HasNoText, IsOneTree, IsReport, LeavesSolution, Translates}
+use Rattle.aggen.specs.Translation.{BeginsTranslation, HasNoText, IsOneTree, IsReport, Translates}
 use Rattle.aggen.specs.declared.fault.Fault.{Fault}
 use Rattle.aggen.specs.declared.fault.Fault.TheVariants as fault
 use Rattle.aggen.specs.declared.translations.report.Report.{Report}

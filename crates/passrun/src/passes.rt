@@ -5,8 +5,8 @@ ghost use Rattle.std.specs.Prelude.{OnErr, OnOk};
 ghost use Rattle.ag_grammar.specs.grammars.Tree.{most_nodes};
 ghost use Rattle.passassign.specs.Rows.{IsGreatest, passes_of};
 ghost use Rattle.passrun.specs.passing.Ahead.{IsRunFault};
-ghost use Rattle.passrun.specs.Rounds.{HasRunAll, IsPassedOn, LeavesRound, last_content};
-ghost use Rattle.passrun.specs.Rounds.{other_content, other_last};
+ghost use Rattle.passrun.specs.Rounds.{HasRunAll, IsPassedOn, LeavesRound, LeavesSolutions};
+ghost use Rattle.passrun.specs.Rounds.{last_content, other_content, other_last};
 ghost use Rattle.passrun.specs.Rounds.{one_more as added};
 ghost use Rattle.planchecker.specs.Plans.{IsPlan};
 ghost use Rattle.planchecker.specs.courses.Settings.{setting_of};
@@ -136,6 +136,12 @@ pub fn run_all<D: Device>(
         WhenHonest (D.is_honest a.new) (WhenHonest (D.is_honest b.new)
         (IfOk result (λ r. HasRunAll grammar.now (passes_of plan.now.0) (first - 1) passes
         (D.content a.old) r.0 (D.content a.new) (D.content b.new) (meter.new - meter.old) r.1))) }
+    // from pass 1 on: the values that are left meet all equations, and no others do
+    ensures solution { first ≡ 1 → (passes : ℕ) → IsGreatest passes plan.now.0 →
+        WhenHonest (D.is_honest a.new) (WhenHonest (D.is_honest b.new)
+        (IfOk result (λ r. LeavesSolutions grammar.now (passes_of plan.now.0) passes
+        (D.content a.old) (last_content r.0 (D.content a.new) (D.content b.new))
+        (other_content r.0 (D.content a.new) (D.content b.new))))) }
     // R1, P2 and P3 only where they are true of the first file
     ensures refused { IfErr result (λ f. WhenHonest (D.is_honest a.new)
         (WhenHonest (D.is_honest b.new)

@@ -7,6 +7,7 @@ use Rattle.passrun.specs.Rounds.{HasRunAll, last_content, other_content}
 use Rattle.passrun.specs.declared.last.Last.{Last}
 use Rattle.passrun.specs.declared.last.Last.TheVariants.{A}
 use Rattle.passrun.proofs.course.Stepping.{all_goes_on, all_refused, all_starts, greatest_most, persists_on, persists_still}
+use Rattle.passrun.proofs.Totals.{greatest_is_last, solutions_left}
 use Rattle.passrun.proofs.passes.run_all.Goals as goal
 
 pub loop-done-init : goal.loop-done-init
@@ -69,6 +70,13 @@ returns-clause-passed g c = λ passes is ha hb.
     let end = c.loop-done-test.false in
     let same : c.loop-done.done ≡ passes = omega arith in
     subst (λ n. HasRunAll c.args.grammar.now (passes_of c.args.plan.now.0) (c.args.first - 1) n (g.D.Device.content c.args.a.now) c.loop-done.last (g.D.Device.content c.loop-done.a) (g.D.Device.content c.loop-done.b) (c.loop-done.meter - c.args.meter.now) c.loop-done.sum) same (c.loop-done.invariant.runs ha hb)
+
+-- from pass 1 on they leave the solution
+pub returns-clause-solution : goal.returns-clause-solution
+returns-clause-solution g c = λ one passes is ha hb.
+    let first : c.args.first - 1 ≡ 0 = omega arith in
+    solutions_left c.args.grammar.now (passes_of c.args.plan.now.0) (c.args.first - 1) passes (g.D.Device.content c.args.a.now) c.loop-done.last (g.D.Device.content c.loop-done.a) (g.D.Device.content c.loop-done.b)
+    (c.loop-done.meter - c.args.meter.now) c.loop-done.sum c.start-start.ensures.accepted c.requires.plan.legal (greatest_is_last passes c.args.plan.now.0 is) first (returns-clause-passed g c passes is ha hb)
 
 pub returns-in_err-passed-clause-refused : goal.returns-in_err-passed-clause-refused
 returns-in_err-passed-clause-refused g c =
