@@ -12,7 +12,7 @@ use Rattle.treefile.specs.records.FirstFile.{IsFirstFile}
 use Rattle.agoutput.specs.Writing.{AppendsBeginning}
 use Rattle.passrun.specs.declared.last.Last.{Last}
 use Rattle.passrun.specs.Rounds.{LeavesSolution, last_content, other_content}
-use Rattle.roottext.specs.Roots.{IsNoText}
+use Rattle.roottext.specs.Roots.{IsNoText, IsWellText}
 use Rattle.treefile.specs.devices.Device.{WhenHonest}
 use Rattle.treefile.specs.records.TreeFile.{version_two}
 use Rattle.aggen.specs.declared.translations.report.Report.{Report}
@@ -73,9 +73,10 @@ pub record BeginsTranslation (IsTree : Tree → Type 0) (g : Grammar) (old new :
   pub root : IsTranslation g values (Text (front ++ rest))
   pub written : Appends old new front
 
--- O2, whatever the devices gave back: a beginning of some text was written.
+-- O2, whatever the devices gave back: a prefix of some text was written, which is UTF-8 and not too long for a value.
 pub record BeginsText (old new : Option (List ℕ)) : Type 0 where
   pub text : List ℕ
+  pub well : IsWellText text
   pub beginning : AppendsBeginning old new text
 
 -- A content is the file of pass 0 of a tree of the grammar.

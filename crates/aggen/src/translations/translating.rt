@@ -7,7 +7,7 @@ ghost use Rattle.aggen.specs.Sentences.{IsScanFault};
 ghost use Rattle.aggen.specs.Translating.{IsFilesFault, IsRefusedSentence, LeavesFiles};
 ghost use Rattle.passrun.specs.Rounds.{last_content};
 ghost use Rattle.planchecker.specs.Plans.{IsPlan};
-ghost use Rattle.roottext.specs.Roots.{TellsRoot};
+ghost use Rattle.roottext.specs.Roots.{IsWellText, TellsRoot};
 ghost use Rattle.treefile.specs.devices.Device.{LeavesContent, WhenHonest};
 ghost use Rattle.treefile.specs.devices.Several.{BothLast};
 
@@ -68,6 +68,7 @@ pub(crate) fn last_text<D: Device>(
     ensures root { WhenHonest (D.is_honest a.new) (WhenHonest (D.is_honest b.new)
         (TellsRoot grammar.now plan.now.0
         (last_content last (D.content a.old) (D.content b.old)) result)) }
+    ensures well { IfOk result IsWellText }
     ensures a_content { LeavesContent (D.is_honest a.new) (D.content a.old) (D.content a.new) }
     ensures b_content { LeavesContent (D.is_honest b.new) (D.content b.old) (D.content b.new) }
     ensures devices { BothLast D.is_honest D.failures a.old a.new

@@ -6,6 +6,7 @@ use Rattle.agoutput.specs.Writing.{AppendsBeginning}
 use Rattle.passrun.specs.Rounds.{last_content}
 use Rattle.roottext.specs.Roots.{TellsRoot}
 use Rattle.aggen.proofs.Composed.{begins, files_supposed, root_refused, translates}
+use Rattle.aggen.proofs.Begun.{some}
 use Rattle.aggen.proofs.translator.Translator.translate.Goals as goal
 
 -- what is found in the last file is true of the tree of the sentence
@@ -33,3 +34,8 @@ returns-clause-translates g c =
     (λ y. c.in_ok-text.ensures.b_content y)
     (λ x y. subst (λ (z : Grammar). TellsRoot z c.plan-plan.result.now.0 (last_content c.in_ok-report.report.last (g.D.Device.content c.leave_files.new.a) (g.D.Device.content c.leave_files.new.b)) (Ok c.in_ok-text.text)) c.grammar.ensures.grammar (c.in_ok-text.ensures.root x y))
     (subst (λ (bytes : List ℕ). Appends (g.W.Write.contents c.args.out.now) (g.W.Write.contents c.write_text.new.out) bytes) c.as_str.ensures c.in_ok-write_text.ensures.ok)
+
+-- a prefix of the text that was taken was written
+pub returns-in_err-write_text-clause-begins : goal.returns-in_err-write_text-clause-begins
+returns-in_err-write_text-clause-begins g c = λ write.
+    some (g.W.Write.contents c.args.out.now) (g.W.Write.contents c.write_text.new.out) c.in_ok-text.text c.as_str.result.now c.in_ok-text.ensures.well c.as_str.ensures c.in_err-write_text.ensures.err
