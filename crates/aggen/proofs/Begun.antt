@@ -1,7 +1,10 @@
--- A beginning of some text was written, also where nothing was.
-use Rattle.std.proofs.Common.{ℕ, List, [], ◌++◌, Option, Some, None, refl, sym, append-nil}
+-- A prefix of some text was written, also where nothing was.
+use Rattle.std.proofs.Common.{◌≡◌, ℕ, List, [], ◌++◌, Option, Some, None, refl, sym, subst, append-nil, arith}
 use Rattle.std.specs.Io.KnownBytes.{Appends}
+use Rattle.std.proofs.lemmas.Str.{IsUtf8-nil, is_utf8-from_IsUtf8}
+use Rattle.ag_grammar.proofs.values.Wells.{well_text}
 use Rattle.agoutput.specs.Writing.{AppendsBeginning}
+use Rattle.roottext.specs.Roots.{IsWellText}
 use Rattle.aggen.specs.Translation.{BeginsText}
 
 nothing : (known : Option (List ℕ)) → Appends known known []
@@ -9,9 +12,9 @@ nothing None = tt
 nothing (Some bytes) = sym (append-nil bytes)
 
 pub none : (known : Option (List ℕ)) → BeginsText known known
-none known = record { text = []; beginning = record { front = []; rest = []; cut = refl; put = nothing known } }
+none known = record { text = []; well = well_text [] (is_utf8-from_IsUtf8 [] IsUtf8-nil) (omega arith); beginning = record { front = []; rest = []; cut = refl; put = nothing known } }
 
-pub some : (old new : Option (List ℕ)) (text : List ℕ) → AppendsBeginning old new text → BeginsText old new
-some old new text beginning = record { text = text; beginning = beginning }
+pub some : (old new : Option (List ℕ)) (text lent : List ℕ) → IsWellText text → lent ≡ text → AppendsBeginning old new lent → BeginsText old new
+some old new text lent well same beginning = record { text = text; well = well; beginning = subst (AppendsBeginning old new) same beginning }
 
 pub ruleset begun = (none, some)

@@ -6,16 +6,14 @@ use Rattle.ag_value.specs.declared.value.Value.{Value, Text}
 use Rattle.ag_grammar.specs.grammars.AttributeGrammar.{Grammar}
 use Rattle.ag_grammar.specs.grammars.Counts.{rules_of}
 use Rattle.ag_grammar.specs.grammars.Passes.{Passes}
-use Rattle.ag_grammar.specs.grammars.Running.{IsTheSolution}
 use Rattle.ag_grammar.specs.grammars.Solution.{AnyRule, IsTranslation, Solves, Valuation}
 use Rattle.ag_grammar.specs.grammars.Tree.{Tree, IsTreeOf, IsWithinLimits, most_depth, most_nodes, node_count}
 use Rattle.treefile.specs.records.FirstFile.{IsFirstFile}
 use Rattle.agoutput.specs.Writing.{AppendsBeginning}
 use Rattle.passrun.specs.declared.last.Last.{Last}
-use Rattle.passrun.specs.Rounds.{last_content, other_content}
-use Rattle.roottext.specs.Roots.{IsNoText}
+use Rattle.passrun.specs.Rounds.{LeavesSolution, last_content, other_content}
+use Rattle.roottext.specs.Roots.{IsNoText, IsWellText}
 use Rattle.treefile.specs.devices.Device.{WhenHonest}
-use Rattle.treefile.specs.records.Records.{IsFileOfTree}
 use Rattle.treefile.specs.records.TreeFile.{version_two}
 use Rattle.aggen.specs.declared.translations.report.Report.{Report}
 
@@ -24,13 +22,6 @@ pub record IsOneTree (IsTree : Tree → Type 0) (t : Tree) : Type 0 where
   pub is_tree : IsTree t
   pub only : (s : Tree) → IsTree s → s ≡ t
   pub within : IsWithinLimits most_depth most_nodes t
-
--- The solution of a tree is left: one content is the file of its last pass, and the other that of the pass before it, of values
--- that meet each equation at each node, as no others do (Knuth 1968; Jazayeri and Walter 1975).
-pub record LeavesSolution (g : Grammar) (m : Passes) (passes : ℕ) (t : Tree) (v : Valuation) (now before : List ℕ) : Type 0 where
-  pub solution : IsTheSolution g m t v
-  pub file : IsFileOfTree version_two g m passes t v now
-  pub other : (k : ℕ) → passes ≡ suc k → IsFileOfTree version_two g m k t v before
 
 -- A report is true of a tree and so many passes: it has the tree's nodes, each of its rules was evaluated once, and each pass read
 -- and wrote one record for each node.
@@ -82,9 +73,10 @@ pub record BeginsTranslation (IsTree : Tree → Type 0) (g : Grammar) (old new :
   pub root : IsTranslation g values (Text (front ++ rest))
   pub written : Appends old new front
 
--- O2, whatever the devices gave back: a beginning of some text was written.
+-- O2, whatever the devices gave back: a prefix of some text was written, which is UTF-8 and not too long for a value.
 pub record BeginsText (old new : Option (List ℕ)) : Type 0 where
   pub text : List ℕ
+  pub well : IsWellText text
   pub beginning : AppendsBeginning old new text
 
 -- A content is the file of pass 0 of a tree of the grammar.

@@ -1,11 +1,18 @@
 -- What all passes come to.
-use Rattle.std.proofs.Common.{◌≡◌, ℕ, zero, suc, ◌-◌, ◌≤◌, List, [], ◌∷◌, Some, None, refl, ap, ◌∙◌, arith}
+use Rattle.std.proofs.Common.{◌≡◌, ℕ, zero, suc, ◌-◌, ◌≤◌, List, [], ◌∷◌, Some, None, refl, ap, subst, ◌∙◌, arith}
 use Rattle.ag_grammar.specs.Lists.{Each}
+use Rattle.ag_grammar.specs.grammars.Accepted.{IsAccepted}
+use Rattle.ag_grammar.specs.grammars.AttributeGrammar.{Grammar}
 use Rattle.ag_grammar.specs.grammars.Counts.{rules_of_pass, sum_of_passes}
+use Rattle.ag_grammar.specs.grammars.Passes.{IsLegal, Passes}
+use Rattle.ag_grammar.specs.grammars.Running.{IsLastPass}
 use Rattle.ag_grammar.proofs.grammars.Counting.{passes_have_all_rules}
 use Rattle.ag_grammar.proofs.grammars.Running.{run_is_the_solution}
 use Rattle.passassign.specs.Rows.{AreAtMost, passes_of}
+use Rattle.passrun.specs.declared.last.Last.{Last}
+use Rattle.passrun.specs.declared.passing.ends.Passed.{Passed}
 use Rattle.passrun.specs.Laws.{AllRulesAreRun, GreatestIsLast, ValuesAreTheSolution}
+use Rattle.passrun.specs.Rounds.{HasRunAll, LeavesSolutions, last_content, other_content}
 
 pub all_rules_are_run : AllRulesAreRun
 all_rules_are_run g m last start which a b evals sum accepted legal is h t u tree file =
@@ -16,6 +23,21 @@ pub values_are_the_solution : ValuesAreTheSolution
 values_are_the_solution g m last start which a b evals sum accepted legal is h t u tree file =
     let run = h.runs t u tree file in
     run_is_the_solution g m t u run.values last accepted legal is tree run.ran
+
+-- from pass 1 on
+pub solutions_left : (g : Grammar) (m : Passes) (k last : ℕ) (start : List ℕ) (which : Last) (a b : List ℕ) (evals : ℕ) (sum : Passed)
+    → IsAccepted g → IsLegal g m → IsLastPass last m → k ≡ 0 → HasRunAll g m k last start which a b evals sum
+    → LeavesSolutions g m last start (last_content which a b) (other_content which a b)
+solutions_left g m k last start which a b evals sum accepted legal is first ran t u tree file =
+    let all : HasRunAll g m 0 last start which a b evals sum = subst (λ n. HasRunAll g m n last start which a b evals sum) first ran in
+    let run = all.runs t u tree file in (
+      run.values,
+      record {
+        solution = run_is_the_solution g m t u run.values last accepted legal is tree run.ran;
+        file = run.file;
+        other = λ n e. run.other n (omega arith) e;
+      },
+    )
 
 -- no symbol has a later pass than the greatest number of the rows
 row_within : (last : ℕ) (rows : List (List ℕ)) (s : ℕ) → AreAtMost last rows → Each (λ k. k ≤ last) (passes_of rows s)

@@ -1,9 +1,10 @@
 -- Passes one after the other, to and fro between two devices (after Jazayeri and Walter 1975). How it is told here, and the counts,
 -- are this project's.
-use Rattle.std.specs.Prelude.{ℕ, ◌≡◌, ◌+◌, ◌*◌, ◌-◌, ◌<◌, ◌≤◌, List}
+use Rattle.std.specs.Prelude.{ℕ, suc, ◌≡◌, ◌+◌, ◌*◌, ◌-◌, ◌<◌, ◌≤◌, List}
 use Rattle.ag_grammar.specs.grammars.AttributeGrammar.{Grammar}
 use Rattle.ag_grammar.specs.grammars.Counts.{rules_of_pass, sum_of_passes}
 use Rattle.ag_grammar.specs.grammars.Passes.{Passes}
+use Rattle.ag_grammar.specs.grammars.Running.{IsTheSolution}
 use Rattle.ag_grammar.specs.grammars.Solution.{Valuation}
 use Rattle.ag_grammar.specs.grammars.Tree.{Tree, IsTreeOf, IsWithinLimits, most_depth, most_nodes, node_count}
 use Rattle.treefile.specs.ways.Beginning.{LeavesBeginning}
@@ -70,6 +71,21 @@ pub record HasRunAll (g : Grammar) (m : Passes) (k last : ℕ) (start : List ℕ
   pub held : k < last → HoldsTree g m k start
   pub fresh : last ≡ k → last_content which a b ≡ start
   pub nothing : last ≡ k → (which ≡ A) × (evals ≡ 0) × (sum ≡ record { nodes = 0; read = 0; written = 0 })
+
+-- The solution of a tree is left: one content is the file of its last pass, and the other that of the pass before it, of values
+-- that meet each equation at each node, as no others do (Knuth 1968; Jazayeri and Walter 1975).
+pub record LeavesSolution (g : Grammar) (m : Passes) (passes : ℕ) (t : Tree) (v : Valuation) (now before : List ℕ) : Type 0 where
+  pub solution : IsTheSolution g m t v
+  pub file : IsFileOfTree version_two g m passes t v now
+  pub other : (k : ℕ) → passes ≡ suc k → IsFileOfTree version_two g m k t v before
+
+-- It is left of whichever tree has the start as its file of pass 0.
+abbrev pub LeavesSolutions : Grammar → Passes → (passes : ℕ) → (start now before : List ℕ) → Type 0
+LeavesSolutions g m passes start now before = (t : Tree) (u : Valuation) → IsTreeOf g t → IsFileOfTree version_two g m 0 t u start → (v : Valuation) × LeavesSolution g m passes t v now before
+
+-- What a call leaves on a device that it may fill: what the device had, or a prefix of a tree file of some pass.
+abbrev pub LeavesSomeFile : (old new : List ℕ) → Type 0
+LeavesSomeFile old new = (pass : ℕ) × LeavesBeginning pass old new
 
 -- What a refusal leaves of passes behind pass k, from what the first device (a) and the second one (b) had: some of them ran, maybe
 -- none, up to one whose file is still on the device that the next one read; and the other device has what it had then, or a beginning

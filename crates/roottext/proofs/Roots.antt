@@ -3,6 +3,7 @@ use Rattle.std.proofs.Common.{ℕ, ◌≡◌, ◌+◌, ◌-◌, ◌<◌, ◌≤�
 use Rattle.std.proofs.lemmas.Bool.{cases_lt}
 use Rattle.std.proofs.lemmas.List.{get_or_past, length-map}
 use Rattle.std.proofs.lemmas.Option.{slice_get-get_or, slice_get_within}
+use Rattle.ag_value.specs.Well.{IsWell}
 use Rattle.ag_value.specs.declared.value.Value.{Value, Text}
 use Rattle.ag_grammar.specs.declared.grammar.Item.TheVariants as item
 use Rattle.ag_grammar.specs.Lists.{Each}
@@ -117,6 +118,13 @@ no_root g rows code last body greatest nothing x root =
     let same : root.last ≡ last + 1 - 1 = one_greatest rows root.last last root.greatest greatest ∙ omega arith in
     let it : IsNodeRecord version_two g m (last + 1 - 1) g.start body n root.production root.values = subst (λ k. IsNodeRecord version_two g m k g.start body n root.production root.values) same root.node in
     no_record (setting_of g (rows, code) (last + 1)) (item.Symbol g.start) body None nothing _ (n, root.production, root.values, it, refl, tt)
+
+-- the value of `out` in the root's record is well
+pub out_well : (g : Grammar) (rows : List (List ℕ)) (code : Lists) (body : List ℕ) (x : Value) → IsPlan g rows code → IsRootRecord g rows body x → IsWell x
+out_well g rows code body x plan root =
+    let pass = out_pass g (passes_of rows) root.attribute plan.legal root.out in
+    let few = at_most rows root.last g.start root.greatest.most root.attribute pass.0 pass.1 in
+    subst IsWell root.value (root.node.well root.attribute pass.0 pass.1 few)
 
 -- The last record of a tree's file is the root's.
 root_of_tree : (g : Grammar) (rows : List (List ℕ)) (code : Lists) (last : ℕ) (t : Tree) (v : Valuation) (content : List ℕ) → IsAccepted g → IsPlan g rows code → IsTreeOf g t → IsFileOfTree version_two g (passes_of rows) last t v content

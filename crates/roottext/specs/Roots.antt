@@ -1,5 +1,6 @@
 -- What the last file tells of the translation, which is the value of the root's `out`. All of this is this project's.
 use Rattle.std.specs.Prelude.{ℕ, ◌≡◌, ◌≢◌, List, Result, Ok, Err, length}
+use Rattle.ag_value.specs.Well.{IsWell}
 use Rattle.ag_value.specs.declared.value.Value.{Value, Text}
 use Rattle.ag_grammar.specs.declared.grammar.Production.{Production}
 use Rattle.ag_grammar.specs.grammars.Accepted.{IsOut}
@@ -49,6 +50,10 @@ FindsValue g rows content (Err frame_fault.NotATreeFile) = last_body_of version_
 FindsValue g rows content (Err (frame_fault.Damaged at)) = EndsWithNoRoot g rows content at
 FindsValue g rows content (Err frame_fault.Device) = Unit {0}
 FindsValue g rows content (Err frame_fault.NoMemory) = Unit {0}
+
+-- a text is well as a value is: it is UTF-8, and has at most 1,048,571 bytes
+abbrev pub IsWellText : List ℕ → Type 0
+IsWellText text = IsWell (Text text)
 
 -- a value is no text
 abbrev pub IsNoText : Value → Type 0

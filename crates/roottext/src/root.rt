@@ -1,12 +1,14 @@
 //! The translation, taken out of the last file.
 
 ghost use Rattle.std.specs.Prelude.{◌≡◌, IfOk, IfSome, IsErrOf, None, Some, slice_get};
+ghost use Rattle.ag_value.specs.Well.{IsWell};
 ghost use Rattle.ag_value.specs.declared.value.Value.{Value as TheValue};
 ghost use Rattle.ag_grammar.specs.Lists.{Has};
 ghost use Rattle.ag_grammar.specs.grammars.Accepted.{IsAccepted, IsOut, out_name};
 ghost use Rattle.planchecker.specs.Plans.{IsPlan};
 ghost use Rattle.treefile.specs.devices.Device.{LeavesContent, Persists, WhenHonest};
-ghost use Rattle.roottext.specs.Roots.{FindsText, FindsValue, IsRootRecord, TellsRoot};
+ghost use Rattle.roottext.specs.Roots.{FindsText, FindsValue, IsRootRecord, IsWellText};
+ghost use Rattle.roottext.specs.Roots.{TellsRoot};
 
 use crate::fault::OutFault;
 use ag_grammar::Grammar;
@@ -54,6 +56,7 @@ fn out_value(
     ensures read { IfOk result (IsRootRecord grammar.now plan.now.0 body.now) }
     ensures none { IsErrOf result RecordFault.Damaged →
         (x : TheValue) → IsRootRecord grammar.now plan.now.0 body.now x → ⊥ }
+    ensures well { IfOk result IsWell }
 {
     let behind = plan.assignment().passes() + 1;
     let mut values = Vec::new(alloc);
@@ -81,6 +84,7 @@ fn last_value<D: Device>(
     requires out { IsOut grammar.now out }
     ensures found { WhenHonest (D.is_honest device.new)
         (FindsValue grammar.now plan.now.0 (D.content device.old) result) }
+    ensures well { IfOk result IsWell }
     ensures content { LeavesContent (D.is_honest device.new)
         (D.content device.old) (D.content device.new) }
     ensures persists { Persists (D.is_honest device.old) (D.is_honest device.new)
@@ -122,6 +126,8 @@ pub fn root_text<D: Device>(
     // of a tree's file the translation, or O1 with it
     ensures root { WhenHonest (D.is_honest device.new)
         (TellsRoot grammar.now plan.now.0 (D.content device.old) result) }
+    // whatever the device gives back
+    ensures well { IfOk result IsWellText }
     ensures content { LeavesContent (D.is_honest device.new)
         (D.content device.old) (D.content device.new) }
     // D1 only where the number of failures rose

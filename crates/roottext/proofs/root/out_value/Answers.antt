@@ -3,7 +3,7 @@ use Rattle.std.proofs.lemmas.Result.{err_from_is_err_and}
 use Rattle.passassign.specs.Rows.{IsGreatest}
 use Rattle.planchecker.specs.courses.Settings.{setting_of}
 use Rattle.passrun.specs.reading.Reading.{IsNoNode}
-use Rattle.roottext.proofs.Roots.{no_root, out_within, root_read, same_fault, started}
+use Rattle.roottext.proofs.Roots.{no_root, out_well, out_within, root_read, same_fault, started}
 use Rattle.roottext.proofs.root.out_value.Goals as goal
 
 pub returns-in_err-read_node-clause-none : goal.returns-in_err-read_node-clause-none
@@ -35,3 +35,6 @@ returns-clause-read c =
     let greatest = subst (IsGreatest last) c.assignment.ensures c.passes-behind.ensures in
     let read = started (setting_of g plan (last + 1)) c.start.result c.in_ok-read_node.field-0 c.args.body.now c.new-values.result.items c.read_node.new.values.items c.start.ensures.value c.new-values.ensures.items c.in_ok-read_node.ensures.read in
     root_read g plan.0 plan.1 last c.args.out c.in_ok-read_node.field-0 c.args.body.now c.read_node.new.values.items c.swap_remove.result c.requires.plan greatest c.requires.out read c.swap_remove.ensures.value
+
+pub returns-clause-well : goal.returns-clause-well
+returns-clause-well c = out_well c.args.grammar.now c.args.plan.now.0 c.args.plan.now.1 c.args.body.now c.swap_remove.result c.requires.plan (returns-clause-read c)

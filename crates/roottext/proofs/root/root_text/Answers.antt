@@ -1,5 +1,6 @@
 use Rattle.std.proofs.Common.{rules, Err, Ok, subst}
 use Rattle.std.proofs.lemmas.Result.{err_from_is_err_and}
+use Rattle.ag_value.specs.Well.{IsWell}
 use Rattle.roottext.specs.Faults.{out_fault_of}
 use Rattle.roottext.specs.Roots.{EndsWithRoot}
 use Rattle.roottext.specs.declared.fault.OutFault.TheVariants as out_fault
@@ -19,6 +20,9 @@ returns-in-Text-clause-root g c = λ honest.
     let content = g.D.Device.content c.args.device.now in
     found_tells_root c.args.grammar.now c.args.plan.now.0 c.args.plan.now.1 content (Ok c.in-Text.text) c.out_number-out.ensures.accepted c.requires.plan (subst (EndsWithRoot c.args.grammar.now c.args.plan.now.0 content) c.in-Text.is (c.in_ok-value.ensures.found honest))
 
+pub returns-in-Text-clause-well : goal.returns-in-Text-clause-well
+returns-in-Text-clause-well g c = subst IsWell c.in-Text.is c.in_ok-value.ensures.well
+
 -- O1
 pub returns-in_default : goal.returns-in_default
 returns-in_default g c =
@@ -26,6 +30,7 @@ returns-in_default g c =
     record {
       found = λ honest. (c.in_ok-value.ensures.found honest, c.in_default.not-Text);
       root = λ honest. found_tells_root c.args.grammar.now c.args.plan.now.0 c.args.plan.now.1 content (Err (out_fault.NoText c.in_ok-value.value)) c.out_number-out.ensures.accepted c.requires.plan (c.in_ok-value.ensures.found honest, c.in_default.not-Text);
+      well = tt;
       content = c.in_ok-value.ensures.content;
       persists = search rules;
     }
