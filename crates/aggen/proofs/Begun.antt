@@ -5,7 +5,7 @@ use Rattle.std.proofs.lemmas.Str.{IsUtf8-nil, is_utf8-from_IsUtf8}
 use Rattle.ag_grammar.proofs.values.Wells.{well_text}
 use Rattle.agoutput.specs.Writing.{AppendsBeginning}
 use Rattle.roottext.specs.Roots.{IsWellText}
-use Rattle.aggen.specs.Translation.{BeginsText}
+use Rattle.aggen.specs.Translation.{BeginsText, WritesText}
 
 nothing : (known : Option (List ℕ)) → Appends known known []
 nothing None = tt
@@ -17,4 +17,7 @@ none known = record { text = []; well = well_text [] (is_utf8-from_IsUtf8 [] IsU
 pub some : (old new : Option (List ℕ)) (text lent : List ℕ) → IsWellText text → lent ≡ text → AppendsBeginning old new lent → BeginsText old new
 some old new text lent well same beginning = record { text = text; well = well; beginning = subst (AppendsBeginning old new) same beginning }
 
-pub ruleset begun = (none, some)
+pub whole : (old new : Option (List ℕ)) (text lent : List ℕ) → IsWellText text → lent ≡ text → Appends old new lent → WritesText old new
+whole old new text lent well same written = record { text = text; well = well; written = subst (Appends old new) same written }
+
+pub ruleset begun = (none, some, whole)

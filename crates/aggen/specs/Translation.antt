@@ -73,6 +73,12 @@ pub record BeginsTranslation (IsTree : Tree → Type 0) (g : Grammar) (old new :
   pub root : IsTranslation g values (Text (front ++ rest))
   pub written : Appends old new front
 
+-- Ok, whatever the devices returned: some text was written, which is UTF-8 and not too long for a value.
+pub record WritesText (old new : Option (List ℕ)) : Type 0 where
+  pub text : List ℕ
+  pub well : IsWellText text
+  pub written : Appends old new text
+
 -- O2, whatever the devices gave back: a prefix of some text was written, which is UTF-8 and not too long for a value.
 pub record BeginsText (old new : Option (List ℕ)) : Type 0 where
   pub text : List ℕ

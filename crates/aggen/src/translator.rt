@@ -21,7 +21,7 @@ ghost use Rattle.aggen.specs.Sentences.{IsParseFault, IsScanFault, IsSentenceFau
 ghost use Rattle.aggen.specs.Sentences.{IsTreeOfSentence};
 ghost use Rattle.aggen.specs.Translating.{IsAfterPasses, IsRefusedSentence, IsTranslationFault};
 ghost use Rattle.aggen.specs.Translating.{LeavesLastFiles, TranslatesSentence};
-ghost use Rattle.aggen.specs.Translation.{BeginsText};
+ghost use Rattle.aggen.specs.Translation.{BeginsText, WritesText};
 ghost use Rattle.aggen.specs.Upgrading.{IsOldFileFault};
 ghost use Rattle.passrun.specs.Rounds.{LeavesSomeFile};
 ghost use Rattle.passrun.specs.Upgrading.{IsUpgraded};
@@ -198,6 +198,8 @@ impl Translator {
         ensures translates { IfOk result (λ report. TranslatesSentence self.now sentence.now
             (D.is_honest a.new) (D.is_honest b.new) (D.content a.new) (D.content b.new)
             (W.contents out.old) (W.contents out.new) report) }
+        // whatever the devices returned
+        ensures text { OnOk result (WritesText (W.contents out.old) (W.contents out.new)) }
 
         // a refusal: what it says of the sentence is true
         ensures refused { IfErr result (λ e. IsTranslationFault self.now sentence.now

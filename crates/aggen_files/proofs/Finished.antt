@@ -7,7 +7,7 @@ use Rattle.ag_value.specs.declared.value.Value.{Text}
 use Rattle.agoutput.specs.Writing.{AppendsBeginning}
 use Rattle.treefile.specs.devices.Device.{WhenHonest}
 use Rattle.aggen.specs.Sentences.{IsTreeOfSentence}
-use Rattle.aggen.specs.Translating.{IsTranslationFault, TranslatesSentence}
+use Rattle.aggen.specs.Translating.{AreLeft, IsTranslationFault, LeavesLastFiles, TranslatesSentence}
 use Rattle.aggen.specs.Translation.{BeginsTranslation}
 use Rattle.aggen.specs.declared.fault.Fault.{Fault}
 use Rattle.aggen.specs.declared.fault.Fault.TheVariants as fault
@@ -49,6 +49,51 @@ module _ (g : Grammar) (sentence : List ℕ) (ha hb ha' hb' : Bool) (first : ha'
     rest = printed.rest;
     root = subst (λ (w : List ℕ). IsTranslation g is.values (Text w)) (sym is.written ∙ printed.cut) is.root;
     written = printed.put;
+  }
+
+  -- the files are whole after all bytes were printed, or some
+  pub printed_files : (a b a' b' bytes : List ℕ) (report : Report)
+      → (ha' ≡ true → a' ≡ a) → (hb' ≡ true → b' ≡ b)
+      → TranslatesSentence g sentence ha hb a b (Some []) (Some bytes) report
+      → LeavesLastFiles g sentence ha' hb' a' b'
+  printed_files a b a' b' bytes report same_a same_b told = record {
+    rows = told.plan.rows;
+    code = told.plan.code;
+    least = told.plan.least;
+    report = record report { passes = told.passes };
+    files = record {
+      tree = told.tree;
+      one = told.one;
+      greatest = told.plan.greatest;
+      left = λ x y. let is = told.translated (first x) (second y) in rw (same_a x, same_b y, sym told.plan.same) (record {
+        values = is.values;
+        leaves = is.leaves;
+        report_is = record {
+          nodes = is.report_is.nodes;
+          passes_are = refl;
+          evals = is.report_is.evals;
+          read = is.report_is.read;
+          written = is.report_is.written;
+        };
+      });
+    };
+  }
+
+  -- they are whole after a refusal if they were before they were written out
+  pub refused_files : (a b a' b' : List ℕ)
+      → (ha' ≡ true → a' ≡ a) → (hb' ≡ true → b' ≡ b)
+      → LeavesLastFiles g sentence ha hb a b → LeavesLastFiles g sentence ha' hb' a' b'
+  refused_files a b a' b' same_a same_b told = record {
+    rows = told.rows;
+    code = told.code;
+    least = told.least;
+    report = told.report;
+    files = record {
+      tree = told.files.tree;
+      one = told.files.one;
+      greatest = told.files.greatest;
+      left = λ x y. rw (same_a x, same_b y) (told.files.left (first x) (second y));
+    };
   }
 
   -- a refusal says as much where less is supposed of the files, and nothing but O2 speaks of the bytes printed

@@ -26,7 +26,8 @@ use treefile::{FileDevice, MemDevice};
 /// Writes the file of a sentence's tree to `tree`, in place of what it has, and then prints the
 /// number of the tree's nodes.
 ///
-/// Fails as `Translator::parse_tree` and `print_count` do.
+/// Fails with D1 if the file can't be written out, and else as `Translator::parse_tree` and
+/// `print_count` do.
 pub fn parse_to_file<F: Read + Write + Seek + OpenFile, W: Write>(
     alloc: Global,
     translator: &Translator,
@@ -51,9 +52,8 @@ pub fn parse_to_file<F: Read + Write + Seek + OpenFile, W: Write>(
     ensures kept { IfErr result (λ e. e ≢ Fault.Write → out.new ≡ out.old) }
 {
     let parsed = translator.parse_tree(sentence, tree);
-    let finished = tree.finish();
+    tree.finish()?;
     let count = parsed?;
-    finished?;
     print_count(alloc, count, out)?;
     Ok(count)
 }
@@ -90,7 +90,8 @@ pub fn evaluate_file<F: Read + Write + Seek + OpenFile, W: Write>(
 /// records in between are in memory, and all of `old` is read before `tree` is written, so both may
 /// be one file.
 ///
-/// Fails as `Translator::upgrade` and `print_count` do.
+/// Fails with D1 if the file can't be written out, and else as `Translator::upgrade` and
+/// `print_count` do.
 pub fn upgrade_file<F: Read + Write + Seek + OpenFile, W: Write>(
     alloc: Global,
     translator: &Translator,
@@ -111,9 +112,8 @@ pub fn upgrade_file<F: Read + Write + Seek + OpenFile, W: Write>(
 {
     let mut between = MemDevice::new(alloc);
     let converted = translator.upgrade(old, &mut between, tree);
-    let written = tree.finish();
+    tree.finish()?;
     let count = converted?;
-    written?;
     print_count(alloc, count, out)?;
     Ok(count)
 }

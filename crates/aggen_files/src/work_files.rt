@@ -1,9 +1,12 @@
 //! The two tree files of a translation, in a folder.
 
-ghost use Rattle.std.specs.Prelude.{◌≡◌, ◌≢◌, IfErr, IfOk, IsErrOf, OnErr, OnOk};
+ghost use Rattle.std.specs.Prelude.{◌≡◌, ◌≢◌, ◌++◌, IfErr, IfOk, IsErrOf, OnErr, OnOk, string_bytes};
+ghost use Rattle.passrun.specs.Rounds.{LeavesSomeFile};
+ghost use Rattle.treefile.specs.devices.Device.{LeavesContent, WhenHonest};
 ghost use Rattle.treefile.specs.devices.Files.{IsNew, content_of, is_honest_of};
 ghost use Rattle.treefile.specs.devices.Several.{BothLast};
-ghost use Rattle.aggen.specs.Translating.{IsTranslationFault, TranslatesSentence};
+ghost use Rattle.aggen.specs.Translating.{IsAfterPasses, IsTranslationFault, LeavesLastFiles};
+ghost use Rattle.aggen.specs.Translating.{TranslatesSentence};
 ghost use Rattle.aggen.specs.Translation.{BeginsText};
 ghost use Rattle.aggen_files.specs.Opening.{IsOpeningFault};
 ghost use Rattle.aggen_files.specs.Paths.{path_of_a, path_of_b};
@@ -67,6 +70,10 @@ impl<F: Read + Write + Seek + OpenFile> WorkFiles<F> {
     fn finish(&mut self) -> Result<(), DeviceFault>
         ensures a { OnOk result (StoresContent self.old.a self.new.a) }
         ensures b { OnOk result (StoresContent self.old.b self.new.b) }
+        ensures a_content { LeavesContent (is_honest_of self.new.a)
+            (content_of self.old.a) (content_of self.new.a) }
+        ensures b_content { LeavesContent (is_honest_of self.new.b)
+            (content_of self.old.b) (content_of self.new.b) }
         ensures failed { OnErr result (IsErrOf result DeviceFault.Failed) }
         ensures devices { BothLast is_honest_of (λ d. d.failures) self.old.a self.new.a
             is_honest_of (λ d. d.failures) self.old.b self.new.b
@@ -79,11 +86,11 @@ impl<F: Read + Write + Seek + OpenFile> WorkFiles<F> {
     }
 
     /// Translates a sentence by way of the two files, and prints the translation once both have
-    /// their whole contents. Both are also written out after a refusal.
+    /// their whole contents. Both are written out after a refusal too.
     ///
-    /// Fails as `Translator::translate` does; with NoMemory also if there is no memory for the
-    /// translation's bytes, and with D1 if a file could not be written out. Only with O2 has
-    /// anything been printed.
+    /// Fails with D1 if a file can't be written out, and else as `Translator::translate` does; with
+    /// NoMemory also if there is no memory for the translation's bytes. Only with O2 has anything
+    /// been printed. After O1 and O2 the files are the last two tree files.
     pub fn translate<W: Write>(
         &mut self,
         alloc: Global,
@@ -102,15 +109,25 @@ impl<F: Read + Write + Seek + OpenFile> WorkFiles<F> {
         ensures kept { IfErr result (λ e. e ≢ Fault.Write → out.new ≡ out.old) }
         ensures begins { IsErrOf result Fault.Write →
             BeginsText (W.contents out.old) (W.contents out.new) }
+        // each device has what it had, or a prefix of the file of some pass
+        ensures a_left { WhenHonest (is_honest_of self.new.a)
+            (LeavesSomeFile (content_of self.old.a) (content_of self.new.a)) }
+        ensures b_left { WhenHonest (is_honest_of self.new.b)
+            (LeavesSomeFile (content_of self.old.b) (content_of self.new.b)) }
+        // O1 and O2: the last two tree files
+        ensures files { IfErr result (λ e. IsAfterPasses e →
+            LeavesLastFiles translator.now sentence.now
+            (is_honest_of self.new.a) (is_honest_of self.new.b)
+            (stored_of self.new.a) (stored_of self.new.b)) }
+        // D1 only if the number of failures rose on one of the two
         ensures devices { BothLast is_honest_of (λ d. d.failures) self.old.a self.new.a
             is_honest_of (λ d. d.failures) self.old.b self.new.b
             (IsErrOf result Fault.Device) }
     {
         let mut text = Vec::new(alloc);
         let translated = translator.translate(sentence, &mut self.a, &mut self.b, &mut text);
-        let finished = self.finish();
+        self.finish()?;
         let report = of_buffered(translated)?;
-        finished?;
         write_bytes(out, text.as_slice())?;
         Ok(report)
     }
