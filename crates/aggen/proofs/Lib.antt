@@ -6,5 +6,6 @@ pub mod Evaluated
 pub mod FromTexts
 pub mod Jobs
 pub mod Joined
+pub mod Left
 pub mod Reading
 pub mod Sentences

@@ -14,6 +14,7 @@ use Rattle.passrun.specs.declared.run_fault.RunFault.{RunFault}
 use Rattle.passrun.specs.declared.run_fault.RunFault.TheVariants as run
 use Rattle.passrun.specs.Rounds.{LeavesSolution, last_content}
 use Rattle.treefile.specs.devices.Device.{WhenHonest}
+use Rattle.aggen.specs.Building.{IsLeastPlan}
 use Rattle.aggen.specs.Translating.{ArePassesOf}
 use Rattle.aggen.specs.Translation.{BeginsTranslation, Evaluates, HasNoText, IsOneTree, IsReport, IsTreeInFile, before_last}
 use Rattle.aggen.specs.declared.fault.Fault.{Fault}
@@ -36,6 +37,14 @@ pub record AreLeftOfTree (g : Grammar) (m : Passes) (content a b : List ℕ) (re
 pub record LeavesFilesOfTree (g : Grammar) (rows : List (List ℕ)) (honest_tree honest_a honest_b : Bool) (content a b : List ℕ) (report : Report) : Type 0 where
   pub greatest : IsGreatest report.passes rows
   pub left : WhenHonest honest_tree (WhenHonest honest_a (WhenHonest honest_b (AreLeftOfTree g (passes_of rows) content a b report)))
+
+-- All passes of a least plan ran over the one tree of a content, and where the devices are honest they have its last two files.
+pub record LeavesLastFilesOfTree (g : Grammar) (honest_tree honest_a honest_b : Bool) (content a b : List ℕ) : Type 0 where
+  pub rows : List (List ℕ)
+  pub code : Lists
+  pub least : IsLeastPlan g rows code
+  pub report : Report
+  pub files : LeavesFilesOfTree g rows honest_tree honest_a honest_b content a b report
 
 -- Where pass 1 of a plan finds that a content is the file of pass 0 of no tree of the grammar. Records of pass 0 have no values of
 -- attributes, so that it makes no difference which plan it is.

@@ -8,7 +8,7 @@ use Rattle.ag_job.specs.declared.fault.JobFault.{JobFault}
 use Rattle.aggen.specs.Building.{IsBuildFault}
 use Rattle.aggen.specs.Checking.{IsGrammarOf}
 use Rattle.aggen.specs.Status.{build_fault_of, job_fault_of}
-use Rattle.aggen.specs.Translating.{IsTranslationFault, TranslatesSentence}
+use Rattle.aggen.specs.Translating.{IsTranslationFault, LeavesLastFiles, TranslatesSentence}
 use Rattle.aggen.specs.declared.build_fault.BuildFault.{BuildFault}
 use Rattle.aggen.specs.declared.fault.Fault.{Fault}
 use Rattle.aggen.specs.declared.fault.Fault.TheVariants as fault
@@ -45,6 +45,15 @@ pub record IsRefusedJob (known : Option (List ℕ)) (honest_a honest_b : Bool) (
   pub sentence : List ℕ
   pub job : HasJob known text sentence
   pub told : IsNoTranslator text e ⊎ ((grammar : Grammar) × IsGrammarOf text grammar × IsTranslationFault grammar sentence honest_a honest_b old new e)
+
+-- All passes of a least plan ran over the one tree of a job's sentence by its grammar, and honest devices have its last two files.
+pub record LeavesLastFilesOfJob (known : Option (List ℕ)) (honest_a honest_b : Bool) (a b : List ℕ) : Type 0 where
+  pub text : List ℕ
+  pub sentence : List ℕ
+  pub job : HasJob known text sentence
+  pub grammar : Grammar
+  pub is : IsGrammarOf text grammar
+  pub files : LeavesLastFiles grammar sentence honest_a honest_b a b
 
 -- what the refusal of a job says: of what the reader gives, or of the grammar and the sentence that it has
 abbrev pub IsJobRefusal : Option (List ℕ) → (honest_a honest_b : Bool) → (old new : Option (List ℕ)) → Fault → Type 0

@@ -41,6 +41,14 @@ pub record LeavesFiles (g : Grammar) (sentence : List ℕ) (rows : List (List �
   pub greatest : IsGreatest report.passes rows
   pub left : WhenHonest honest_a (WhenHonest honest_b (AreLeft g (passes_of rows) tree a b report))
 
+-- All passes of a least plan ran over the one tree of the sentence, and where the devices are honest they have its last two files.
+pub record LeavesLastFiles (g : Grammar) (sentence : List ℕ) (honest_a honest_b : Bool) (a b : List ℕ) : Type 0 where
+  pub rows : List (List ℕ)
+  pub code : Lists
+  pub least : IsLeastPlan g rows code
+  pub report : Report
+  pub files : LeavesFiles g sentence rows honest_a honest_b a b report
+
 -- What a refusal before the text is taken says: S and P are true of the sentence, and honest devices never bring R1, P2 or P3 of a
 -- tree file. A failed device and want of memory say nothing, and no other fault comes.
 abbrev pub IsFilesFault : Grammar → (sentence : List ℕ) → (honest_a honest_b : Bool) → Fault → Type 0
@@ -65,6 +73,12 @@ IsTranslationFault g sentence ha hb old new fault.Write = WhenHonest ha (WhenHon
 IsTranslationFault g sentence ha hb old new fault.Device = Unit {0}
 IsTranslationFault g sentence ha hb old new fault.NoMemory = Unit {0}
 IsTranslationFault g sentence ha hb old new _ = ⊥
+
+-- O1 and O2: all passes ran before
+abbrev pub IsAfterPasses : Fault → Type 0
+IsAfterPasses (fault.NoText x) = Unit {0}
+IsAfterPasses fault.Write = Unit {0}
+IsAfterPasses _ = ⊥
 
 -- a sentence is refused, by S1 to S4 or P1 to P3
 abbrev pub IsRefusedSentence : Fault → Type 0

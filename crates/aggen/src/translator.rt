@@ -7,7 +7,7 @@ ghost use Rattle.ag_grammar.specs.grammars.Tree.{node_count, IsWithinLimits, Tre
 ghost use Rattle.ag_grammar.specs.grammars.Tree.{most_depth, most_nodes};
 ghost use Rattle.llparse.specs.Ahead.{HasNoConflict};
 ghost use Rattle.llparse.specs.table.Tables.{FitsGrammar};
-ghost use Rattle.treefile.specs.ways.Beginning.{LeavesBeginning};
+ghost use Rattle.treefile.specs.ways.Beginning.{BeginsFile, LeavesBeginning};
 ghost use Rattle.treefile.specs.devices.Device.{LeavesContent, Persists, WhenHonest};
 ghost use Rattle.treefile.specs.records.FirstFile.{IsFirstFile};
 ghost use Rattle.treefile.specs.devices.Several.{BothLast, ThreeLast};
@@ -16,12 +16,14 @@ ghost use Rattle.passassign.specs.Least.{IsAlternating, IsLeast};
 ghost use Rattle.passassign.specs.Rows.{passes_of, AreFew};
 ghost use Rattle.aggen.specs.Building.{IsBuildFault, IsLeastPlan};
 ghost use Rattle.aggen.specs.Checking.{IsGrammarOf};
-ghost use Rattle.aggen.specs.Evaluating.{EvaluatesTree, IsEvaluationFault};
-ghost use Rattle.aggen.specs.Sentences.{IsScanFault, IsSentenceFault, IsTreeOfSentence};
-ghost use Rattle.aggen.specs.Translating.{IsRefusedSentence, IsTranslationFault};
-ghost use Rattle.aggen.specs.Translating.{TranslatesSentence};
+ghost use Rattle.aggen.specs.Evaluating.{EvaluatesTree, IsEvaluationFault, LeavesLastFilesOfTree};
+ghost use Rattle.aggen.specs.Sentences.{IsParseFault, IsScanFault, IsSentenceFault};
+ghost use Rattle.aggen.specs.Sentences.{IsTreeOfSentence};
+ghost use Rattle.aggen.specs.Translating.{IsAfterPasses, IsRefusedSentence, IsTranslationFault};
+ghost use Rattle.aggen.specs.Translating.{LeavesLastFiles, TranslatesSentence};
 ghost use Rattle.aggen.specs.Translation.{BeginsText};
 ghost use Rattle.aggen.specs.Upgrading.{IsOldFileFault};
+ghost use Rattle.passrun.specs.Rounds.{LeavesSomeFile};
 ghost use Rattle.passrun.specs.Upgrading.{IsUpgraded};
 
 use crate::build_fault::BuildFault;
@@ -150,6 +152,11 @@ impl Translator {
         // what the device had, or a beginning of a file of pass 0
         ensures left { OnErr result (WhenHonest (D.is_honest device.new)
             (LeavesBeginning 0 (D.content device.old) (D.content device.new))) }
+        // an answer, and P: a prefix of a file of pass 0
+        ensures begins { OnOk result (WhenHonest (D.is_honest device.new)
+            (BeginsFile 0 (D.content device.new))) }
+        ensures parsed { IfErr result (λ e. IsParseFault e →
+            WhenHonest (D.is_honest device.new) (BeginsFile 0 (D.content device.new))) }
         ensures persists { Persists (D.is_honest device.old) (D.is_honest device.new)
             (D.failures device.old) (D.failures device.new) (IsErrOf result Fault.Device) }
     {
@@ -174,7 +181,11 @@ impl Translator {
     /// them; O1 NoText where the translation is no text; O2 Write where a write failed or took no
     /// byte; D1 Device where a call of a device failed. Of a device that does not give back what
     /// was written, R1, P2 or P3 of a tree file, B1 or B2 may come. On every refusal but O2 the
-    /// writer is as before; what is left on the devices need not be mended for the next call.
+    /// writer is as before.
+    ///
+    /// After O1 and O2 the devices have the last two tree files. After P `a` has a prefix of the file
+    /// of pass 0, and after D1 and NoMemory each device has what it had, or a prefix of the file of some
+    /// pass. The next call takes the devices as they are.
     #[tactic(auto, using(crate::proofs::Begun::begun))]
     pub fn translate<D: Device, W: Write>(
         &self,
@@ -198,6 +209,17 @@ impl Translator {
             BeginsText (W.contents out.old) (W.contents out.new) }
         ensures untouched { IfErr result (λ e. IsScanFault e → a.new ≡ a.old) }
         ensures b_untouched { IfErr result (λ e. IsRefusedSentence e → b.new ≡ b.old) }
+        // each honest device has what it had, or a prefix of a tree file, whatever the other gives back
+        ensures a_left { WhenHonest (D.is_honest a.new)
+            (LeavesSomeFile (D.content a.old) (D.content a.new)) }
+        ensures b_left { WhenHonest (D.is_honest b.new)
+            (LeavesSomeFile (D.content b.old) (D.content b.new)) }
+        // P: a prefix of a file of pass 0; O1 and O2: the last two files
+        ensures parsed { IfErr result (λ e. IsParseFault e →
+            WhenHonest (D.is_honest a.new) (BeginsFile 0 (D.content a.new))) }
+        ensures files { IfErr result (λ e. IsAfterPasses e →
+            LeavesLastFiles self.now sentence.now (D.is_honest a.new) (D.is_honest b.new)
+            (D.content a.new) (D.content b.new)) }
         // D1 only where the number of failures rose on one of the two
         ensures devices { BothLast D.is_honest D.failures a.old a.new
             D.is_honest D.failures b.old b.new (IsErrOf result Fault.Device) }
@@ -220,7 +242,8 @@ impl Translator {
     /// `MOST_NODES` stored nodes; O1 NoText where the translation is no text; O2 Write where a write
     /// failed or took no byte; D1 Device where a call of a device failed. Of a device that does not
     /// give back what was written, B1, B2, or R1, P2 or P3 of a later pass's file may come. On every
-    /// refusal but O2 the writer is as before.
+    /// refusal but O2 the writer is as before. After O1 and O2 the devices have the last two tree files,
+    /// and after each other refusal each has what it had, or a prefix of the file of some pass.
     #[tactic(auto, using(crate::proofs::Begun::begun))]
     pub fn evaluate_tree<T: Device, D: Device, W: Write>(
         &self,
@@ -245,6 +268,15 @@ impl Translator {
             BeginsText (W.contents out.old) (W.contents out.new) }
         ensures content { LeavesContent (T.is_honest tree.new)
             (T.content tree.old) (T.content tree.new) }
+        // each honest device has what it had, or a prefix of a tree file, whatever the others give back
+        ensures a_left { WhenHonest (D.is_honest a.new)
+            (LeavesSomeFile (D.content a.old) (D.content a.new)) }
+        ensures b_left { WhenHonest (D.is_honest b.new)
+            (LeavesSomeFile (D.content b.old) (D.content b.new)) }
+        // O1 and O2: the last two files
+        ensures files { IfErr result (λ e. IsAfterPasses e →
+            LeavesLastFilesOfTree self.now (T.is_honest tree.new) (D.is_honest a.new)
+            (D.is_honest b.new) (T.content tree.old) (D.content a.new) (D.content b.new)) }
         // D1 only where the number of failures rose on one of the three
         ensures devices { ThreeLast T.is_honest T.failures tree.old tree.new
             D.is_honest D.failures a.old a.new D.is_honest D.failures b.old b.new
@@ -266,7 +298,7 @@ impl Translator {
     /// where it is that of no tree of at most `MOST_TURNED_DEPTH` levels (256), P3 where it is that of
     /// none of at most `MOST_TURNED_NODES` stored nodes (65,536); D1 where a call of a device failed. Of
     /// a `mid` that does not give back what was written, R1 or P2 may come, with an offset in `mid`.
-    /// After a refusal `to` has what it had, or a beginning of a file.
+    /// After a refusal `mid` and `to` have what they had, or a prefix of a file.
     pub fn upgrade<D: Device, E: Device, F: Device>(
         &self,
         old: &mut D,
@@ -283,6 +315,9 @@ impl Translator {
         // what the third device had, or a beginning of a file of pass 0
         ensures left { OnErr result (WhenHonest (F.is_honest to.new)
             (LeavesBeginning 0 (F.content to.old) (F.content to.new))) }
+        // what the second device had, or a prefix of a file with the number 1, also on an answer
+        ensures mid_left { WhenHonest (E.is_honest mid.new)
+            (LeavesBeginning 1 (E.content mid.old) (E.content mid.new)) }
         ensures content { LeavesContent (D.is_honest old.new)
             (D.content old.old) (D.content old.new) }
         // D1 only where the number of failures rose on one of the three

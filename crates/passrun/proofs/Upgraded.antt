@@ -158,7 +158,7 @@ module _ (g : Grammar) (accepted : IsAccepted g) where
       few_copied (item.Terminal (Class c)) = omega arith
       few_copied (item.Terminal (Literal l)) = omega arith
 
-  room : FitsVersion version_two g unassigned
+  pub room : FitsVersion version_two g unassigned
   room = record { tokens = omega arith; nodes = λ p q is. let stored = accepted.limits.stored_count p q is in omega (arith, few_copies (stored_items q.items)) }
 
   between : (t : Tree) (mid : List ℕ) → IsTreeOf g t → mid ≡ file version_two 1 (postfix RightToLeft (first_bodies version_two t)) → IsFileOf (rank_of (stored_count g)) RightToLeft (first_bodies version_two t) mid

@@ -83,6 +83,10 @@ pub record LeavesSolution (g : Grammar) (m : Passes) (passes : ℕ) (t : Tree) (
 abbrev pub LeavesSolutions : Grammar → Passes → (passes : ℕ) → (start now before : List ℕ) → Type 0
 LeavesSolutions g m passes start now before = (t : Tree) (u : Valuation) → IsTreeOf g t → IsFileOfTree version_two g m 0 t u start → (v : Valuation) × LeavesSolution g m passes t v now before
 
+-- What a call leaves on a device that it may fill: what the device had, or a prefix of a tree file of some pass.
+abbrev pub LeavesSomeFile : (old new : List ℕ) → Type 0
+LeavesSomeFile old new = (pass : ℕ) × LeavesBeginning pass old new
+
 -- What a refusal leaves of passes behind pass k, from what the first device (a) and the second one (b) had: some of them ran, maybe
 -- none, up to one whose file is still on the device that the next one read; and the other device has what it had then, or a beginning
 -- of a file of the next one. Where one ran, the first content is the file of a tree within the limits; where none did, the first

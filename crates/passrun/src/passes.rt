@@ -6,7 +6,7 @@ ghost use Rattle.ag_grammar.specs.grammars.Tree.{most_nodes};
 ghost use Rattle.passassign.specs.Rows.{IsGreatest, passes_of};
 ghost use Rattle.passrun.specs.passing.Ahead.{IsRunFault};
 ghost use Rattle.passrun.specs.Rounds.{HasRunAll, IsPassedOn, LeavesRound, LeavesSolutions};
-ghost use Rattle.passrun.specs.Rounds.{last_content, other_content, other_last};
+ghost use Rattle.passrun.specs.Rounds.{LeavesSomeFile, last_content, other_content, other_last};
 ghost use Rattle.passrun.specs.Rounds.{one_more as added};
 ghost use Rattle.planchecker.specs.Plans.{IsPlan};
 ghost use Rattle.planchecker.specs.courses.Settings.{setting_of};
@@ -69,6 +69,10 @@ fn next_pass<D: Device>(
     ensures left { OnErr result (WhenHonest (D.is_honest a.new) (WhenHonest (D.is_honest b.new)
         (LeavesBeginning (done + 1) (other_content last (D.content a.old) (D.content b.old))
         (other_content last (D.content a.new) (D.content b.new))))) }
+    ensures a_left { WhenHonest (D.is_honest a.new)
+        (LeavesSomeFile (D.content a.old) (D.content a.new)) }
+    ensures b_left { WhenHonest (D.is_honest b.new)
+        (LeavesSomeFile (D.content b.old) (D.content b.new)) }
     ensures counts { IfOk result (λ p. (p.read ≡ p.nodes) × (p.written ≡ p.nodes)) }
     ensures few { IfOk result (λ p. p.nodes ≤ most_nodes) }
     ensures rises { meter.old ≤ meter.new }
@@ -150,6 +154,11 @@ pub fn run_all<D: Device>(
     ensures left { OnErr result (WhenHonest (D.is_honest a.new) (WhenHonest (D.is_honest b.new)
         (LeavesRound grammar.now (passes_of plan.now.0) (first - 1) (D.content a.old)
         (D.content b.old) (D.content a.new) (D.content b.new)))) }
+    // each honest device has what it had, or a prefix of a tree file, whatever the other gives back
+    ensures a_left { WhenHonest (D.is_honest a.new)
+        (LeavesSomeFile (D.content a.old) (D.content a.new)) }
+    ensures b_left { WhenHonest (D.is_honest b.new)
+        (LeavesSomeFile (D.content b.old) (D.content b.new)) }
     // whatever the devices give back
     ensures few { IfOk result (λ r. (r.1.nodes ≤ most_nodes)
         × (r.1.read ≤ 2 ^ 36) × (r.1.written ≤ 2 ^ 36)) }

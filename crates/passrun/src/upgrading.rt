@@ -7,6 +7,7 @@ ghost use Rattle.ag_grammar.specs.grammars.Accepted.{IsAccepted};
 ghost use Rattle.ag_grammar.specs.grammars.AttributeGrammar.{stored_items};
 ghost use Rattle.backreader.specs.Turning.{most_records};
 ghost use Rattle.passrun.specs.Faults.{run_fault_of_turn};
+ghost use Rattle.passrun.specs.passing.Putting.{AddsFrames, LeavesFrames};
 ghost use Rattle.passrun.specs.Upgrading.{Brought, HasTaken, IsBrought, IsReady, IsUnbrought};
 ghost use Rattle.passrun.specs.Upgrading.{IsUpgradeFault, IsUpgraded, stored_count, text_list};
 ghost use Rattle.treefile.specs.ways.Beginning.{LeavesBeginning};
@@ -109,6 +110,11 @@ impl Upgrading {
         ensures balanced { OnOk result
             (self.new.writer.written + self.old.back.progress.records
             ≡ self.old.writer.written + self.new.back.progress.records) }
+        // The second device has the frames of some records more, or after a refusal a prefix of these
+        ensures added { OnOk result (AddsFrames (E.is_honest to.new)
+            (E.content to.old) (E.content to.new)) }
+        ensures left { IfErr result (LeavesFrames (E.is_honest to.new)
+            (E.content to.old) (E.content to.new)) }
         ensures content { LeavesContent (D.is_honest from.new)
             (D.content from.old) (D.content from.new) }
         ensures devices { BothLast D.is_honest D.failures from.old from.new
@@ -171,6 +177,8 @@ fn bring<D: Device, E: Device>(
         (IsBrought grammar.now (D.content from.old) (E.is_honest to.new) (E.content to.new))) }
     ensures refused { IfErr result (λ f. WhenHonest (D.is_honest from.new)
         (IsUpgradeFault grammar.now (D.content from.old) f)) }
+    ensures left { WhenHonest (E.is_honest to.new)
+        (LeavesBeginning 1 (E.content to.old) (E.content to.new)) }
     ensures content { LeavesContent (D.is_honest from.new)
         (D.content from.old) (D.content from.new) }
     ensures devices { BothLast D.is_honest D.failures from.old from.new
@@ -237,7 +245,7 @@ fn stored_among(items: &[Item]) -> u32
 /// `MOST_LEVELS` levels (256), P3 TooManyNodes where it is that of none of at most `MOST_RECORDS` stored
 /// nodes (65,536). D1 Device where a call of a device failed. NoMemory where a growth was refused. What
 /// can't be read back of the second device, which an honest one never shows, is R1 with the offset in
-/// it, or P2. After a refusal the third device has what it had, or a beginning of a file.
+/// it, or P2. After a refusal the second and the third device have what they had, or a prefix of a file.
 ///
 /// Takes memory for two buffers, for the texts of the tokens of each node on the way, and for a body on
 /// each level.
@@ -258,6 +266,9 @@ pub fn upgrade<D: Device, E: Device, F: Device>(
     // what the third device had, or a beginning of a file of pass 0
     ensures left { IfErr result (λ _. WhenHonest (F.is_honest to.new)
         (LeavesBeginning 0 (F.content to.old) (F.content to.new))) }
+    // what the second device had, or a prefix of a file with the number 1, also where it was brought over
+    ensures mid_left { WhenHonest (E.is_honest mid.new)
+        (LeavesBeginning 1 (E.content mid.old) (E.content mid.new)) }
     ensures content { LeavesContent (D.is_honest old.new) (D.content old.old) (D.content old.new) }
     // D1 only where the number of failures rose on one of the three
     ensures devices { ThreeLast D.is_honest D.failures old.old old.new

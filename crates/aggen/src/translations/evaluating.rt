@@ -3,8 +3,8 @@
 ghost use Rattle.std.specs.Prelude.{◌≡◌, IfErr, IfOk, IsErrOf};
 ghost use Rattle.aggen.specs.Building.{IsLeastPlan};
 ghost use Rattle.aggen.specs.Evaluating.{IsPassesFault, LeavesFilesOfTree};
-ghost use Rattle.passrun.specs.Rounds.{other_last};
-ghost use Rattle.treefile.specs.devices.Device.{LeavesContent};
+ghost use Rattle.passrun.specs.Rounds.{LeavesSomeFile, other_last};
+ghost use Rattle.treefile.specs.devices.Device.{LeavesContent, WhenHonest};
 ghost use Rattle.treefile.specs.devices.Several.{ThreeLast};
 
 use crate::fault::Fault;
@@ -44,6 +44,10 @@ pub(crate) fn run_tree<T: Device, D: Device>(
         (D.is_honest a.new) (D.is_honest b.new) (T.content tree.old) e) }
     ensures content { LeavesContent (T.is_honest tree.new)
         (T.content tree.old) (T.content tree.new) }
+    ensures a_left { WhenHonest (D.is_honest a.new)
+        (LeavesSomeFile (D.content a.old) (D.content a.new)) }
+    ensures b_left { WhenHonest (D.is_honest b.new)
+        (LeavesSomeFile (D.content b.old) (D.content b.new)) }
     ensures devices { ThreeLast T.is_honest T.failures tree.old tree.new
         D.is_honest D.failures a.old a.new D.is_honest D.failures b.old b.new
         (IsErrOf result Fault.Device) }

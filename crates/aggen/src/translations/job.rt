@@ -1,8 +1,14 @@
 //! A job is translated: its grammar makes a translator, which translates its sentence.
 
 ghost use Rattle.std.specs.Prelude.{◌≡◌, ◌≢◌, IfErr, IfOk, IsErrOf};
-ghost use Rattle.aggen.specs.Jobs.{IsBeforePasses, IsBeforeTrees, IsJobRefusal, TranslatesJob};
+ghost use Rattle.aggen.specs.Jobs.{IsBeforePasses, IsBeforeTrees, IsJobRefusal};
+ghost use Rattle.aggen.specs.Jobs.{LeavesLastFilesOfJob, TranslatesJob};
+ghost use Rattle.aggen.specs.Sentences.{IsParseFault};
+ghost use Rattle.aggen.specs.Translating.{IsAfterPasses};
 ghost use Rattle.aggen.specs.Translation.{BeginsText};
+ghost use Rattle.passrun.specs.Rounds.{LeavesSomeFile};
+ghost use Rattle.treefile.specs.ways.Beginning.{BeginsFile};
+ghost use Rattle.treefile.specs.devices.Device.{WhenHonest};
 ghost use Rattle.treefile.specs.devices.Several.{BothLast};
 
 use crate::fault::Fault;
@@ -20,7 +26,7 @@ use treefile::Device;
 /// J2 where the reader fails; J3 above 2,097,156 bytes; J1 where no line is `%%`; then what
 /// `Translator::build` refuses the grammar for, before a device is touched, and what
 /// `Translator::translate` refuses the sentence for. On every refusal but O2 the writer is as
-/// before.
+/// before, and the devices are as `Translator::translate` leaves them.
 #[tactic(auto, using(crate::proofs::Begun::begun))]
 pub fn run_job<R: Read + Drop, D: Device, W: Write>(
     alloc: Global,
@@ -44,6 +50,17 @@ pub fn run_job<R: Read + Drop, D: Device, W: Write>(
         BeginsText (W.contents out.old) (W.contents out.new) }
     ensures untouched { IfErr result (λ e. IsBeforeTrees e → a.new ≡ a.old) }
     ensures b_untouched { IfErr result (λ e. IsBeforePasses e → b.new ≡ b.old) }
+    // each honest device has what it had, or a prefix of a tree file, whatever the other gives back
+    ensures a_left { WhenHonest (D.is_honest a.new)
+        (LeavesSomeFile (D.content a.old) (D.content a.new)) }
+    ensures b_left { WhenHonest (D.is_honest b.new)
+        (LeavesSomeFile (D.content b.old) (D.content b.new)) }
+    // P: a prefix of a file of pass 0; O1 and O2: the last two files
+    ensures parsed { IfErr result (λ e. IsParseFault e →
+        WhenHonest (D.is_honest a.new) (BeginsFile 0 (D.content a.new))) }
+    ensures files { IfErr result (λ e. IsAfterPasses e →
+        LeavesLastFilesOfJob (R.remaining reader) (D.is_honest a.new) (D.is_honest b.new)
+        (D.content a.new) (D.content b.new)) }
     // D1 only where the number of failures rose on one of the two
     ensures devices { BothLast D.is_honest D.failures a.old a.new
         D.is_honest D.failures b.old b.new (IsErrOf result Fault.Device) }

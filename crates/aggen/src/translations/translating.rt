@@ -3,11 +3,12 @@
 
 ghost use Rattle.std.specs.Prelude.{◌≡◌, IfErr, IfOk, IsErrOf};
 ghost use Rattle.aggen.specs.Building.{IsLeastPlan};
-ghost use Rattle.aggen.specs.Sentences.{IsScanFault};
+ghost use Rattle.aggen.specs.Sentences.{IsParseFault, IsScanFault};
 ghost use Rattle.aggen.specs.Translating.{IsFilesFault, IsRefusedSentence, LeavesFiles};
-ghost use Rattle.passrun.specs.Rounds.{last_content};
+ghost use Rattle.passrun.specs.Rounds.{LeavesSomeFile, last_content};
 ghost use Rattle.planchecker.specs.Plans.{IsPlan};
 ghost use Rattle.roottext.specs.Roots.{IsWellText, TellsRoot};
+ghost use Rattle.treefile.specs.ways.Beginning.{BeginsFile};
 ghost use Rattle.treefile.specs.devices.Device.{LeavesContent, WhenHonest};
 ghost use Rattle.treefile.specs.devices.Several.{BothLast};
 
@@ -39,6 +40,12 @@ pub(crate) fn leave_files<D: Device>(
         (D.is_honest a.new) (D.is_honest b.new) e) }
     ensures untouched { IfErr result (λ e. IsScanFault e → a.new ≡ a.old) }
     ensures b_untouched { IfErr result (λ e. IsRefusedSentence e → b.new ≡ b.old) }
+    ensures a_left { WhenHonest (D.is_honest a.new)
+        (LeavesSomeFile (D.content a.old) (D.content a.new)) }
+    ensures b_left { WhenHonest (D.is_honest b.new)
+        (LeavesSomeFile (D.content b.old) (D.content b.new)) }
+    ensures parsed { IfErr result (λ e. IsParseFault e →
+        WhenHonest (D.is_honest a.new) (BeginsFile 0 (D.content a.new))) }
     ensures devices { BothLast D.is_honest D.failures a.old a.new
         D.is_honest D.failures b.old b.new (IsErrOf result Fault.Device) }
 {

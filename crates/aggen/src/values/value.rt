@@ -3,6 +3,7 @@
 ghost use Rattle.std.specs.Prelude.{◌≡◌, ◌≢◌, ℕ, [], IfErr, IfOk, IsErrAnd, IsErrOf, OnOk};
 ghost use Rattle.ag_expr.specs.language.Expression.{ReadsAsExpr};
 ghost use Rattle.ag_value.specs.Well.{IsWell};
+ghost use Rattle.treefile.specs.ways.Beginning.{LeavesBeginning};
 ghost use Rattle.treefile.specs.devices.Device.{Persists, WhenHonest};
 ghost use Rattle.aggen.specs.Showing.{BeginsLine, HasNone, HasValue, IsDamage, IsExplained};
 ghost use Rattle.aggen.specs.Showing.{IsExprFault, IsShowFault, IsTextFault, IsUnexpectedAt};
@@ -27,7 +28,7 @@ use treefile::Device;
 /// The text is refused before the device is touched: X1 to X4 where it is no expression, X2 at its
 /// first `$` where it has occurrences. D1 Device where the device failed; B1 and B2 where it does
 /// not give back what was written. Only then is anything written: O2 Write where a write fails or
-/// takes no byte.
+/// takes no byte. After each refusal but X the device has what it had, or a prefix of the file.
 pub fn show_value<D: Device, W: Write>(
     alloc: Global,
     text: &str,
@@ -51,6 +52,10 @@ pub fn show_value<D: Device, W: Write>(
     ensures undamaged { WhenHonest (D.is_honest device.new) (IfErr result (λ e. ¬ (IsDamage e))) }
     ensures persists { Persists (D.is_honest device.old) (D.is_honest device.new)
         (D.failures device.old) (D.failures device.new) (IsErrOf result Fault.Device) }
+
+    // what the device had, or a prefix of the file, maybe all of it
+    ensures left { WhenHonest (D.is_honest device.new)
+        (LeavesBeginning 0 (D.content device.old) (D.content device.new)) }
 
     // nothing is written before all is known, and no refusal but O2 comes after something was
     ensures kept { IfErr result (λ e. e ≢ Fault.Write → out.new ≡ out.old) }

@@ -4,6 +4,7 @@ ghost use Rattle.std.specs.Prelude.{◌≡◌, ◌+◌, ◌∷◌, ℕ, [], true
 ghost use Rattle.std.specs.Prelude.{IfOk, IsErrOf, MatchResult, OnOk};
 ghost use Rattle.ag_value.specs.Well.{IsWell};
 ghost use Rattle.ag_value.specs.declared.value.Value.{Value as AttributeValue};
+ghost use Rattle.treefile.specs.ways.Beginning.{LeavesBeginning};
 ghost use Rattle.treefile.specs.devices.Device.{LeavesContent, Persists, WhenHonest};
 ghost use Rattle.treefile.specs.ways.Ending.{last_body_of};
 ghost use Rattle.treefile.specs.records.TreeFile.{body_of, version_two};
@@ -21,6 +22,8 @@ pub fn write_file<D: Device>(alloc: Global, device: &mut D, value: Value) -> Res
     ensures ok { OnOk result
         (WhenHonest (D.is_honest device.new) (D.content device.new ≡ file_of value)) }
     ensures err { IfErr result IsWant }
+    ensures left { WhenHonest (D.is_honest device.new)
+        (LeavesBeginning 0 (D.content device.old) (D.content device.new)) }
     ensures persists { Persists (D.is_honest device.old) (D.is_honest device.new)
         (D.failures device.old) (D.failures device.new) (IsErrOf result Fault.Device) }
 {

@@ -25,6 +25,10 @@ pub on_ok : (P : Type 0) (r : Result Passed RunFault) → P → OnOk r P
 on_ok P (Ok p) h = h
 on_ok P (Err f) h = tt
 
+pub on_ok_more : (P Q : Type 0) (r : Result Passed RunFault) → (P → Q) → OnOk r P → OnOk r Q
+on_ok_more P Q (Ok p) go h = go h
+on_ok_more P Q (Err f) go h = tt
+
 pub on_err : (P : Type 0) (Q : RunFault → Type 0) (r : Result Passed RunFault) → ((f : RunFault) → Q f → P) → IfErr r Q → OnErr r P
 on_err P Q (Ok p) go h = h
 on_err P Q (Err f) go h = go f h

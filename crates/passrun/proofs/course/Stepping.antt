@@ -1,6 +1,6 @@
 -- One pass more, to and fro between two devices.
 use Rattle.std.proofs.Common.{◌≡◌, ℕ, suc, ◌+◌, ◌-◌, ◌<◌, ◌≤◌, Bool, inl, inr, List, Result, Ok, Err, refl, sym, subst, ◌∙◌, arith}
-use Rattle.std.specs.Prelude.{IfErr, IfOk, OnErr}
+use Rattle.std.specs.Prelude.{IfErr, IfOk, OnErr, OnOk}
 use Rattle.std.proofs.lemmas.Bool.{cases_lt}
 use Rattle.std.proofs.Math.Nat.{suc-mul}
 use Rattle.ag_grammar.specs.grammars.Accepted.{IsAccepted}
@@ -11,6 +11,7 @@ use Rattle.passassign.specs.Rows.{IsGreatest, passes_of}
 use Rattle.passcode.specs.Rows.{Lists}
 use Rattle.planchecker.specs.courses.Settings.{Setting, setting_of}
 use Rattle.treefile.specs.devices.Device.{HasRisen, Persists, WhenHonest}
+use Rattle.treefile.specs.ways.Beginning.{BeginsFile, LeavesBeginning}
 use Rattle.treefile.specs.Runs.{RunsPass, RunsPasses}
 use Rattle.treefile.specs.records.TreeFile.{version_two}
 use Rattle.treefile.proofs.Run.{goes_on_run, starts_run}
@@ -21,7 +22,7 @@ use Rattle.passrun.specs.declared.run_fault.RunFault.{RunFault}
 use Rattle.passrun.specs.passing.Ahead.{IsRunFault}
 use Rattle.passrun.specs.Passed.{IsPassed}
 use Rattle.passrun.specs.Laws.{CountsPass}
-use Rattle.passrun.specs.Rounds.{CountsPasses, HasRunAll, HoldsTree, IsPassedOn, last_content, one_more, other_content, other_last}
+use Rattle.passrun.specs.Rounds.{CountsPasses, HasRunAll, HoldsTree, IsPassedOn, LeavesSomeFile, last_content, one_more, other_content, other_last}
 use Rattle.passrun.proofs.Telling.{passes_are_told, refused_back}
 
 -- from which of two devices the pass ran
@@ -171,6 +172,16 @@ persists_on h0 h1 h2 f0 f1 f2 old new =
 pub risen_since : (before now later : ℕ) → before ≤ now → HasRisen now later → HasRisen before later
 risen_since before now later le (inl less) = inl (omega arith)
 risen_since before now later le (inr full) = inr full
+
+-- a pass leaves its file, a prefix of it, or what was there
+pub some_left : (pass : ℕ) (honest : Bool) (old new : List ℕ) (r : Result Passed RunFault) → OnOk r (WhenHonest honest (BeginsFile pass new)) → OnErr r (WhenHonest honest (LeavesBeginning pass old new)) → WhenHonest honest (LeavesSomeFile old new)
+some_left pass honest old new (Ok p) begun left h = (pass, inr (begun h))
+some_left pass honest old new (Err f) begun left h = (pass, left h)
+
+-- what one pass leaves, and then the next
+pub left_again : (old between new : List ℕ) → LeavesSomeFile old between → LeavesSomeFile between new → LeavesSomeFile old new
+left_again old between new first (pass, inl same) = subst (LeavesSomeFile old) (sym same) first
+left_again old between new first (pass, inr begun) = (pass, inr begun)
 
 -- what a refusal leaves leads to something else that it leaves
 pub err_more : (P Q : Type 0) (r : Result Passed RunFault) → (P → Q) → OnErr r P → OnErr r Q

@@ -8,7 +8,7 @@ ghost use Rattle.passrun.specs.passing.Ends.{RunsBetween};
 ghost use Rattle.passrun.specs.passing.Nodes.{first_at};
 ghost use Rattle.passrun.specs.laid.Jobs.{CanRun, setting};
 ghost use Rattle.passrun.specs.Passed.{IsPassed};
-ghost use Rattle.passrun.specs.passing.Putting.{LeavesFrames};
+ghost use Rattle.passrun.specs.passing.Putting.{AddsFrames, LeavesFrames};
 ghost use Rattle.passrun.specs.passing.Running.{Runs};
 ghost use Rattle.treefile.specs.ways.Beginning.{LeavesBeginning};
 ghost use Rattle.treefile.specs.devices.Device.{LeavesContent, WhenHonest};
@@ -101,6 +101,8 @@ pub(crate) fn finish<D: Device, E: Device>(
         WhenHonest (D.is_honest from.new) (WhenHonest (E.is_honest to.new)
         (IfOk result (λ p. IsPassed (setting job.now) (D.content from.old) (E.content to.new)
         p.nodes (meter - machine.old.begun)))) }
+    ensures added { OnOk result (AddsFrames (E.is_honest to.new)
+        (E.content to.old) (E.content to.new)) }
     ensures left { IfErr result (LeavesFrames (E.is_honest to.new)
         (E.content to.old) (E.content to.new)) }
     ensures refused { IfErr result (λ f. WhenHonest (D.is_honest from.new)

@@ -10,7 +10,7 @@ ghost use Rattle.passrun.specs.Laws.{CountsPass};
 ghost use Rattle.passrun.specs.Passed.{IsPassed};
 ghost use Rattle.planchecker.specs.courses.Settings.{setting_of};
 ghost use Rattle.planchecker.specs.Plans.{IsPlan};
-ghost use Rattle.treefile.specs.ways.Beginning.{LeavesBeginning};
+ghost use Rattle.treefile.specs.ways.Beginning.{BeginsFile, LeavesBeginning};
 ghost use Rattle.treefile.specs.devices.Device.{LeavesContent, WhenHonest};
 ghost use Rattle.treefile.specs.Runs.{RunsPass};
 ghost use Rattle.treefile.specs.devices.Several.{BothLast};
@@ -47,6 +47,9 @@ pub(crate) fn run_job<D: Device, E: Device>(
     // what the second device had, or a beginning of the file
     ensures left { OnErr result (WhenHonest (E.is_honest to.new)
         (LeavesBeginning (setting job.now).write (E.content to.old) (E.content to.new))) }
+    // whatever the first device gives back
+    ensures begins { OnOk result (WhenHonest (E.is_honest to.new)
+        (BeginsFile (setting job.now).write (E.content to.new))) }
     ensures counts { IfOk result (λ p. (p.read ≡ p.nodes) × (p.written ≡ p.nodes)) }
     // whatever the devices give back
     ensures few { IfOk result (λ p. p.nodes ≤ most_nodes) }
@@ -109,6 +112,9 @@ pub fn run_pass<D: Device, E: Device>(
     // what the second device had, or a beginning of the file
     ensures left { OnErr result (WhenHonest (E.is_honest to.new)
         (LeavesBeginning pass (E.content to.old) (E.content to.new))) }
+    // whatever the first device gives back
+    ensures begins { OnOk result (WhenHonest (E.is_honest to.new)
+        (BeginsFile pass (E.content to.new))) }
     ensures counts { IfOk result (λ p. (p.read ≡ p.nodes) × (p.written ≡ p.nodes)) }
     // whatever the devices give back
     ensures few { IfOk result (λ p. p.nodes ≤ most_nodes) }

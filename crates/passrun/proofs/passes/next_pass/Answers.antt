@@ -1,9 +1,9 @@
-use Rattle.std.proofs.Common.{◌≡◌, ◌+◌, subst, sym}
+use Rattle.std.proofs.Common.{◌≡◌, ◌+◌, inl, subst, sym}
 use Rattle.planchecker.specs.courses.Settings.{setting_of}
 use Rattle.treefile.specs.ways.Beginning.{LeavesBeginning}
 use Rattle.passrun.specs.declared.last.Last.{Last}
 use Rattle.passrun.specs.Rounds.{last_content, other_content}
-use Rattle.passrun.proofs.course.Stepping.{err_more, passed_from_a, passed_from_b, refused_from_a, refused_from_b}
+use Rattle.passrun.proofs.course.Stepping.{err_more, passed_from_a, passed_from_b, refused_from_a, refused_from_b, some_left}
 use Rattle.passrun.proofs.passes.next_pass.Goals as goal
 
 pub returns-in-A-clause-passed : goal.returns-in-A-clause-passed
@@ -41,3 +41,16 @@ returns-in-B-clause-left g c =
     err_more _ _ c.run_pass-in-B.result
     (λ left ha hb. subst (λ (l : Last). LeavesBeginning (c.args.done + 1) (other_content l (g.D.Device.content c.args.a.now) (g.D.Device.content c.args.b.now)) (other_content l (g.D.Device.content c.run_pass-in-B.new.to) (g.D.Device.content c.run_pass-in-B.new.from))) (sym c.in-B.is) (left ha))
     c.run_pass-in-B.ensures.left
+
+-- each device that is honest, whatever the other gives back
+pub returns-in-A-clause-a_left : goal.returns-in-A-clause-a_left
+returns-in-A-clause-a_left g c = λ h. (c.args.done + 1, inl (c.run_pass.ensures.content h))
+
+pub returns-in-A-clause-b_left : goal.returns-in-A-clause-b_left
+returns-in-A-clause-b_left g c = some_left (c.args.done + 1) (g.D.Device.is_honest c.run_pass.new.to) (g.D.Device.content c.args.b.now) (g.D.Device.content c.run_pass.new.to) c.run_pass.result c.run_pass.ensures.begins c.run_pass.ensures.left
+
+pub returns-in-B-clause-a_left : goal.returns-in-B-clause-a_left
+returns-in-B-clause-a_left g c = some_left (c.args.done + 1) (g.D.Device.is_honest c.run_pass-in-B.new.to) (g.D.Device.content c.args.a.now) (g.D.Device.content c.run_pass-in-B.new.to) c.run_pass-in-B.result c.run_pass-in-B.ensures.begins c.run_pass-in-B.ensures.left
+
+pub returns-in-B-clause-b_left : goal.returns-in-B-clause-b_left
+returns-in-B-clause-b_left g c = λ h. (c.args.done + 1, inl (c.run_pass-in-B.ensures.content h))

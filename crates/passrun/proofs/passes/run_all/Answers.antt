@@ -1,4 +1,4 @@
-use Rattle.std.proofs.Common.{ℕ, List, sym, suc, ◌≡◌, ◌+◌, ◌-◌, refl, subst, ◌∙◌, arith}
+use Rattle.std.proofs.Common.{ℕ, List, inl, sym, suc, ◌≡◌, ◌+◌, ◌-◌, refl, subst, ◌∙◌, arith}
 use Rattle.std.proofs.lemmas.Result.{err_from_is_err_and}
 use Rattle.passassign.specs.Rows.{passes_of}
 use Rattle.treefile.specs.Runs.{RunsPasses}
@@ -6,7 +6,7 @@ use Rattle.treefile.specs.records.TreeFile.{version_two}
 use Rattle.passrun.specs.Rounds.{HasRunAll, last_content, other_content}
 use Rattle.passrun.specs.declared.last.Last.{Last}
 use Rattle.passrun.specs.declared.last.Last.TheVariants.{A}
-use Rattle.passrun.proofs.course.Stepping.{all_goes_on, all_refused, all_starts, greatest_most, persists_on, persists_still}
+use Rattle.passrun.proofs.course.Stepping.{all_goes_on, all_refused, all_starts, greatest_most, left_again, persists_on, persists_still}
 use Rattle.passrun.proofs.Totals.{greatest_is_last, solutions_left}
 use Rattle.passrun.proofs.passes.run_all.Goals as goal
 
@@ -25,6 +25,8 @@ loop-done-init g c =
       nodes = omega arith;
       read = omega arith;
       written = omega arith;
+      a_left = λ h. (0, inl refl);
+      b_left = λ h. (0, inl refl);
       far = λ same. refl;
       runs = λ ha hb. all_starts c.args.grammar.now (passes_of c.args.plan.now.0) (c.args.first - 1) (c.args.first - 1) (g.D.Device.content c.args.a.now) (g.D.Device.content c.args.b.now) (c.args.meter.now - c.args.meter.now) refl (omega arith);
     }
@@ -54,6 +56,10 @@ loop-done-preserved g c =
       nodes = rw sum few;
       read = rw sum (omega arith);
       written = rw sum (omega arith);
+      a_left = λ h.
+          left_again (g.D.Device.content c.args.a.now) (g.D.Device.content c.loop-done.a) (g.D.Device.content c.next_pass.new.a) (old.a_left (c.in_ok-passed.ensures.devices.first.honest h)) (c.next_pass.ensures.a_left h);
+      b_left = λ h.
+          left_again (g.D.Device.content c.args.b.now) (g.D.Device.content c.loop-done.b) (g.D.Device.content c.next_pass.new.b) (old.b_left (c.in_ok-passed.ensures.devices.second.honest h)) (c.next_pass.ensures.b_left h);
       far = λ same. absurd (omega arith);
       runs = λ ha hb.
           let next : c.loop-done.done + 1 ≡ suc c.loop-done.done = omega arith in
@@ -87,6 +93,14 @@ returns-in_err-passed-clause-refused g c =
     rw (p.1, p.2) (λ ha hb.
     all_refused c.args.grammar.now c.args.plan.now c.args.first c.loop-done.done (c.loop-done.done + 1) (g.D.Device.content c.args.a.now) (g.D.Device.content c.loop-done.a) (g.D.Device.content c.loop-done.b) c.loop-done.last (c.loop-done.meter - c.args.meter.now) c.loop-done.sum next c.requires.first old.low (old.runs (c.in_err-passed.ensures.devices.first.honest ha) (c.in_err-passed.ensures.devices.second.honest hb))
     c.in_err-passed.field-0.0 (said ha hb))
+
+pub returns-in_err-passed-clause-a_left : goal.returns-in_err-passed-clause-a_left
+returns-in_err-passed-clause-a_left g c = λ h.
+    left_again (g.D.Device.content c.args.a.now) (g.D.Device.content c.loop-done.a) (g.D.Device.content c.next_pass.new.a) (c.loop-done.invariant.a_left (c.in_err-passed.ensures.devices.first.honest h)) (c.in_err-passed.ensures.a_left h)
+
+pub returns-in_err-passed-clause-b_left : goal.returns-in_err-passed-clause-b_left
+returns-in_err-passed-clause-b_left g c = λ h.
+    left_again (g.D.Device.content c.args.b.now) (g.D.Device.content c.loop-done.b) (g.D.Device.content c.next_pass.new.b) (c.loop-done.invariant.b_left (c.in_err-passed.ensures.devices.second.honest h)) (c.in_err-passed.ensures.b_left h)
 
 pub returns-in_err-passed-clause-left : goal.returns-in_err-passed-clause-left
 returns-in_err-passed-clause-left g c =

@@ -2,7 +2,7 @@ use Rattle.std.proofs.Common.{◌≡◌, ◌+◌, ◌-◌, ◌*◌, ◌≤◌}
 use Rattle.ag_grammar.specs.grammars.Tree.{most_nodes}
 use Rattle.passassign.specs.Rows.{passes_of}
 use Rattle.treefile.specs.devices.Device.{Persists, WhenHonest}
-use Rattle.passrun.specs.Rounds.{HasRunAll}
+use Rattle.passrun.specs.Rounds.{HasRunAll, LeavesSomeFile}
 use Rattle.passrun.proofs.passes.run_all.Given as goal
 
 abbrev pub invariant-loop-done : goal.invariant-loop-done
@@ -16,6 +16,8 @@ invariant-loop-done g l = record {
   nodes : l.sum.nodes ≤ most_nodes;
   read : l.sum.read ≤ l.done * 1048576;
   written : l.sum.written ≤ l.done * 1048576;
+  a_left : WhenHonest (g.D.Device.is_honest l.a) (LeavesSomeFile (g.D.Device.content l.fn.a) (g.D.Device.content l.a));
+  b_left : WhenHonest (g.D.Device.is_honest l.b) (LeavesSomeFile (g.D.Device.content l.fn.b) (g.D.Device.content l.b));
   far : l.done ≡ l.first - 1 → g.D.Device.content l.b ≡ g.D.Device.content l.fn.b;
   runs : WhenHonest (g.D.Device.is_honest l.a) (WhenHonest (g.D.Device.is_honest l.b) (HasRunAll l.grammar (passes_of l.plan.0) (l.first - 1) l.done (g.D.Device.content l.fn.a) l.last (g.D.Device.content l.a) (g.D.Device.content l.b) (l.meter - l.fn.meter) l.sum));
 }

@@ -1,10 +1,13 @@
-use Rattle.std.proofs.Common.{◌≡◌, ℕ, Bool, List, [], ◌∷◌, Option, Bor, Ok, Err, None, Some, sym, ap, subst, ◌∙◌}
+use Rattle.std.proofs.Common.{◌≡◌, ℕ, Bool, List, [], ◌∷◌, Option, Bor, Ok, Err, None, Some, inl, inr, refl, sym, ap, subst, ◌∙◌}
 use Rattle.std.specs.Option.{option_map}
 use Rattle.std.proofs.lemmas.Result.{err_from_is_err_and}
 use Rattle.ag_grammar.specs.declared.grammar.Item.TheVariants as item
 use Rattle.treefile.specs.ways.Backward.{next_before}
 use Rattle.treefile.specs.ways.Ending.{Told}
 use Rattle.treefile.specs.records.TreeFile.{version_one}
+use Rattle.treefile.proofs.ways.Beginning as beginning
+use Rattle.treefile.proofs.ways.Beginning.{frames_begin}
+use Rattle.passrun.specs.declared.run_fault.RunFault.{RunFault}
 use Rattle.backreader.specs.BackState.{IsOver, BackState}
 use Rattle.passrun.specs.Upgrading.{Brought, IsUnbrought, text_list}
 use Rattle.passrun.proofs.course.Ending.{none_lent}
@@ -100,3 +103,31 @@ returns-clause-brought g c honest =
     let told = rw tree.ready.version at (c.in_ok-back-2.ensures.told tree.ready.unbroken honest) in
     whole_brought grammar c.start.ensures.accepted content before back to out_old out texts here (start.started.end z) start.started.fresh brought (subst (λ (bytes : List ℕ). IsOver bytes back) (start.content z) (tree.ready.over is)) tree.ready.few
     (subst (λ (bytes : List ℕ). next_before version_one bytes back.progress.at ≡ Ok None) same (told ∙ ap Ok none)) (λ h. begin.header (tree.devices.second.honest h))
+
+-- ---- what is left on the second device
+
+pub returns-in_err-back-clause-left : goal.returns-in_err-back-clause-left
+returns-in_err-back-clause-left g c = λ h. inl refl
+
+pub returns-then-pass-ne0-clause-left : goal.returns-then-pass-ne0-clause-left
+returns-then-pass-ne0-clause-left g c = λ h. inl refl
+
+pub returns-in_err-writer-clause-left : goal.returns-in_err-writer-clause-left
+returns-in_err-writer-clause-left g c = λ h.
+    beginning.not_begun 1 (g.E.Device.content c.args.to.now) (g.E.Device.content c.begin.new.device) c.in_err-writer.field-0.0 (λ failed. c.in_err-writer.ensures.device (ap Err failed) h) (λ want. c.in_err-writer.ensures.memory (ap Err want) h)
+
+pub returns-in_err-tree-clause-left : goal.returns-in_err-tree-clause-left
+returns-in_err-tree-clause-left g c = λ h.
+    inr (frames_begin RunFault 1 (g.E.Device.content c.begin.new.device) (g.E.Device.content c.tree.new.to) (Err c.in_err-tree.field-0.0) (c.in_ok-writer.ensures.header (c.in_err-tree.ensures.devices.second.honest h)) (c.in_err-tree.ensures.left h))
+
+pub returns-in_err-back-2-clause-left : goal.returns-in_err-back-2-clause-left
+returns-in_err-back-2-clause-left g c = λ h.
+    inr (frames_begin RunFault 1 (g.E.Device.content c.begin.new.device) (g.E.Device.content c.tree.new.to) (Ok tt) (c.in_ok-writer.ensures.header (c.in_ok-tree.ensures.devices.second.honest h)) (c.in_ok-tree.ensures.added h))
+
+pub returns-then-is_some-clause-left : goal.returns-then-is_some-clause-left
+returns-then-is_some-clause-left g c = λ h.
+    inr (frames_begin RunFault 1 (g.E.Device.content c.begin.new.device) (g.E.Device.content c.tree.new.to) (Ok tt) (c.in_ok-writer.ensures.header (c.in_ok-tree.ensures.devices.second.honest h)) (c.in_ok-tree.ensures.added h))
+
+pub returns-clause-left : goal.returns-clause-left
+returns-clause-left g c = λ h.
+    inr (frames_begin RunFault 1 (g.E.Device.content c.begin.new.device) (g.E.Device.content c.tree.new.to) (Ok tt) (c.in_ok-writer.ensures.header (c.in_ok-tree.ensures.devices.second.honest h)) (c.in_ok-tree.ensures.added h))

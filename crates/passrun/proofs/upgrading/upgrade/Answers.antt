@@ -1,5 +1,6 @@
 use Rattle.std.proofs.Common.{Bool, List, ℕ, subst, sym, ◌∙◌}
 use Rattle.std.proofs.lemmas.Result.{err_from_is_err_and}
+use Rattle.treefile.specs.ways.Beginning.{LeavesBeginning}
 use Rattle.passrun.specs.Upgrading.{IsBrought, IsUpgraded}
 use Rattle.passrun.proofs.Upgraded.{turned_fault, turned_tree}
 use Rattle.passrun.proofs.upgrading.upgrade.Goals as goal
@@ -20,3 +21,12 @@ returns-clause-upgraded g c honest mid_honest =
     let mid = g.E.Device.content c.bring.new.to in
     subst (λ (between : List ℕ). IsUpgraded grammar content between (g.F.Device.is_honest c.turn.new.to) (g.F.Device.content c.turn.new.to) c.in_ok-count.count) (sym (c.turn.ensures.content mid_honest))
     (turned_tree grammar c.in_ok-bring.ensures.accepted content mid (g.F.Device.is_honest c.turn.new.to) (g.F.Device.content c.turn.new.to) (subst (λ (b : Bool). IsBrought grammar content b mid) (c.in_ok-count.ensures.devices.first.honest mid_honest) (c.in_ok-bring.ensures.brought honest)) c.in_ok-count.count (c.in_ok-count.ensures.told mid_honest))
+
+-- the file between stays while it is turned
+pub returns-in_err-count-clause-mid_left : goal.returns-in_err-count-clause-mid_left
+returns-in_err-count-clause-mid_left g c = λ h.
+    subst (LeavesBeginning 1 (g.E.Device.content c.args.mid.now)) (sym (c.turn.ensures.content h)) (c.bring.ensures.left (c.in_err-count.ensures.devices.first.honest h))
+
+pub returns-clause-mid_left : goal.returns-clause-mid_left
+returns-clause-mid_left g c = λ h.
+    subst (LeavesBeginning 1 (g.E.Device.content c.args.mid.now)) (sym (c.turn.ensures.content h)) (c.bring.ensures.left (c.in_ok-count.ensures.devices.first.honest h))

@@ -1,4 +1,4 @@
-use Rattle.std.proofs.Common.{◌≡◌, ◌+◌, ◌-◌, ◌∙◌, refl, subst, arith}
+use Rattle.std.proofs.Common.{◌≡◌, ◌+◌, ◌-◌, ◌∙◌, inl, inr, refl, subst, arith}
 use Rattle.std.proofs.lemmas.Result.{err_from_is_err_and}
 use Rattle.ag_grammar.specs.grammars.AttributeGrammar.{Grammar}
 use Rattle.passassign.specs.Rows.{IsGreatest, passes_of}
@@ -9,6 +9,7 @@ use Rattle.passrun.specs.Rounds.{HasRunAll}
 use Rattle.passrun.proofs.Totals.{greatest_is_last}
 use Rattle.aggen.proofs.Composed.{some_pass}
 use Rattle.aggen.proofs.Evaluated.{are_left_of_tree, first_refused, never_later}
+use Rattle.passrun.proofs.course.Stepping.{left_again}
 use Rattle.aggen.proofs.translations.evaluating.run_tree.Goals as goal
 
 -- there is a pass
@@ -54,3 +55,24 @@ returns-clause-left g c =
           let ran : HasRunAll c.args.translator.now (passes_of c.args.plan.now.0) 1 c.passes.result (g.D.Device.content c.run_pass.new.to) c.in_ok-last.last (g.D.Device.content c.run_all.new.a) (g.D.Device.content c.run_all.new.b) (c.run_all.new.meter - c.run_pass.new.meter) c.in_ok-last.others = subst (λ (z : Grammar). HasRunAll z (passes_of c.args.plan.now.0) 1 c.passes.result (g.D.Device.content c.run_pass.new.to) c.in_ok-last.last (g.D.Device.content c.run_all.new.a) (g.D.Device.content c.run_all.new.b) (c.run_all.new.meter - c.run_pass.new.meter) c.in_ok-last.others) c.grammar-grammar.ensures.grammar (c.in_ok-last.ensures.passed c.passes.result greatest y x) in
           are_left_of_tree c.args.translator.now c.args.plan.now.0 c.args.plan.now.1 c.grammar-grammar.ensures.accepted c.requires.least.plan (g.T.Device.content c.args.tree.now) (g.D.Device.content c.run_pass.new.to) (g.D.Device.content c.run_all.new.b) (g.D.Device.content c.run_all.new.a) (c.run_pass.new.meter - c.new-meter.result) (c.run_all.new.meter - c.run_pass.new.meter) c.in_ok-first.first c.in_ok-last.others c.in_ok-last.last (record { nodes = c.in_ok-first.first.nodes; passes = c.passes.result; evals = c.count.result; read = c.in_ok-first.first.read + c.in_ok-last.others.read; written = c.in_ok-first.first.written + c.in_ok-last.others.written; last = c.other.result }) greatest passed first.counts ran c.other.ensures refl evals refl refl;
     }
+
+-- what is left on each device: the passes from 2 on take `b` first
+pub returns-in_err-first-clause-a_left : goal.returns-in_err-first-clause-a_left
+returns-in_err-first-clause-a_left g c = λ h. (0, inl refl)
+
+pub returns-in_err-first-clause-b_left : goal.returns-in_err-first-clause-b_left
+returns-in_err-first-clause-b_left g c = λ h. (1, c.in_err-first.ensures.left h)
+
+pub returns-in_err-last-clause-a_left : goal.returns-in_err-last-clause-a_left
+returns-in_err-last-clause-a_left g c = c.in_err-last.ensures.b_left
+
+pub returns-in_err-last-clause-b_left : goal.returns-in_err-last-clause-b_left
+returns-in_err-last-clause-b_left g c = λ h.
+    left_again (g.D.Device.content c.args.b.now) (g.D.Device.content c.run_pass.new.to) (g.D.Device.content c.run_all.new.a) (1, inr (c.in_ok-first.ensures.begins (c.in_err-last.ensures.devices.first.honest h))) (c.in_err-last.ensures.a_left h)
+
+pub returns-clause-a_left : goal.returns-clause-a_left
+returns-clause-a_left g c = c.in_ok-last.ensures.b_left
+
+pub returns-clause-b_left : goal.returns-clause-b_left
+returns-clause-b_left g c = λ h.
+    left_again (g.D.Device.content c.args.b.now) (g.D.Device.content c.run_pass.new.to) (g.D.Device.content c.run_all.new.a) (1, inr (c.in_ok-first.ensures.begins (c.in_ok-last.ensures.devices.first.honest h))) (c.in_ok-last.ensures.a_left h)

@@ -1,4 +1,4 @@
-use Rattle.std.proofs.Common.{◌≡◌, ◌-◌, refl, subst, ◌∙◌, arith}
+use Rattle.std.proofs.Common.{◌≡◌, ◌-◌, inl, inr, refl, subst, ◌∙◌, arith}
 use Rattle.std.proofs.lemmas.Result.{err_from_is_err_and}
 use Rattle.ag_grammar.specs.grammars.AttributeGrammar.{Grammar}
 use Rattle.passassign.specs.Rows.{IsGreatest, passes_of}
@@ -6,6 +6,8 @@ use Rattle.planchecker.specs.courses.Settings.{setting_of}
 use Rattle.passrun.specs.Rounds.{HasRunAll}
 use Rattle.passrun.specs.passing.Ahead.{IsRunFault}
 use Rattle.aggen.proofs.Composed.{are_left, never_refused, one_tree}
+use Rattle.passrun.proofs.course.Stepping.{left_again}
+use Rattle.aggen.proofs.Left.{no_parse_of_run}
 use Rattle.aggen.proofs.translations.translating.leave_files.Goals as goal
 
 -- honest devices give back a file that no pass refuses
@@ -32,3 +34,34 @@ returns-clause-left g c =
           let ran : HasRunAll c.args.translator.now (passes_of c.args.plan.now.0) 0 c.passes.result (g.D.Device.content c.parse_tree.new.device) c.in_ok-last.last (g.D.Device.content c.run_all.new.a) (g.D.Device.content c.run_all.new.b) (c.run_all.new.meter - c.new-meter.result) c.in_ok-last.passed = subst (λ (z : Grammar). HasRunAll z (passes_of c.args.plan.now.0) 0 c.passes.result (g.D.Device.content c.parse_tree.new.device) c.in_ok-last.last (g.D.Device.content c.run_all.new.a) (g.D.Device.content c.run_all.new.b) (c.run_all.new.meter - c.new-meter.result) c.in_ok-last.passed) c.grammar.ensures.grammar (c.in_ok-last.ensures.passed c.passes.result greatest x y) in
           are_left c.args.translator.now c.args.sentence.now c.args.plan.now.0 c.args.plan.now.1 c.grammar.ensures.accepted c.requires.least.plan tree.0 (g.D.Device.content c.parse_tree.new.device) (g.D.Device.content c.run_all.new.a) (g.D.Device.content c.run_all.new.b) (record { nodes = c.in_ok-nodes.nodes; passes = c.passes.result; evals = c.count.result; read = c.in_ok-last.passed.read; written = c.in_ok-last.passed.written; last = c.in_ok-last.last }) c.in_ok-last.passed greatest tree.1.tree.tree (c.in_ok-nodes.ensures.file tree.0 tree.1 (c.in_ok-last.ensures.devices.first.honest x)) (subst (λ n. HasRunAll c.args.translator.now (passes_of c.args.plan.now.0) 0 c.passes.result (g.D.Device.content c.parse_tree.new.device) c.in_ok-last.last (g.D.Device.content c.run_all.new.a) (g.D.Device.content c.run_all.new.b) n c.in_ok-last.passed) evals ran) (c.in_ok-nodes.ensures.count tree.0 tree.1) refl refl;
     }
+
+-- what is left on each device
+pub returns-in_err-nodes-clause-a_left : goal.returns-in_err-nodes-clause-a_left
+returns-in_err-nodes-clause-a_left g c = λ h. (0, c.in_err-nodes.ensures.left h)
+
+pub returns-in_err-nodes-clause-b_left : goal.returns-in_err-nodes-clause-b_left
+returns-in_err-nodes-clause-b_left g c = λ h. (0, inl refl)
+
+pub returns-in_err-nodes-clause-parsed : goal.returns-in_err-nodes-clause-parsed
+returns-in_err-nodes-clause-parsed g c =
+    let p = err_from_is_err_and c.from_residual.result c.from_residual.ensures.1 in
+    rw (p.1, p.2) c.in_err-nodes.ensures.parsed
+
+pub returns-in_err-last-clause-a_left : goal.returns-in_err-last-clause-a_left
+returns-in_err-last-clause-a_left g c = λ h.
+    left_again (g.D.Device.content c.args.a.now) (g.D.Device.content c.parse_tree.new.device) (g.D.Device.content c.run_all.new.a) (0, inr (c.in_ok-nodes.ensures.begins (c.in_err-last.ensures.devices.first.honest h))) (c.in_err-last.ensures.a_left h)
+
+pub returns-in_err-last-clause-b_left : goal.returns-in_err-last-clause-b_left
+returns-in_err-last-clause-b_left g c = c.in_err-last.ensures.b_left
+
+pub returns-in_err-last-clause-parsed : goal.returns-in_err-last-clause-parsed
+returns-in_err-last-clause-parsed g c =
+    let p = err_from_is_err_and c.from_residual-in_err-last.result c.from_residual-in_err-last.ensures.1 in
+    rw (p.1, p.2) (λ is. absurd (no_parse_of_run c.in_err-last.field-0.0 is))
+
+pub returns-clause-a_left : goal.returns-clause-a_left
+returns-clause-a_left g c = λ h.
+    left_again (g.D.Device.content c.args.a.now) (g.D.Device.content c.parse_tree.new.device) (g.D.Device.content c.run_all.new.a) (0, inr (c.in_ok-nodes.ensures.begins (c.in_ok-last.ensures.devices.first.honest h))) (c.in_ok-last.ensures.a_left h)
+
+pub returns-clause-b_left : goal.returns-clause-b_left
+returns-clause-b_left g c = c.in_ok-last.ensures.b_left

@@ -3,6 +3,7 @@ use Rattle.std.proofs.lemmas.Result.{err_from_is_err_and}
 use Rattle.treefile.proofs.ways.Beginning.{not_begun}
 use Rattle.aggen.specs.Sentences.{IsTreeOfSentence}
 use Rattle.aggen.proofs.Sentences.{one_of, parse_told, scan_told, with_tokens}
+use Rattle.aggen.proofs.Left.{first_begins, no_parse_of_device, no_parse_of_scan}
 use Rattle.aggen.proofs.translator.Translator.parse_tree.Goals as goal
 
 -- a sentence has one tree at most, whatever is answered
@@ -61,3 +62,24 @@ pub returns-in_err-count-clause-left : goal.returns-in_err-count-clause-left
 returns-in_err-count-clause-left g c =
     let p = err_from_is_err_and c.from_residual-in_err-count.result c.from_residual-in_err-count.ensures.1 in
     rw p.1 (λ h. inr (c.in_err-count.ensures.left h))
+
+-- P leaves a prefix of the file, and an answer all of it
+pub returns-in_err-tokens-clause-parsed : goal.returns-in_err-tokens-clause-parsed
+returns-in_err-tokens-clause-parsed g c =
+    let p = err_from_is_err_and c.from_residual.result c.from_residual.ensures.1 in
+    rw (p.1, p.2) (λ is. absurd (no_parse_of_scan c.in_err-tokens.field-0.0 is))
+
+pub returns-in_err-writer-clause-parsed : goal.returns-in_err-writer-clause-parsed
+returns-in_err-writer-clause-parsed g c =
+    let p = err_from_is_err_and c.from_residual-in_err-writer.result c.from_residual-in_err-writer.ensures.1 in
+    rw (p.1, p.2) (λ is. absurd (no_parse_of_device c.in_err-writer.field-0.0 is))
+
+pub returns-in_err-count-clause-parsed : goal.returns-in_err-count-clause-parsed
+returns-in_err-count-clause-parsed g c =
+    let p = err_from_is_err_and c.from_residual-in_err-count.result c.from_residual-in_err-count.ensures.1 in
+    rw p.1 (λ is h. c.in_err-count.ensures.left h)
+
+pub returns-clause-begins : goal.returns-clause-begins
+returns-clause-begins g c = λ h.
+    let tree = c.in_ok-count.ensures.tree in
+    first_begins c.self.inside.grammar tree.0 (g.D.Device.content c.parse.new.device) c.self.invariant.0 tree.1.tree (c.in_ok-count.ensures.file tree.0 tree.1 h)

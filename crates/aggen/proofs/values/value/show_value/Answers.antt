@@ -1,5 +1,7 @@
+use Rattle.std.proofs.Common.{inl, refl, subst, sym}
 use Rattle.std.proofs.lemmas.Result.{err_from_is_err_and}
 use Rattle.aggen.proofs.Closed.{no_value}
+use Rattle.treefile.specs.ways.Beginning.{LeavesBeginning}
 use Rattle.aggen.proofs.values.value.show_value.Goals as goal
 
 pub returns-in_err-value-clause-refused : goal.returns-in_err-value-clause-refused
@@ -23,3 +25,24 @@ returns-in_err-write_text-clause-occurs g c = λ at occurs. absurd (no_value c.a
 
 pub returns-clause-occurs : goal.returns-clause-occurs
 returns-clause-occurs g c = λ at occurs. absurd (no_value c.args.text.now at c.in_ok-value.value occurs c.in_ok-value.ensures.value)
+
+-- ---- what is left on the device
+
+pub returns-in_err-value-clause-left : goal.returns-in_err-value-clause-left
+returns-in_err-value-clause-left g c = λ h. inl refl
+
+pub returns-in_err-value-2-clause-left : goal.returns-in_err-value-2-clause-left
+returns-in_err-value-2-clause-left g c = λ h.
+    subst (LeavesBeginning 0 (g.D.Device.content c.args.device.now)) (sym (c.read_file.ensures.content h)) (c.write_file.ensures.left (c.in_err-value-2.ensures.persists.honest h))
+
+pub returns-in_err-line-clause-left : goal.returns-in_err-line-clause-left
+returns-in_err-line-clause-left g c = λ h.
+    subst (LeavesBeginning 0 (g.D.Device.content c.args.device.now)) (sym (c.read_file.ensures.content h)) (c.write_file.ensures.left (c.in_ok-value-2.ensures.persists.honest h))
+
+pub returns-in_err-write_text-clause-left : goal.returns-in_err-write_text-clause-left
+returns-in_err-write_text-clause-left g c = λ h.
+    subst (LeavesBeginning 0 (g.D.Device.content c.args.device.now)) (sym (c.read_file.ensures.content h)) (c.write_file.ensures.left (c.in_ok-value-2.ensures.persists.honest h))
+
+pub returns-clause-left : goal.returns-clause-left
+returns-clause-left g c = λ h.
+    subst (LeavesBeginning 0 (g.D.Device.content c.args.device.now)) (sym (c.read_file.ensures.content h)) (c.write_file.ensures.left (c.in_ok-value-2.ensures.persists.honest h))

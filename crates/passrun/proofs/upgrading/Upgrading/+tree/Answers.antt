@@ -1,4 +1,4 @@
-use Rattle.std.proofs.Common.{rules, get_or, length-append, ◌≡◌, ◌+◌, ◌-◌, ◌≤◌, ℕ, suc, Bool, List, [], ◌∷◌, ◌++◌, All, drop, length, reverse, take, take_at, refl, sym, ap, subst, ◌∙◌, arith}
+use Rattle.std.proofs.Common.{rules, Ok, Err, get_or, length-append, ◌≡◌, ◌+◌, ◌-◌, ◌≤◌, ℕ, suc, Bool, List, [], ◌∷◌, ◌++◌, All, drop, length, reverse, take, take_at, refl, sym, ap, subst, ◌∙◌, arith}
 use Rattle.std.proofs.lemmas.List.{drop_all, length-reverse}
 use Rattle.std.proofs.lemmas.List.Elements.{All-append, All-nil}
 use Rattle.std.proofs.lemmas.Option.{slice_get_within}
@@ -15,6 +15,8 @@ use Rattle.treefile.specs.records.TreeFile.{body_of, frame}
 use Rattle.treefile.specs.declared.body.Kind.TheVariants.{Node, Token}
 use Rattle.passrun.proofs.Brought.{brought_supposed, next_brought, next_refused, node_brought, node_of, none_brought, one_text, text_is_well, token_brought}
 use Rattle.treefile.proofs.ways.Backward.{All-reverse}
+use Rattle.treefile.proofs.ways.Beginning.{added, none_added}
+use Rattle.passrun.specs.declared.run_fault.RunFault.{RunFault}
 use Rattle.passrun.proofs.Recorded.{production_is}
 use Rattle.passrun.proofs.upgrading.Upgrading.+tree.Goals as goal
 
@@ -52,6 +54,7 @@ loop-at-init g t c =
       to_persists = search rules;
       since = λ h. h;
       ready = search rules;
+      added = λ h. none_added RunFault (g.E.Device.content c.args.to.now) (Ok tt);
       balanced = omega (arith, records, ap (λ w. w.written) c.in_ok-production.ensures.writer);
       well = subst (All IsWell) (sym c.new-texts.ensures.items) (All-nil IsWell);
       few = omega (arith, ap length c.new-texts.ensures.items);
@@ -96,7 +99,7 @@ loop-at-preserved g t c =
     let now = c.tree.new.self.back.progress in
     let out_between = g.E.Device.content c.loop-at.to in
     let out_now = g.E.Device.content c.tree.new.to in
-    let added : c.add_text.new.texts.items ≡ c.loop-at.texts.items ++ text_list text = c.in_ok-add_text.ensures in
+    let more : c.add_text.new.texts.items ≡ c.loop-at.texts.items ++ text_list text = c.in_ok-add_text.ensures in
     let level : c.args.level + 1 ≡ suc c.args.level = omega arith in
     record {
       content = λ h. c.in_ok-text.ensures.content h ∙ so_far.content (c.in_ok-text.ensures.devices.first.honest h);
@@ -104,15 +107,16 @@ loop-at-preserved g t c =
       to_persists = search rules;
       since = λ h. so_far.since (c.in_ok-text.ensures.devices.first.honest h);
       ready = search rules;
+      added = λ h. added RunFault (g.E.Device.content c.args.to.now) out_between out_now (Ok tt) (so_far.added (c.in_ok-text.ensures.devices.second.honest h)) (c.in_ok-text.ensures.added h);
       balanced = search rules;
-      well = subst (All IsWell) (sym added) (All-append IsWell c.loop-at.texts.items (text_list text) so_far.well (text_is_well text c.in_ok-text.ensures.well));
-      few = omega (arith, ap (λ vs. length vs) added, length-append c.loop-at.texts.items (text_list text), one_text text, so_far.few, c.loop-at-test.true);
+      well = subst (All IsWell) (sym more) (All-append IsWell c.loop-at.texts.items (text_list text) so_far.well (text_is_well text c.in_ok-text.ensures.well));
+      few = omega (arith, ap (λ vs. length vs) more, length-append c.loop-at.texts.items (text_list text), one_text text, so_far.few, c.loop-at-test.true);
       brought = λ honest.
           let is = c.in_ok-text.ensures.devices.first.honest honest in
           let to = g.E.Device.is_honest c.tree.new.to in
           let next = subst (λ (bytes : List ℕ). Brought grammar bytes [] (child ∷ []) (c.args.level + 1) between now to out_between out_now (text_list text)) (so_far.content is) (c.in_ok-text.ensures.brought honest) in
           next_brought grammar c.requires.accepted content items c.loop-at.at (suc c.args.level) (item.Symbol 0) c.record.new.self.back.progress between now to (g.E.Device.content c.args.to.now) out_between out_now c.loop-at.texts.items (text_list text) c.add_text.new.texts.items
-          c.loop-at-test.true c.loop-at.auto.at (brought_supposed grammar c.requires.accepted content _ _ _ _ between to (g.E.Device.is_honest c.loop-at.to) (g.E.Device.content c.args.to.now) out_between c.loop-at.texts.items c.in_ok-text.ensures.devices.second.honest (so_far.brought is)) (subst (λ n. Brought grammar content [] (child ∷ []) n between now to out_between out_now (text_list text)) level next) added;
+          c.loop-at-test.true c.loop-at.auto.at (brought_supposed grammar c.requires.accepted content _ _ _ _ between to (g.E.Device.is_honest c.loop-at.to) (g.E.Device.content c.args.to.now) out_between c.loop-at.texts.items c.in_ok-text.ensures.devices.second.honest (so_far.brought is)) (subst (λ n. Brought grammar content [] (child ∷ []) n between now to out_between out_now (text_list text)) level next) more;
     }
 
 -- the texts, turned round
@@ -154,3 +158,36 @@ returns-clause-brought g t c honest =
     (c.if-not-has_place.ensures []) h.is h.deep (h.found (so_far.since honest)) (ap (λ (p : Progress). p.at) h.progress) (ap (λ (p : Progress). p.records) h.progress) items
     (items_are grammar c.in-Node.production c.productions.result.now c.index-productions-production.result items c.productions.ensures.lent c.as_slice-items.ensures)
     whole (λ is. c.in_ok-put_record.ensures.put.there is ∙ ap (λ vs. out_between ++ frame (body_of Node c.in-Node.production vs)) same)
+
+-- ---- what was put, whatever the first device gave back
+
+pub returns-then-not-has_place-clause-added : goal.returns-then-not-has_place-clause-added
+returns-then-not-has_place-clause-added g t c = λ h. none_added RunFault (g.E.Device.content c.args.to.now) (Ok tt)
+
+pub returns-in_err-production-clause-left : goal.returns-in_err-production-clause-left
+returns-in_err-production-clause-left g t c =
+    let p = err_from_is_err_and c.from_residual-in_err-production.result c.from_residual-in_err-production.ensures.1 in
+    rw p.1 (λ h. none_added RunFault (g.E.Device.content c.args.to.now) (Err p.0))
+
+pub returns-in_err-text-clause-left : goal.returns-in_err-text-clause-left
+returns-in_err-text-clause-left g t c =
+    let p = err_from_is_err_and c.from_residual-in_err-text.result c.from_residual-in_err-text.ensures.1 in
+    rw p.1 (λ h. added RunFault (g.E.Device.content c.args.to.now) (g.E.Device.content c.loop-at.to) (g.E.Device.content c.tree.new.to) (Err p.0) (c.loop-at.invariant.added (c.in_err-text.ensures.devices.second.honest h)) (c.in_err-text.ensures.left h))
+
+pub returns-in_err-add_text-clause-left : goal.returns-in_err-add_text-clause-left
+returns-in_err-add_text-clause-left g t c =
+    let p = err_from_is_err_and c.from_residual-in_err-add_text.result c.from_residual-in_err-add_text.ensures.1 in
+    let old = g.E.Device.content c.args.to.now in
+    let now = g.E.Device.content c.tree.new.to in
+    rw p.1 (λ h.
+    let first = added RunFault old (g.E.Device.content c.loop-at.to) now (Ok tt) (c.loop-at.invariant.added (c.in_ok-text.ensures.devices.second.honest h)) (c.in_ok-text.ensures.added h) in
+    added RunFault old now now (Err p.0) first (none_added RunFault now (Err p.0)))
+
+pub returns-in_err-put_record-2-clause-left : goal.returns-in_err-put_record-2-clause-left
+returns-in_err-put_record-2-clause-left g t c =
+    let p = err_from_is_err_and c.from_residual-in_err-put_record-2.result c.from_residual-in_err-put_record-2.ensures.1 in
+    rw p.1 (λ h. added RunFault (g.E.Device.content c.args.to.now) (g.E.Device.content c.loop-at.to) (g.E.Device.content c.put_record-2.new.to) (Err p.0) (c.loop-at.invariant.added (c.in_err-put_record-2.ensures.persists.honest h)) (c.in_err-put_record-2.ensures.left h))
+
+pub returns-clause-added : goal.returns-clause-added
+returns-clause-added g t c = λ h.
+    added RunFault (g.E.Device.content c.args.to.now) (g.E.Device.content c.loop-at.to) (g.E.Device.content c.put_record-2.new.to) (Ok tt) (c.loop-at.invariant.added (c.in_ok-put_record.ensures.persists.honest h)) (c.in_ok-put_record.ensures.added h)

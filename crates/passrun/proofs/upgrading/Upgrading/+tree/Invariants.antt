@@ -1,5 +1,6 @@
 use Rattle.std.proofs.Common.{◌≡◌, true, ◌+◌, ◌-◌, ◌≤◌, suc, All, drop, take, length}
 use Rattle.ag_value.specs.Well.{IsWell}
+use Rattle.passrun.specs.passing.Putting.{AddsFrames}
 use Rattle.passrun.specs.Upgrading.{Brought, IsReady}
 use Rattle.treefile.specs.devices.Device.{LeavesContent, Persists, WhenHonest}
 use Rattle.passrun.proofs.upgrading.Upgrading.+tree.Given as goal
@@ -16,6 +17,7 @@ invariant-loop-at g l =
       to_persists : Persists (g.E.Device.is_honest l.fn.to) (g.E.Device.is_honest l.to) (g.E.Device.failures l.fn.to) (g.E.Device.failures l.to) ⊥;
       since : WhenHonest (g.D.Device.is_honest l.from) (g.D.Device.is_honest l.initial.from ≡ true);
       ready : IsReady (g.D.Device.is_honest l.from) (g.D.Device.content l.fn.from) l.self.back l.self.writer;
+      added : AddsFrames (g.E.Device.is_honest l.to) (g.E.Device.content l.fn.to) (g.E.Device.content l.to);
       balanced : l.self.writer.written + l.fn.self.back.progress.records + 1 ≡ l.fn.self.writer.written + l.self.back.progress.records;
       well : All IsWell l.texts.items;
       few : length l.texts.items + l.at ≤ length l.items;

@@ -1,0 +1,128 @@
+-- What is left on the devices, and after which refusals.
+use Rattle.std.proofs.Common.{◌≡◌, ℕ, Bool, true, List, [], ◌++◌, length, Option, Result, Ok, Err, sym, ◌∙◌}
+use Rattle.std.proofs.Math.Seq.{take-length}
+use Rattle.std.specs.Result.{IfErr}
+use Rattle.ag_grammar.specs.grammars.Accepted.{IsAccepted}
+use Rattle.ag_grammar.specs.grammars.AttributeGrammar.{Grammar}
+use Rattle.ag_grammar.specs.grammars.Passes.{direction_of}
+use Rattle.ag_grammar.specs.grammars.Tree.{IsTreeOf, Tree}
+use Rattle.ag_job.specs.declared.fault.JobFault.{JobFault}
+use Rattle.ag_job.specs.declared.fault.JobFault.TheVariants as job
+use Rattle.ag_scan.specs.declared.fault.ScanFault.{ScanFault}
+use Rattle.ag_scan.specs.declared.fault.ScanFault.TheVariants as scan
+use Rattle.passrun.specs.declared.run_fault.RunFault.{RunFault}
+use Rattle.passrun.specs.declared.run_fault.RunFault.TheVariants as run
+use Rattle.roottext.specs.declared.fault.OutFault.{OutFault}
+use Rattle.roottext.specs.declared.fault.OutFault.TheVariants as out
+use Rattle.treefile.specs.devices.Device.{WhenHonest}
+use Rattle.treefile.specs.records.FirstFile.{IsFirstFile, unassigned}
+use Rattle.treefile.specs.records.Orders.{postfix}
+use Rattle.treefile.specs.records.Records.{IsFileOfTree, bodies_of}
+use Rattle.treefile.specs.records.TreeFile.{file, version_two}
+use Rattle.treefile.specs.ways.Beginning.{BeginsFile}
+use Rattle.treefile.specs.declared.device.DeviceFault.{DeviceFault}
+use Rattle.treefile.specs.declared.device.DeviceFault.TheVariants as device
+use Rattle.treefile.proofs.records.FirstFile.{unassigned_from_one}
+use Rattle.treefile.proofs.records.Records.{file_fits}
+use Rattle.treefile.proofs.records.Texts.{texts_are_given}
+use Rattle.passrun.proofs.Upgraded.{room}
+use Rattle.aggen.specs.Checking.{IsGrammarOf}
+use Rattle.aggen.specs.Evaluating.{IsPassesFault, LeavesFilesOfTree}
+use Rattle.aggen.specs.Jobs.{HasJob, LeavesLastFilesOfJob}
+use Rattle.aggen.specs.Sentences.{IsParseFault}
+use Rattle.aggen.specs.Status.{build_fault_of, device_fault_of, job_fault_of, out_fault_of, run_fault_of, scan_fault_of}
+use Rattle.aggen.specs.Translating.{IsAfterPasses, IsFilesFault, LeavesFiles, LeavesLastFiles}
+use Rattle.aggen.specs.declared.build_fault.BuildFault.{BuildFault}
+use Rattle.aggen.specs.declared.build_fault.BuildFault.TheVariants as build
+use Rattle.aggen.specs.declared.fault.Fault.{Fault}
+use Rattle.aggen.specs.declared.fault.Fault.TheVariants as fault
+use Rattle.aggen.specs.declared.translations.report.Report.{Report}
+
+-- the file of pass 0 of a tree is a prefix of a file of pass 0: all of it
+pub first_begins : (g : Grammar) (t : Tree) (content : List ℕ) → IsAccepted g → IsTreeOf g t → IsFirstFile version_two g t content → BeginsFile 0 content
+first_begins g t content accepted tree is =
+    let texts = texts_are_given g t in
+    let first : IsFileOfTree version_two g unassigned 0 t texts.0 content = is unassigned texts.0 unassigned_from_one texts.1 in
+    let bodies = postfix (direction_of 0) (bodies_of version_two g unassigned 0 t texts.0) in
+    record {
+      bodies = bodies;
+      sound = file_fits version_two g unassigned 0 t texts.0 content (room g accepted) tree first;
+      front = (length (file version_two 0 bodies), first.stands ∙ sym (take-length (file version_two 0 bodies)));
+    }
+
+-- these faults are not P
+pub no_parse_of_scan : (f : ScanFault) → IsParseFault (scan_fault_of f) → ⊥
+no_parse_of_scan scan.NoMemory is = is
+no_parse_of_scan f is = is
+
+pub no_parse_of_device : (f : DeviceFault) → IsParseFault (device_fault_of f) → ⊥
+no_parse_of_device device.Failed is = is
+no_parse_of_device device.NoMemory is = is
+
+pub no_parse_of_run : (f : RunFault) → IsParseFault (run_fault_of f) → ⊥
+no_parse_of_run run.Device is = is
+no_parse_of_run run.NoMemory is = is
+no_parse_of_run f is = is
+
+pub no_parse_of_text : (f : OutFault) → IsParseFault (out_fault_of f) → ⊥
+no_parse_of_text (out.NoText x) is = is
+no_parse_of_text out.NotATreeFile is = is
+no_parse_of_text (out.Damaged at) is = is
+no_parse_of_text out.Device is = is
+no_parse_of_text out.NoMemory is = is
+
+pub no_parse_of_job : (f : JobFault) → IsParseFault (job_fault_of f) → ⊥
+no_parse_of_job job.NoMemory is = is
+no_parse_of_job f is = is
+
+pub no_parse_of_build : (f : BuildFault) → IsParseFault (build_fault_of f) → ⊥
+no_parse_of_build (build.Text e) is = is
+no_parse_of_build (build.Normal e) is = is
+no_parse_of_build (build.Table e) is = is
+no_parse_of_build (build.Assign e) is = is
+no_parse_of_build build.NoMemory is = is
+
+-- which faults come before all passes ran
+pub none_after_files : (g : Grammar) (sentence : List ℕ) (ha hb : Bool) (f : Fault) → IsFilesFault g sentence ha hb f → IsAfterPasses f → ⊥
+none_after_files g sentence ha hb (fault.NoText x) told is = told
+none_after_files g sentence ha hb fault.Write told is = told
+none_after_files g sentence ha hb f told is = is
+
+pub none_after_passes : (g : Grammar) (ht ha hb : Bool) (content : List ℕ) (f : Fault) → IsPassesFault g ht ha hb content f → IsAfterPasses f → ⊥
+none_after_passes g ht ha hb content (fault.NoText x) told is = told
+none_after_passes g ht ha hb content fault.Write told is = told
+none_after_passes g ht ha hb content f told is = is
+
+pub none_after_job : (f : JobFault) → IsAfterPasses (job_fault_of f) → ⊥
+none_after_job job.NoMemory is = is
+none_after_job f is = is
+
+pub none_after_build : (f : BuildFault) → IsAfterPasses (build_fault_of f) → ⊥
+none_after_build (build.Text e) is = is
+none_after_build (build.Normal e) is = is
+none_after_build (build.Table e) is = is
+none_after_build (build.Assign e) is = is
+none_after_build build.NoMemory is = is
+
+-- the files are left too by a call that keeps the contents
+pub files_kept : (g : Grammar) (sentence : List ℕ) (rows : List (List ℕ)) (ha hb ha' hb' : Bool) (a b a' b' : List ℕ) (report : Report)
+    → (ha' ≡ true → ha ≡ true) → (hb' ≡ true → hb ≡ true) → WhenHonest ha' (a' ≡ a) → WhenHonest hb' (b' ≡ b) → LeavesFiles g sentence rows ha hb a b report → LeavesFiles g sentence rows ha' hb' a' b' report
+files_kept g sentence rows ha hb ha' hb' a b a' b' report first second same_a same_b files = record {
+  tree = files.tree;
+  one = files.one;
+  greatest = files.greatest;
+  left = λ x y. rw (same_a x, same_b y) (files.left (first x) (second y));
+}
+
+pub files_of_tree_kept : (g : Grammar) (rows : List (List ℕ)) (ht ha hb ha' hb' : Bool) (content a b a' b' : List ℕ) (report : Report)
+    → (ha' ≡ true → ha ≡ true) → (hb' ≡ true → hb ≡ true) → WhenHonest ha' (a' ≡ a) → WhenHonest hb' (b' ≡ b) → LeavesFilesOfTree g rows ht ha hb content a b report → LeavesFilesOfTree g rows ht ha' hb' content a' b' report
+files_of_tree_kept g rows ht ha hb ha' hb' content a b a' b' report first second same_a same_b files = record {
+  greatest = files.greatest;
+  left = λ h x y. rw (same_a x, same_b y) (files.left h (first x) (second y));
+}
+
+-- the files of a job's sentence are those of the job
+pub files_of_job : (known : Option (List ℕ)) (text sentence : List ℕ) (ha hb : Bool) (a b : List ℕ) (g : Grammar) → HasJob known text sentence → IsGrammarOf text g
+    → (r : Result Report Fault) → IfErr r (λ e. IsAfterPasses e → LeavesLastFiles g sentence ha hb a b) → IfErr r (λ e. IsAfterPasses e → LeavesLastFilesOfJob known ha hb a b)
+files_of_job known text sentence ha hb a b g job is (Ok report) files = tt
+files_of_job known text sentence ha hb a b g job is (Err e) files = λ after. record { text = text; sentence = sentence; job = job; grammar = g; is = is; files = files after }
