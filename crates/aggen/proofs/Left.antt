@@ -50,7 +50,7 @@ first_begins g t content accepted tree is =
       front = (length (file version_two 0 bodies), first.stands ∙ sym (take-length (file version_two 0 bodies)));
     }
 
--- which faults are no P
+-- these faults are not P
 pub no_parse_of_scan : (f : ScanFault) → IsParseFault (scan_fault_of f) → ⊥
 no_parse_of_scan scan.NoMemory is = is
 no_parse_of_scan f is = is
