@@ -83,14 +83,21 @@ pub enum Fault {
     NoMemory,
 }
 
-/// The status that the program ends with after a fault: 2 usage, J1 and J3; 3 X, G, N, L and A; 4 S and P of a
-/// sentence; 5 B1, B2, R1, and P2 and P3 of a tree file; 6 O1; 7 want of memory; 8 F1, J2, D1 and
-/// O2.
+/// Returns the status that the program ends with after a fault: 2 for usage, J1 and J3; 3 for X, G,
+/// N, L and A; 4 for S and P of a sentence; 5 for B1, B2, R1, and P2 and P3 of a tree file; 6 for
+/// O1; 7 for want of memory; 8 for F1, J2, D1 and O2. Want of memory and a failed device count as
+/// such inside another fault too.
 pub fn status(fault: &Fault) -> u8
     ensures { result ≡ status_of fault.now }
 {
     match fault {
+        Fault::Job(JobFault::NoMemory) | Fault::Expr(ExprFault::NoMemory) => 7,
+        Fault::Text(TextFault::NoMemory | TextFault::Expr(ExprFault::NoMemory)) => 7,
+        Fault::Normal(NormalFault::NoMemory) | Fault::Table(TableFault::NoMemory) => 7,
+        Fault::Scan(ScanFault::NoMemory) | Fault::Parse(ParseFault::NoMemory) => 7,
+        Fault::Run(RunFault::NoMemory) => 7,
         Fault::Job(JobFault::Read) => 8,
+        Fault::Parse(ParseFault::Device) | Fault::Run(RunFault::Device) => 8,
         Fault::Usage | Fault::Job(_) => 2,
         Fault::Expr(_) | Fault::Text(_) => 3,
         Fault::Normal(_) | Fault::Table(_) | Fault::Assign(_) => 3,

@@ -97,8 +97,8 @@ returns-in_err-text-clause-files g c =
       least = c.plan-plan.ensures;
       report = c.in_ok-report.report;
       files = files_kept c.args.self.now c.args.sentence.now c.plan-plan.result.now.0 (g.D.Device.is_honest c.leave_files.new.a) (g.D.Device.is_honest c.leave_files.new.b) (g.D.Device.is_honest c.last_text.new.a) (g.D.Device.is_honest c.last_text.new.b)
-      (g.D.Device.content c.leave_files.new.a) (g.D.Device.content c.leave_files.new.b) (g.D.Device.content c.last_text.new.a) (g.D.Device.content c.last_text.new.b) c.in_ok-report.report
-      c.in_err-text.ensures.devices.first.honest c.in_err-text.ensures.devices.second.honest (λ h. c.last_text.ensures.a_content h) (λ h. c.last_text.ensures.b_content h) c.in_ok-report.ensures.left;
+          (g.D.Device.content c.leave_files.new.a) (g.D.Device.content c.leave_files.new.b) (g.D.Device.content c.last_text.new.a) (g.D.Device.content c.last_text.new.b) c.in_ok-report.report
+          c.in_err-text.ensures.devices.first.honest c.in_err-text.ensures.devices.second.honest (λ h. c.last_text.ensures.a_content h) (λ h. c.last_text.ensures.b_content h) c.in_ok-report.ensures.left;
     })
 
 pub returns-in_err-write_text-clause-files : goal.returns-in_err-write_text-clause-files
@@ -110,6 +110,6 @@ returns-in_err-write_text-clause-files g c =
       least = c.plan-plan.ensures;
       report = c.in_ok-report.report;
       files = files_kept c.args.self.now c.args.sentence.now c.plan-plan.result.now.0 (g.D.Device.is_honest c.leave_files.new.a) (g.D.Device.is_honest c.leave_files.new.b) (g.D.Device.is_honest c.last_text.new.a) (g.D.Device.is_honest c.last_text.new.b)
-      (g.D.Device.content c.leave_files.new.a) (g.D.Device.content c.leave_files.new.b) (g.D.Device.content c.last_text.new.a) (g.D.Device.content c.last_text.new.b) c.in_ok-report.report
-      c.in_ok-text.ensures.devices.first.honest c.in_ok-text.ensures.devices.second.honest (λ h. c.last_text.ensures.a_content h) (λ h. c.last_text.ensures.b_content h) c.in_ok-report.ensures.left;
+          (g.D.Device.content c.leave_files.new.a) (g.D.Device.content c.leave_files.new.b) (g.D.Device.content c.last_text.new.a) (g.D.Device.content c.last_text.new.b) c.in_ok-report.report
+          c.in_ok-text.ensures.devices.first.honest c.in_ok-text.ensures.devices.second.honest (λ h. c.last_text.ensures.a_content h) (λ h. c.last_text.ensures.b_content h) c.in_ok-report.ensures.left;
     })
