@@ -84,8 +84,8 @@ module _ (g : Grammar) (sentence : List ℕ) (rows : List (List ℕ)) (code : Li
   -- no pass refuses a file of the tree of a sentence
   pub never_refused : (t : Tree) (start : List ℕ) (f : RunFault) (ha hb : Bool) → IsTreeOf g t → IsWithinLimits most_depth most_nodes t → WhenHonest ha (IsFirstFile version_two g t start) → WhenHonest ha (WhenHonest hb (IsRunFault (setting_of g (rows, code) 1) start f)) → IsFilesFault g sentence ha hb (run_fault_of f)
   never_refused t start (run.Damaged at) ha hb tree within file told = λ a b. let texts = texts_are_given g t in (told a b).none t texts.0 tree (file a (passes_of rows) texts.0 plan.legal.positive texts.1)
-  never_refused t start run.TooDeep ha hb tree within file told = λ a b. let texts = texts_are_given g t in told a b most_nodes t texts.0 tree within (file a (passes_of rows) texts.0 plan.legal.positive texts.1)
-  never_refused t start run.TooManyNodes ha hb tree within file told = λ a b. let texts = texts_are_given g t in told a b most_depth t texts.0 tree within (file a (passes_of rows) texts.0 plan.legal.positive texts.1)
+  never_refused t start run.TooDeep ha hb tree within file told = λ a b. let texts = texts_are_given g t in (told a b).none most_nodes t texts.0 tree within (file a (passes_of rows) texts.0 plan.legal.positive texts.1)
+  never_refused t start run.TooManyNodes ha hb tree within file told = λ a b. let texts = texts_are_given g t in (told a b).none most_depth t texts.0 tree within (file a (passes_of rows) texts.0 plan.legal.positive texts.1)
   never_refused t start run.Device ha hb tree within file told = tt
   never_refused t start run.NoMemory ha hb tree within file told = tt
 

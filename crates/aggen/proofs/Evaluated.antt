@@ -63,16 +63,16 @@ module _ (g : Grammar) (rows : List (List ℕ)) (code : Lists) (accepted : IsAcc
   -- what a refusal of pass 1 says of the content
   pub first_refused : (content : List ℕ) (f : RunFault) (ht ha hb : Bool) → WhenHonest ht (IsRunFault (setting_of g (rows, code) 1) content f) → IsPassesFault g ht ha hb content (run_fault_of f)
   first_refused content (run.Damaged at) ht ha hb told = λ x y z. ((λ t is. (told x).none t (texts_are_given g t).0 is.tree (file_in content t is)), ((rows, code), plan.legal.positive, (told x).shown))
-  first_refused content run.TooDeep ht ha hb told = λ x y z t is deep. told x (node_count t) t (texts_are_given g t).0 is.tree (record { deep = deep; large = omega arith }) (file_in content t is)
-  first_refused content run.TooManyNodes ht ha hb told = λ x y z t is large. told x (depth_of t) t (texts_are_given g t).0 is.tree (record { deep = omega arith; large = large }) (file_in content t is)
+  first_refused content run.TooDeep ht ha hb told = λ x y z. ((λ t is deep. (told x).none (node_count t) t (texts_are_given g t).0 is.tree (record { deep = deep; large = omega arith }) (file_in content t is)), ((rows, code), plan.legal.positive, (told x).shown))
+  first_refused content run.TooManyNodes ht ha hb told = λ x y z. ((λ t is large. (told x).none (depth_of t) t (texts_are_given g t).0 is.tree (record { deep = omega arith; large = large }) (file_in content t is)), ((rows, code), plan.legal.positive, (told x).shown))
   first_refused content run.Device ht ha hb told = tt
   first_refused content run.NoMemory ht ha hb told = tt
 
   -- honest devices give back a file that no later pass refuses
   pub never_later : (content first : List ℕ) (count evals : ℕ) (f : RunFault) (ht ha hb : Bool) → WhenHonest ht (WhenHonest hb (IsPassed (setting_of g (rows, code) 1) content first count evals)) → WhenHonest hb (WhenHonest ha (IsRunFault (setting_of g (rows, code) 2) first f)) → IsPassesFault g ht ha hb content (run_fault_of f)
   never_later content first count evals (run.Damaged at) ht ha hb passed told = λ x y z. let is = passed x z in absurd ((told z y).none is.tree is.values is.fits is.written)
-  never_later content first count evals run.TooDeep ht ha hb passed told = λ x y z. let is = passed x z in absurd (told z y most_nodes is.tree is.values is.fits is.limits is.written)
-  never_later content first count evals run.TooManyNodes ht ha hb passed told = λ x y z. let is = passed x z in absurd (told z y most_depth is.tree is.values is.fits is.limits is.written)
+  never_later content first count evals run.TooDeep ht ha hb passed told = λ x y z. let is = passed x z in absurd ((told z y).none most_nodes is.tree is.values is.fits is.limits is.written)
+  never_later content first count evals run.TooManyNodes ht ha hb passed told = λ x y z. let is = passed x z in absurd ((told z y).none most_depth is.tree is.values is.fits is.limits is.written)
   never_later content first count evals run.Device ht ha hb passed told = tt
   never_later content first count evals run.NoMemory ht ha hb passed told = tt
 

@@ -9,7 +9,7 @@ use Rattle.treefile.specs.records.FirstFile.{AreFromOne}
 use Rattle.passassign.specs.Rows.{IsGreatest, passes_of}
 use Rattle.passcode.specs.Rows.{Lists}
 use Rattle.planchecker.specs.courses.Settings.{setting_of}
-use Rattle.passrun.specs.Damage.{ShowsAt, source}
+use Rattle.passrun.specs.Damage.{Shows, source}
 use Rattle.passrun.specs.declared.run_fault.RunFault.{RunFault}
 use Rattle.passrun.specs.declared.run_fault.RunFault.TheVariants as run
 use Rattle.passrun.specs.Rounds.{LeavesSolution, last_content}
@@ -46,17 +46,17 @@ pub record LeavesLastFilesOfTree (g : Grammar) (honest_tree honest_a honest_b : 
   pub report : Report
   pub files : LeavesFilesOfTree g rows honest_tree honest_a honest_b content a b report
 
--- Where pass 1 of a plan finds that a content is the file of pass 0 of no tree of the grammar. Records of pass 0 have no values of
--- attributes, so that it makes no difference which plan it is.
-abbrev pub ShowsInFile : Grammar → List ℕ → ℕ → Type 0
-ShowsInFile g content at = (plan : List (List ℕ) × Lists) × AreFromOne (passes_of plan.0) × ShowsAt (source (setting_of g plan 1)) content at
+-- What pass 1 of a plan finds in a content that is to be the file of pass 0 of a tree of the grammar: a fault, or a limit that is
+-- exceeded before one. Records of pass 0 have no values of attributes, so that it makes no difference which plan it is.
+abbrev pub ShowsInFile : Grammar → List ℕ → RunFault → Type 0
+ShowsInFile g content f = (plan : List (List ℕ) × Lists) × AreFromOne (passes_of plan.0) × Shows (source (setting_of g plan 1)) content f
 
--- R1: the content is the file of no tree of the grammar, and it shows at the offset. P2: of none of so few levels. P3: of none of so
--- few stored nodes. The others say nothing of it.
+-- R1: the content is the file of no tree of the grammar, and it shows at the offset. P2: of none of so few levels, and these are
+-- exceeded before a fault is met. P3: of none of so few stored nodes, likewise. The others say nothing of it.
 abbrev pub IsFileFault : Grammar → List ℕ → RunFault → Type 0
-IsFileFault g content (run.Damaged at) = ((t : Tree) → IsTreeInFile g content t → ⊥) × ShowsInFile g content at
-IsFileFault g content run.TooDeep = (t : Tree) → IsTreeInFile g content t → depth_of t ≤ most_depth → ⊥
-IsFileFault g content run.TooManyNodes = (t : Tree) → IsTreeInFile g content t → node_count t ≤ most_nodes → ⊥
+IsFileFault g content (run.Damaged at) = ((t : Tree) → IsTreeInFile g content t → ⊥) × ShowsInFile g content (run.Damaged at)
+IsFileFault g content run.TooDeep = ((t : Tree) → IsTreeInFile g content t → depth_of t ≤ most_depth → ⊥) × ShowsInFile g content run.TooDeep
+IsFileFault g content run.TooManyNodes = ((t : Tree) → IsTreeInFile g content t → node_count t ≤ most_nodes → ⊥) × ShowsInFile g content run.TooManyNodes
 IsFileFault g content run.Device = Unit {0}
 IsFileFault g content run.NoMemory = Unit {0}
 

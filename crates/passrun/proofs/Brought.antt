@@ -31,7 +31,6 @@ use Rattle.treefile.proofs.ways.Backward.{damage_is_there, never_no_file, reads_
 use Rattle.treefile.proofs.records.FirstFile.{first_body, unassigned_from_one}
 use Rattle.treefile.proofs.records.Fitting.{numbered}
 use Rattle.treefile.proofs.records.Texts.{texts_are_given}
-use Rattle.treefile.proofs.ways.Way.{way_is_too_long}
 use Rattle.backreader.specs.BackState.{Progress}
 use Rattle.backreader.specs.Turning.{most_levels, most_records}
 use Rattle.passrun.specs.Faults.{run_fault_of_frame}
@@ -40,7 +39,8 @@ use Rattle.passrun.specs.declared.reading.old_record.OldRecord.{OldRecord}
 use Rattle.passrun.specs.declared.reading.old_record.OldRecord.TheVariants as old
 use Rattle.passrun.specs.declared.run_fault.RunFault.{RunFault}
 use Rattle.passrun.specs.declared.run_fault.RunFault.TheVariants as fault
-use Rattle.passrun.proofs.Damage.{IsTellable, broken, leaves_on, way_to}
+use Rattle.passrun.specs.Damage.{IsWithin}
+use Rattle.passrun.proofs.Damage.{IsTellable, broken, leaves_on, too_deep, too_many}
 
 -- ---- items that are to come
 
@@ -119,27 +119,36 @@ module _ (g : Grammar) (accepted : IsAccepted g) where
   no_first_within levels nodes content none t tree within is = let texts = texts_are_given g t in none t texts.0 tree within (is unassigned texts.0 unassigned_from_one texts.1)
 
   -- the way breaks
-  pub breaks_at : (content : List ℕ) (progress : Progress) (todo : ToCome) → IsAt g content progress todo → Breaks version_one g unassigned 0 todo (next_before version_one content progress.at) → IsUpgradeFault g content (fault.Damaged progress.at)
-  breaks_at content progress todo is so =
-      let damaged = broken (old_file g) tellable content progress.at is.readable (todo, is.way, so) in
+  pub breaks_at : (content : List ℕ) (progress : Progress) (todo : ToCome) → IsAt g content progress todo → IsWithin (old_file g) todo progress.records → Breaks version_one g unassigned 0 todo (next_before version_one content progress.at) → IsUpgradeFault g content (fault.Damaged progress.at)
+  breaks_at content progress todo is within so =
+      let damaged = broken (old_file g) tellable content progress.at is.readable (todo, is.way, subst (IsWithin (old_file g) todo) is.counted within, so) in
       (no_first content damaged.none, damaged.shown)
 
-  -- or goes on too far
-  pub too_large : (levels nodes : ℕ) (content : List ℕ) (progress : Progress) (level : ℕ) (x : Child) (todo : ToCome) → IsAt g content progress ((level, x) ∷ todo) → (levels < level) ⊎ (nodes ≤ progress.records) → HasNoFirstTreeWithin levels nodes version_one g content
-  too_large levels nodes content progress level x todo is so =
-      no_first_within levels nodes content (way_is_too_long version_one g unassigned 0 content progress.at (length is.way.bodies) level levels nodes x todo (way_to (old_file g) tellable content progress.at ((level, x) ∷ todo) is.way) (subst (λ n. (levels < level) ⊎ (nodes ≤ n)) is.counted so))
+  -- or exceeds a limit
+  pub goes_too_deep : (content : List ℕ) (progress : Progress) (level : ℕ) (x : Child) (todo : ToCome) → IsAt g content progress ((level, x) ∷ todo) → most_levels < level → IsUpgradeFault g content fault.TooDeep
+  goes_too_deep content progress level x todo is deep =
+      let far = too_deep (old_file g) tellable content (record { readable = is.readable; at = progress.at; level = level; next = x; others = todo; way = is.way; deep = deep }) in
+      ((λ nodes. no_first_within most_levels nodes content (far.none nodes)), far.shown)
+
+  pub goes_too_far : (content : List ℕ) (progress : Progress) (level : ℕ) (x : Child) (todo : ToCome) → IsAt g content progress ((level, x) ∷ todo) → level ≤ most_levels → most_records ≤ progress.records → IsUpgradeFault g content fault.TooManyNodes
+  goes_too_far content progress level x todo is deep many =
+      let most = is.way.few in
+      let counted = is.counted in
+      let far = too_many (old_file g) tellable content (record { readable = is.readable; at = progress.at; level = level; next = x; others = todo; way = is.way; within = deep; full = omega arith }) in
+      ((λ levels. no_first_within levels most_records content (far.none levels)), far.shown)
 
   -- or a record more was read
-  pub one_more : (content : List ℕ) (before now : Progress) (level : ℕ) (x : Item) (others : ToCome) (r : OldRecord) (is : IsOf g x r) → next_before version_one content before.at ≡ Ok (Some (body_in r)) → now.at ≡ before_frame before.at (body_in r) → now.records ≡ before.records + 1
+  pub one_more : (content : List ℕ) (before now : Progress) (level : ℕ) (x : Item) (others : ToCome) (r : OldRecord) (is : IsOf g x r) → level ≤ most_levels → before.records < most_records → next_before version_one content before.at ≡ Ok (Some (body_in r)) → now.at ≡ before_frame before.at (body_in r) → now.records ≡ before.records + 1
       → IsAt g content before ((level, (x, None)) ∷ others) → IsAt g content now (before_others RightToLeft (suc level) (children_in g x r is) others)
-  one_more content before now level x others r is found at records here =
+  one_more content before now level x others r is deep less found at records here =
       let bodies = here.way.bodies ++ body_in r ∷ [] in
       record {
         readable = here.readable;
         way = record {
           bodies = bodies;
           read = subst (ReadsTo version_one content (length content) bodies) (sym at) (reads_on version_one content here.way.bodies (body_in r ∷ []) (length content) before.at (before_frame before.at (body_in r)) here.way.read (found, refl));
-          records = leaves_on (old_file g) RightToLeft here.way.bodies (body_in r) level (x, None) (children_in g x r is) (root_to_come g) others here.way.records (is_record g x r is);
+          records = leaves_on (old_file g) RightToLeft here.way.bodies (body_in r) level (x, None) (children_in g x r is) (root_to_come g) others here.way.records deep (is_record g x r is);
+          few = omega (arith, less, here.counted, length-append here.way.bodies (body_in r ∷ []));
         };
         counted = omega (arith, records, here.counted, length-append here.way.bodies (body_in r ∷ []));
       }
@@ -151,14 +160,16 @@ module _ (g : Grammar) (accepted : IsAccepted g) where
     here others is = subst (IsAt g content progress) (coming_one g level x others stored) is
 
     pub one_too_deep : most_levels < level → IsUnbrought g content (x ∷ []) level progress fault.TooDeep
-    one_too_deep deep others is = λ nodes. too_large most_levels nodes content progress level (x, None) others (here others is) (inl deep)
+    one_too_deep deep others is = goes_too_deep content progress level (x, None) others (here others is) deep
 
-    pub one_too_many : most_records ≤ progress.records → IsUnbrought g content (x ∷ []) level progress fault.TooManyNodes
-    one_too_many many others is = λ levels. too_large levels most_records content progress level (x, None) others (here others is) (inr many)
+    pub one_too_many : level ≤ most_levels → most_records ≤ progress.records → IsUnbrought g content (x ∷ []) level progress fault.TooManyNodes
+    one_too_many deep many others is = goes_too_far content progress level (x, None) others (here others is) deep many
+
+  module _ (content : List ℕ) (x : Item) (level : ℕ) (progress : Progress) (stored : stored_items (x ∷ []) ≡ x ∷ []) (deep : level ≤ most_levels) (less : progress.records < most_records) where
 
     -- what ends there breaks the way
     pub one_breaks : (at : ℕ) → at ≡ progress.at → ((others : ToCome) → Breaks version_one g unassigned 0 ((level, (x, None)) ∷ others) (next_before version_one content progress.at)) → IsUnbrought g content (x ∷ []) level progress (fault.Damaged at)
-    one_breaks at same so others is = subst (λ n. IsUpgradeFault g content (fault.Damaged n)) (sym same) (breaks_at content progress ((level, (x, None)) ∷ others) (here others is) (so others))
+    one_breaks at same so others is = subst (λ n. IsUpgradeFault g content (fault.Damaged n)) (sym same) (breaks_at content progress ((level, (x, None)) ∷ others) (here content x level progress stored others is) (deep, less) (so others))
 
     pub one_missing : (at : ℕ) → at ≡ progress.at → next_before version_one content progress.at ≡ Ok None → IsUnbrought g content (x ∷ []) level progress (fault.Damaged at)
     one_missing at same found = one_breaks at same (λ others. subst (Breaks version_one g unassigned 0 ((level, (x, None)) ∷ others)) (sym found) tt)
@@ -272,11 +283,11 @@ module _ (g : Grammar) (accepted : IsAccepted g) (content : List ℕ) where
 
   -- where a child is refused, its parent is
   pub child_refused : (x child : Item) (front ys : List Item) (level : ℕ) (before first now : Progress) (r : OldRecord) (is : IsOf g x r) (honest : Bool) (out_old out_now : List ℕ) (texts : List Value) (f : RunFault)
-      → stored_items (x ∷ []) ≡ x ∷ [] → next_before version_one content before.at ≡ Ok (Some (body_in r)) → first.at ≡ before_frame before.at (body_in r) → first.records ≡ before.records + 1
+      → stored_items (x ∷ []) ≡ x ∷ [] → level ≤ most_levels → before.records < most_records → next_before version_one content before.at ≡ Ok (Some (body_in r)) → first.at ≡ before_frame before.at (body_in r) → first.records ≡ before.records + 1
       → children_in g x r is ≡ to_come g ((front ++ child ∷ []) ++ ys) → Brought g content (front ++ child ∷ []) ys (suc level) first now honest out_old out_now texts
       → IsUnbrought g content (child ∷ []) (suc level) now f → IsUnbrought g content (x ∷ []) level before f
-  child_refused x child front ys level before first now r is honest out_old out_now texts f stored found at records children brought refused others here =
-      let one = one_more g accepted content before first level x others r is found at records (subst (IsAt g content before) (coming_one g level x others stored) here) in
+  child_refused x child front ys level before first now r is honest out_old out_now texts f stored deep less found at records children brought refused others here =
+      let one = one_more g accepted content before first level x others r is deep less found at records (subst (IsAt g content before) (coming_one g level x others stored) here) in
       let all : IsAt g content first (coming g (suc level) ((front ++ child ∷ []) ++ ys) others) = subst (λ zs. IsAt g content first (before_others RightToLeft (suc level) zs others)) children one in
       refused (coming g (suc level) front others) (subst (IsAt g content now) (coming_both g (suc level) front (child ∷ []) others) (brought.on others all))
 
@@ -296,24 +307,24 @@ module _ (g : Grammar) (accepted : IsAccepted g) (content : List ℕ) where
 
   -- where it is refused, its parent is
   pub next_refused : (x : Item) (p : ℕ) (items : List Item) (at level : ℕ) (d : Item) (before first now : Progress) (is : IsOf g x (old.Node p)) (honest : Bool) (out_old out_now : List ℕ) (texts : List Value) (f : RunFault)
-      → stored_items (x ∷ []) ≡ x ∷ [] → next_before version_one content before.at ≡ Ok (Some (body_of Node p [])) → first.at ≡ before_frame before.at (body_of Node p []) → first.records ≡ before.records + 1
+      → stored_items (x ∷ []) ≡ x ∷ [] → level ≤ most_levels → before.records < most_records → next_before version_one content before.at ≡ Ok (Some (body_of Node p [])) → first.at ≡ before_frame before.at (body_of Node p []) → first.records ≡ before.records + 1
       → ((q : Production) → IsProduction g p q → items ≡ q.items) → 0 < at → at ≤ length items → Brought g content (take at items) (drop at items) (suc level) first now honest out_old out_now texts
       → IsUnbrought g content (get_or items (at - 1) d ∷ []) (suc level) now f → IsUnbrought g content (x ∷ []) level before f
-  next_refused x p items at level d before first now is honest out_old out_now texts f stored found begins records all some within so_far refused =
+  next_refused x p items at level d before first now is honest out_old out_now texts f stored deep less found begins records all some within so_far refused =
       let child = get_or items (at - 1) d in
       let step : at - 1 + 1 ≡ at = omega arith in
       let front : take at items ≡ take (at - 1) items ++ child ∷ [] = ap (λ n. take n items) (sym step) ∙ take_more items (at - 1) d (omega arith) in
       let whole : items ≡ (take (at - 1) items ++ child ∷ []) ++ drop at items = sym (take-append-drop at items) ∙ ap (λ xs. xs ++ drop at items) front in
       let here = subst (λ xs. Brought g content xs (drop at items) (suc level) first now honest out_old out_now texts) front so_far in
-      child_refused x child (take (at - 1) items) (drop at items) level before first now (old.Node p) is honest out_old out_now texts f stored found begins records (children_are g x p items is all ∙ ap (to_come g) whole) here refused
+      child_refused x child (take (at - 1) items) (drop at items) level before first now (old.Node p) is honest out_old out_now texts f stored deep less found begins records (children_are g x p items is all ∙ ap (to_come g) whole) here refused
 
   -- a token
   pub token_brought : (x : Item) (level d : ℕ) (v : Value) (before now : Progress) (honest : Bool) (out_old out_now : List ℕ)
-      → stored_items (x ∷ []) ≡ x ∷ [] → IsOf g x (old.Token d v) → level ≤ most_levels → next_before version_one content before.at ≡ Ok (Some (body_in (old.Token d v))) → now.at ≡ before_frame before.at (body_in (old.Token d v)) → now.records ≡ before.records + 1
+      → stored_items (x ∷ []) ≡ x ∷ [] → IsOf g x (old.Token d v) → level ≤ most_levels → before.records < most_records → next_before version_one content before.at ≡ Ok (Some (body_in (old.Token d v))) → now.at ≡ before_frame before.at (body_in (old.Token d v)) → now.records ≡ before.records + 1
       → WhenHonest honest (out_now ≡ out_old ++ frame (body_in (old.Token d v))) → Brought g content [] (x ∷ []) level before now honest out_old out_now (v ∷ [])
-  token_brought (item.Symbol s) level d v before now honest out_old out_now stored is deep found at records put = elim is [ ]
-  token_brought (item.Terminal (Literal l)) level d v before now honest out_old out_now stored is deep found at records put = elim is [ ]
-  token_brought (item.Terminal (Class c)) level d v before now honest out_old out_now stored is deep found at records put =
+  token_brought (item.Symbol s) level d v before now honest out_old out_now stored is deep less found at records put = elim is [ ]
+  token_brought (item.Terminal (Literal l)) level d v before now honest out_old out_now stored is deep less found at records put = elim is [ ]
+  token_brought (item.Terminal (Class c)) level d v before now honest out_old out_now stored is deep less found at records put =
       let text = is.1.0 in
       let same : body_in (old.Token d v) ≡ token_body c text = ap (λ n. body_of Token n (v ∷ [])) is.0 ∙ ap (λ w. body_of Token c (w ∷ [])) is.1.2 in
       record {
@@ -322,19 +333,19 @@ module _ (g : Grammar) (accepted : IsAccepted g) (content : List ℕ) where
         deep = omega arith;
         read = subst (λ (body : List ℕ). ReadsTo version_one content before.at (body ∷ []) now.at) same (found, sym at);
         nodes = records;
-        on = λ others here. one_more g accepted content before now level (item.Terminal (Class c)) others (old.Token d v) is found at records here;
+        on = λ others here. one_more g accepted content before now level (item.Terminal (Class c)) others (old.Token d v) is deep less found at records here;
         written = λ h. put h ∙ ap (λ (bytes : List ℕ). out_old ++ bytes) (ap frame same ∙ sym (append-nil (frame (token_body c text))));
         texts_are = ap (λ w. w ∷ []) is.1.2;
       }
 
   -- a node, whose children were
   pub node_brought : (x : Item) (level p : ℕ) (before first now : Progress) (honest : Bool) (out_old out_between out_now : List ℕ) (texts : List Value)
-      → stored_items (x ∷ []) ≡ x ∷ [] → (is : IsOf g x (old.Node p)) → level ≤ most_levels → next_before version_one content before.at ≡ Ok (Some (body_of Node p [])) → first.at ≡ before_frame before.at (body_of Node p []) → first.records ≡ before.records + 1
+      → stored_items (x ∷ []) ≡ x ∷ [] → (is : IsOf g x (old.Node p)) → level ≤ most_levels → before.records < most_records → next_before version_one content before.at ≡ Ok (Some (body_of Node p [])) → first.at ≡ before_frame before.at (body_of Node p []) → first.records ≡ before.records + 1
       → (items : List Item) → ((q : Production) → IsProduction g p q → items ≡ q.items) → Brought g content [] items (suc level) first now honest out_old out_between texts
       → WhenHonest honest (out_now ≡ out_between ++ frame (body_of Node p (reverse texts))) → Brought g content [] (x ∷ []) level before now honest out_old out_now []
-  node_brought (item.Terminal (Class c)) level p before first now honest out_old out_between out_now texts stored is deep found at records items all brought put = elim is [ ]
-  node_brought (item.Terminal (Literal l)) level p before first now honest out_old out_between out_now texts stored is deep found at records items all brought put = elim is [ ]
-  node_brought (item.Symbol s) level p before first now honest out_old out_between out_now texts stored is deep found at records items all brought put =
+  node_brought (item.Terminal (Class c)) level p before first now honest out_old out_between out_now texts stored is deep less found at records items all brought put = elim is [ ]
+  node_brought (item.Terminal (Literal l)) level p before first now honest out_old out_between out_now texts stored is deep less found at records items all brought put = elim is [ ]
+  node_brought (item.Symbol s) level p before first now honest out_old out_between out_now texts stored is deep less found at records items all brought put =
       let ts = brought.trees in
       let q = is.0 in
       let same = all q is.1 in
@@ -347,7 +358,7 @@ module _ (g : Grammar) (accepted : IsAccepted g) (content : List ℕ) where
         deep = omega arith;
         read = (found, subst (λ n. ReadsTo version_one content n (prefix_all RightToLeft (first_bodies_all version_one ts)) now.at) at brought.read);
         nodes = omega (arith, records, brought.nodes);
-        on = λ others here. brought.on others (subst (λ zs. IsAt g content first (coming g (suc level) zs others)) (sym same) (one_more g accepted content before first level (item.Symbol s) others (old.Node p) is found at records here));
+        on = λ others here. brought.on others (subst (λ zs. IsAt g content first (coming g (suc level) zs others)) (sym same) (one_more g accepted content before first level (item.Symbol s) others (old.Node p) is deep less found at records here));
         written = λ h.
             put h ∙ ap (λ vs. out_between ++ frame (body_of Node p vs)) texts_back ∙ ap (λ (bytes : List ℕ). bytes ++ frame body) (brought.written h)
             ∙ append_assoc out_old (flat_map frame (postfix_all RightToLeft (first_bodies_all version_two ts))) (frame body)

@@ -1,6 +1,6 @@
--- Where it shows that a file is that of no tree: that it is so, and that it shows at one offset alone.
+-- Where it shows that a file is that of no tree, or of none within the limits: that it is so, and that one refusal alone shows.
 use Rattle.std.specs.List.{flat_map}
-use Rattle.std.proofs.Common.{ℕ, suc, ◌≡◌, ◌≢◌, ◌+◌, ◌^◌, ◌<◌, inl, inr, Bool, true, false, if◌then◌else◌, List, [], ◌∷◌, ◌++◌, Some, Ok, Err, length, refl, ap, ◌∙◌, sym, subst, arith}
+use Rattle.std.proofs.Common.{ℕ, suc, ◌≡◌, ◌≢◌, ◌+◌, ◌^◌, ◌<◌, ◌≤◌, ◌⊎◌, inl, inr, Bool, true, false, if◌then◌else◌, List, [], ◌∷◌, ◌++◌, Some, Ok, Err, length, refl, ap, ◌∙◌, sym, subst, arith}
 use Rattle.ag_grammar.specs.declared.direction.Direction.{Direction}
 use Rattle.ag_grammar.specs.grammars.Passes.{direction_of, other}
 use Rattle.treefile.specs.declared.reading.FrameFault.{FrameFault}
@@ -14,18 +14,20 @@ use Rattle.treefile.specs.records.Records.{FitsVersion, bodies_of}
 use Rattle.treefile.specs.records.TreeFile.{frame}
 use Rattle.treefile.proofs.ways.Files.{begins}
 use Rattle.treefile.proofs.records.Fitting.{fits_version_two, numbered}
-use Rattle.treefile.proofs.ways.Way.{no_file_has_no_tree, one_record, way_begins, way_breaks, way_goes_on}
+use Rattle.treefile.proofs.ways.Way.{no_file_has_no_tree, one_record, way_begins, way_breaks, way_goes_on, way_is_too_long}
 use Rattle.planchecker.specs.courses.Settings.{Setting}
 use Rattle.planchecker.specs.courses.Sound.{IsSound}
-use Rattle.passrun.specs.Damage.{BreaksAt, ComesTo, IsDamaged, IsReadable, Leaves, Source, source}
+use Rattle.passrun.specs.declared.run_fault.RunFault.{RunFault}
+use Rattle.passrun.specs.declared.run_fault.RunFault.TheVariants as fault
+use Rattle.passrun.specs.Damage.{BreaksAt, ComesTo, ExceedsDepth, ExceedsNodes, HasTooManyNodes, IsDamaged, IsReadable, IsTooDeep, IsWithin, Leaves, Shows, Source, source}
 use Rattle.passrun.specs.Laws.{ShowsOnce}
 
 -- one record more
-pub leaves_on : (s : Source) (d : Direction) (bodies : List (List ℕ)) (body : List ℕ) (level : ℕ) (x : Child) (ys : List Child) (todo left : ToCome) → Leaves s d todo bodies ((level, x) ∷ left) → IsRecordOf s.version s.grammar s.passes s.pass x body ys
+pub leaves_on : (s : Source) (d : Direction) (bodies : List (List ℕ)) (body : List ℕ) (level : ℕ) (x : Child) (ys : List Child) (todo left : ToCome) → Leaves s d todo bodies ((level, x) ∷ left) → level ≤ s.depth → IsRecordOf s.version s.grammar s.passes s.pass x body ys
     → Leaves s d todo (bodies ++ body ∷ []) (before_others d (suc level) ys left)
-leaves_on s d [] body level x ys todo left h is = subst (λ (t : ToCome). Leaves s d t (body ∷ []) (before_others d (suc level) ys left)) (sym h) (ys, is, refl)
-leaves_on s d (first ∷ bodies) body level x ys [] left h is = elim h [ ]
-leaves_on s d (first ∷ bodies) body level x ys (y ∷ todo) left h is = (h.0, h.1, leaves_on s d bodies body level x ys (before_others d (suc y.0) h.0 todo) left h.2 is)
+leaves_on s d [] body level x ys todo left h le is = subst (λ (t : ToCome). Leaves s d t (body ∷ []) (before_others d (suc level) ys left)) (sym h) (ys, le, is, refl)
+leaves_on s d (first ∷ bodies) body level x ys [] left h le is = elim h [ ]
+leaves_on s d (first ∷ bodies) body level x ys (y ∷ todo) left h le is = (h.0, h.1, h.2, leaves_on s d bodies body level x ys (before_others d (suc y.0) h.0 todo) left h.3 le is)
 
 -- what is left by bodies that were read is on the way
 comes_on : (s : Source) (content : List ℕ) (bodies : List (List ℕ)) (at count start : ℕ) (todo left : ToCome) → IsNumbered s.grammar → IsOnTheWay s.version s.grammar s.passes s.pass content at count todo → ReadsTo s.version content at bodies start
@@ -35,33 +37,75 @@ comes_on s content [] at count start todo left few way read h =
     subst (λ (t : ToCome). IsOnTheWay s.version s.grammar s.passes s.pass content start (count + 0) t) h (subst (λ a. IsOnTheWay s.version s.grammar s.passes s.pass content a (count + 0) todo) read (subst (λ n. IsOnTheWay s.version s.grammar s.passes s.pass content at n todo) same way))
 comes_on s content (body ∷ bodies) at count start [] left few way read h = elim h [ ]
 comes_on s content (body ∷ bodies) at count start ((level, x) ∷ todo) left few way read h =
-    let on = way_goes_on s.version s.grammar s.passes s.pass content body at count level x h.0 todo few way read.0 h.1 in
+    let on = way_goes_on s.version s.grammar s.passes s.pass content body at count level x h.0 todo few way read.0 h.2 in
     let sum : suc count + length bodies ≡ count + suc (length bodies) = omega arith in
-    subst (λ n. IsOnTheWay s.version s.grammar s.passes s.pass content start n left) sum (comes_on s content bodies (before_frame at body) (suc count) start (before_others (other (direction_of s.pass)) (suc level) h.0 todo) left few on read.1 h.2)
+    subst (λ n. IsOnTheWay s.version s.grammar s.passes s.pass content start n left) sum (comes_on s content bodies (before_frame at body) (suc count) start (before_others (other (direction_of s.pass)) (suc level) h.0 todo) left few on read.1 h.3)
 
--- two ways that break do so at one offset
-one_break : (s : Source) (content : List ℕ) (bodies others : List (List ℕ)) (from at there : ℕ) (todo left rest : ToCome) → IsNumbered s.grammar → ReadsTo s.version content from bodies at → ReadsTo s.version content from others there
-    → Leaves s (other (direction_of s.pass)) todo bodies left → Leaves s (other (direction_of s.pass)) todo others rest → Breaks s.version s.grammar s.passes s.pass left (next_before s.version content at) → Breaks s.version s.grammar s.passes s.pass rest (next_before s.version content there) → at ≡ there
-one_break s content [] [] from at there todo left rest few read read' h h' breaks breaks' = sym read ∙ read'
-one_break s content (body ∷ bodies) others from at there [] left rest few read read' h h' breaks breaks' = elim h [ ]
-one_break s content [] (another ∷ others) from at there [] left rest few read read' h h' breaks breaks' = elim h' [ ]
-one_break s content [] (another ∷ others) from at there ((level, x) ∷ todo) left rest few read read' h h' breaks breaks' =
-    absurd (stops s content another at ((level, x) ∷ todo) level x todo h'.0 refl (ap (next_before s.version content) (sym read) ∙ read'.0) h'.1 (subst (λ (t : ToCome). Breaks s.version s.grammar s.passes s.pass t (next_before s.version content at)) (sym h) breaks))
-  where
-    stops : (s : Source) (content body : List ℕ) (at : ℕ) (left : ToCome) (level : ℕ) (x : Child) (todo : ToCome) (ys : List Child) → left ≡ (level, x) ∷ todo → next_before s.version content at ≡ Ok (Some body) → IsRecordOf s.version s.grammar s.passes s.pass x body ys → Breaks s.version s.grammar s.passes s.pass left (next_before s.version content at) → ⊥
-    stops s content body at left level x todo ys is found record_is breaks =
-        let so : Breaks s.version s.grammar s.passes s.pass ((level, x) ∷ todo) (Ok (Some body)) = subst (λ (t : ToCome). Breaks s.version s.grammar s.passes s.pass t (Ok (Some body))) is (subst (Breaks s.version s.grammar s.passes s.pass left) found breaks) in
-        so ys record_is
-one_break s content (body ∷ bodies) [] from at there ((level, x) ∷ todo) left rest few read read' h h' breaks breaks' =
-    let found : next_before s.version content there ≡ Ok (Some body) = ap (next_before s.version content) (sym read') ∙ read.0 in
-    let so : Breaks s.version s.grammar s.passes s.pass ((level, x) ∷ todo) (Ok (Some body)) = subst (Breaks s.version s.grammar s.passes s.pass ((level, x) ∷ todo)) found (subst (λ (t : ToCome). Breaks s.version s.grammar s.passes s.pass t (next_before s.version content there)) (sym h') breaks') in
-    absurd (so h.0 h.1)
-one_break s content (body ∷ bodies) (another ∷ others) from at there ((level, x) ∷ todo) left rest few read read' h h' breaks breaks' =
-    let e : Ok (Some another) ≡ Ok (Some body) = sym read'.0 ∙ read.0 in
+-- What the way stops at after a number of bodies: it breaks at the offset, or a limit is exceeded.
+abbrev Stops : Source → List ℕ → (at count : ℕ) → ToCome → RunFault → Type 0
+Stops s content at count todo (fault.Damaged there) = (there ≡ at) × IsWithin s todo count × Breaks s.version s.grammar s.passes s.pass todo (next_before s.version content at)
+Stops s content at count [] fault.TooDeep = ⊥
+Stops s content at count (x ∷ xs) fault.TooDeep = s.depth < x.0
+Stops s content at count [] fault.TooManyNodes = ⊥
+Stops s content at count (x ∷ xs) fault.TooManyNodes = (x.0 ≤ s.depth) × (s.nodes ≤ count)
+Stops s content at count todo fault.Device = ⊥
+Stops s content at count todo fault.NoMemory = ⊥
+
+-- at one place it stops for one reason
+same_stop : (s : Source) (content : List ℕ) (at count : ℕ) (todo : ToCome) (e f : RunFault) → Stops s content at count todo e → Stops s content at count todo f → e ≡ f
+same_stop s content at count todo (fault.Damaged a) (fault.Damaged b) p q = ap fault.Damaged (p.0 ∙ sym q.0)
+same_stop s content at count [] (fault.Damaged a) fault.TooDeep p q = absurd q
+same_stop s content at count (x ∷ xs) (fault.Damaged a) fault.TooDeep p q = let le = p.1.0 in absurd (omega arith)
+same_stop s content at count [] (fault.Damaged a) fault.TooManyNodes p q = absurd q
+same_stop s content at count (x ∷ xs) (fault.Damaged a) fault.TooManyNodes p q = let less = p.1.1 in let many = q.1 in absurd (omega arith)
+same_stop s content at count [] fault.TooDeep f p q = absurd p
+same_stop s content at count (x ∷ xs) fault.TooDeep (fault.Damaged b) p q = let le = q.1.0 in absurd (omega arith)
+same_stop s content at count (x ∷ xs) fault.TooDeep fault.TooDeep p q = refl
+same_stop s content at count (x ∷ xs) fault.TooDeep fault.TooManyNodes p q = let le = q.0 in absurd (omega arith)
+same_stop s content at count [] fault.TooManyNodes f p q = absurd p
+same_stop s content at count (x ∷ xs) fault.TooManyNodes (fault.Damaged b) p q = let less = q.1.1 in let many = p.1 in absurd (omega arith)
+same_stop s content at count (x ∷ xs) fault.TooManyNodes fault.TooDeep p q = let le = p.0 in absurd (omega arith)
+same_stop s content at count (x ∷ xs) fault.TooManyNodes fault.TooManyNodes p q = refl
+same_stop s content at count todo fault.Device f p q = absurd p
+same_stop s content at count todo fault.NoMemory f p q = absurd p
+same_stop s content at count todo e fault.Device p q = absurd q
+same_stop s content at count todo e fault.NoMemory p q = absurd q
+
+-- where the way goes on within the limits it does not stop
+never_stops : (s : Source) (content body : List ℕ) (at count level : ℕ) (x : Child) (ys : List Child) (todo : ToCome) (f : RunFault) → level ≤ s.depth → count < s.nodes → next_before s.version content at ≡ Ok (Some body)
+    → IsRecordOf s.version s.grammar s.passes s.pass x body ys → Stops s content at count ((level, x) ∷ todo) f → ⊥
+never_stops s content body at count level x ys todo (fault.Damaged there) le less found is stops =
+    let so : Breaks s.version s.grammar s.passes s.pass ((level, x) ∷ todo) (Ok (Some body)) = subst (Breaks s.version s.grammar s.passes s.pass ((level, x) ∷ todo)) found stops.2 in
+    so ys is
+never_stops s content body at count level x ys todo fault.TooDeep le less found is stops = omega arith
+never_stops s content body at count level x ys todo fault.TooManyNodes le less found is stops = let many = stops.1 in omega arith
+never_stops s content body at count level x ys todo fault.Device le less found is stops = stops
+never_stops s content body at count level x ys todo fault.NoMemory le less found is stops = stops
+
+-- two ways from one place stop for one reason
+one_stop : (s : Source) (content : List ℕ) (bodies others : List (List ℕ)) (from at there count : ℕ) (todo left rest : ToCome) (e f : RunFault) → IsNumbered s.grammar → ReadsTo s.version content from bodies at → ReadsTo s.version content from others there
+    → Leaves s (other (direction_of s.pass)) todo bodies left → Leaves s (other (direction_of s.pass)) todo others rest → count + length bodies ≤ s.nodes → count + length others ≤ s.nodes
+    → Stops s content at (count + length bodies) left e → Stops s content there (count + length others) rest f → e ≡ f
+one_stop s content [] [] from at there count todo left rest e f few read read' h h' most most' stops stops' =
+    same_stop s content at (count + 0) left e f stops (subst (λ n. Stops s content n (count + 0) left f) (sym read' ∙ read) (subst (λ (t : ToCome). Stops s content there (count + 0) t f) (sym h' ∙ h) stops'))
+one_stop s content (body ∷ bodies) others from at there count [] left rest e f few read read' h h' most most' stops stops' = elim h [ ]
+one_stop s content [] (another ∷ others) from at there count [] left rest e f few read read' h h' most most' stops stops' = elim h' [ ]
+one_stop s content [] (another ∷ others) from at there count ((level, x) ∷ todo) left rest e f few read read' h h' most most' stops stops' =
+    let here : Stops s content from (count + 0) ((level, x) ∷ todo) e = subst (λ n. Stops s content n (count + 0) ((level, x) ∷ todo) e) (sym read) (subst (λ (t : ToCome). Stops s content at (count + 0) t e) (sym h) stops) in
+    absurd (never_stops s content another from (count + 0) level x h'.0 todo e h'.1 (omega arith) read'.0 h'.2 here)
+one_stop s content (body ∷ bodies) [] from at there count ((level, x) ∷ todo) left rest e f few read read' h h' most most' stops stops' =
+    let here : Stops s content from (count + 0) ((level, x) ∷ todo) f = subst (λ n. Stops s content n (count + 0) ((level, x) ∷ todo) f) (sym read') (subst (λ (t : ToCome). Stops s content there (count + 0) t f) (sym h') stops') in
+    absurd (never_stops s content body from (count + 0) level x h.0 todo f h.1 (omega arith) read.0 h.2 here)
+one_stop s content (body ∷ bodies) (another ∷ others) from at there count ((level, x) ∷ todo) left rest e f few read read' h h' most most' stops stops' =
+    let next = before_others (other (direction_of s.pass)) (suc level) h.0 todo in
+    let found : Ok (Some another) ≡ Ok (Some body) = sym read'.0 ∙ read.0 in
     let same : another ≡ body = cc in
-    let items : h'.0 ≡ h.0 = one_record s.version s.grammar s.passes s.pass x body h'.0 h.0 few (subst (λ (b : List ℕ). IsRecordOf s.version s.grammar s.passes s.pass x b h'.0) same h'.1) h.1 in
-    one_break s content bodies others (before_frame from body) at there (before_others (other (direction_of s.pass)) (suc level) h.0 todo) left rest few read.1 (subst (λ (b : List ℕ). ReadsTo s.version content (before_frame from b) others there) same read'.1)
-    h.2 (subst (λ (ys : List Child). Leaves s (other (direction_of s.pass)) (before_others (other (direction_of s.pass)) (suc level) ys todo) others rest) items h'.2) breaks breaks'
+    let items : h'.0 ≡ h.0 = one_record s.version s.grammar s.passes s.pass x body h'.0 h.0 few (subst (λ (b : List ℕ). IsRecordOf s.version s.grammar s.passes s.pass x b h'.0) same h'.2) h.2 in
+    let sum : count + suc (length bodies) ≡ suc count + length bodies = omega arith in
+    let sum' : count + suc (length others) ≡ suc count + length others = omega arith in
+    one_stop s content bodies others (before_frame from body) at there (suc count) next left rest e f few read.1 (subst (λ (b : List ℕ). ReadsTo s.version content (before_frame from b) others there) same read'.1)
+    h.3 (subst (λ (ys : List Child). Leaves s (other (direction_of s.pass)) (before_others (other (direction_of s.pass)) (suc level) ys todo) others rest) items h'.3) (omega arith) (omega arith)
+    (subst (λ n. Stops s content at n left e) sum stops) (subst (λ n. Stops s content there n rest f) sum' stops')
 
 -- what begins as no tree file
 no_file : (is : Bool) (pass : ℕ) (f : FrameFault) → (if is then Ok pass else Err frame_fault.NotATreeFile) ≡ Err f → (is ≡ false) × (f ≡ frame_fault.NotATreeFile)
@@ -95,11 +139,26 @@ module _ (s : Source) (sound : IsTellable s) where
   -- the content is the file of no tree where the way breaks,
   pub broken : (content : List ℕ) (at : ℕ) → IsReadable s content → BreaksAt s content at → IsDamaged s content at
   broken content at readable h = record {
-    none = way_breaks s.version s.grammar s.passes s.pass content at (length h.1.bodies) h.0 (way_to content at h.0 h.1) h.2;
+    none = way_breaks s.version s.grammar s.passes s.pass content at (length h.1.bodies) h.0 (way_to content at h.0 h.1) h.3;
     shown = inr (inr (readable, h));
   }
 
-  -- where it begins as no tree file, as reading its header tells,
+  -- of none within the limits where one is exceeded,
+  pub too_deep : (content : List ℕ) → ExceedsDepth s content → IsTooDeep s content
+  too_deep content h = record {
+    none = λ nodes. way_is_too_long s.version s.grammar s.passes s.pass content h.at (length h.way.bodies) h.level s.depth nodes h.next h.others (way_to content h.at ((h.level, h.next) ∷ h.others) h.way) (inl h.deep);
+    shown = h;
+  }
+
+  pub too_many : (content : List ℕ) → ExceedsNodes s content → HasTooManyNodes s content
+  too_many content h =
+      let full = h.full in
+      record {
+        none = λ depth. way_is_too_long s.version s.grammar s.passes s.pass content h.at (length h.way.bodies) h.level depth s.nodes h.next h.others (way_to content h.at ((h.level, h.next) ∷ h.others) h.way) (inr (omega arith));
+        shown = h;
+      }
+
+  -- of no tree where it begins as no tree file, as reading its header tells,
   pub unstarted : (content : List ℕ) (f : FrameFault) → pass_in s.version content ≡ Err f → (f ≡ frame_fault.NotATreeFile) × IsDamaged s content 0
   unstarted content f told =
       let is = no_file (is_tree_file s.version content) (pass_of content) f told in (
@@ -129,15 +188,42 @@ module _ (s : Source) (sound : IsTellable s) where
       let is = is_file (is_tree_file s.version content) (pass_of content) pass told in
       record { begins = is.0; number = is.1 ∙ same }
 
--- it shows at one offset alone
+-- ---- one refusal shows alone
+
+-- the header of a content shows a refusal, or the way through it stops for one
+abbrev ShowsOnWay : Source → List ℕ → RunFault → Type 0
+ShowsOnWay s content f = IsReadable s content × ((todo : ToCome) × (at : ℕ) × (way : ComesTo s content at todo) × Stops s content at (length way.bodies) todo f)
+
+abbrev ShowsSomewhere : Source → List ℕ → RunFault → Type 0
+ShowsSomewhere s content f = ((is_tree_file s.version content ≡ false) × (f ≡ fault.Damaged 0)) ⊎ (((is_tree_file s.version content ≡ true) × (pass_of content ≢ s.pass) × (f ≡ fault.Damaged 4)) ⊎ ShowsOnWay s content f)
+
+somewhere : (s : Source) (content : List ℕ) (f : RunFault) → Shows s content f → ShowsSomewhere s content f
+somewhere s content (fault.Damaged at) (inl a) = inl (a.0, ap fault.Damaged a.1)
+somewhere s content (fault.Damaged at) (inr (inl a)) = inr (inl (a.0, a.1, ap fault.Damaged a.2))
+somewhere s content (fault.Damaged at) (inr (inr a)) = inr (inr (a.0, (a.1.0, at, a.1.1, (refl, a.1.2, a.1.3))))
+somewhere s content fault.TooDeep h = inr (inr (h.readable, ((h.level, h.next) ∷ h.others, h.at, h.way, h.deep)))
+somewhere s content fault.TooManyNodes h = let full = h.full in inr (inr (h.readable, ((h.level, h.next) ∷ h.others, h.at, h.way, (h.within, omega arith))))
+somewhere s content fault.Device h = absurd h
+somewhere s content fault.NoMemory h = absurd h
+
 pub shows_once : ShowsOnce
-shows_once s content at there accepted (inl a) (inl b) = a.1 ∙ sym b.1
-shows_once s content at there accepted (inl a) (inr (inl b)) = absurd (let z : false ≡ true = sym a.0 ∙ b.0 in cc)
-shows_once s content at there accepted (inl a) (inr (inr b)) = absurd (let z : false ≡ true = sym a.0 ∙ b.0.begins in cc)
-shows_once s content at there accepted (inr (inl a)) (inl b) = absurd (let z : false ≡ true = sym b.0 ∙ a.0 in cc)
-shows_once s content at there accepted (inr (inl a)) (inr (inl b)) = a.2 ∙ sym b.2
-shows_once s content at there accepted (inr (inl a)) (inr (inr b)) = absurd (a.1 b.0.number)
-shows_once s content at there accepted (inr (inr a)) (inl b) = absurd (let z : false ≡ true = sym b.0 ∙ a.0.begins in cc)
-shows_once s content at there accepted (inr (inr a)) (inr (inl b)) = absurd (b.1 a.0.number)
-shows_once s content at there accepted (inr (inr a)) (inr (inr b)) =
-    one_break s content a.1.1.bodies b.1.1.bodies (length content) at there (root_to_come s.grammar) a.1.0 b.1.0 (numbered s.grammar accepted) a.1.1.read b.1.1.read a.1.1.records b.1.1.records a.1.2 b.1.2
+shows_once s content e f accepted one another = go (somewhere s content e one) (somewhere s content f another)
+  where
+    go : ShowsSomewhere s content e → ShowsSomewhere s content f → e ≡ f
+    go (inl a) (inl b) = a.1 ∙ sym b.1
+    go (inl a) (inr (inl b)) = absurd (let z : false ≡ true = sym a.0 ∙ b.0 in cc)
+    go (inl a) (inr (inr b)) = absurd (let z : false ≡ true = sym a.0 ∙ b.0.begins in cc)
+    go (inr (inl a)) (inl b) = absurd (let z : false ≡ true = sym b.0 ∙ a.0 in cc)
+    go (inr (inl a)) (inr (inl b)) = a.2 ∙ sym b.2
+    go (inr (inl a)) (inr (inr b)) = absurd (a.1 b.0.number)
+    go (inr (inr a)) (inl b) = absurd (let z : false ≡ true = sym b.0 ∙ a.0.begins in cc)
+    go (inr (inr a)) (inr (inl b)) = absurd (b.1 a.0.number)
+    go (inr (inr a)) (inr (inr b)) =
+        let first = a.1.2 in
+        let second = b.1.2 in
+        let most = first.few in
+        let most' = second.few in
+        let sum : length first.bodies ≡ 0 + length first.bodies = omega arith in
+        let sum' : length second.bodies ≡ 0 + length second.bodies = omega arith in
+        one_stop s content first.bodies second.bodies (length content) a.1.1 b.1.1 0 (root_to_come s.grammar) a.1.0 b.1.0 e f (numbered s.grammar accepted) first.read second.read first.records second.records (omega arith) (omega arith)
+        (subst (λ n. Stops s content a.1.1 n a.1.0 e) sum a.1.3) (subst (λ n. Stops s content b.1.1 n b.1.0 f) sum' b.1.3)

@@ -78,6 +78,7 @@ module _ (c : Setting) (sound : IsSound c) where
           bodies = r.running.tapes.read;
           read = r.running.read w;
           records = subst (AreRecords (source c) r.running.tapes.read) (first.2 ∙ ap (λ n. in_front n row.item (values_up_to c.read (copied_passes c row.item) first.0) first.1) level) r.running.ahead;
+          few = r.running.few;
         };
         count = r.running.records;
         found = λ more. let z = first.3 more in (z.0, ap (λ n. drop (x.base + n) (m.values.items ++ more)) i.start ∙ z.1);
@@ -90,17 +91,20 @@ module _ (c : Setting) (sound : IsSound c) where
       unfetched c sound row.item (Some (values_up_to c.read (copied_passes c row.item) z.values)) (length m.waiting.items + 1) content m.back z.left f z.readable z.here z.count (subst (λ n. IsUnfetched c row.item n content m.back f) count (h w))
 
   -- the record of a child does not agree with its copy
-  pub get_differs : (honest : Bool) (content : List ℕ) (m : Machine) (x : OpenNode) (j p n : ℕ) (row : PlaceRow) (back : BackState) (read ours theirs : List Value) (from start : ℕ) (answer : Bool) → RunsFrom c honest content m (Some x) → slice_get (list_at c x.production) x.at ≡ Some (instr.Get j) → Answers c x j (Some row)
+  pub get_differs : (honest : Bool) (content : List ℕ) (m : Machine) (x : OpenNode) (j p n : ℕ) (row : PlaceRow) (back : BackState) (read ours theirs : List Value) (from start : ℕ) (answer : Bool) → RunsFrom c honest content m (Some x) → slice_get (list_at c x.production) x.at ≡ Some (instr.Get j) → Answers c x j (Some row) → n ≡ length m.waiting.items + 1
       → HasFetched c row.item p n honest content m.back back m.values.items read → Agrees c row.item ours theirs answer → (IsTrue answer → ⊥) → ours ≡ drop from read → theirs ≡ drop start read → from ≡ x.base + row.start → start ≡ length m.values.items
       → WhenHonest honest (IsDamaged (source c) content m.back.progress.at)
-  get_differs honest content m x j p n row back read ours theirs from start answer runs at is h agrees not_true ours_are theirs_are from_is start_is w =
+  get_differs honest content m x j p n row back read ours theirs from start answer runs at is level h agrees not_true ours_are theirs_are from_is start_is w =
       let z = first_come honest content m x j row runs at is w in
       let back_row = begins_so c row.item p h.body m.values.items read h.taken in
       let more = read_row c row.item p h.body m.values.items read h.taken in
       let found = z.found more.0 in
       let front = ours_are ∙ ap (λ n. drop n read) from_is ∙ ap (drop (x.base + row.start)) more.1 ∙ found.1 in
+      let deep = h.deep in
+      let few = h.few in
+      let count = z.count in
       let other = agrees z.values (read_values c row.item p h.body m.values.items read h.taken) found.0 back_row.0 front (theirs_are ∙ ap (λ n. drop n read) start_is ∙ back_row.1) in
-      disagreed c sound row.item p (suc (length m.waiting.items + 1)) content h.body m.back.progress.at z.left m.values.items read h.taken z.values (λ same. not_true (other.1 same)) z.readable z.here (h.found w)
+      disagreed c sound row.item p (suc (length m.waiting.items + 1)) content h.body m.back.progress.at z.left m.values.items read h.taken z.values (λ same. not_true (other.1 same)) z.readable z.here (omega arith) (omega arith) (h.found w)
 
   -- the content does not begin as a tree file
   pub not_started : (content : List ℕ) (view : BackState → ℕ) (f : FrameFault) → Told view (Err f) (pass_in version_two content) → IsRunFault c content (run_fault_of_frame f)
@@ -111,22 +115,22 @@ module _ (c : Setting) (sound : IsSound c) where
 
   pub root_unfetched : (start : ℕ) (content : List ℕ) (state : BackState) (f : RunFault) → start ≡ c.grammar.start → IsReadable (source c) content → state.progress.at ≡ length content → state.progress.records ≡ 0 → IsUnfetched c (item.Symbol start) 0 content state f → IsRunFault c content f
   root_unfetched start content state f is readable end fresh h =
-      let here : ComesTo (source c) content state.progress.at ((1, (item.Symbol c.grammar.start, None)) ∷ []) = record { bodies = []; read = sym end; records = refl } in
+      let here : ComesTo (source c) content state.progress.at ((1, (item.Symbol c.grammar.start, None)) ∷ []) = record { bodies = []; read = sym end; records = refl; few = omega arith } in
       unfetched c sound (item.Symbol c.grammar.start) None 0 content state [] f readable here fresh (subst (λ s. IsUnfetched c (item.Symbol s) 0 content state f) is h)
 
   -- nothing is to come, and something is there
   pub left_over : (content : List ℕ) (at : ℕ) (body : List ℕ) → IsReadable (source c) content → ComesTo (source c) content at [] → next_before version_two content at ≡ Ok (Some body) → IsDamaged (source c) content at
-  left_over content at body readable here found = broken (source c) (tellable c sound) content at readable ([], here, subst (Breaks version_two c.grammar c.passes c.read []) (sym found) tt)
+  left_over content at body readable here found = broken (source c) (tellable c sound) content at readable ([], here, tt, subst (Breaks version_two c.grammar c.passes c.read []) (sym found) tt)
 
   pub end_refused : (content : List ℕ) (at : ℕ) (view : Option (Bor (List ℕ)) → Option (List ℕ)) (f : FrameFault) → IsReadable (source c) content → ComesTo (source c) content at [] → Told view (Err f) (next_before version_two content at) → IsRunFault c content (run_fault_of_frame f)
   end_refused content at view frame_fault.NotATreeFile readable here told = absurd (never_no_file version_two content at told)
-  end_refused content at view (frame_fault.Damaged b) readable here told = subst (IsDamaged (source c) content) (sym (damage_is_there version_two content at b told)) (broken (source c) (tellable c sound) content at readable ([], here, subst (Breaks version_two c.grammar c.passes c.read []) (sym told) tt))
+  end_refused content at view (frame_fault.Damaged b) readable here told = subst (IsDamaged (source c) content) (sym (damage_is_there version_two content at b told)) (broken (source c) (tellable c sound) content at readable ([], here, tt, subst (Breaks version_two c.grammar c.passes c.read []) (sym told) tt))
   end_refused content at view frame_fault.Device readable here told = tt
   end_refused content at view frame_fault.NoMemory readable here told = tt
 
   -- all that a tree has was read
   pub end_come : (honest : Bool) (content : List ℕ) (to_honest : Bool) (to : List ℕ) (m : Machine) → RunsBetween c honest content to_honest to m None → WhenHonest honest (IsReadable (source c) content × ComesTo (source c) content m.back.progress.at [])
-  end_come honest content to_honest to m (meter, r) w = (r.running.readable w, record { bodies = r.running.tapes.read; read = r.running.read w; records = subst (AreRecords (source c) r.running.tapes.read) r.running.passing.nothing r.running.ahead })
+  end_come honest content to_honest to m (meter, r) w = (r.running.readable w, record { bodies = r.running.tapes.read; read = r.running.read w; records = subst (AreRecords (source c) r.running.tapes.read) r.running.passing.nothing r.running.ahead; few = r.running.few })
 
   pub end_version : (honest : Bool) (content : List ℕ) (to_honest : Bool) (to : List ℕ) (m : Machine) → RunsBetween c honest content to_honest to m None → m.back.progress.version ≡ version_two
   end_version honest content to_honest to m (meter, r) = r.running.version

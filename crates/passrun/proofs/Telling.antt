@@ -53,11 +53,13 @@ passes_are_told g plan k from to count evals accepted legal positive is =
     let next : k ≡ suc (k - 1) = omega arith in
     (pass_runs (setting_of g plan k) from to count evals accepted legal next is, pass_counts (setting_of g plan k) from to count evals accepted legal next is)
 
--- A refusal of the pass behind some passes is true of what stood before them, and R1 never comes there: the first file is that of a
--- tree.
+-- A refusal of the pass behind some passes is true of what stood before them: R1, P2 and P3 never come there, since the first file is
+-- that of a tree within the limits.
 pub refused_back : (g : Grammar) (plan : List (List ℕ) × Lists) (k n : ℕ) (start now before : List ℕ) → RunsPasses version_two g (passes_of plan.0) (k - 1) (n - 1) start now before → HoldsTree g (passes_of plan.0) (k - 1) start → (f : RunFault) → IsRunFault (setting_of g plan n) now f → IsRunFault (setting_of g plan k) start f
 refused_back g plan k n start now before runs held (fault.Damaged at) damaged = absurd (refusal_goes_back version_two g (passes_of plan.0) (k - 1) (n - 1) start now before runs damaged.none held.tree held.values held.is_tree held.file)
-refused_back g plan k n start now before runs held fault.TooDeep none = λ nodes. refusal_within_goes_back most_depth nodes version_two g (passes_of plan.0) (k - 1) (n - 1) start now before runs (none nodes)
-refused_back g plan k n start now before runs held fault.TooManyNodes none = λ depth. refusal_within_goes_back depth most_nodes version_two g (passes_of plan.0) (k - 1) (n - 1) start now before runs (none depth)
+refused_back g plan k n start now before runs held fault.TooDeep deep =
+    absurd (refusal_within_goes_back most_depth most_nodes version_two g (passes_of plan.0) (k - 1) (n - 1) start now before runs (deep.none most_nodes) held.tree held.values held.is_tree held.within held.file)
+refused_back g plan k n start now before runs held fault.TooManyNodes many =
+    absurd (refusal_within_goes_back most_depth most_nodes version_two g (passes_of plan.0) (k - 1) (n - 1) start now before runs (many.none most_depth) held.tree held.values held.is_tree held.within held.file)
 refused_back g plan k n start now before runs held fault.Device none = tt
 refused_back g plan k n start now before runs held fault.NoMemory none = tt

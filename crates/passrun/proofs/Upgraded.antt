@@ -67,7 +67,7 @@ module _ (g : Grammar) (accepted : IsAccepted g) where
   pub begins_at : (content : List ℕ) (pass : ℕ) (progress : Progress) → pass_in version_one content ≡ Ok pass → pass ≡ 0 → progress.at ≡ length content → progress.records ≡ 0 → IsAt g content progress ((1, (item.Symbol g.start, None)) ∷ [])
   begins_at content pass progress found first end fresh = record {
     readable = readable (old_file g) (tellable g accepted) content pass found first;
-    way = record { bodies = []; read = sym end; records = refl };
+    way = record { bodies = []; read = sym end; records = refl; few = omega arith };
     counted = fresh;
   }
 
@@ -75,12 +75,12 @@ module _ (g : Grammar) (accepted : IsAccepted g) where
 
   pub left_over : (content : List ℕ) (progress : Progress) (at : ℕ) (body : List ℕ) → at ≡ progress.at → IsAt g content progress [] → next_before version_one content progress.at ≡ Ok (Some body) → IsUpgradeFault g content (fault.Damaged at)
   left_over content progress at body same here found =
-      subst (λ n. IsUpgradeFault g content (fault.Damaged n)) (sym same) (breaks_at g accepted content progress [] here (subst (Breaks version_one g unassigned 0 []) (sym found) tt))
+      subst (λ n. IsUpgradeFault g content (fault.Damaged n)) (sym same) (breaks_at g accepted content progress [] here tt (subst (Breaks version_one g unassigned 0 []) (sym found) tt))
 
   pub fault_behind : {X : Type 0} (view : X → Option (List ℕ)) (content : List ℕ) (progress : Progress) (f : FrameFault) → IsAt g content progress [] → Told view (Err f) (next_before version_one content progress.at) → IsUpgradeFault g content (run_fault_of_frame f)
   fault_behind view content progress frame_fault.NotATreeFile here found = absurd (never_no_file version_one content progress.at found)
   fault_behind view content progress (frame_fault.Damaged at) here found =
-      subst (λ n. IsUpgradeFault g content (fault.Damaged n)) (sym (damage_is_there version_one content progress.at at found)) (breaks_at g accepted content progress [] here (subst (Breaks version_one g unassigned 0 []) (sym found) tt))
+      subst (λ n. IsUpgradeFault g content (fault.Damaged n)) (sym (damage_is_there version_one content progress.at at found)) (breaks_at g accepted content progress [] here tt (subst (Breaks version_one g unassigned 0 []) (sym found) tt))
   fault_behind view content progress frame_fault.Device here found = tt
   fault_behind view content progress frame_fault.NoMemory here found = tt
 

@@ -13,7 +13,7 @@ use Rattle.treefile.specs.records.TreeFile.{file, header, version_two}
 use Rattle.treefile.specs.Worked.{binary, binary_passes, copies_1_of_one, production_of}
 use Rattle.treefile.proofs.records.Spelled.{same_node}
 use Rattle.treefile.proofs.WorkedRecords.{binary_numbered, well_number}
-use Rattle.passrun.specs.Damage.{ShowsAt, fractions}
+use Rattle.passrun.specs.Damage.{ExceedsDepth, ExceedsNodes, ShowsAt, fractions, fractions_within}
 
 pub empty : ShowsAt (fractions 0) [] 0
 unfolding is_tree_file
@@ -35,7 +35,14 @@ unfolding next_before
 before_header = refl
 
 pub header_alone : ShowsAt (fractions 0) (header version_two 0) 6
-header_alone = inr (inr (record { begins = header_begins; number = refl }, (root_to_come binary, record { bodies = []; read = refl; records = refl }, subst (Breaks version_two binary binary_passes 0 (root_to_come binary)) (sym before_header) tt)))
+header_alone = inr (inr (record { begins = header_begins; number = refl }, (root_to_come binary, record { bodies = []; read = refl; records = refl; few = omega arith }, (omega arith, omega arith), subst (Breaks version_two binary binary_passes 0 (root_to_come binary)) (sym before_header) tt)))
+
+-- after it the root exceeds a limit of 0 levels, and one of 0 nodes
+pub root_deep : ExceedsDepth (fractions_within 0 1) (header version_two 0)
+root_deep = record { readable = record { begins = header_begins; number = refl }; at = 6; level = 1; next = (item.Symbol binary.start, None); others = []; way = record { bodies = []; read = refl; records = refl; few = omega arith }; deep = omega arith }
+
+pub root_many : ExceedsNodes (fractions_within 1 0) (header version_two 0)
+root_many = record { readable = record { begins = header_begins; number = refl }; at = 6; level = 1; next = (item.Symbol binary.start, None); others = []; way = record { bodies = []; read = refl; records = refl; few = omega arith }; within = omega arith; full = refl }
 
 -- Q's record is none of N
 abbrev numbers : ℕ → Value
@@ -64,4 +71,4 @@ unfolding next_before body_before fits_before
 q_at_end = refl
 
 pub q_alone : ShowsAt (fractions 0) (file version_two 0 ((0 ∷ 0 ∷ 1 ∷ []) ∷ [])) 13
-q_alone = inr (inr (record { begins = q_begins; number = refl }, (root_to_come binary, record { bodies = []; read = refl; records = refl }, subst (Breaks version_two binary binary_passes 0 (root_to_come binary)) (sym q_at_end) q_is_none)))
+q_alone = inr (inr (record { begins = q_begins; number = refl }, (root_to_come binary, record { bodies = []; read = refl; records = refl; few = omega arith }, (omega arith, omega arith), subst (Breaks version_two binary binary_passes 0 (root_to_come binary)) (sym q_at_end) q_is_none)))

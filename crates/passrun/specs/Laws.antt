@@ -17,7 +17,8 @@ use Rattle.treefile.specs.records.TreeFile.{version_two}
 use Rattle.passrun.specs.declared.passing.ends.Passed.{Passed}
 use Rattle.passrun.specs.declared.laid.job.Job.{Job}
 use Rattle.passrun.specs.declared.last.Last.{Last}
-use Rattle.passrun.specs.Damage.{ShowsAt, Source}
+use Rattle.passrun.specs.declared.run_fault.RunFault.{RunFault}
+use Rattle.passrun.specs.Damage.{Shows, Source}
 use Rattle.passrun.specs.laid.Jobs.{CanRun}
 use Rattle.passrun.specs.laid.Layouts.{IsLayout}
 use Rattle.passrun.specs.Passed.{IsPassed}
@@ -28,9 +29,9 @@ abbrev pub PlansCanRun : Type 0
 PlansCanRun = (job : Job) (passes : ℕ) → IsAccepted job.grammar.now → IsPlan job.grammar.now job.plan.now.0 job.plan.now.1 → IsGreatest passes job.plan.now.0 → 1 ≤ job.pass → job.pass ≤ passes
     → IsLayout (setting_of job.grammar.now job.plan.now job.pass) job.layout.now.productions → CanRun job
 
--- It shows at one offset at most that a content is the file of no tree.
+-- A content shows at most one of R1 with an offset, P2 and P3.
 abbrev pub ShowsOnce : Type 0
-ShowsOnce = (s : Source) (content : List ℕ) (at there : ℕ) → IsAccepted s.grammar → ShowsAt s content at → ShowsAt s content there → at ≡ there
+ShowsOnce = (s : Source) (content : List ℕ) (one another : RunFault) → IsAccepted s.grammar → Shows s content one → Shows s content another → one ≡ another
 
 -- Pass k + 1 counted so over whichever tree has the content as its file of pass k.
 abbrev pub CountsPass : Grammar → Passes → ℕ → (from : List ℕ) → (count evals : ℕ) → Type 0

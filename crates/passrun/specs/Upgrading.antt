@@ -21,7 +21,7 @@ use Rattle.treefile.specs.declared.body.Kind.{Kind}
 use Rattle.treefile.specs.declared.body.Kind.TheVariants.{Node, Token}
 use Rattle.backreader.specs.BackState.{IsOver, BackState, Progress}
 use Rattle.backreader.specs.Turning.{most_levels, most_records}
-use Rattle.passrun.specs.Damage.{ComesTo, IsReadable, ShowsAt, Source}
+use Rattle.passrun.specs.Damage.{ComesTo, ExceedsDepth, ExceedsNodes, IsReadable, ShowsAt, Source}
 use Rattle.passrun.specs.declared.reading.old_record.OldRecord.{OldRecord}
 use Rattle.passrun.specs.declared.reading.old_record.OldRecord.TheVariants as old
 use Rattle.passrun.specs.declared.run_fault.RunFault.{RunFault}
@@ -29,7 +29,7 @@ use Rattle.passrun.specs.declared.run_fault.RunFault.TheVariants as fault
 
 -- what an old file is read as: the file of version 1 and pass 0 of a tree
 abbrev pub old_file : Grammar → Source
-old_file g = record { version = version_one; grammar = g; passes = unassigned; pass = 0 }
+old_file g = record { version = version_one; grammar = g; passes = unassigned; pass = 0; depth = most_levels; nodes = most_records }
 
 -- The old content is the file of version 1 and pass 0 of exactly one tree, which is within the limits and has so many nodes; the new
 -- one is that of version 2 of the same tree, where an honest device has it; and the one between is a file with the number 1 of its
@@ -45,11 +45,12 @@ pub record IsUpgraded (g : Grammar) (content between : List ℕ) (honest : Bool)
   pub nodes : count ≡ node_count tree
 
 -- R1: the content is the file of version 1 and pass 0 of no tree, and it shows at the offset. P2: it is that of none of so few
--- levels, however many nodes it has. P3: of none of so few stored nodes, however deep it is. The other refusals say nothing of it.
+-- levels, however many nodes it has, and the way exceeds these before it meets a fault. P3: of none of so few stored nodes, however
+-- deep it is, likewise. The other refusals say nothing of it.
 abbrev pub IsUpgradeFault : Grammar → List ℕ → RunFault → Type 0
 IsUpgradeFault g content (fault.Damaged at) = HasNoFirstTree version_one g content × ShowsAt (old_file g) content at
-IsUpgradeFault g content fault.TooDeep = (nodes : ℕ) → HasNoFirstTreeWithin most_levels nodes version_one g content
-IsUpgradeFault g content fault.TooManyNodes = (levels : ℕ) → HasNoFirstTreeWithin levels most_records version_one g content
+IsUpgradeFault g content fault.TooDeep = ((nodes : ℕ) → HasNoFirstTreeWithin most_levels nodes version_one g content) × ExceedsDepth (old_file g) content
+IsUpgradeFault g content fault.TooManyNodes = ((levels : ℕ) → HasNoFirstTreeWithin levels most_records version_one g content) × ExceedsNodes (old_file g) content
 IsUpgradeFault g content fault.Device = Unit {0}
 IsUpgradeFault g content fault.NoMemory = Unit {0}
 

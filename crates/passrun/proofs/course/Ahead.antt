@@ -1,5 +1,5 @@
 -- What is to come at each step.
-use Rattle.std.proofs.Common.{ℕ, suc, ◌≡◌, ◌<◌, inl, inr, true, List, [], ◌∷◌, ◌++◌, Option, Some, None, Result, Ok, Err, Bor, slice_get, length, refl, ap, ◌∙◌, sym, subst, arith}
+use Rattle.std.proofs.Common.{ℕ, suc, ◌≡◌, ◌<◌, ◌≤◌, true, List, [], ◌∷◌, ◌++◌, Option, Some, None, Result, Ok, Err, Bor, slice_get, length, refl, ap, ◌∙◌, sym, subst, arith}
 use Rattle.ag_value.specs.declared.value.Value.{Value}
 use Rattle.ag_grammar.specs.declared.grammar.Item.{Item}
 use Rattle.ag_grammar.specs.declared.grammar.Item.TheVariants as item
@@ -23,7 +23,6 @@ use Rattle.treefile.proofs.ways.Coming.{all_to_come, next_to_come}
 use Rattle.treefile.proofs.ways.Backward.{damage_is_there, never_no_file}
 use Rattle.treefile.proofs.records.Fitting.{fits_version_two}
 use Rattle.treefile.proofs.records.Spelled.{one_token, same_node}
-use Rattle.treefile.proofs.ways.Way.{way_is_too_long}
 use Rattle.backreader.specs.BackState.{BackState}
 use Rattle.planchecker.specs.courses.Settings.{Setting, arity, place, way}
 use Rattle.planchecker.specs.courses.Sound.{IsSound}
@@ -36,7 +35,7 @@ use Rattle.passrun.specs.reading.Fetching.{IsMissing, IsUnfetched}
 use Rattle.passrun.specs.passing.Places.{Table, copied_passes, copies, in_children}
 use Rattle.passrun.specs.reading.Reading.{AgreeAt, IsNoRecord, IsRead, read_values}
 use Rattle.passrun.proofs.places.Copies.{told_at, told_length}
-use Rattle.passrun.proofs.Damage.{broken, tellable, way_to}
+use Rattle.passrun.proofs.Damage.{broken, tellable, too_deep, too_many}
 use Rattle.passrun.proofs.Recorded.{copies_counted, copies_well, mended, tabled}
 use Rattle.passrun.proofs.places.Slots.{copied_is}
 use Rattle.passrun.proofs.places.Tables.{same_values, text_row}
@@ -137,23 +136,26 @@ module _ (c : Setting) (sound : IsSound c) where
 
   pub unfetched : (x : Item) (copy : Option (List Value)) (open_count : ℕ) (content : List ℕ) (state : BackState) (todo : ToCome) (f : RunFault) → IsReadable (source c) content → (h : ComesTo (source c) content state.progress.at ((suc open_count, (x, copy)) ∷ todo)) → state.progress.records ≡ length h.bodies
       → IsUnfetched c x open_count content state f → IsRunFault c content f
-  unfetched x copy n content state todo (fault.Damaged at) readable h count (same, missing) =
-      subst (IsDamaged (source c) content) (sym same) (broken (source c) (tellable c sound) content state.progress.at readable ((suc n, (x, copy)) ∷ todo, h, missing_breaks x copy (suc n) todo (next_before version_two content state.progress.at) missing))
-  unfetched x copy n content state todo fault.TooDeep readable h count deep = λ nodes. way_is_too_long version_two c.grammar c.passes c.read content state.progress.at (length h.bodies) (suc n) most_depth nodes (x, copy) todo (way_to (source c) (tellable c sound) content state.progress.at ((suc n, (x, copy)) ∷ todo) h) (inl (omega arith))
-  unfetched x copy n content state todo fault.TooManyNodes readable h count many = λ depth. way_is_too_long version_two c.grammar c.passes c.read content state.progress.at (length h.bodies) (suc n) depth most_nodes (x, copy) todo (way_to (source c) (tellable c sound) content state.progress.at ((suc n, (x, copy)) ∷ todo) h) (inr (omega arith))
+  unfetched x copy n content state todo (fault.Damaged at) readable h count (same, missing, deep, few) =
+      subst (IsDamaged (source c) content) (sym same) (broken (source c) (tellable c sound) content state.progress.at readable ((suc n, (x, copy)) ∷ todo, h, (omega arith, omega arith), missing_breaks x copy (suc n) todo (next_before version_two content state.progress.at) missing))
+  unfetched x copy n content state todo fault.TooDeep readable h count deep =
+      too_deep (source c) (tellable c sound) content (record { readable = readable; at = state.progress.at; level = suc n; next = (x, copy); others = todo; way = h; deep = omega arith })
+  unfetched x copy n content state todo fault.TooManyNodes readable h count (many, deep) =
+      let most = h.few in
+      too_many (source c) (tellable c sound) content (record { readable = readable; at = state.progress.at; level = suc n; next = (x, copy); others = todo; way = h; within = omega arith; full = omega arith })
   unfetched x copy n content state todo fault.Device readable h count u = tt
   unfetched x copy n content state todo fault.NoMemory readable h count u = tt
 
   -- a record that was read and does not agree breaks the way
   pub disagreed : (x : Item) (p level : ℕ) (content body : List ℕ) (at : ℕ) (todo : ToCome) (old new : List Value) (h : IsRead c x p body old new) (f : ℕ → Value) → (AgreeAt c x f (read_values c x p body old new h) → ⊥) → IsReadable (source c) content
-      → ComesTo (source c) content at ((level, (x, Some (values_up_to c.read (copied_passes c x) f))) ∷ todo) → next_before version_two content at ≡ Ok (Some body) → IsDamaged (source c) content at
-  disagreed x p level content body at todo old new h f apart readable here found =
+      → (here : ComesTo (source c) content at ((level, (x, Some (values_up_to c.read (copied_passes c x) f))) ∷ todo)) → level ≤ most_depth → length here.bodies < most_nodes → next_before version_two content at ≡ Ok (Some body) → IsDamaged (source c) content at
+  disagreed x p level content body at todo old new h f apart readable here deep few found =
       let first : ToCome = (level, (x, Some (values_up_to c.read (copied_passes c x) f))) ∷ todo in
-      broken (source c) (tellable c sound) content at readable (first, here, subst (awaited.Breaks version_two c.grammar c.passes c.read first) (sym found) (differs x p body old new h f apart))
+      broken (source c) (tellable c sound) content at readable (first, here, (deep, few), subst (awaited.Breaks version_two c.grammar c.passes c.read first) (sym found) (differs x p body old new h f apart))
 
 -- no frame is found
-pub frame_unfetched : (c : Setting) (x : Item) (open_count : ℕ) (content : List ℕ) (state : BackState) (view : Option (Bor (List ℕ)) → Option (List ℕ)) (f : FrameFault) → Told view (Err f) (next_before version_two content state.progress.at) → IsUnfetched c x open_count content state (run_fault_of_frame f)
-frame_unfetched c x n content state view frame_fault.NotATreeFile told = absurd (never_no_file version_two content state.progress.at told)
-frame_unfetched c x n content state view (frame_fault.Damaged at) told = (damage_is_there version_two content state.progress.at at told, subst (IsMissing c x) (sym told) tt)
-frame_unfetched c x n content state view frame_fault.Device told = tt
-frame_unfetched c x n content state view frame_fault.NoMemory told = tt
+pub frame_unfetched : (c : Setting) (x : Item) (open_count : ℕ) (content : List ℕ) (state : BackState) (view : Option (Bor (List ℕ)) → Option (List ℕ)) (f : FrameFault) → open_count < most_depth → state.progress.records < most_nodes → Told view (Err f) (next_before version_two content state.progress.at) → IsUnfetched c x open_count content state (run_fault_of_frame f)
+frame_unfetched c x n content state view frame_fault.NotATreeFile deep few told = absurd (never_no_file version_two content state.progress.at told)
+frame_unfetched c x n content state view (frame_fault.Damaged at) deep few told = (damage_is_there version_two content state.progress.at at told, subst (IsMissing c x) (sym told) tt, deep, few)
+frame_unfetched c x n content state view frame_fault.Device deep few told = tt
+frame_unfetched c x n content state view frame_fault.NoMemory deep few told = tt

@@ -103,7 +103,7 @@ module _ (c : Setting) (sound : IsSound c) where
           whole = ap (λ w. w.is_broken) begun;
           well = subst (All IsWell) (sym (t.row ∙ ap (λ vs. vs ++ (own ++ kept)) none)) (All-append IsWell own kept (values_well c.write (c.passes start) f (λ a p is le. t.well a)) (copies_well c c.write (stored_items q.items) t.table t.table_well));
           readable = λ z. let w = sym same ∙ z in subst (IsReadable (source c)) (sym (leaves w)) (readable w);
-          ahead = (children, is_record c (item.Symbol start) p h.body old.items values.items t None tt, sym come);
+          ahead = (children, omega arith, is_record c (item.Symbol start) p h.body old.items values.items t None tt, sym come);
         }));
         begun = omega arith;
         low = omega arith;

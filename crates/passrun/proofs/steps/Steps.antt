@@ -145,7 +145,7 @@ module _ (c : Setting) (sound : IsSound c) where
       let next_todo = before_others (other (direction_of c.read)) (suc (suc level)) ys rest in
       record {
         next = next_todo;
-        records = λ here. leaves_on (source c) (other (direction_of c.read)) t.read body (suc level) (item.Symbol s', Some copy) ys (root_to_come c.grammar) rest (subst (AreRecords (source c) t.read) first here) (is_record c (item.Symbol s') p body values new read (Some copy) (sym agree'));
+        records = λ here. leaves_on (source c) (other (direction_of c.read)) t.read body (suc level) (item.Symbol s', Some copy) ys (root_to_come c.grammar) rest (subst (AreRecords (source c) t.read) first here) (omega arith) (is_record c (item.Symbol s') p body values new read (Some copy) (sym agree'));
         opens = record {
           production = q;
           i = o.i;
@@ -211,7 +211,7 @@ module _ (c : Setting) (sound : IsSound c) where
       let first : todo ≡ (suc level, (x', Some copy)) ∷ rest = o.todo_is ∙ behind_next c q o.table o.i (suc level) others x' next.0 stands in
       record {
         next = rest;
-        records = λ here. leaves_on (source c) (other (direction_of c.read)) t.read body (suc level) (x', Some copy) [] (root_to_come c.grammar) rest (subst (AreRecords (source c) t.read) first here) (is_record c x' d body values new (refl, read) (Some copy) (sym agree'));
+        records = λ here. leaves_on (source c) (other (direction_of c.read)) t.read body (suc level) (x', Some copy) [] (root_to_come c.grammar) rest (subst (AreRecords (source c) t.read) first here) (omega arith) (is_record c x' d body values new (refl, read) (Some copy) (sym agree'));
         opens = record {
           production = q;
           i = o.i;

@@ -2,16 +2,14 @@
 use Rattle.std.specs.Prelude.{ℕ, suc, Bool, true, false, List, [], ◌∷◌, Option, Some, None, slice_get}
 use Rattle.ag_grammar.specs.declared.grammar.Production.{Production}
 use Rattle.ag_grammar.specs.grammars.AttributeGrammar.{stored_items}
-use Rattle.ag_grammar.specs.grammars.Tree.{most_depth, most_nodes}
-use Rattle.treefile.specs.records.TreeFile.{version_two}
-use Rattle.treefile.specs.ways.Awaited.{Child, HasNoTreeWithin, ToCome, before_others, told, unvisited}
+use Rattle.treefile.specs.ways.Awaited.{Child, ToCome, before_others, told, unvisited}
 use Rattle.passcode.specs.declared.instr.Instr.{Instr}
 use Rattle.passcode.specs.declared.instr.Instr.TheVariants as instr
 use Rattle.planchecker.specs.courses.Course.{Phase, Between, Got, Gone}
 use Rattle.planchecker.specs.courses.Settings.{Setting, way}
 use Rattle.passrun.specs.declared.run_fault.RunFault.{RunFault}
 use Rattle.passrun.specs.declared.run_fault.RunFault.TheVariants as fault
-use Rattle.passrun.specs.Damage.{IsDamaged, source}
+use Rattle.passrun.specs.Damage.{HasTooManyNodes, IsDamaged, IsTooDeep, source}
 use Rattle.passrun.specs.passing.Places.{Table, copies, in_children}
 
 -- behind rules that are run the pass goes into a child: its record was read, and the pass wasn't in it yet
@@ -43,12 +41,12 @@ coming c q Between i child e of_child level others = behind c q e i level others
 coming c q Got i child e of_child level others = of_node c (slice_get c.grammar.productions child) of_child (suc level) (behind c q e (suc i) level others)
 coming c q Gone i child e of_child level others = behind c q e (suc i) level others
 
--- R1: the content is the file of no tree, and it shows at the offset. P2: it is that of none of so few levels, however many nodes
--- it has. P3: of none of so few stored nodes, however deep it is. The other refusals say nothing of it.
+-- R1: the content is the file of no tree, and it shows at the offset. P2: it is that of none of so few levels, and the way exceeds
+-- these before it meets a fault. P3: of none of so few stored nodes, likewise. The other refusals say nothing of it.
 abbrev pub IsRunFault : Setting → List ℕ → RunFault → Type 0
 IsRunFault c content (fault.Damaged at) = IsDamaged (source c) content at
-IsRunFault c content fault.TooDeep = (nodes : ℕ) → HasNoTreeWithin most_depth nodes version_two c.grammar c.passes c.read content
-IsRunFault c content fault.TooManyNodes = (depth : ℕ) → HasNoTreeWithin depth most_nodes version_two c.grammar c.passes c.read content
+IsRunFault c content fault.TooDeep = IsTooDeep (source c) content
+IsRunFault c content fault.TooManyNodes = HasTooManyNodes (source c) content
 IsRunFault c content fault.Device = Unit {0}
 IsRunFault c content fault.NoMemory = Unit {0}
 

@@ -29,10 +29,11 @@ IsMissing c x (Err frame_fault) = Unit {0}
 IsMissing c x (Ok None) = Unit {0}
 IsMissing c x (Ok (Some body)) = IsNoRecord c x body
 
--- Why no record of an item was read: none ends where the reader has come to, or it would be too deep, or one too many.
+-- Why no record of an item was read: it would be too deep; or one too many, and not too deep; or neither, and none ends where the
+-- reader has come to.
 abbrev pub IsUnfetched : Setting → Item → ℕ → List ℕ → BackState → RunFault → Type 0
-IsUnfetched c x open_count content old (fault.Damaged at) = (at ≡ old.progress.at) × IsMissing c x (next_before version_two content old.progress.at)
+IsUnfetched c x open_count content old (fault.Damaged at) = (at ≡ old.progress.at) × IsMissing c x (next_before version_two content old.progress.at) × (open_count < most_depth) × (old.progress.records < most_nodes)
 IsUnfetched c x open_count content old fault.TooDeep = most_depth ≤ open_count
-IsUnfetched c x open_count content old fault.TooManyNodes = most_nodes ≤ old.progress.records
+IsUnfetched c x open_count content old fault.TooManyNodes = (most_nodes ≤ old.progress.records) × (open_count < most_depth)
 IsUnfetched c x open_count content old fault.Device = Unit {0}
 IsUnfetched c x open_count content old fault.NoMemory = Unit {0}

@@ -1,4 +1,4 @@
-use Rattle.passrun.proofs.WorkedDamage.{empty, header_alone, other_pass, q_alone}
+use Rattle.passrun.proofs.WorkedDamage.{empty, header_alone, other_pass, q_alone, root_deep, root_many}
 use Rattle.passrun.proofs.laws.worked_damage.Goals as goal
 
 pub returns : goal.returns
@@ -7,4 +7,6 @@ returns c = record {
   other_pass = other_pass;
   header = header_alone;
   wrong = q_alone;
+  deep = root_deep;
+  many = root_many;
 }

@@ -33,7 +33,7 @@ pub returns-in-Token-clause-brought : goal.returns-in-Token-clause-brought
 returns-in-Token-clause-brought g t c honest =
     let h = subst (HasTaken c.args.grammar.now c.args.item c.args.level (g.D.Device.is_honest c.record.new.from) (g.D.Device.content c.args.from.now) c.args.self.now.back c.record.new.self.back) c.in-Token.is c.in_ok-production.ensures.taken in
     token_brought c.args.grammar.now c.requires.accepted (g.D.Device.content c.args.from.now) c.args.item c.args.level c.in-Token.class c.in-Token.text c.args.self.now.back.progress c.record.new.self.back.progress (g.E.Device.is_honest c.put_record.new.to) (g.E.Device.content c.args.to.now) (g.E.Device.content c.put_record.new.to)
-    (c.if-not-has_place.ensures []) h.is h.deep (h.found honest) (ap (λ (p : Progress). p.at) h.progress) (ap (λ (p : Progress). p.records) h.progress) (λ h. c.in_ok-put_record-in-Token.ensures.put.there h ∙ ap (λ vs. g.E.Device.content c.args.to.now ++ frame (body_of Token c.in-Token.class vs)) c.from_ref.ensures.value)
+    (c.if-not-has_place.ensures []) h.is h.deep h.few (h.found honest) (ap (λ (p : Progress). p.at) h.progress) (ap (λ (p : Progress). p.records) h.progress) (λ h. c.in_ok-put_record-in-Token.ensures.put.there h ∙ ap (λ vs. g.E.Device.content c.args.to.now ++ frame (body_of Token c.in-Token.class vs)) c.from_ref.ensures.value)
 
 -- a node
 pub bounds-productions-production : goal.bounds-productions-production
@@ -83,7 +83,7 @@ returns-in_err-text-clause-refused g t c =
     let is = c.in_err-text.ensures.devices.first.honest honest in
     let refused = subst (λ (bytes : List ℕ). IsUnbrought grammar bytes (get_or items (c.loop-at.at - 1) (item.Symbol 0) ∷ []) (c.args.level + 1) now f) (so_far.content is) (c.in_err-text.ensures.refused honest) in
     next_refused grammar c.requires.accepted content c.args.item c.in-Node.production items c.loop-at.at c.args.level (item.Symbol 0) c.args.self.now.back.progress c.record.new.self.back.progress now h.is (g.E.Device.is_honest c.loop-at.to) (g.E.Device.content c.args.to.now) (g.E.Device.content c.loop-at.to) c.loop-at.texts.items f
-    (c.if-not-has_place.ensures []) (h.found (so_far.since is)) (ap (λ (p : Progress). p.at) h.progress) (ap (λ (p : Progress). p.records) h.progress)
+    (c.if-not-has_place.ensures []) h.deep h.few (h.found (so_far.since is)) (ap (λ (p : Progress). p.at) h.progress) (ap (λ (p : Progress). p.records) h.progress)
     (items_are grammar c.in-Node.production c.productions.result.now c.index-productions-production.result items c.productions.ensures.lent c.as_slice-items.ensures)
     c.loop-at-test.true c.loop-at.auto.at (so_far.brought is) (subst (λ n. IsUnbrought grammar content (get_or items (c.loop-at.at - 1) (item.Symbol 0) ∷ []) n now f) level refused))
 
@@ -155,7 +155,7 @@ returns-clause-brought g t c honest =
     let whole = subst (λ n. Brought grammar content (take n items) (drop n items) (suc c.args.level) c.record.new.self.back.progress c.loop-at.self.back.progress to (g.E.Device.content c.args.to.now) out_between texts.items) none
     (brought_supposed grammar c.requires.accepted content _ _ _ _ c.loop-at.self.back.progress to (g.E.Device.is_honest c.loop-at.to) (g.E.Device.content c.args.to.now) out_between texts.items c.in_ok-put_record.ensures.persists.honest (so_far.brought honest)) in
     node_brought grammar c.requires.accepted content c.args.item c.args.level c.in-Node.production c.args.self.now.back.progress c.record.new.self.back.progress c.loop-at.self.back.progress to (g.E.Device.content c.args.to.now) out_between out_now texts.items
-    (c.if-not-has_place.ensures []) h.is h.deep (h.found (so_far.since honest)) (ap (λ (p : Progress). p.at) h.progress) (ap (λ (p : Progress). p.records) h.progress) items
+    (c.if-not-has_place.ensures []) h.is h.deep h.few (h.found (so_far.since honest)) (ap (λ (p : Progress). p.at) h.progress) (ap (λ (p : Progress). p.records) h.progress) items
     (items_are grammar c.in-Node.production c.productions.result.now c.index-productions-production.result items c.productions.ensures.lent c.as_slice-items.ensures)
     whole (λ is. c.in_ok-put_record.ensures.put.there is ∙ ap (λ vs. out_between ++ frame (body_of Node c.in-Node.production vs)) same)
 

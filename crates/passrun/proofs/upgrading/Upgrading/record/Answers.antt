@@ -10,19 +10,19 @@ returns-then-level-gt-MOST_LEVELS-clause-refused g c honest =
 
 pub returns-then-records-ge-MOST_RECORDS-clause-refused : goal.returns-then-records-ge-MOST_RECORDS-clause-refused
 returns-then-records-ge-MOST_RECORDS-clause-refused g c honest =
-    one_too_many c.args.grammar.now c.requires.accepted (g.D.Device.content c.args.from.now) c.args.item c.args.level c.args.self.now.back.progress c.requires.place (omega (arith, c.if-records-ge-MOST_RECORDS.true, c.records.ensures))
+    one_too_many c.args.grammar.now c.requires.accepted (g.D.Device.content c.args.from.now) c.args.item c.args.level c.args.self.now.back.progress c.requires.place (omega (arith, c.if-level-gt-MOST_LEVELS.false)) (omega (arith, c.if-records-ge-MOST_RECORDS.true, c.records.ensures))
 
 pub returns-in_err-body-clause-refused : goal.returns-in_err-body-clause-refused
 returns-in_err-body-clause-refused g c =
     let p = err_from_is_err_and c.from_residual.result c.from_residual.ensures.1 in
-    rw (p.1, p.2) (λ honest. one_fault c.args.grammar.now c.requires.accepted (g.D.Device.content c.args.from.now) c.args.item c.args.level c.args.self.now.back.progress c.requires.place (option_map (λ (body : Bor (List ℕ)). body.now)) c.in_err-body.field-0.0 (rw c.requires.ready.version at (c.in_err-body.ensures.told c.requires.ready.unbroken honest)))
+    rw (p.1, p.2) (λ honest. one_fault c.args.grammar.now c.requires.accepted (g.D.Device.content c.args.from.now) c.args.item c.args.level c.args.self.now.back.progress c.requires.place (omega (arith, c.if-level-gt-MOST_LEVELS.false)) (omega (arith, c.if-records-ge-MOST_RECORDS.false, c.records.ensures)) (option_map (λ (body : Bor (List ℕ)). body.now)) c.in_err-body.field-0.0 (rw c.requires.ready.version at (c.in_err-body.ensures.told c.requires.ready.unbroken honest)))
 
 pub returns-in_default-clause-refused : goal.returns-in_default-clause-refused
 returns-in_default-clause-refused g c honest =
     let told = rw (c.in_default.is, c.requires.ready.version) at (c.in_ok-body.ensures.told c.requires.ready.unbroken honest) in
-    one_missing c.args.grammar.now c.requires.accepted (g.D.Device.content c.args.from.now) c.args.item c.args.level c.args.self.now.back.progress c.requires.place c.end-end.result c.end-end.ensures told
+    one_missing c.args.grammar.now c.requires.accepted (g.D.Device.content c.args.from.now) c.args.item c.args.level c.args.self.now.back.progress c.requires.place (omega (arith, c.if-level-gt-MOST_LEVELS.false)) (omega (arith, c.if-records-ge-MOST_RECORDS.false, c.records.ensures)) c.end-end.result c.end-end.ensures told
 
 pub returns-in-Err-Damaged-clause-refused : goal.returns-in-Err-Damaged-clause-refused
 returns-in-Err-Damaged-clause-refused g c honest =
     let told = rw (c.in-Some.is, c.requires.ready.version) at (c.in_ok-body.ensures.told c.requires.ready.unbroken honest) in
-    one_wrong c.args.grammar.now c.requires.accepted (g.D.Device.content c.args.from.now) c.args.item c.args.level c.args.self.now.back.progress c.requires.place c.end-end.result c.in-Some.body.now c.end-end.ensures told (c.in-Err-Damaged.ensures.none (ap Err c.in-Err-Damaged.field-0-is))
+    one_wrong c.args.grammar.now c.requires.accepted (g.D.Device.content c.args.from.now) c.args.item c.args.level c.args.self.now.back.progress c.requires.place (omega (arith, c.if-level-gt-MOST_LEVELS.false)) (omega (arith, c.if-records-ge-MOST_RECORDS.false, c.records.ensures)) c.end-end.result c.in-Some.body.now c.end-end.ensures told (c.in-Err-Damaged.ensures.none (ap Err c.in-Err-Damaged.field-0-is))

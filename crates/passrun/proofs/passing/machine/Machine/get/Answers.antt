@@ -58,7 +58,7 @@ returns-then-not-is_as_told-clause-refused g c = λ honest.
     let copied = c.args.node.base + row.start in
     let start : c.len-start.result ≡ length m.values.items = omega (arith, m.values.ok.0) in
     subst (IsDamaged (source job) content) (sym c.end-end.ensures) (get_differs job c.requires.job.sound (g.D.Device.is_honest c.fetch.new.from) content m c.args.node c.args.place c.in_ok-number.number (c.len-open_count.result + 1) row c.fetch.new.back read (drop copied vs) (drop c.len-start.result vs) copied c.len-start.result c.is_as_told.result
-    (from_supposed job (g.D.Device.is_honest c.args.from.now) (g.D.Device.is_honest c.fetch.new.from) content m (Some c.args.node) c.in_ok-number.ensures.persists.honest c.requires.runs) c.requires.next c.in-Some.ensures c.in_ok-number.ensures.fetched c.is_as_told.ensures (λ yes. let z = sym c.if-not-is_as_told.true ∙ yes in cc) (ap (drop copied) c.as_slice.ensures.value) (ap (drop c.len-start.result) c.as_slice.ensures.value) refl start honest)
+    (from_supposed job (g.D.Device.is_honest c.args.from.now) (g.D.Device.is_honest c.fetch.new.from) content m (Some c.args.node) c.in_ok-number.ensures.persists.honest c.requires.runs) c.requires.next c.in-Some.ensures (omega (arith, m.waiting.ok.0)) c.in_ok-number.ensures.fetched c.is_as_told.ensures (λ yes. let z = sym c.if-not-is_as_told.true ∙ yes in cc) (ap (drop copied) c.as_slice.ensures.value) (ap (drop c.len-start.result) c.as_slice.ensures.value) refl start honest)
 
 pub returns-clause-runs : goal.returns-clause-runs
 returns-clause-runs g c =
