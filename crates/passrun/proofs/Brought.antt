@@ -166,7 +166,6 @@ module _ (g : Grammar) (accepted : IsAccepted g) where
     one_too_many deep many others is = goes_too_far content progress level (x, None) others (here others is) deep many
 
   module _ (content : List ℕ) (x : Item) (level : ℕ) (progress : Progress) (stored : stored_items (x ∷ []) ≡ x ∷ []) (deep : level ≤ most_levels) (less : progress.records < most_records) where
-
     -- what ends there breaks the way
     pub one_breaks : (at : ℕ) → at ≡ progress.at → ((others : ToCome) → Breaks version_one g unassigned 0 ((level, (x, None)) ∷ others) (next_before version_one content progress.at)) → IsUnbrought g content (x ∷ []) level progress (fault.Damaged at)
     one_breaks at same so others is = subst (λ n. IsUpgradeFault g content (fault.Damaged n)) (sym same) (breaks_at content progress ((level, (x, None)) ∷ others) (here content x level progress stored others is) (deep, less) (so others))
