@@ -16,7 +16,7 @@ use aggen::{
 };
 use agoutput::{nodes_line, write_text};
 use command::{Paths, Request, UpgradePaths, request_of};
-use messages::Report;
+use messages::{Report, Source};
 use std::alloc::{AllocError, Global};
 use std::process::ExitCode;
 use std::rt::{Env, Files};
@@ -131,7 +131,7 @@ fn print_of<R: Files + Print>(rt: &R, alloc: Global, path: &str, part: Part) -> 
     };
     match printed {
         Ok(()) => Ok(()),
-        Err(fault) => Err(Report::of_grammar(alloc, fault, text)),
+        Err(fault) => Err(Report::of_grammar(alloc, fault, Source::new(path, text))),
     }
 }
 
@@ -146,7 +146,10 @@ fn parse_file<R: Files + Print>(rt: &R, alloc: Global, paths: &Paths<'_>) -> Res
         Err(fault @ (Fault::File | Fault::Device)) => Err(Report::of_file(
             alloc, fault, paths.tree,
         )),
-        Err(fault) => Err(Report::of_sentence(alloc, fault, &translator, sentence)),
+        Err(fault) => {
+            let sentence = Source::new(paths.sentence, sentence);
+            Err(Report::of_sentence(alloc, fault, &translator, sentence))
+        }
     }
 }
 

@@ -6,7 +6,6 @@ use crate::grammars::sites::{
     Occurs, Site, Stored, attribute_named, has_production, named_at, site_at, stored_at,
     symbol_named, symbol_with,
 };
-use crate::position::Position;
 use crate::report::{Spot, Words};
 use crate::shown::NAMED;
 use ag_grammar::{Named, RawGrammar, RawProduction, RawSymbol};
@@ -63,7 +62,7 @@ pub fn tell_normal(
             match raw.productions.as_slice().get(*production) {
                 Some(production) => {
                     let name = attribute_at(raw, production, *place, *attr);
-                    tell_missing(words, again.text, production, *place, name)
+                    tell_missing(words, production, *place, name)
                 }
                 None => Ok(()),
             }
@@ -221,16 +220,14 @@ fn attribute_at<'a>(
 /// N6: the rule that is missing, as it would be written.
 fn tell_missing(
     words: &mut Words,
-    text: &str,
     production: &RawProduction,
     place: usize,
     name: &str,
 ) -> Result<(), AllocError> {
-    let line = Position::of(text, production.left.at).line;
     let left = production.left.name.as_str();
     write!(
         words.found,
-        "`${place}.{name} = ..;` is missing in the production of {left} in line {line}"
+        "`${place}.{name} = ..;` is missing in this production of `{left}`"
     )
 }
 
