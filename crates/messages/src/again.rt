@@ -11,7 +11,8 @@ use std::alloc::Global;
 /// A grammar's text that is read again.
 #[derive(Drop)]
 pub struct Again<'a> {
-    alloc: Global,
+    /// Where memory for reading it comes from.
+    pub alloc: Global,
     /// The text, and its file.
     pub source: Source<'a>,
     /// The longest prefix of it that is UTF-8.
