@@ -16,7 +16,7 @@ use aggen::{
 };
 use aggen_files::{parse_to_file, upgrade_file};
 use command::{Paths, Request, UpgradePaths, request_of};
-use messages::Report;
+use messages::{Report, Source};
 use noted_file::Record;
 use std::alloc::{AllocError, Global};
 use std::process::ExitCode;
@@ -132,7 +132,7 @@ fn print_of<R: Files + Print>(rt: &R, alloc: Global, path: &str, part: Part) -> 
     };
     match printed {
         Ok(()) => Ok(()),
-        Err(fault) => Err(Report::of_grammar(alloc, fault, text)),
+        Err(fault) => Err(Report::of_grammar(alloc, fault, Source::new(path, text))),
     }
 }
 
@@ -147,7 +147,10 @@ fn parse_file<R: Files + Print>(rt: &R, alloc: Global, paths: &Paths<'_>) -> Res
         Err(fault @ (Fault::File | Fault::Device)) => Err(Report::of_file(
             alloc, fault, paths.tree,
         )),
-        Err(fault) => Err(Report::of_sentence(alloc, fault, &translator, sentence)),
+        Err(fault) => {
+            let sentence = Source::new(paths.sentence, sentence);
+            Err(Report::of_sentence(alloc, fault, &translator, sentence))
+        }
     }
 }
 

@@ -4,7 +4,7 @@ use crate::command::{EvalPaths, RunPaths};
 use ag_job::Job;
 use aggen::{Fault, Translator, source_of};
 use aggen_files::WorkFiles;
-use messages::Report;
+use messages::{Report, Source};
 use noted_file::Record;
 use std::alloc::Global;
 use std::io;
@@ -19,10 +19,11 @@ pub fn run_files<R: Files + Print>(
     paths: &RunPaths<'_>,
 ) -> Result<(), Report> {
     let translator = translator_in(rt, alloc, paths.grammar)?;
-    let sentence = sentence_in(rt, alloc, paths.sentence)?;
+    let bytes = sentence_in(rt, alloc, paths.sentence)?;
+    let sentence = Source::new(paths.sentence, bytes.as_slice());
     match paths.work {
-        Some(folder) => run_in_folder(rt, alloc, &translator, sentence.as_slice(), folder),
-        None => run_in_memory(rt, alloc, &translator, sentence.as_slice()),
+        Some(folder) => run_in_folder(rt, alloc, &translator, sentence, folder),
+        None => run_in_memory(rt, alloc, &translator, sentence),
     }
 }
 
@@ -32,8 +33,9 @@ pub fn run_input<R: Input + Print>(rt: &R, alloc: Global) -> Result<(), Report> 
         Ok(job) => job,
         Err(fault) => return Err(Report::new(alloc, Fault::from(fault))),
     };
-    let translator = translator_of(alloc, job.grammar())?;
-    run_in_memory(rt, alloc, &translator, job.sentence())
+    let (grammar, sentence) = Source::of_job(job.grammar(), job.sentence());
+    let translator = translator_of(alloc, grammar)?;
+    run_in_memory(rt, alloc, &translator, sentence)
 }
 
 /// Translates the tree in a tree file, which stays as it is, and prints the translation. The grammar
@@ -58,7 +60,7 @@ pub fn evaluate_file<R: Files + Print>(
 /// The translator of the grammar in a file.
 pub fn translator_in<R: Files>(rt: &R, alloc: Global, path: &str) -> Result<Translator, Report> {
     match source_of(rt, alloc, path) {
-        Ok(bytes) => translator_of(alloc, bytes.as_slice()),
+        Ok(bytes) => translator_of(alloc, Source::new(path, bytes.as_slice())),
         Err(fault) => Err(Report::of_file(alloc, fault, path)),
     }
 }
@@ -72,10 +74,10 @@ pub fn sentence_in<R: Files>(rt: &R, alloc: Global, path: &str) -> Result<Vec<u8
 }
 
 /// The translator of a grammar's text.
-fn translator_of(alloc: Global, text: &[u8]) -> Result<Translator, Report> {
-    match Translator::build(alloc, text) {
+fn translator_of(alloc: Global, grammar: Source<'_>) -> Result<Translator, Report> {
+    match Translator::build(alloc, grammar.bytes) {
         Ok(translator) => Ok(translator),
-        Err(fault) => Err(Report::of_grammar(alloc, Fault::from(fault), text)),
+        Err(fault) => Err(Report::of_grammar(alloc, Fault::from(fault), grammar)),
     }
 }
 
@@ -84,12 +86,12 @@ fn run_in_memory<R: Print>(
     rt: &R,
     alloc: Global,
     translator: &Translator,
-    sentence: &[u8],
+    sentence: Source<'_>,
 ) -> Result<(), Report> {
     let mut a = MemDevice::new(alloc);
     let mut b = MemDevice::new(alloc);
     let mut out = io::writer(rt);
-    match translator.translate(sentence, &mut a, &mut b, &mut out) {
+    match translator.translate(sentence.bytes, &mut a, &mut b, &mut out) {
         Ok(_) => Ok(()),
         Err(fault) => Err(Report::of_sentence(alloc, fault, translator, sentence)),
     }
@@ -100,10 +102,10 @@ fn run_in_folder<R: Files + Print>(
     rt: &R,
     alloc: Global,
     translator: &Translator,
-    sentence: &[u8],
+    sentence: Source<'_>,
     folder: &str,
 ) -> Result<(), Report> {
-    match translate_in(rt, alloc, translator, sentence, folder) {
+    match translate_in(rt, alloc, translator, sentence.bytes, folder) {
         Ok(()) => Ok(()),
         Err(fault @ (Fault::File | Fault::Device)) => Err(Report::of_file(alloc, fault, folder)),
         Err(fault) => Err(Report::of_sentence(alloc, fault, translator, sentence)),

@@ -19,5 +19,5 @@ mod shown;
 mod terminals;
 mod trees;
 
-pub use position::Position;
+pub use position::{Position, Source};
 pub use report::{Report, Spot, Words};

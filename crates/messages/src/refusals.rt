@@ -8,9 +8,10 @@ use crate::grammars::conflicts::{spot_of_conflict, tell_conflict};
 use crate::grammars::normal::{spot_in_grammar, tell_normal};
 use crate::grammars::stuck::tell_stuck;
 use crate::grammars::texts::{spot_in_text, tell_text};
+use crate::position::Source;
 use crate::report::{Report, Spot, Words};
 use crate::sentences::cutting::{spot_of_token, tell_scan};
-use crate::sentences::parsing::{spot_in_sentence, tell_parse};
+use crate::sentences::parsing::{Parsed, spot_in_sentence, tell_parse};
 use crate::shown::Found;
 use crate::trees::damage::{Kept, spot_in_tree, tell_tree};
 use ag_value::{Value, show};
@@ -43,33 +44,35 @@ impl Report {
         report.once(told)
     }
 
-    /// Of the text of a grammar with these bytes, which is read again.
-    pub fn of_grammar(alloc: Global, number: Fault, bytes: &[u8]) -> Report {
-        let again = Again::of(alloc, bytes);
-        let mut report = Report::new(alloc, number);
-        report.spot = spot_of_grammar(&report.number, &again);
+    /// Of the text of a grammar, which is read again.
+    pub fn of_grammar(alloc: Global, number: Fault, source: Source<'_>) -> Report {
+        let again = Again::of(alloc, source);
+        let spot = spot_of_grammar(&number, &again);
+        let mut report = Report::new(alloc, number).placed(alloc, spot, source.name);
         let told = tell_grammar(alloc, &mut report.words, &report.number, &again);
         report.once(told)
     }
 
-    /// Of the sentence with these bytes, which is cut again, or of its translation.
+    /// Of a sentence, which is cut again, or of its translation.
     pub fn of_sentence(
         alloc: Global,
         number: Fault,
         translator: &Translator,
-        sentence: &[u8],
+        sentence: Source<'_>,
     ) -> Report {
-        let mut report = Report::new(alloc, number);
+        let spot = spot_of_sentence(&number, &sentence);
+        let mut report = Report::new(alloc, number).placed(alloc, spot, sentence.name);
         let words = &mut report.words;
         let grammar = translator.grammar();
         let told = match &report.number {
-            Fault::Scan(fault) => {
-                report.spot = spot_of_token(*fault, sentence);
-                tell_scan(words, *fault, grammar, sentence)
-            }
+            Fault::Scan(fault) => tell_scan(words, *fault, grammar, &sentence),
             Fault::Parse(fault) => {
-                report.spot = spot_in_sentence(*fault, sentence);
-                tell_parse(alloc, words, *fault, grammar, translator.tables(), sentence)
+                let parsed = Parsed {
+                    grammar,
+                    tables: translator.tables(),
+                    sentence,
+                };
+                tell_parse(alloc, words, *fault, &parsed)
             }
             Fault::NoText(value) => tell_value(alloc, words, value),
             _ => Ok(()),
@@ -152,6 +155,15 @@ fn spot_of_grammar(number: &Fault, again: &Again<'_>) -> Spot {
         Fault::Text(fault) => spot_in_text(*fault, again),
         Fault::Normal(fault) => spot_in_grammar(fault, again),
         Fault::Table(fault) => spot_of_conflict(*fault, again),
+        _ => Spot::Told,
+    }
+}
+
+/// Where a sentence is refused.
+fn spot_of_sentence(number: &Fault, sentence: &Source<'_>) -> Spot {
+    match number {
+        Fault::Scan(fault) => spot_of_token(*fault, sentence),
+        Fault::Parse(fault) => spot_in_sentence(*fault, sentence),
         _ => Spot::Told,
     }
 }

@@ -13,7 +13,7 @@ pub enum Spot {
     Whole,
     /// Where the number is followed by it, as by an offset or by names.
     Told,
-    /// At a line and a column too.
+    /// At a line and a column too, of the report's file where it has one.
     At(Position),
 }
 
@@ -35,7 +35,7 @@ pub struct Report {
     pub number: Fault,
     /// Where it is.
     pub spot: Spot,
-    /// The name of the file that it is of, where it is of one.
+    /// The name of the file that the position is in, or that the refusal is about.
     pub file: Option<String>,
     /// What is told of it.
     pub words: Words,
@@ -56,10 +56,21 @@ impl Report {
         }
     }
 
-    /// The report of a file of this name. Takes memory; where that is refused, the name is left out.
+    /// Returns the report with the name of its file. Takes memory; if that is refused, the name is left
+    /// out.
     pub fn named(mut self, alloc: Global, path: &str) -> Report {
         self.file = Plain(path).to_string(alloc).ok();
         self
+    }
+
+    /// Returns the report with where it is in a text, and if that is a position, with the name of the
+    /// file. Takes memory; if that is refused, the name is left out.
+    pub fn placed(mut self, alloc: Global, spot: Spot, name: &str) -> Report {
+        self.spot = spot;
+        match spot {
+            Spot::At(_) => self.named(alloc, name),
+            Spot::Whole | Spot::Told => self,
+        }
     }
 
     /// The report, once its words are written: none of them where memory for that was refused.
@@ -73,22 +84,37 @@ impl Report {
     }
 }
 
-/// `N8 at 95 (line 4, column 47): ..`: the number, the position, and behind a colon what was found, what
-/// could stand there and what helps, with commas between, and the file. Behind a number that stands alone
-/// is no colon.
+/// Prints `N8 at 95 (grammar.ag:4:47): ..`: the number, the place, and after a colon what was found, what
+/// could stand there and what helps, with commas between. A report without a position ends with its file,
+/// if it has one. After a number that stands alone there is no colon.
 impl fmt::Display for Report {
     fn fmt<W: fmt::Write>(&self, f: &mut fmt::Formatter<W>) -> fmt::Result {
         write!(f, "{}", self.number)?;
         if let Spot::At(position) = self.spot {
-            write!(f, " {position}")?;
+            self.print_place(f, position)?;
         }
         let first = if self.spot == Spot::Whole { " " } else { ": " };
         let joint = tell_part(f, first, self.words.found.as_str())?;
         let joint = tell_part(f, joint, self.words.expected.as_str())?;
         tell_part(f, joint, self.words.help.as_str())?;
+        match (self.spot, &self.file) {
+            (Spot::Whole | Spot::Told, Some(path)) => write!(f, ": {}", path.as_str()),
+            _ => Ok(()),
+        }
+    }
+}
+
+impl Report {
+    /// Prints a position, as editors read it if the report has a file.
+    fn print_place<W: fmt::Write>(
+        &self,
+        f: &mut fmt::Formatter<W>,
+        position: Position,
+    ) -> fmt::Result {
+        let Position { line, column } = position;
         match &self.file {
-            Some(path) => write!(f, ": {}", path.as_str()),
-            None => Ok(()),
+            Some(path) => write!(f, " ({}:{line}:{column})", path.as_str()),
+            None => write!(f, " {position}"),
         }
     }
 }

@@ -1,7 +1,6 @@
 //! A conflict of two productions.
 
 use crate::again::Again;
-use crate::position::Position;
 use crate::report::{Spot, Words};
 use crate::shown::Plain;
 use crate::terminals::{class_name, tell_ahead};
@@ -61,20 +60,20 @@ pub fn tell_conflict(
     let Some(clash) = clash_of(fault, raw) else {
         return Ok(());
     };
-    tell_both(&mut words.found, &clash, again.text)?;
+    tell_both(&mut words.found, &clash, again)?;
     tell_ahead(&mut words.found, &grammar, clash.ahead)?;
     write!(words.found, " comes next")?;
     write!(words.help, "write them so that one token tells which it is")
 }
 
 /// The two productions that conflict.
-fn tell_both(out: &mut String, clash: &Clash<'_>, text: &str) -> Result<(), AllocError> {
-    let line = Position::of(text, clash.second.left.at).line;
+fn tell_both(out: &mut String, clash: &Clash<'_>, again: &Again<'_>) -> Result<(), AllocError> {
+    let place = again.source.place(clash.second.left.at);
     write!(out, "`")?;
     tell_production(out, clash.first)?;
-    write!(out, "` and in line {line} `")?;
+    write!(out, "` and `")?;
     tell_production(out, clash.second)?;
-    write!(out, "` both fit where ")
+    write!(out, "` {place} both fit where ")
 }
 
 /// A production as it is written, without its rules.

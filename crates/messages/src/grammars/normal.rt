@@ -1,17 +1,17 @@
 //! What is wrong with a grammar, with the grammar's names.
 
 use crate::again::Again;
+use crate::grammars::further::{Declarations, Missing, count_further};
 use crate::grammars::limits::{offset_of_limit, tell_limit};
 use crate::grammars::sites::{
     Occurs, Site, Stored, attribute_named, has_production, named_at, site_at, stored_at,
     symbol_named, symbol_with,
 };
-use crate::position::Position;
 use crate::report::{Spot, Words};
 use crate::shown::NAMED;
 use ag_grammar::{Named, RawGrammar, RawProduction, RawSymbol};
 use normalform::NormalFault;
-use std::alloc::AllocError;
+use std::alloc::{AllocError, Global};
 
 /// Where a grammar is refused, or where what is refused begins; some limits are of the whole.
 pub fn spot_in_grammar(fault: &NormalFault, again: &Again<'_>) -> Spot {
@@ -53,18 +53,43 @@ pub fn tell_normal(
     let Some(raw) = &again.raw else {
         return Ok(());
     };
+    tell_first(words, fault, again.alloc, raw)?;
+    match number_of(fault) {
+        Some(number) => match count_further(again.alloc, fault, raw) {
+            Ok(further) => tell_further(words, number, further),
+            Err(_) => Ok(()),
+        },
+        None => Ok(()),
+    }
+}
+
+/// Returns the number of a refusal that is of one place among others.
+fn number_of(fault: &NormalFault) -> Option<&'static str> {
+    match fault {
+        NormalFault::UnknownName(_) => Some("N1"),
+        NormalFault::RuleDoubled(_) => Some("N7"),
+        NormalFault::NotDefinedHere(_) => Some("N8"),
+        NormalFault::NotNormal(_) => Some("N9"),
+        _ => None,
+    }
+}
+
+/// Tells of N1 to N10 what is wrong at the first place.
+fn tell_first(
+    words: &mut Words,
+    fault: &NormalFault,
+    alloc: Global,
+    raw: &RawGrammar,
+) -> Result<(), AllocError> {
     match fault {
         NormalFault::UnknownName(at) => tell_unknown(words, raw, *at),
         NormalFault::DoubledName(at) => tell_doubled(words, raw, *at),
         NormalFault::BadStart => tell_start(words, raw),
         NormalFault::Unproductive(symbol) => tell_unproductive(words, raw, symbol),
         NormalFault::Unreachable(symbol) => tell_unreachable(words, raw, symbol),
-        NormalFault::RuleMissing(production, place, attr) => {
+        NormalFault::RuleMissing(production, _, _) => {
             match raw.productions.as_slice().get(*production) {
-                Some(production) => {
-                    let name = attribute_at(raw, production, *place, *attr);
-                    tell_missing(words, again.text, production, *place, name)
-                }
+                Some(production) => tell_missing(words, alloc, raw, production),
                 None => Ok(()),
             }
         }
@@ -205,33 +230,68 @@ fn tell_unreachable(words: &mut Words, raw: &RawGrammar, symbol: &Named) -> Resu
     write!(words.help, "use it in a production or take it out")
 }
 
-/// The name of an attribute of a place by its number.
-fn attribute_at<'a>(
-    raw: &'a RawGrammar,
+/// N6: the rules that a production lacks. Nothing where memory for finding them is refused.
+fn tell_missing(
+    words: &mut Words,
+    alloc: Global,
+    raw: &RawGrammar,
     production: &RawProduction,
-    place: usize,
-    attr: usize,
-) -> &'a str {
-    match stored_at(raw, production, place) {
-        Some(Stored::Symbol(symbol)) => symbol.attribute_name(attr).unwrap_or(".."),
-        _ => "..",
+) -> Result<(), AllocError> {
+    let Ok(declarations) = Declarations::of(alloc, raw) else {
+        return Ok(());
+    };
+    let missing = declarations.missing_in(production);
+    let all = declarations.count_missing(raw.productions.as_slice());
+    match (missing, all) {
+        (Ok(missing), Ok(all)) => tell_lacking(words, production, missing.as_slice(), all),
+        _ => Ok(()),
     }
 }
 
-/// N6: the rule that is missing, as it would be written.
-fn tell_missing(
+/// N6: the rules that a production lacks, as they would be written, and how many of all that are missing
+/// the other productions lack.
+fn tell_lacking(
     words: &mut Words,
-    text: &str,
     production: &RawProduction,
-    place: usize,
-    name: &str,
+    missing: &[Missing<'_>],
+    all: usize,
 ) -> Result<(), AllocError> {
-    let line = Position::of(text, production.left.at).line;
     let left = production.left.name.as_str();
-    write!(
-        words.found,
-        "`${place}.{name} = ..;` is missing in the production of {left} in line {line}"
-    )
+    let (noun, help) = match missing.len() {
+        1 => ("rule", "write it"),
+        _ => ("rules", "write them"),
+    };
+    write!(words.found, "this production of `{left}` lacks the {noun} ")?;
+    let mut separator = "";
+    for rule in missing {
+        write!(
+            words.found,
+            "{separator}`${}.{} = ..;`",
+            rule.place, rule.name
+        )?;
+        separator = ", ";
+    }
+    let others = all.saturating_sub(missing.len());
+    if others != 0 {
+        write!(words.found, " (other productions lack {others} more)")?;
+    }
+    write!(words.help, "{help}")
+}
+
+/// Tells how many further places would be refused by the same number.
+fn tell_further(words: &mut Words, number: &str, further: usize) -> Result<(), AllocError> {
+    let separator = if words.help.is_empty() { "" } else { ", " };
+    match further {
+        0 => Ok(()),
+        1 => write!(
+            words.help,
+            "{separator}1 more place would be refused {number}"
+        ),
+        _ => write!(
+            words.help,
+            "{separator}{further} more places would be refused {number}"
+        ),
+    }
 }
 
 /// N7 to N9: why an occurrence may not stand where it does, and what may.

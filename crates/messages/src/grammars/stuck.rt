@@ -2,7 +2,7 @@
 
 use crate::again::Again;
 use crate::grammars::sites::Occurs;
-use crate::position::Position;
+use crate::position::Source;
 use crate::report::Words;
 use ag_grammar::{Direction, Occ, RawGrammar, occurrences};
 use passassign::{Strike, Stuck};
@@ -19,7 +19,7 @@ pub fn tell_stuck(words: &mut Words, stuck: &Stuck, again: &Again<'_>) -> Result
         "no order of whole passes serves, in either direction all of these wait"
     )?;
     match example_of(stuck, raw) {
-        Some(example) => tell_example(words, &example, again.text, raw),
+        Some(example) => tell_example(words, &example, &again.source, raw),
         None => Ok(()),
     }
 }
@@ -123,19 +123,19 @@ fn example_of<'a>(stuck: &Stuck, raw: &'a RawGrammar) -> Option<Example<'a>> {
 fn tell_example(
     words: &mut Words,
     example: &Example<'_>,
-    text: &str,
+    source: &Source<'_>,
     raw: &RawGrammar,
 ) -> Result<(), AllocError> {
     write!(words.found, ". ")?;
     tell_attribute(&mut words.found, raw, example.strike)?;
     if example.is_one {
         write!(words.found, " waits in both directions, since ")?;
-        tell_delay(&mut words.found, text, &example.odd)?;
+        tell_delay(&mut words.found, source, &example.odd)?;
     } else {
         write!(words.found, " waits from right to left, since ")?;
-        tell_delay(&mut words.found, text, &example.odd)?;
+        tell_delay(&mut words.found, source, &example.odd)?;
         write!(words.found, ", and from left to right, since ")?;
-        tell_delay(&mut words.found, text, &example.even)?;
+        tell_delay(&mut words.found, source, &example.even)?;
     }
     write!(
         words.help,
@@ -155,11 +155,11 @@ fn tell_attribute(out: &mut String, raw: &RawGrammar, strike: Strike) -> Result<
 }
 
 /// What a rule takes that is not there in time.
-fn tell_delay(out: &mut String, text: &str, delay: &Delay<'_>) -> Result<(), AllocError> {
+fn tell_delay(out: &mut String, source: &Source<'_>, delay: &Delay<'_>) -> Result<(), AllocError> {
     let target = Occurs(delay.target);
     let argument = Occurs(delay.argument);
-    let position = Position::of(text, delay.target.at);
-    write!(out, "{target} {position} takes {argument}")?;
+    let place = source.place(delay.target.at);
+    write!(out, "{target} {place} takes {argument}")?;
     let (first, second) = (delay.target.place, delay.argument.place);
     match delay.reason() {
         Reason::Later => write!(out, " and ${second} is visited after ${first}"),

@@ -1,8 +1,8 @@
 //! Why a sentence has no tokens.
 
-use crate::position::Position;
+use crate::position::Source;
 use crate::report::{Spot, Words};
-use crate::shown::{Found, Grouped, front_of};
+use crate::shown::{Found, Grouped};
 use crate::terminals::tell_terminals;
 use ag_grammar::Grammar;
 use ag_grammar::limits::{MOST_TEXT_BYTES, MOST_TOKEN_BYTES};
@@ -10,10 +10,10 @@ use ag_scan::ScanFault;
 use std::alloc::AllocError;
 
 /// Where a sentence has no token.
-pub fn spot_of_token(fault: ScanFault, sentence: &[u8]) -> Spot {
+pub fn spot_of_token(fault: ScanFault, sentence: &Source<'_>) -> Spot {
     match fault {
         ScanFault::BadUtf8(at) | ScanFault::NoToken(at) | ScanFault::LongToken(at) => {
-            Spot::At(Position::of(front_of(sentence), at))
+            Spot::At(sentence.position(at))
         }
         ScanFault::TooLong | ScanFault::NoMemory => Spot::Whole,
     }
@@ -24,7 +24,7 @@ pub fn tell_scan(
     words: &mut Words,
     fault: ScanFault,
     grammar: &Grammar,
-    sentence: &[u8],
+    sentence: &Source<'_>,
 ) -> Result<(), AllocError> {
     match fault {
         ScanFault::BadUtf8(_) => {
@@ -32,7 +32,7 @@ pub fn tell_scan(
             write!(words.help, "save the file as UTF-8")
         }
         ScanFault::NoToken(at) => {
-            let found = Found(first_character(front_of(sentence), at));
+            let found = Found(first_character(sentence.text(), at));
             write!(words.found, "no token begins with {found} here")?;
             tell_terminals(&mut words.expected, grammar)
         }

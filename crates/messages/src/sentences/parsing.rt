@@ -1,8 +1,8 @@
 //! Why a sentence has no tree.
 
-use crate::position::Position;
+use crate::position::Source;
 use crate::report::{Spot, Words};
-use crate::shown::{Found, Grouped, front_of};
+use crate::shown::{Found, Grouped};
 use crate::terminals::{class_name, tell_aheads};
 use ag_grammar::limits::{MOST_DEPTH, MOST_NODES};
 use ag_grammar::{Grammar, Terminal};
@@ -11,25 +11,30 @@ use llparse::{ParseFault, Stuck, Tables, expected_at};
 use std::alloc::{AllocError, Global};
 
 /// Where a sentence is refused.
-pub fn spot_in_sentence(fault: ParseFault, sentence: &[u8]) -> Spot {
+pub fn spot_in_sentence(fault: ParseFault, sentence: &Source<'_>) -> Spot {
     match fault {
-        ParseFault::Unexpected(at) => Spot::At(Position::of(front_of(sentence), at as usize)),
+        ParseFault::Unexpected(at) => Spot::At(sentence.position(at as usize)),
         _ => Spot::Whole,
     }
 }
 
-/// Tells of P1 to P3 why the sentence with these bytes has no tree of the grammar with these tables.
-/// Takes memory, and cuts the sentence again.
+/// A sentence, and the grammar by whose tables it was parsed.
+#[derive(Clone, Copy)]
+pub struct Parsed<'a> {
+    pub grammar: &'a Grammar,
+    pub tables: &'a Tables,
+    pub sentence: Source<'a>,
+}
+
+/// Tells of P1 to P3 why a sentence has no tree. Takes memory, and cuts the sentence again.
 pub fn tell_parse(
     alloc: Global,
     words: &mut Words,
     fault: ParseFault,
-    grammar: &Grammar,
-    tables: &Tables,
-    sentence: &[u8],
+    parsed: &Parsed<'_>,
 ) -> Result<(), AllocError> {
     match fault {
-        ParseFault::Unexpected(_) => tell_unexpected(alloc, words, grammar, tables, sentence),
+        ParseFault::Unexpected(_) => tell_unexpected(alloc, words, parsed),
         ParseFault::TooDeep => {
             let most = Grouped(MOST_DEPTH);
             write!(
@@ -55,16 +60,14 @@ pub fn tell_parse(
 fn tell_unexpected(
     alloc: Global,
     words: &mut Words,
-    grammar: &Grammar,
-    tables: &Tables,
-    sentence: &[u8],
+    parsed: &Parsed<'_>,
 ) -> Result<(), AllocError> {
-    let Ok(tokens) = scan(alloc, grammar, sentence) else {
+    let Ok(tokens) = scan(alloc, parsed.grammar, parsed.sentence.bytes) else {
         return Ok(());
     };
-    match expected_at(alloc, grammar, tables, &tokens) {
+    match expected_at(alloc, parsed.grammar, parsed.tables, &tokens) {
         Ok(stuck) if stuck.expected.is_empty() => Ok(()),
-        Ok(stuck) => tell_standing(words, grammar, &stuck, front_of(sentence)),
+        Ok(stuck) => tell_standing(words, parsed.grammar, &stuck, parsed.sentence.text()),
         Err(_) => Ok(()),
     }
 }
