@@ -1,12 +1,21 @@
-//! Reads a tree file from its end, and prints how many records it has: what `benches/run` measures, and
-//! `tests/refused-memory` tries on damaged files.
+//! `read_back [--old] PATH` reads a tree file from its end and prints the number of its records; with `--old` it is a
+//! tree file of version 1. `benches/run` measures the program, and `tests/refused-memory` runs it with each of its requests
+//! for memory refused. A call for which memory was refused is named on standard error and made a second time.
 #![tactic(auto)]
 
+ghost use Rattle.std.specs.Prelude.{IfOk};
+ghost use Rattle.backreader.specs.BackState.{IsOver};
+ghost use Rattle.treefile.specs.devices.Device.{WhenHonest};
+
 use backreader::Back;
+use noted_file::Record;
 use std::alloc::{AllocError, Global};
 use std::process::ExitCode;
 use std::rt::{Env, Files};
-use treefile::{Device, FileDevice, FrameFault};
+use treefile::{Device, FileDevice, FileVersion, FrameFault};
+
+/// The word of the command line before the path of a tree file of version 1.
+const OLD: &str = "--old";
 
 fn main(rt: HostRuntime) -> ExitCode {
     match run(&rt, rt.alloc()) {
@@ -21,7 +30,7 @@ fn main(rt: HostRuntime) -> ExitCode {
     }
 }
 
-/// The status that the program ends with after a refusal.
+/// Returns the status that the program ends with after a refusal.
 fn status(fault: FrameFault) -> u8 {
     match fault {
         FrameFault::NotATreeFile | FrameFault::Damaged(_) => 5,
@@ -30,9 +39,8 @@ fn status(fault: FrameFault) -> u8 {
     }
 }
 
-/// How many records the file has whose path is the first word of the command line. D1 Device where
-/// there is no such file.
-fn run<R: Env + Files + AllocGlobal>(rt: &R, alloc: Global) -> Result<u64, FrameFault> {
+/// Returns the number of records of the file that the command line names. Fails with D1 Device if there is no such file.
+fn run<R: Env + Eprint + Files + AllocGlobal>(rt: &R, alloc: Global) -> Result<u64, FrameFault> {
     let words = match std::env::args(rt) {
         Ok(words) => words,
         Err(_) => return Err(FrameFault::NoMemory),
@@ -42,18 +50,71 @@ fn run<R: Env + Files + AllocGlobal>(rt: &R, alloc: Global) -> Result<u64, Frame
         Ok(words) => words,
         Err(_) => return Err(FrameFault::NoMemory),
     };
-    let Some(path) = words.as_slice().get(1) else {
+    let words = words.as_slice();
+    let is_old = words.len() == 3 && words[1].as_str() == OLD;
+    let version = if is_old {
+        FileVersion::One
+    } else {
+        FileVersion::Two
+    };
+    let Some(path) = words.get(if is_old { 2 } else { 1 }) else {
         return Err(FrameFault::Device);
     };
-    match FileDevice::existing(rt, alloc, path.as_str()) {
-        Ok(mut device) => records(alloc, &mut device),
+    match FileDevice::existing(rt, alloc, path.as_str(), Record::new()) {
+        Ok(mut device) => records(rt, alloc, version, &mut device),
         Err(_) => Err(FrameFault::Device),
     }
 }
 
-/// How many records the tree file of a device has.
-fn records<D: Device>(alloc: Global, device: &mut D) -> Result<u64, FrameFault> {
-    let mut back = Back::start(alloc, device)?;
-    while back.back(device)?.is_some() {}
-    Ok(back.records())
+/// Returns the number of records of the tree file of a device. A call for which memory was refused is made a second time.
+fn records<R: Eprint, D: Device>(
+    rt: &R,
+    alloc: Global,
+    version: FileVersion,
+    device: &mut D,
+) -> Result<u64, FrameFault> {
+    let mut back = start_twice(rt, alloc, version, device)?;
+    loop {
+        match back.back(device) {
+            Ok(Some(_)) => {}
+            Ok(None) => return Ok(back.records()),
+            Err(FrameFault::NoMemory) => {
+                let _told = eprintln!(rt; "NoMemory in back");
+                if back.back(device)?.is_none() {
+                    return Ok(back.records());
+                }
+            }
+            Err(fault) => return Err(fault),
+        }
+    }
+}
+
+/// Starts a reader, and tries a second time if memory was refused. Fails as `Back::start` does.
+fn start_twice<R: Eprint, D: Device>(
+    rt: &R,
+    alloc: Global,
+    version: FileVersion,
+    device: &mut D,
+) -> Result<Back, FrameFault>
+    ensures over { IfOk result (λ back. WhenHonest (D.is_honest device.new)
+        (IsOver (D.content device.new) back)) }
+{
+    match start(alloc, version, device) {
+        Err(FrameFault::NoMemory) => {
+            let _told = eprintln!(rt; "NoMemory in start");
+            start(alloc, version, device)
+        }
+        started => started,
+    }
+}
+
+/// Starts a reader of the tree file of a version. Fails as `Back::start` does.
+fn start<D: Device>(alloc: Global, version: FileVersion, device: &mut D) -> Result<Back, FrameFault>
+    ensures over { IfOk result (λ back. WhenHonest (D.is_honest device.new)
+        (IsOver (D.content device.new) back)) }
+{
+    match version {
+        FileVersion::One => Back::start_old(alloc, device),
+        FileVersion::Two => Back::start(alloc, device),
+    }
 }

@@ -1,0 +1,17 @@
+# shellcheck shell=sh disable=SC2034,SC2154
+# Sets `program` to the program that a script of this folder runs. Each script sources this file, with `top` set to the top of the
+# repository: the program is that of the words `--program PATH`, which are dropped, or else the proved one, which ./aggen builds.
+if [ "${1-}" = --program ]; then
+    case ${2-} in
+        '')
+            echo "$0: --program takes a path" >&2
+            exit 2
+            ;;
+        /*) program=$2 ;;
+        *) program=$PWD/$2 ;;
+    esac
+    shift 2
+else
+    "$top/aggen" value 1 >/dev/null
+    program=$top/crates/aggen_program/out/aggen_program
+fi
