@@ -166,7 +166,7 @@ returns-then-not-has_place-clause-added g t c = λ h. none_added RunFault (g.E.D
 
 pub returns-in_err-production-clause-left : goal.returns-in_err-production-clause-left
 returns-in_err-production-clause-left g t c =
-    let p = err_from_is_err_and c.from_residual-in_err-production.result c.from_residual-in_err-production.ensures.1 in
+    let p = err_from_is_err_and c.from_residual.result c.from_residual.ensures.1 in
     rw p.1 (λ h. none_added RunFault (g.E.Device.content c.args.to.now) (Err p.0))
 
 pub returns-in_err-text-clause-left : goal.returns-in_err-text-clause-left
@@ -183,10 +183,10 @@ returns-in_err-add_text-clause-left g t c =
     let first = added RunFault old (g.E.Device.content c.loop-at.to) now (Ok tt) (c.loop-at.invariant.added (c.in_ok-text.ensures.devices.second.honest h)) (c.in_ok-text.ensures.added h) in
     added RunFault old now now (Err p.0) first (none_added RunFault now (Err p.0)))
 
-pub returns-in_err-put_record-2-clause-left : goal.returns-in_err-put_record-2-clause-left
-returns-in_err-put_record-2-clause-left g t c =
-    let p = err_from_is_err_and c.from_residual-in_err-put_record-2.result c.from_residual-in_err-put_record-2.ensures.1 in
-    rw p.1 (λ h. added RunFault (g.E.Device.content c.args.to.now) (g.E.Device.content c.loop-at.to) (g.E.Device.content c.put_record-2.new.to) (Err p.0) (c.loop-at.invariant.added (c.in_err-put_record-2.ensures.persists.honest h)) (c.in_err-put_record-2.ensures.left h))
+pub returns-in_err-put_record-clause-left : goal.returns-in_err-put_record-clause-left
+returns-in_err-put_record-clause-left g t c =
+    let p = err_from_is_err_and c.from_residual-in_err-put_record.result c.from_residual-in_err-put_record.ensures.1 in
+    rw p.1 (λ h. added RunFault (g.E.Device.content c.args.to.now) (g.E.Device.content c.loop-at.to) (g.E.Device.content c.put_record-2.new.to) (Err p.0) (c.loop-at.invariant.added (c.in_err-put_record.ensures.persists.honest h)) (c.in_err-put_record.ensures.left h))
 
 pub returns-clause-added : goal.returns-clause-added
 returns-clause-added g t c = λ h.
