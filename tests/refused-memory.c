@@ -65,7 +65,7 @@ struct process {
 };
 
 static const char *library;
-static long runs, reported;
+static long runs, refusals, reported;
 
 static void stop(const char *what, const char *name) {
     fprintf(stderr, "refused-memory: %s: %s: %s\n", what, name, strerror(errno));
@@ -306,6 +306,7 @@ static void judge(const struct process *process, int status) {
             wrong(process, status, "refused");
         }
         ++row->refused;
+        ++refusals;
     }
     free(out.at);
     free(err.at);
@@ -394,6 +395,7 @@ int main(int count, char **words) {
     for (int at = 0; at < rows_count; ++at) {
         check_whole(rows + at);
     }
-    printf("refused-memory: %d rows, %ld runs, %ld of which reported refused memory\n", rows_count, runs, reported);
+    printf("refused-memory: %d rows, %ld runs; %ld requests were refused, and %ld of these were reported\n", rows_count, runs,
+           refusals, reported);
     return 0;
 }
