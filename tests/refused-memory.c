@@ -60,12 +60,12 @@ struct process {
     struct row *row;
     long number;
     time_t began;
-    int out, err, told;
+    int out, err, refused;
     char folder[4096];
 };
 
 static const char *library;
-static long runs, reported;
+static long runs, refusals, reported;
 
 static void stop(const char *what, const char *name) {
     fprintf(stderr, "refused-memory: %s: %s: %s\n", what, name, strerror(errno));
@@ -181,7 +181,7 @@ static void furnish(struct process *process, const char *top, int number) {
     }
     process->out = open_in(process->folder, "out");
     process->err = open_in(process->folder, "err");
-    process->told = open_in(process->folder, "told");
+    process->refused = open_in(process->folder, "refused");
 }
 
 static void empty(int file) {
@@ -204,7 +204,7 @@ static void start(struct process *process, struct row *row, long number) {
     process->began = time(NULL);
     empty(process->out);
     empty(process->err);
-    empty(process->told);
+    empty(process->refused);
     for (int at = 0; row->words[at] != NULL; ++at) {
         words[at] = row->words[at];
         if (strncmp(words[at], "@/", 2) == 0) {
@@ -232,7 +232,7 @@ static void start(struct process *process, struct row *row, long number) {
     posix_spawn_file_actions_addopen(&files, 0, row->input, O_RDONLY, 0);
     posix_spawn_file_actions_adddup2(&files, process->out, 1);
     posix_spawn_file_actions_adddup2(&files, process->err, 2);
-    posix_spawn_file_actions_adddup2(&files, process->told, REFUSED_AT);
+    posix_spawn_file_actions_adddup2(&files, process->refused, REFUSED_AT);
     errno = posix_spawn(&process->pid, words[0], &files, &how, words, environment);
     if (errno != 0) {
         stop("start", words[0]);
@@ -287,10 +287,10 @@ static int is_noted(struct row *row, struct bytes err) {
 /* Judges a run that has ended with a status. */
 static void judge(const struct process *process, int status) {
     struct row *row = process->row;
-    struct bytes out = content_of(process->out), err = content_of(process->err), told = content_of(process->told);
+    struct bytes out = content_of(process->out), err = content_of(process->err), refused = content_of(process->refused);
     int ended = WIFEXITED(status) ? WEXITSTATUS(status) : -1;
     int is_own = ended == row->status && same(out, row->out);
-    if (told.length == 0) {
+    if (refused.length == 0) {
         if (!is_own || !same(err, row->err)) {
             wrong(process, status, "nothing refused");
         }
@@ -306,10 +306,11 @@ static void judge(const struct process *process, int status) {
             wrong(process, status, "refused");
         }
         ++row->refused;
+        ++refusals;
     }
     free(out.at);
     free(err.at);
-    free(told.at);
+    free(refused.at);
 }
 
 /* Gives a process the next run of the first row that has one; returns whether there was one. */
@@ -394,6 +395,7 @@ int main(int count, char **words) {
     for (int at = 0; at < rows_count; ++at) {
         check_whole(rows + at);
     }
-    printf("refused-memory: %d rows, %ld runs, %ld of which reported refused memory\n", rows_count, runs, reported);
+    printf("refused-memory: %d rows, %ld runs; %ld requests were refused, and %ld of these were reported\n", rows_count, runs,
+           refusals, reported);
     return 0;
 }

@@ -6,7 +6,7 @@ ghost use Rattle.std.specs.Prelude.{[], false};
 use backreader::Back;
 use std::alloc::{AllocError, Global};
 use std::test::Fail;
-use treefile::{Device, DeviceFault, FrameFault, MemDevice};
+use treefile::{Device, DeviceFault, FileVersion, FrameFault, MemDevice};
 
 /// How long the body of a frame is at most that fits into the buffer of a reader.
 const FITS: usize = 4092;
@@ -61,9 +61,17 @@ fn file_of_name(alloc: Global, letters: u32) -> Result<Vec<u8>, AllocError> {
     Ok(bytes)
 }
 
-/// A file of pass 0 with bodies of these lengths: all bytes of a body are its number in the file.
-fn file_of_lengths(alloc: Global, lengths: &[u32]) -> Result<Vec<u8>, AllocError> {
-    let mut bytes = Vec::from_slice(alloc, b"AGT2\0\0")?;
+/// Returns a file of a version, of pass 0, with bodies of these lengths: all bytes of a body are its number in the file.
+pub(crate) fn file_of_lengths(
+    alloc: Global,
+    version: FileVersion,
+    lengths: &[u32],
+) -> Result<Vec<u8>, AllocError> {
+    let header = match version {
+        FileVersion::One => b"AGT1\0\0",
+        FileVersion::Two => b"AGT2\0\0",
+    };
+    let mut bytes = Vec::from_slice(alloc, header)?;
     for (number, length) in lengths.iter().enumerate() {
         let end = bytes.len().saturating_add(*length as usize);
         bytes.resize(end, (number % 256) as u8)?;
@@ -114,10 +122,18 @@ fn lent_at_last(
     }
 }
 
-/// Tells the lengths of the bodies that a reader lends, and what it answers then.
-fn tell(alloc: Global, mut device: CountingDevice, lines: &mut String) -> Result<(), Fail> {
+/// Writes the lengths of the bodies that a reader of a version lends, and its next answer.
+fn tell(
+    alloc: Global,
+    version: FileVersion,
+    mut device: CountingDevice,
+    lines: &mut String,
+) -> Result<(), Fail> {
     let mut at = device.memory.bytes().len();
-    let mut back = Back::start(alloc, &mut device)?;
+    let mut back = match version {
+        FileVersion::One => Back::start_old(alloc, &mut device)?,
+        FileVersion::Two => Back::start(alloc, &mut device)?,
+    };
     for _call in 0..10 {
         match lent_at_last(&mut back, &mut device, at) {
             Ok(Some(length)) => {
@@ -156,7 +172,8 @@ fn names_of_many_letters(rt: HostRuntime) -> Result<(), Fail> {
     let alloc = rt.alloc();
     let mut lines = String::new(alloc);
     for letters in [4, 4084, 4085, 65_535] {
-        tell(alloc, device_of(file_of_name(alloc, letters)?), &mut lines)?;
+        let device = device_of(file_of_name(alloc, letters)?);
+        tell(alloc, FileVersion::Two, device, &mut lines)?;
     }
     assert_eq!(rt;
         lines.as_str(),
@@ -170,8 +187,8 @@ fn frames_at_the_front_of_the_buffer(rt: HostRuntime) -> Result<(), Fail> {
     let alloc = rt.alloc();
     let mut lines = String::new(alloc);
     for length in [2087, 2088, 2091, 2092, 2093, 2096, 2097] {
-        let bytes = file_of_lengths(alloc, &[10, length, 1996])?;
-        tell(alloc, device_of(bytes), &mut lines)?;
+        let bytes = file_of_lengths(alloc, FileVersion::Two, &[10, length, 1996])?;
+        tell(alloc, FileVersion::Two, device_of(bytes), &mut lines)?;
     }
     assert_eq!(rt;
         lines.as_str(),
@@ -194,17 +211,36 @@ fn bodies_of_many_lengths(rt: HostRuntime) -> Result<(), Fail> {
         &[3, 16_777_220],
     ];
     for lengths in rows {
-        tell(
-            alloc,
-            device_of(file_of_lengths(alloc, lengths)?),
-            &mut lines,
-        )?;
+        let bytes = file_of_lengths(alloc, FileVersion::Two, lengths)?;
+        tell(alloc, FileVersion::Two, device_of(bytes), &mut lines)?;
     }
     assert_eq!(rt;
         lines.as_str(),
         "4092 4092 3 Ok(None)\n3 4092 4091 Ok(None)\n4093 4092 4093 Ok(None)\n\
          12000 8000 65543 Ok(None)\n16777220 3 Ok(None)\n"
     );
+    Ok(())
+}
+
+/// A body has at most 16,777,219 bytes in version 1, and a file of one version is none of the other.
+#[test]
+fn files_of_version_1(rt: HostRuntime) -> Result<(), Fail> {
+    let alloc = rt.alloc();
+    let mut lines = String::new(alloc);
+    for lengths in [[3, 4092, 4093, 16_777_219].as_slice(), &[3, 16_777_220]] {
+        let bytes = file_of_lengths(alloc, FileVersion::One, lengths)?;
+        tell(alloc, FileVersion::One, device_of(bytes), &mut lines)?;
+    }
+    assert_eq!(rt;
+        lines.as_str(),
+        "16777219 4093 4092 3 Ok(None)\nErr(Damaged(16777237))\n"
+    );
+    let mut old = device_of(file_of_lengths(alloc, FileVersion::One, &[3])?);
+    let mut new = device_of(file_of_lengths(alloc, FileVersion::Two, &[3])?);
+    let started = Back::start(alloc, &mut old);
+    assert!(rt; matches!(started, Err(FrameFault::NotATreeFile)));
+    let started = Back::start_old(alloc, &mut new);
+    assert!(rt; matches!(started, Err(FrameFault::NotATreeFile)));
     Ok(())
 }
 
