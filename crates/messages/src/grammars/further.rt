@@ -10,7 +10,7 @@ use std::collections::{HashMap, HashSet};
 const LEX: &str = "lex";
 
 /// What stands at a place of a production.
-#[derive(Clone, Copy, Debug, PartialEq, Eq)]
+#[derive(Clone, Copy, PartialEq, Eq)]
 enum Placed {
     /// The symbol of this number.
     Symbol(usize),
@@ -21,7 +21,7 @@ enum Placed {
 }
 
 /// The two kinds of attributes.
-#[derive(Clone, Copy, Debug, PartialEq, Eq)]
+#[derive(Clone, Copy, PartialEq, Eq)]
 enum Kind {
     Synthesized,
     Inherited,
