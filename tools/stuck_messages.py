@@ -102,7 +102,8 @@ def changed_grammars(paths, seed):
 def message_of(program, folder, text):
     """Returns what `plan` prints on standard error for a grammar."""
     (folder / "stuck.ag").write_text(text)
-    run = subprocess.run([program, "plan", "stuck.ag"], cwd=folder, stdout=subprocess.DEVNULL, stderr=subprocess.PIPE, timeout=120)
+    words = [program, "plan", "stuck.ag"]
+    run = subprocess.run(words, cwd=folder, stdout=subprocess.DEVNULL, stderr=subprocess.PIPE, timeout=120)
     return run.stderr.decode()
 
 

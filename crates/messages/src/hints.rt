@@ -1,28 +1,35 @@
-//! Hints at what a writer may have meant by what stands where a text is refused.
+//! Hints for writers who are used to other languages: what they may have meant where a text is refused.
 
 use crate::shown::{begins_with, found_at};
 use ag_expr::{Cursor, Expected as Part, Token};
 use ag_text::Expected;
 
+/// The character that some editors write at the beginning of a file.
 pub const BYTE_ORDER_MARK: char = '\u{feff}';
 
 /// What a byte order mark is, and what helps.
 pub const MARK: &str = "`\\u{feff}` is a byte order mark, save the text without it";
 
+/// What helps at a comment of another language.
 const COMMENT: &str = "grammars and expressions have no comments";
 
+/// What helps at `--` where an operand is expected.
 const COMMENT_OR_SIGN: &str =
     "grammars and expressions have no comments, and `-a` is written `(0 - a)`";
 
+/// What helps at a reserved word where a name is expected.
 const RESERVED: &str = "this word is reserved";
 
+/// What helps at a sign before an operand.
 const SIGN: &str = "`-a` is written `(0 - a)`";
 
+/// What helps at a quote that begins no text.
 const TEXT: &str = "a text ends with a quote and has only the escapes \\\" \\\\ \\n \\t \\r";
 
+/// What helps at a `$` that begins no occurrence.
 const OCCURRENCE: &str = "an occurrence is `$`, digits, `.` and a name with nothing between";
 
-/// The signs of other languages that begin no token here, and how they are written here. A sign comes
+/// Hints at what begins no token, by its first characters: mostly signs of other languages. A sign comes
 /// after those that begin with it.
 const SIGNS: [(&str, &str); 8] = [
     ("\"", TEXT),
@@ -82,7 +89,7 @@ impl<'a> Context<'a> {
         ""
     }
 
-    /// Returns a hint at a token that can't stand where an expression goes on, or an empty text.
+    /// Returns a hint at a token that an expression does not go on with, or an empty text.
     pub fn expression_hint(&self, expected: &[Expected]) -> &'static str {
         let is_operand = expected.contains(&Expected::Part(Part::Operand))
             || expected.contains(&Expected::Part(Part::Expression));
@@ -108,7 +115,7 @@ impl<'a> Context<'a> {
         }
     }
 
-    /// Returns a hint at what can't stand between the expressions of a grammar, or an empty text.
+    /// Returns a hint at what a grammar does not go on with outside its expressions, or an empty text.
     pub fn grammar_hint(&self, expected: &[Expected]) -> &'static str {
         if begins_with(self.found, BYTE_ORDER_MARK) {
             return MARK;
@@ -129,7 +136,7 @@ impl<'a> Context<'a> {
         is_second || ["//", "#", "--", "/*"].iter().any(is_first)
     }
 
-    /// Returns the hint at a name, which is a reserved one where another name could stand.
+    /// Returns the hint at a name where another name is expected: it is a reserved one then.
     fn reserved_hint(&self) -> &'static str {
         let Some(found) = self.found else {
             return "";

@@ -71,7 +71,7 @@ impl Obstacle<'_> {
     }
 }
 
-/// The strikes of the passes of a direction, and the grammar as it stands in its text.
+/// The strikes of the passes of a direction, and the grammar as it is written.
 #[derive(Clone, Copy)]
 struct Struck<'a> {
     direction: Direction,
