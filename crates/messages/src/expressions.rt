@@ -1,8 +1,9 @@
 //! What is wrong with an expression.
 
+use crate::hints::Context;
 use crate::position::Position;
 use crate::report::{Spot, Words};
-use crate::shown::{Found, begins_with, found_at, tell_expected};
+use crate::shown::{Found, begins_with, tell_expected};
 use ag_expr::{Expected as Part, ExprFault, expected_at};
 use ag_grammar::limits::{MOST_LEVELS, MOST_PLACE};
 use ag_text::Expected;
@@ -24,13 +25,10 @@ pub fn tell_expression(
     fault: ExprFault,
     text: &str,
 ) -> Result<(), AllocError> {
-    let found = match offset_in(fault) {
-        Some(at) => found_at(text, at),
-        None => None,
-    };
+    let context = Context::of(text, offset_in(fault));
     match could_stand(alloc, fault, text) {
-        Ok(expected) => tell_refused(words, fault, found, expected.as_slice()),
-        Err(_) => tell_refused(words, fault, found, &[]),
+        Ok(expected) => tell_refused(words, fault, &context, expected.as_slice()),
+        Err(_) => tell_refused(words, fault, &context, &[]),
     }
 }
 
@@ -56,21 +54,22 @@ pub fn offset_in(fault: ExprFault) -> Option<usize> {
     }
 }
 
-/// Tells what is wrong with an expression, where `found` stands and `expected` could.
+/// Tells what is wrong with an expression in a context, in which `expected` could stand.
 pub fn tell_refused(
     words: &mut Words,
     fault: ExprFault,
-    found: Option<&str>,
+    context: &Context<'_>,
     expected: &[Expected],
 ) -> Result<(), AllocError> {
+    let found = Found(context.found);
     match fault {
         ExprFault::NoToken(_) => {
-            write!(words.found, "no token begins with {}", Found(found))?;
-            write!(words.help, "{}", hint_of(found))
+            write!(words.found, "no token begins with {found}")?;
+            write!(words.help, "{}", context.token_hint())
         }
-        ExprFault::Unexpected(_) => tell_unexpected(words, found, expected),
+        ExprFault::Unexpected(_) => tell_unexpected(words, context, expected),
         ExprFault::NumberTooLarge(_) => {
-            write!(words.found, "the number is too large in {}", Found(found))?;
+            write!(words.found, "the number is too large in {found}")?;
             write!(
                 words.expected,
                 "where {} is the greatest, and {MOST_PLACE} the greatest place behind $",
@@ -88,32 +87,21 @@ pub fn tell_refused(
     }
 }
 
-/// What a character that begins no token may have been meant as.
-fn hint_of(found: Option<&str>) -> &'static str {
-    if begins_with(found, '"') {
-        "a text ends with a quote and has only the escapes \\\" \\\\ \\n \\t \\r"
-    } else if begins_with(found, '$') {
-        "an occurrence is `$`, digits, `.` and a name with nothing between"
-    } else {
-        ""
-    }
-}
-
 /// Tells what stands at an offset, and what could, or what is wrong with the name or the occurrence
 /// there.
 fn tell_unexpected(
     words: &mut Words,
-    found: Option<&str>,
+    context: &Context<'_>,
     expected: &[Expected],
 ) -> Result<(), AllocError> {
-    write!(words.found, "found {}", Found(found))?;
+    write!(words.found, "found {}", Found(context.found))?;
     match expected.first() {
         Some(Expected::Part(Part::BoundName)) => {
-            write!(words.expected, "a name that no `let` binds here")
+            write!(words.expected, "a name that no `let` binds here")?
         }
-        Some(Expected::Part(Part::Expression | Part::Operand)) if begins_with(found, '$') => {
-            write!(words.expected, "which has a value in a grammar only")
-        }
-        _ => tell_expected(&mut words.expected, expected),
+        Some(Expected::Part(Part::Expression | Part::Operand)) if begins_with(context.found, '$') =>
+            { write!(words.expected, "which has a value in a grammar only")? }
+        _ => tell_expected(&mut words.expected, expected)?,
     }
+    write!(words.help, "{}", context.expression_hint(expected))
 }

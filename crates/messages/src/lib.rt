@@ -11,6 +11,7 @@
 mod again;
 mod expressions;
 mod grammars;
+mod hints;
 mod position;
 mod refusals;
 mod report;

@@ -1,4 +1,4 @@
-//! Where something stands in a text, and which text that is.
+//! Positions in texts, and the files that have the texts.
 
 use crate::shown::{Plain, front_of};
 use std::fmt;

@@ -12,12 +12,15 @@ use crate::position::Source;
 use crate::report::{Report, Spot, Words};
 use crate::sentences::cutting::{spot_of_token, tell_scan};
 use crate::sentences::parsing::{Parsed, spot_in_sentence, tell_parse};
-use crate::shown::Found;
+use crate::shown::{Found, Grouped};
 use crate::trees::damage::{Kept, spot_in_tree, tell_tree};
-use ag_value::{Value, show};
+use ag_value::{ErrorCode, MAX_WEIGHT, Value, show};
 use aggen::{Fault, Translator};
 use std::alloc::{AllocError, Global};
 use treefile::{Device, FileVersion};
+
+/// The greatest number of bytes of a text that is a value: its spelling has 5 more.
+const MAX_TEXT_BYTES: usize = MAX_WEIGHT as usize - 5;
 
 impl Report {
     /// Of the file of this name, or of what is in it.
@@ -191,6 +194,7 @@ fn tell_value(alloc: Global, words: &mut Words, value: &Value) -> Result<(), All
     };
     write!(words.found, "found {}", Found(Some(shown.as_str())))?;
     match value {
+        Value::Fault(ErrorCode::Big) => tell_size(&mut words.help),
         Value::Fault(_) => write!(
             words.help,
             "which a rule in the tree gave and others carried on, mend that rule, or write `orelse(v, w)` where v may be an error"
@@ -200,4 +204,13 @@ fn tell_value(alloc: Global, words: &mut Words, value: &Value) -> Result<(), All
             "let the rule of the root's `out` give a text, as `text(..)` makes one of a number"
         ),
     }
+}
+
+/// Tells of O1 which limit a value exceeded, and what to do.
+fn tell_size(out: &mut String) -> Result<(), AllocError> {
+    let (most, most_of_text) = (Grouped(MAX_WEIGHT as usize), Grouped(MAX_TEXT_BYTES));
+    write!(
+        out,
+        "a value's spelling has at most {most} bytes, so a text at most {most_of_text}, and the translation or a value that it was computed from is larger, cut the sentence into smaller ones"
+    )
 }

@@ -9,8 +9,8 @@ use std::collections::{HashMap, HashSet};
 /// The attribute of a token.
 const LEX: &str = "lex";
 
-/// What stands at a place of a production.
-#[derive(Clone, Copy, Debug, PartialEq, Eq)]
+/// The symbol or class at a place of a production.
+#[derive(Clone, Copy, PartialEq, Eq)]
 enum Placed {
     /// The symbol of this number.
     Symbol(usize),
@@ -21,7 +21,7 @@ enum Placed {
 }
 
 /// The two kinds of attributes.
-#[derive(Clone, Copy, Debug, PartialEq, Eq)]
+#[derive(Clone, Copy, PartialEq, Eq)]
 enum Kind {
     Synthesized,
     Inherited,
@@ -199,7 +199,7 @@ impl<'a> Declarations<'a> {
         Ok(targets)
     }
 
-    /// Returns what stands at the places of a production, from the left side on.
+    /// Returns the symbols and classes at the places of a production, from the left side on.
     fn places_of(&self, production: &RawProduction) -> Result<Vec<Placed>, NoMemory> {
         let mut places = Vec::new(self.alloc);
         places.push(self.symbol_of(&production.left))?;
@@ -229,7 +229,7 @@ impl<'a> Declarations<'a> {
         }
     }
 
-    /// Returns the kind of the attribute of an occurrence. None if there is no such place or attribute.
+    /// Returns the kind of the attribute of an occurrence. None if the place or the attribute is not there.
     fn kind_of(&self, places: &[Placed], occurrence: &Occ) -> Option<Kind> {
         let name = occurrence.attr.as_str();
         match places.get(usize::from(occurrence.place))? {

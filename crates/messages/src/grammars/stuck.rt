@@ -1,4 +1,4 @@
-//! Why no order of passes serves a grammar.
+//! Why no order of passes computes the attributes of a grammar.
 
 use crate::again::Again;
 use crate::grammars::sites::Occurs;
@@ -8,162 +8,153 @@ use ag_grammar::{Direction, Occ, RawGrammar, occurrences};
 use passassign::{Strike, Stuck};
 use std::alloc::AllocError;
 
-/// Tells of A1, behind the attributes that no pass can have, why no order of passes serves the grammar,
-/// with one of these attributes as an example. Nothing where memory for reading the text again is refused.
+/// The greatest number of rules that a message names.
+const NAMED_RULES: usize = 8;
+
+/// Tells of A1, after the attributes that no pass can have, which rules keep them out of the passes of the
+/// direction in which fewest rules do so, or of the first one. Nothing where memory for reading the text
+/// again is refused.
 pub fn tell_stuck(words: &mut Words, stuck: &Stuck, again: &Again<'_>) -> Result<(), AllocError> {
     let Some(raw) = &again.raw else {
         return Ok(());
     };
     write!(
         words.found,
-        "no order of whole passes serves, in either direction all of these wait"
+        "no order of whole passes computes these attributes"
     )?;
-    match example_of(stuck, raw) {
-        Some(example) => tell_example(words, &example, &again.source, raw),
-        None => Ok(()),
+    let first = Struck {
+        direction: Direction::RightToLeft,
+        strikes: stuck.odd.as_slice(),
+        raw,
+    };
+    let second = Struck {
+        direction: Direction::LeftToRight,
+        strikes: stuck.even.as_slice(),
+        raw,
+    };
+    let fewest = if second.count() < first.count() {
+        second
+    } else {
+        first
+    };
+    fewest.tell(words, &again.source)
+}
+
+/// Why a rule for a child's attribute comes before what it uses.
+#[derive(Clone, Copy)]
+enum Reason {
+    /// It uses an attribute of a child that is visited later.
+    Later,
+    /// It uses an attribute of the same child, which is known only after the child's visit.
+    Within,
+}
+
+/// A rule that a pass comes to before what it uses is known.
+#[derive(Clone, Copy)]
+struct Obstacle<'a> {
+    target: &'a Occ,
+    argument: &'a Occ,
+    reason: Reason,
+}
+
+impl Obstacle<'_> {
+    /// Writes the rule by its target, with its place, and why the pass comes too early.
+    fn tell(&self, out: &mut String, source: &Source<'_>) -> Result<(), AllocError> {
+        let (target, argument) = (Occurs(self.target), Occurs(self.argument));
+        let place = source.place(self.target.at);
+        write!(out, "`{target}` {place} uses `{argument}`, ")?;
+        let (child, other) = (self.target.place, self.argument.place);
+        match self.reason {
+            Reason::Later => write!(out, "and ${other} is visited after ${child}"),
+            Reason::Within => write!(out, "which is known only after the visit of ${child}"),
+        }
     }
 }
 
-/// Why what a rule takes is not there in time.
-#[derive(Clone, Copy, Debug, PartialEq, Eq)]
-enum Reason {
-    /// It is at a child that is visited later, and waits too.
-    Later,
-    /// It is at the same child, and waits too: it is known only behind the child's visit.
-    Within,
-    /// It waits for something itself.
-    Waiting,
-}
-
-/// A rule that keeps an attribute out of the passes of a direction, by what it takes.
+/// The strikes of the passes of a direction, and the grammar as it is written.
 #[derive(Clone, Copy)]
-struct Delay<'a> {
+struct Struck<'a> {
     direction: Direction,
-    target: &'a Occ,
-    argument: &'a Occ,
+    strikes: &'a [Strike],
+    raw: &'a RawGrammar,
 }
 
-impl<'a> Delay<'a> {
-    /// The rule and the argument of a strike, as they stand in the grammar's text.
-    fn of(strike: Strike, direction: Direction, raw: &'a RawGrammar) -> Option<Delay<'a>> {
-        let production = raw
-            .productions
-            .as_slice()
-            .get(usize::from(strike.production))?;
+impl<'a> Struck<'a> {
+    /// Returns the rule of a strike that waits for no other strike. None for one that does.
+    fn obstacle(&self, strike: Strike) -> Option<Obstacle<'a>> {
+        let productions = self.raw.productions.as_slice();
+        let production = productions.get(usize::from(strike.production))?;
         let rule = production.rules.as_slice().get(usize::from(strike.rule))?;
         let argument = occurrences(&rule.expr).get(usize::from(strike.arg))?;
-        Some(Delay {
-            direction,
-            target: &rule.target,
+        let target = &rule.target;
+        Some(Obstacle {
+            target,
             argument,
+            reason: self.reason(target.place, argument.place)?,
         })
     }
 
-    /// Why what the rule takes is not there in time.
-    fn reason(&self) -> Reason {
-        let (target, argument) = (self.target.place, self.argument.place);
+    /// Returns why a rule for a place can't use what is at another in one pass of the direction. None if
+    /// it can, once that is computed.
+    fn reason(&self, target: u16, argument: u16) -> Option<Reason> {
         if target == 0 || argument == 0 {
-            return Reason::Waiting;
-        }
-        if self.direction.is_before(target, argument) {
-            Reason::Later
-        } else if argument == target {
-            Reason::Within
+            None
+        } else if target == argument {
+            Some(Reason::Within)
+        } else if self.direction.is_before(target, argument) {
+            Some(Reason::Later)
         } else {
-            Reason::Waiting
+            None
         }
     }
-}
 
-/// The strike of an attribute in a list.
-fn strike_of(strikes: &[Strike], symbol: u16, attr: u16) -> Option<Strike> {
-    for strike in strikes {
-        if strike.symbol == symbol && strike.attr == attr {
-            return Some(*strike);
+    /// Returns the number of strikes that wait for no other.
+    fn count(&self) -> usize {
+        self.strikes
+            .iter()
+            .filter(|strike| self.obstacle(**strike).is_some())
+            .count()
+    }
+
+    /// Writes the rules of the strikes that wait for no other, and what to do.
+    fn tell(&self, words: &mut Words, source: &Source<'_>) -> Result<(), AllocError> {
+        let count = self.count();
+        let (noun, help) = match count {
+            0 => return Ok(()),
+            1 => ("this rule", "change it"),
+            _ => ("these rules", "change them"),
+        };
+        let direction = match self.direction {
+            Direction::RightToLeft => "From right to left",
+            Direction::LeftToRight => "From left to right",
+        };
+        write!(words.found, ". {direction} they all wait for {noun}: ")?;
+        self.tell_named(&mut words.found, source)?;
+        if NAMED_RULES < count {
+            let others = count - NAMED_RULES;
+            write!(words.found, "; and {others} more")?;
         }
+        write!(
+            words.help,
+            "{help}, or give each direction attributes of its own"
+        )
     }
-    None
-}
 
-/// An attribute that no pass can have, and a rule that keeps it out of each direction's passes.
-#[derive(Clone, Copy)]
-struct Example<'a> {
-    strike: Strike,
-    odd: Delay<'a>,
-    even: Delay<'a>,
-    /// Whether it is one rule that does both, by the same argument.
-    is_one: bool,
-}
-
-/// The example that a strike of a pass from right to left makes.
-fn example_with<'a>(strike: Strike, stuck: &Stuck, raw: &'a RawGrammar) -> Option<Example<'a>> {
-    let other = strike_of(stuck.even.as_slice(), strike.symbol, strike.attr)?;
-    Some(Example {
-        strike,
-        odd: Delay::of(strike, Direction::RightToLeft, raw)?,
-        even: Delay::of(other, Direction::LeftToRight, raw)?,
-        is_one: strike == other,
-    })
-}
-
-/// The first attribute that waits in neither direction for what waits itself, or else the first
-/// one.
-fn example_of<'a>(stuck: &Stuck, raw: &'a RawGrammar) -> Option<Example<'a>> {
-    let strikes = stuck.odd.as_slice();
-    for strike in strikes {
-        let example = example_with(*strike, stuck, raw)?;
-        if example.odd.reason() != Reason::Waiting && example.even.reason() != Reason::Waiting {
-            return Some(example);
+    /// Writes the first rules, as many as are named.
+    fn tell_named(&self, out: &mut String, source: &Source<'_>) -> Result<(), AllocError> {
+        let mut named = 0usize;
+        for strike in self.strikes {
+            let Some(obstacle) = self.obstacle(*strike) else {
+                continue;
+            };
+            if named == NAMED_RULES {
+                break;
+            }
+            let separator = if named == 0 { "" } else { "; " };
+            write!(out, "{separator}")?;
+            obstacle.tell(out, source)?;
+            named = named.saturating_add(1);
         }
-    }
-    example_with(*strikes.first()?, stuck, raw)
-}
-
-/// Tells how an attribute waits in both directions, and what to do.
-fn tell_example(
-    words: &mut Words,
-    example: &Example<'_>,
-    source: &Source<'_>,
-    raw: &RawGrammar,
-) -> Result<(), AllocError> {
-    write!(words.found, ". ")?;
-    tell_attribute(&mut words.found, raw, example.strike)?;
-    if example.is_one {
-        write!(words.found, " waits in both directions, since ")?;
-        tell_delay(&mut words.found, source, &example.odd)?;
-    } else {
-        write!(words.found, " waits from right to left, since ")?;
-        tell_delay(&mut words.found, source, &example.odd)?;
-        write!(words.found, ", and from left to right, since ")?;
-        tell_delay(&mut words.found, source, &example.even)?;
-    }
-    write!(
-        words.help,
-        "give each direction attributes of its own, and let no value wait for itself"
-    )
-}
-
-/// The attribute of a strike by the names of its symbol and of itself: `L.p`.
-fn tell_attribute(out: &mut String, raw: &RawGrammar, strike: Strike) -> Result<(), AllocError> {
-    let Some(symbol) = raw.symbols.as_slice().get(usize::from(strike.symbol)) else {
-        return Ok(());
-    };
-    match symbol.attribute_name(usize::from(strike.attr)) {
-        Some(name) => write!(out, "{}.{name}", symbol.name.name.as_str()),
-        None => Ok(()),
-    }
-}
-
-/// What a rule takes that is not there in time.
-fn tell_delay(out: &mut String, source: &Source<'_>, delay: &Delay<'_>) -> Result<(), AllocError> {
-    let target = Occurs(delay.target);
-    let argument = Occurs(delay.argument);
-    let place = source.place(delay.target.at);
-    write!(out, "{target} {place} takes {argument}")?;
-    let (first, second) = (delay.target.place, delay.argument.place);
-    match delay.reason() {
-        Reason::Later => write!(out, " and ${second} is visited after ${first}"),
-        Reason::Within => write!(out, ", which is known only behind the visit of ${first}"),
-        Reason::Waiting => write!(out, ", which waits too"),
+        Ok(())
     }
 }

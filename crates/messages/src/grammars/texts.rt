@@ -2,8 +2,9 @@
 
 use crate::again::Again;
 use crate::expressions::{offset_in, tell_refused};
+use crate::hints::Context;
 use crate::report::{Spot, Words};
-use crate::shown::{Found, Grouped, begins_with, found_at, refusal_of, tell_expected};
+use crate::shown::{Found, Grouped, begins_with, refusal_of, tell_expected};
 use ag_expr::ExprFault;
 use ag_grammar::limits::MOST_TEXT_BYTES;
 use ag_text::{Expected, TextFault, expected_at};
@@ -33,33 +34,30 @@ pub fn tell_text(
     fault: TextFault,
     again: &Again<'_>,
 ) -> Result<(), AllocError> {
-    let found = match offset_of(fault) {
-        Some(at) => found_at(again.text, at),
-        None => None,
-    };
+    let context = Context::of(again.text, offset_of(fault));
     match expected_at(alloc, again.text, fault) {
-        Ok(expected) => tell_standing(words, fault, found, expected.as_slice()),
-        Err(_) => tell_standing(words, fault, found, &[]),
+        Ok(expected) => tell_standing(words, fault, &context, expected.as_slice()),
+        Err(_) => tell_standing(words, fault, &context, &[]),
     }
 }
 
-/// Tells why a text reads as no grammar, where `found` stands and `expected` could.
+/// Tells why a text reads as no grammar in a context, in which `expected` could stand.
 fn tell_standing(
     words: &mut Words,
     fault: TextFault,
-    found: Option<&str>,
+    context: &Context<'_>,
     expected: &[Expected],
 ) -> Result<(), AllocError> {
-    if let Some(spoiled) = spoiled_in(found, expected) {
-        return tell_refused(words, spoiled, found, &[]);
+    if let Some(spoiled) = spoiled_in(context.found, expected) {
+        return tell_refused(words, spoiled, context, &[]);
     }
     match fault {
         TextFault::BadUtf8(_) => {
             write!(words.found, "the bytes here are no UTF-8")?;
             write!(words.help, "save the file as UTF-8")
         }
-        TextFault::Unexpected(_, _) => tell_unexpected(words, found, expected),
-        TextFault::Expr(fault) => tell_refused(words, fault, found, expected),
+        TextFault::Unexpected(_, _) => tell_unexpected(words, context, expected),
+        TextFault::Expr(fault) => tell_refused(words, fault, context, expected),
         TextFault::TooLong => {
             let most = Grouped(MOST_TEXT_BYTES);
             write!(words.found, "the file has more than {most} bytes")?;
@@ -79,15 +77,16 @@ fn spoiled_in(found: Option<&str>, expected: &[Expected]) -> Option<ExprFault> {
 /// Tells what stands outside the expressions, and what could, or what is wrong with the literal there.
 fn tell_unexpected(
     words: &mut Words,
-    found: Option<&str>,
+    context: &Context<'_>,
     expected: &[Expected],
 ) -> Result<(), AllocError> {
-    write!(words.found, "found {}", Found(found))?;
-    if expected.contains(&Expected::Item) && begins_with(found, '"') {
+    write!(words.found, "found {}", Found(context.found))?;
+    if expected.contains(&Expected::Item) && begins_with(context.found, '"') {
         return write!(
             words.expected,
             "where a literal has a character at least and no space, tab or line break"
         );
     }
-    tell_expected(&mut words.expected, expected)
+    tell_expected(&mut words.expected, expected)?;
+    write!(words.help, "{}", context.grammar_hint(expected))
 }
