@@ -7,5 +7,6 @@ pub mod FromTexts
 pub mod Jobs
 pub mod Joined
 pub mod Left
+pub mod Old
 pub mod Reading
 pub mod Sentences

@@ -1,6 +1,6 @@
 -- What a call that evaluates the tree of a file tells: the files that it leaves, and what its refusals say. All of this is this
 -- project's.
-use Rattle.std.specs.Prelude.{ℕ, ◌≤◌, List, [], Bool, Option}
+use Rattle.std.specs.Prelude.{ℕ, ◌≤◌, List, Bool, Option}
 use Rattle.ag_grammar.specs.grammars.AttributeGrammar.{Grammar}
 use Rattle.ag_grammar.specs.grammars.Passes.{Passes}
 use Rattle.ag_grammar.specs.grammars.Solution.{Valuation}

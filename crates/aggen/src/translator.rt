@@ -327,7 +327,7 @@ impl Translator {
             E.is_honest E.failures mid.old mid.new F.is_honest F.failures to.old to.new
             (IsErrOf result Fault.Device) }
     {
-        let nodes = upgrade(self.alloc, &self.grammar, old, mid, to)?;
+        let nodes = upgrade(self.alloc, self.grammar(), old, mid, to)?;
         Ok(nodes)
     }
 }

@@ -1,0 +1,16 @@
+-- What a refusal of the conversion of an old file says, in the terms of the program's faults.
+use Rattle.std.proofs.Common.{ℕ, List, Bool}
+use Rattle.ag_grammar.specs.grammars.AttributeGrammar.{Grammar}
+use Rattle.passrun.specs.Upgrading.{IsUpgradeFault}
+use Rattle.passrun.specs.declared.run_fault.RunFault.{RunFault}
+use Rattle.passrun.specs.declared.run_fault.RunFault.TheVariants as run
+use Rattle.treefile.specs.devices.Device.{WhenHonest}
+use Rattle.aggen.specs.Status.{run_fault_of}
+use Rattle.aggen.specs.Upgrading.{IsOldFileFault}
+
+pub old_fault : (g : Grammar) (ho hm : Bool) (content : List ℕ) (f : RunFault) → WhenHonest ho (WhenHonest hm (IsUpgradeFault g content f)) → IsOldFileFault g ho hm content (run_fault_of f)
+old_fault g ho hm content (run.Damaged at) told = told
+old_fault g ho hm content run.TooDeep told = told
+old_fault g ho hm content run.TooManyNodes told = told
+old_fault g ho hm content run.Device told = tt
+old_fault g ho hm content run.NoMemory told = tt
