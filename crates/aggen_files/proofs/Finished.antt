@@ -1,5 +1,6 @@
 -- What holds of a translation into memory holds once its bytes are printed and the files are written out.
-use Rattle.std.proofs.Common.{◌≡◌, ◌≢◌, List, [], ◌++◌, ℕ, Bool, true, Option, Some, refl, sym, subst, ◌∙◌}
+use Rattle.std.proofs.Common.{◌≡◌, ◌≢◌, ◌⊎◌, inl, inr, List, [], ℕ, Bool, true, Option, Some, Result, Ok, Err, refl, sym, subst, ◌∙◌}
+use Rattle.std.specs.Result.{IfErr, IfOk}
 use Rattle.std.specs.Io.KnownBytes.{Appends}
 use Rattle.ag_grammar.specs.grammars.AttributeGrammar.{Grammar}
 use Rattle.ag_grammar.specs.grammars.Solution.{IsTranslation}
@@ -7,7 +8,7 @@ use Rattle.ag_value.specs.declared.value.Value.{Text}
 use Rattle.agoutput.specs.Writing.{AppendsBeginning}
 use Rattle.treefile.specs.devices.Device.{WhenHonest}
 use Rattle.aggen.specs.Sentences.{IsTreeOfSentence}
-use Rattle.aggen.specs.Translating.{AreLeft, IsTranslationFault, LeavesLastFiles, TranslatesSentence}
+use Rattle.aggen.specs.Translating.{IsAfterPasses, IsTranslationFault, LeavesLastFiles, TranslatesSentence}
 use Rattle.aggen.specs.Translation.{BeginsTranslation}
 use Rattle.aggen.specs.declared.fault.Fault.{Fault}
 use Rattle.aggen.specs.declared.fault.Fault.TheVariants as fault
@@ -116,3 +117,47 @@ module _ (g : Grammar) (sentence : List ℕ) (ha hb ha' hb' : Bool) (first : ha'
   refused old new old' new' (fault.Table f) other told = told
   refused old new old' new' (fault.Assign s) other told = told
   refused old new old' new' (fault.Job f) other told = told
+
+  -- the same of the results of calls: the buffer was empty, and its bytes are lent to be printed
+  told_of : (start : List ℕ) (a b bytes : List ℕ) (r : Result Report Fault) (report : Report) → start ≡ []
+      → IfOk r (λ it. TranslatesSentence g sentence ha hb a b (Some start) (Some bytes) it) → r ≡ Ok report
+      → TranslatesSentence g sentence ha hb a b (Some []) (Some bytes) report
+  told_of start a b bytes r report empty told is =
+      subst (λ (w : List ℕ). TranslatesSentence g sentence ha hb a b (Some w) (Some bytes) report) empty
+      (subst (λ (z : Result Report Fault). IfOk z (λ it. TranslatesSentence g sentence ha hb a b (Some start) (Some bytes) it)) is told)
+
+  pub translated_result : (start a b a' b' bytes lent : List ℕ) (old new : Option (List ℕ)) (r : Result Report Fault) (report : Report)
+      → start ≡ [] → lent ≡ bytes → (ha' ≡ true → a' ≡ a) → (hb' ≡ true → b' ≡ b)
+      → IfOk r (λ it. TranslatesSentence g sentence ha hb a b (Some start) (Some bytes) it) → r ≡ Ok report
+      → Appends old new lent → TranslatesSentence g sentence ha' hb' a' b' old new report
+  translated_result start a b a' b' bytes lent old new r report empty same same_a same_b told is printed =
+      translated a b a' b' bytes old new report same_a same_b (told_of start a b bytes r report empty told is) (subst (Appends old new) same printed)
+
+  pub begun_result : (start a b bytes lent : List ℕ) (old new : Option (List ℕ)) (r : Result Report Fault) (report : Report)
+      → start ≡ [] → lent ≡ bytes
+      → IfOk r (λ it. TranslatesSentence g sentence ha hb a b (Some start) (Some bytes) it) → r ≡ Ok report
+      → AppendsBeginning old new lent → WhenHonest ha' (WhenHonest hb' (BeginsTranslation (IsTreeOfSentence g sentence) g old new))
+  begun_result start a b bytes lent old new r report empty same told is printed =
+      begun a b bytes old new report (told_of start a b bytes r report empty told is) (subst (AppendsBeginning old new) same printed)
+
+  pub files_result : (start a b a' b' bytes : List ℕ) (r : Result Report Fault) (report : Report)
+      → start ≡ [] → (ha' ≡ true → a' ≡ a) → (hb' ≡ true → b' ≡ b)
+      → IfOk r (λ it. TranslatesSentence g sentence ha hb a b (Some start) (Some bytes) it) → r ≡ Ok report
+      → LeavesLastFiles g sentence ha' hb' a' b'
+  files_result start a b a' b' bytes r report empty same_a same_b told is =
+      printed_files a b a' b' bytes report same_a same_b (told_of start a b bytes r report empty told is)
+
+  pub refused_result : (old new old' new' : Option (List ℕ)) (r : Result Report Fault) (e : Fault)
+      → IfErr r (λ it. IsTranslationFault g sentence ha hb old new it) → (r ≡ Err e) ⊎ (e ≡ fault.NoMemory) → e ≢ fault.Write
+      → IsTranslationFault g sentence ha' hb' old' new' e
+  refused_result old new old' new' r e told (inl same) other =
+      refused old new old' new' e other (subst (λ (z : Result Report Fault). IfErr z (λ it. IsTranslationFault g sentence ha hb old new it)) same told)
+  refused_result old new old' new' r e told (inr want) other = subst (λ (z : Fault). IsTranslationFault g sentence ha' hb' old' new' z) (sym want) tt
+
+  pub refused_files_result : (a b a' b' : List ℕ) (r : Result Report Fault) (e : Fault)
+      → (ha' ≡ true → a' ≡ a) → (hb' ≡ true → b' ≡ b)
+      → IfErr r (λ it. IsAfterPasses it → LeavesLastFiles g sentence ha hb a b) → (r ≡ Err e) ⊎ (e ≡ fault.NoMemory)
+      → IsAfterPasses e → LeavesLastFiles g sentence ha' hb' a' b'
+  refused_files_result a b a' b' r e same_a same_b told (inl same) after =
+      refused_files a b a' b' same_a same_b (subst (λ (z : Result Report Fault). IfErr z (λ it. IsAfterPasses it → LeavesLastFiles g sentence ha hb a b)) same told after)
+  refused_files_result a b a' b' r e same_a same_b told (inr want) after = absurd (subst (λ (z : Fault). IsAfterPasses z) want after)

@@ -1,8 +1,10 @@
 //! The two tree files of a translation, in a folder.
 
-ghost use Rattle.std.specs.Prelude.{◌≡◌, ◌≢◌, ◌++◌, IfErr, IfOk, IsErrOf, OnErr, OnOk, string_bytes};
+ghost use Rattle.std.specs.Prelude.{◌≡◌, ◌≢◌, ◌++◌, ◌⊎◌, Err, IfErr, IfOk, IsErrOf, OnErr, OnOk, string_bytes};
+ghost use Rattle.std.specs.Prelude.{Ok};
 ghost use Rattle.passrun.specs.Rounds.{LeavesSomeFile};
 ghost use Rattle.treefile.specs.devices.Device.{LeavesContent, WhenHonest};
+ghost use Rattle.treefile.specs.declared.file.Access.TheVariants.{Writing};
 ghost use Rattle.treefile.specs.devices.Files.{IsNew, content_of, is_honest_of};
 ghost use Rattle.treefile.specs.devices.Several.{BothLast};
 ghost use Rattle.aggen.specs.Translating.{IsAfterPasses, IsTranslationFault, LeavesLastFiles};
@@ -52,9 +54,9 @@ impl<F: Read + Write + Seek + OpenFile> WorkFiles<F> {
         second: Record,
     ) -> Result<WorkFiles<F>, Fault>
         ensures a { IfOk result (λ files.
-            IsNew Access.Writing (path_of_a folder.now) first.events files.a) }
+            IsNew Writing (path_of_a folder.now) first.events files.a) }
         ensures b { IfOk result (λ files.
-            IsNew Access.Writing (path_of_b folder.now) second.events files.b) }
+            IsNew Writing (path_of_b folder.now) second.events files.b) }
         ensures refused { IfErr result IsOpeningFault }
     {
         let a = path_in(alloc, folder, "/a.agt")?;
@@ -135,12 +137,13 @@ impl<F: Read + Write + Seek + OpenFile> WorkFiles<F> {
 
 /// Returns the result of a translation into memory: a failed write there is want of memory.
 fn of_buffered(translated: Result<Report, Fault>) -> Result<Report, Fault>
-    ensures ok { OnOk translated (result ≡ translated) }
-    ensures err { IfErr translated (λ e. e ≢ Fault.Write → result ≡ translated) }
-    ensures write { IsErrOf translated Fault.Write → IsErrOf result Fault.NoMemory }
+    ensures ok { IfOk result (λ report. translated ≡ Ok report) }
+    ensures err { IfErr result (λ e. (translated ≡ Err e) ⊎ (e ≡ Fault.NoMemory)) }
+    ensures other { IfErr result (λ e. e ≢ Fault.Write) }
 {
     match translated {
+        Ok(report) => Ok(report),
         Err(Fault::Write) => Err(Fault::NoMemory),
-        other => other,
+        Err(fault) => Err(fault),
     }
 }
