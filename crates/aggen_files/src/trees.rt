@@ -7,7 +7,9 @@ ghost use Rattle.ag_grammar.specs.grammars.Tree.{IsWithinLimits, Tree, node_coun
 ghost use Rattle.ag_grammar.specs.grammars.Tree.{most_depth, most_nodes};
 ghost use Rattle.agoutput.specs.Lines.{nodes_line};
 ghost use Rattle.treefile.specs.devices.Device.{LeavesContent, WhenHonest};
-ghost use Rattle.treefile.specs.devices.Files.{content_of, is_honest_of};
+ghost use Rattle.treefile.specs.devices.Files.{FilePersists, content_of, is_honest_of};
+ghost use Rattle.treefile.specs.devices.Several.{BothLast};
+ghost use Rattle.treefile.specs.ways.Beginning.{LeavesBeginning};
 ghost use Rattle.treefile.specs.records.FirstFile.{IsFirstFile};
 ghost use Rattle.treefile.specs.records.TreeFile.{version_two};
 ghost use Rattle.aggen.specs.Sentences.{IsTreeOfSentence};
@@ -50,6 +52,11 @@ pub fn parse_to_file<F: Read + Write + Seek + OpenFile, W: Write>(
         Appends (W.contents out.old) (W.contents out.new) (nodes_line count)) }
     ensures refused { IfErr result (IsParsingFault translator.now sentence.now) }
     ensures kept { IfErr result (λ e. e ≢ Fault.Write → out.new ≡ out.old) }
+    // what the device had, or a prefix of a file of pass 0
+    ensures left { OnErr result (WhenHonest (is_honest_of tree.new)
+        (LeavesBeginning 0 (content_of tree.old) (content_of tree.new))) }
+    // D1 only if the number of failures rose
+    ensures persists { FilePersists tree.old tree.new (IsErrOf result Fault.Device) }
 {
     let parsed = translator.parse_tree(sentence, tree);
     tree.finish()?;
@@ -79,6 +86,8 @@ pub fn evaluate_file<F: Read + Write + Seek + OpenFile, W: Write>(
         BeginsText (W.contents out.old) (W.contents out.new) }
     ensures content { LeavesContent (is_honest_of tree.new)
         (content_of tree.old) (content_of tree.new) }
+    // D1 only if the number of failures rose
+    ensures persists { FilePersists tree.old tree.new (IsErrOf result Fault.Device) }
 {
     let mut a = MemDevice::new(alloc);
     let mut b = MemDevice::new(alloc);
@@ -109,6 +118,9 @@ pub fn upgrade_file<F: Read + Write + Seek + OpenFile, W: Write>(
     ensures kept { IfErr result (λ e. e ≢ Fault.Write → out.new ≡ out.old) }
     ensures content { LeavesContent (is_honest_of old.new)
         (content_of old.old) (content_of old.new) }
+    // D1 only if the number of failures rose on one of the two
+    ensures devices { BothLast is_honest_of (λ d. d.failures) old.old old.new
+        is_honest_of (λ d. d.failures) tree.old tree.new (IsErrOf result Fault.Device) }
 {
     let mut between = MemDevice::new(alloc);
     let converted = translator.upgrade(old, &mut between, tree);
