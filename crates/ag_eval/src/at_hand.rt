@@ -137,8 +137,9 @@ impl<'e, V: Environment> Evaluation<'e, V> {
     }
 }
 
-/// The number that an expression is, where it is a literal one: then the meter counts one evaluation
-/// more, and no environment is asked for. Any other expression is not evaluated. Takes no memory.
+/// Returns the value of an expression that is a number literal, and raises the meter by one
+/// evaluation, as `eval` does; no environment is needed. Returns `None` for any other expression,
+/// which is then not evaluated, and leaves the meter as it was. Takes no memory.
 #[inline(always)]
 pub fn eval_number(expr: &Expr, meter: &mut Meter) -> Option<i64>
     requires not_full { meter.old < 2 ^ 64 - 1 }

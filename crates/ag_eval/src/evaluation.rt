@@ -310,11 +310,13 @@ fn decided(condition: &Value) -> Result<bool, ErrorCode>
     }
 }
 
-/// The value of an expression where `env` lends the values of its occurrences. Takes memory for
-/// what is made, and for copies: of a value that is lent or bound, where it leaves the expression,
-/// goes into a list or table, or grows; of the part that `nth` or `get` takes of what the expression
-/// made; and of what it made and bound, where another name is bound to that too. The meter counts
-/// one more, also where memory is refused.
+/// Computes the value of an expression where `env` lends the values of its occurrences, and raises
+/// the meter by one evaluation, also where memory is refused. The other public call that takes a
+/// meter is `eval_number`; it too computes the expression's value and counts one evaluation.
+///
+/// Takes memory for what is made, and for copies: of a value that is lent or bound, where it leaves
+/// the expression, goes into a list or table, or grows; of the part that `nth` or `get` takes of what
+/// the expression made; and of what it made and bound, where another name is bound to that too.
 #[inline(always)]
 pub fn eval<V: Environment>(
     alloc: Global,

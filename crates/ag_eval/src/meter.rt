@@ -4,7 +4,10 @@ ghost use Rattle.std.specs.Prelude.{◌≡◌, ◌+◌, ◌-◌, ◌^◌, ◌<�
 
 use std::marker::Model;
 
-/// Counts evaluations.
+/// Counts evaluations. Every public call of this crate that takes a meter computes an expression's
+/// value and raises the meter by one: `eval` in each case, `eval_number` where it returns a number.
+/// `eval_number` returns `None` for an expression that is no number literal; then it computes
+/// nothing, and the meter keeps its count.
 #[derive(Debug, Drop)]
 pub struct Meter {
     count: u64,

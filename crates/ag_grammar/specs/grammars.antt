@@ -3,6 +3,7 @@ pub mod Accepted
 pub mod AttributeGrammar
 pub mod Counts
 pub mod Laws
+pub mod Order
 pub mod Passes
 pub mod Raw
 pub mod Running

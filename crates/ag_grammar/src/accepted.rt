@@ -1,14 +1,18 @@
 //! A grammar that is known to be accepted.
 
 ghost use Rattle.std.specs.Prelude.{◌≡◌};
+ghost use Rattle.std.specs.List.Sorted.{IsStrictlyIncreasing};
 ghost use Rattle.ag_grammar.specs.grammars.Accepted.{IsAccepted};
+ghost use Rattle.ag_grammar.specs.grammars.Order.{IsInOrder, IsInOrderOfAppearance};
+ghost use Rattle.ag_grammar.specs.grammars.Order.{literal_numbers};
 
 use crate::grammar::{Production, Symbol};
 use ag_value::{Items, Text};
 use std::marker::Model;
 
 /// An accepted grammar. Contracts see it as the plain lists that the definitions of attribute
-/// grammars are over, and know of each that it is accepted.
+/// grammars are over, and know of each that it is accepted, that its classes ascend, and that its
+/// literals are in the order of their first appearance.
 #[derive(Drop)]
 pub struct Grammar {
     symbols: Items<Symbol>,
@@ -23,6 +27,7 @@ impl Model for Grammar {
     ghost use Rattle.ag_grammar.specs.contracts.syntax.node.Node as node_row;
     ghost use Rattle.ag_grammar.specs.grammars.Accepted.{IsAccepted};
     ghost use Rattle.ag_grammar.specs.grammars.AttributeGrammar.{Grammar as Plain};
+    ghost use Rattle.ag_grammar.specs.grammars.Order.{IsInOrder};
 
     ghost Value = { Plain };
 
@@ -36,17 +41,19 @@ impl Model for Grammar {
       start = g.start;
     } };
 
-    ghost invariant = { λ g. IsAccepted (record {
+    ghost invariant = { λ g. let plain : Plain = record {
       symbols = g.symbols;
       productions = g.productions;
       literals = g.literals;
       classes = g.classes;
       start = g.start;
-    }) };
+    } in IsAccepted plain × IsInOrder plain };
 }
 
 impl Grammar {
-    /// The grammar of these lists, which are those of an accepted one. Takes no memory.
+    /// Makes a grammar of its lists. The caller has to prove that the grammar is accepted and in
+    /// order; nothing is checked when the program runs. `check` of the crate `normalform` is such a
+    /// caller. Takes no memory.
     pub fn new(
         symbols: Items<Symbol>,
         productions: Items<Production>,
@@ -54,7 +61,14 @@ impl Grammar {
         classes: Items<u16>,
         start: u16,
     ) -> Grammar
-        requires { IsAccepted (record {
+        requires accepted { IsAccepted (record {
+          symbols = symbols;
+          productions = productions;
+          literals = literals;
+          classes = classes;
+          start = start;
+        }) }
+        requires in_order { IsInOrder (record {
           symbols = symbols;
           productions = productions;
           literals = literals;
@@ -94,11 +108,12 @@ impl Grammar {
         self.productions.as_slice()
     }
 
-    /// Lends the different literals in the order of their first appearance; a literal's number is
-    /// its index. Takes no memory.
+    /// Lends the different literals in the order of their first appearance on the right sides; a
+    /// literal's number is its index. Takes no memory.
     pub fn literals(&self) -> &[Text]
         ensures lent { result.now ≡ self.now.literals }
         ensures accepted { IsAccepted self.now }
+        ensures in_order { IsInOrderOfAppearance (literal_numbers self.now) }
     {
         self.literals.as_slice()
     }
@@ -107,6 +122,7 @@ impl Grammar {
     pub fn classes(&self) -> &[u16]
         ensures lent { result.now ≡ self.now.classes }
         ensures accepted { IsAccepted self.now }
+        ensures ascending { IsStrictlyIncreasing result.now }
     {
         self.classes.as_slice()
     }

@@ -7,6 +7,7 @@ ghost use Rattle.ag_grammar.specs.expressions.Evaluation.{value_of};
 ghost use Rattle.ag_grammar.specs.expressions.Occurring.{has_occurrence};
 ghost use Rattle.ag_grammar.specs.grammars.Accepted.{IsAccepted, IsComplete, IsNormal, IsProductive};
 ghost use Rattle.ag_grammar.specs.grammars.Accepted.{IsReached};
+ghost use Rattle.ag_grammar.specs.grammars.Order.{IsInOrder};
 ghost use Rattle.ag_grammar.specs.grammars.Tree.{node, none, more, IsTreeOf, depth_of, node_count};
 ghost use Rattle.ag_grammar.specs.grammars.Tree.{IsWithinLimits, most_depth, most_nodes};
 ghost use Rattle.ag_grammar.specs.grammars.Yield.{yield_of};
@@ -20,7 +21,7 @@ ghost use Rattle.ag_grammar.specs.grammars.Sample.{rule_s};
 ghost use Rattle.ag_grammar.specs.grammars.Sample.{rule_inherited, later_passes, endless};
 ghost use Rattle.ag_grammar.specs.grammars.Sample.{with_unreached, sample_tree, sample_values};
 ghost use Rattle.ag_grammar.specs.grammars.Sample.{sample_passes, token_sample, token_tree};
-ghost use Rattle.ag_grammar.specs.grammars.Sample.{token_values, iffy};
+ghost use Rattle.ag_grammar.specs.grammars.Sample.{token_values, iffy, back_first, descending};
 
 /// The first grammar is accepted.
 #[tactic(auto, using(crate::proofs::grammars::samples::NumberSample::accepted))]
@@ -140,6 +141,21 @@ pub fn child_missing()
 #[tactic(auto, using(crate::proofs::grammars::samples::Refused::not_legal))]
 pub fn not_legal()
     ensures { IsLegal sample later_passes → ⊥ }
+{}
+
+/// The first grammar with a production more is in order, and so is the second.
+#[tactic(auto, using(crate::proofs::grammars::samples::Ordered::two_literals))]
+pub fn samples_in_order()
+    ensures literals { IsInOrder both_ways }
+    ensures classes { IsInOrder token_sample }
+{}
+
+/// With that production first the first grammar is not in order, since literal 1 appears before
+/// literal 0; nor is the second with the classes 1 and 0.
+#[tactic(auto, using(crate::proofs::grammars::samples::Ordered::exchanged))]
+pub fn not_in_order()
+    ensures literals { IsInOrder back_first → ⊥ }
+    ensures classes { IsInOrder descending → ⊥ }
 {}
 
 /// With a production more, in which the first child's `s` goes into the second, no assignment is

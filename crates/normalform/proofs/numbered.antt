@@ -1,7 +1,9 @@
 -- What the numbers of a raw grammar stand for.
 pub mod Accepting
 pub mod KindAt
+pub mod Keys
 pub mod Listed
+pub mod Ordered
 pub mod Pairs
 pub mod Placing
 pub mod Small

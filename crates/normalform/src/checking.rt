@@ -1,6 +1,7 @@
 //! The check of a raw grammar: the grammar that it is, or the first of its faults.
 ghost use Rattle.std.specs.Prelude.{◌≡◌, map, All, Some, None, IfOk, IfErr, IfSome};
 ghost use Rattle.ag_grammar.specs.grammars.Accepted.{IsAccepted};
+ghost use Rattle.ag_grammar.specs.grammars.Order.{IsInOrder};
 ghost use Rattle.normalform.specs.faults.Faults.{first_wrong, start_checks, naming_checks, rule_kinds};
 ghost use Rattle.normalform.specs.faults.Faults.{further_checks, IsReadable, HasNoFault, IsTrueOf};
 ghost use Rattle.normalform.specs.faults.Faults.{IsFirstFault};
@@ -235,8 +236,9 @@ fn refusal(found: Found, raw: RawGrammar) -> NormalFault
     }
 }
 
-/// Checks a raw grammar. Ok is the grammar that it is by numbers, which is accepted; names and
-/// expressions are moved into it.
+/// Checks a raw grammar. Ok is the grammar that it is by numbers, which is accepted, with its classes
+/// ascending and its literals in the order of their first appearance; names and expressions are moved
+/// into it.
 ///
 /// A refusal is the first fault: of the kinds in the order of `NormalFault` the first that has one,
 /// and within a kind the first in the order of the lists. Then the grammar by numbers is not
@@ -247,6 +249,7 @@ pub fn check(alloc: Global, raw: RawGrammar) -> Result<Grammar, NormalFault>
     requires { IsReadable raw }
     ensures numbered { IfOk result (λ g. g ≡ numbered raw) }
     ensures accepted { IfOk result (λ g. IsAccepted g) }
+    ensures in_order { IfOk result (λ g. IsInOrder g) }
     ensures refused { IfErr result (λ fault. IsTrueOf raw fault) }
 {
     match first_fault(alloc, &raw)? {

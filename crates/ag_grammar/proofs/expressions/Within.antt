@@ -1,5 +1,5 @@
 -- The numbers in a tree are within what they number, a level at a time.
-use Rattle.std.proofs.Common.{◌≡◌, ℕ, nat_lt, List, [], ◌∷◌, ◌++◌, Bool, true, ◌&&◌, map, refl, ap, sym, ◌∙◌}
+use Rattle.std.proofs.Common.{◌≡◌, ℕ, nat_lt, List, [], ◌∷◌, Bool, true, ◌&&◌, map, refl, ap, sym, ◌∙◌}
 use Rattle.ag_value.specs.declared.value.Value.{Value}
 use Rattle.ag_grammar.specs.declared.syntax.node.Operator.{Operator}
 use Rattle.ag_grammar.specs.declared.syntax.node.Node.{Node, roll-Node}

@@ -121,6 +121,10 @@ production_back = record {
 abbrev pub both_ways : Grammar
 both_ways = record sample { productions = sample.productions ++ production_back ∷ []; literals = (120 ∷ []) ∷ (121 ∷ []) ∷ [] }
 
+-- the same with that production first, so that literal 1 appears before literal 0
+abbrev pub back_first : Grammar
+back_first = record both_ways { productions = production_back ∷ sample.productions }
+
 -- the tree of `x x`
 abbrev pub sample_tree : Tree
 sample_tree = node 0 (more (node 1 none) (more (node 1 none) none))
@@ -188,6 +192,10 @@ symbol_s = record { name = 83 ∷ []; syn = out_name ∷ []; inh = [] }
 -- the second grammar
 abbrev pub token_sample : Grammar
 token_sample = record { symbols = symbol_s ∷ []; productions = production_s ∷ []; literals = (105 ∷ 102 ∷ []) ∷ []; classes = 0 ∷ []; start = 0 }
+
+-- the second grammar with the classes 1 and 0, which do not ascend
+abbrev pub descending : Grammar
+descending = record token_sample { classes = 1 ∷ 0 ∷ [] }
 
 -- the text `iffy`
 abbrev pub iffy : List ℕ

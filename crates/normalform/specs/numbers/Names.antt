@@ -1,8 +1,16 @@
--- Maps from texts to their numbers.
-use Rattle.std.specs.Prelude.{ℕ, ◌≡◌, List, bytes_eq, position}
-use Rattle.std.specs.HashMap.{HashMap, get_by}
+-- Texts in order as the keys of an index set: a text has 0 beside it where it first appears, and else its own index.
+use Rattle.std.specs.Prelude.{ℕ, ◌≡◌, ◌<◌, ◌⊎◌, ◌&&◌, Bool, List, Some, bytes_eq, length, map, nat_eq, position, slice_get}
 use Rattle.std.specs.Borrow.{Bor}
 
--- at each text the map has the index of the first in the list that is the same
-abbrev pub HasNumbers : {S : Type 0} → HashMap (Bor (List ℕ)) ℕ S → List (List ℕ) → Type 0
-HasNumbers numbers texts = (text : List ℕ) → get_by (λ k. bytes_eq text k.now) numbers ≡ position (bytes_eq text) texts
+-- the key of a text where it first appears
+abbrev pub is_first : List ℕ → Bor (List ℕ) × ℕ → Bool
+is_first text key = bytes_eq text key.0.now && nat_eq 0 key.1
+
+-- the texts of keys
+abbrev pub texts_of_keys : List (Bor (List ℕ) × ℕ) → List (List ℕ)
+texts_of_keys keys = map (λ key. key.0.now) keys
+
+-- The key with 0 is that of the first of the same texts, and any other number is below the number of keys.
+pub record AreNumbered (keys : List (Bor (List ℕ) × ℕ)) : Type 0 where
+  pub first : (text : List ℕ) → position (is_first text) keys ≡ position (bytes_eq text) (texts_of_keys keys)
+  pub below : (i : ℕ) (key : Bor (List ℕ) × ℕ) → slice_get keys i ≡ Some key → (key.1 ≡ 0) ⊎ (key.1 < length keys)

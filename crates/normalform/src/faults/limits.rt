@@ -25,7 +25,7 @@ fn list_literals<'t>(texts: &mut Names<'t>, items: &'t [RawItem]) -> Result<(), 
 {
     for item in items {
         if let RawItem::Literal(text) = item {
-            texts.list(text.as_str())?;
+            texts.insert(text.as_str())?;
         }
     }
     Ok(())
@@ -112,7 +112,7 @@ fn all_have_few_stored(
 fn all_are_short(texts: &Names<'_>) -> bool
     ensures { result ≡ list_all is_short texts.now }
 {
-    for text in texts.listed() {
+    for (text, _) in texts.listed() {
         if text.len() > MOST_LITERAL_BYTES {
             return false;
         }

@@ -87,7 +87,7 @@ fn doubled_name<'t>(seen: &mut Names<'t>, name: &'t Named) -> Result<Option<Norm
     ensures fault { IfOk result (λ f. f ≡ first_wrong (new_check seen.old name.now)) }
     ensures seen { OnOk result (seen.new ≡ with_text seen.old name.now.name) }
 {
-    if seen.list(name.name.as_str())? {
+    if seen.insert(name.name.as_str())? {
         Ok(None)
     } else {
         Ok(Some(NormalFault::DoubledName(name.at)))

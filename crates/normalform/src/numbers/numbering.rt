@@ -184,7 +184,7 @@ pub fn literal_texts(alloc: Global, productions: &[RawProduction]) -> Result<Ite
 {
     let literals = literals_of(alloc, productions)?;
     let mut texts = Vec::new(alloc);
-    for text in literals.listed() {
+    for (text, _) in literals.listed() {
         texts.push(Text::from_string(String::from_str(alloc, text)?))?;
     }
     Ok(Items::from_vec(texts))
