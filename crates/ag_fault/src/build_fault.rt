@@ -1,9 +1,9 @@
 //! Why a text makes no translator.
 
 ghost use Rattle.std.specs.Prelude.{◌≡◌};
-ghost use Rattle.aggen.specs.Building.{build_fault_of_normal, build_fault_of_table};
-ghost use Rattle.aggen.specs.Building.{build_fault_of_text};
-ghost use Rattle.aggen.specs.declared.build_fault.BuildFault.TheVariants as build_fault;
+ghost use Rattle.ag_fault.specs.Faults.{build_fault_of_normal, build_fault_of_table};
+ghost use Rattle.ag_fault.specs.Faults.{build_fault_of_text};
+ghost use Rattle.ag_fault.specs.declared.build_fault.BuildFault.TheVariants as build_fault;
 
 use crate::stuck_grammar::StuckGrammar;
 use ag_text::TextFault;
@@ -12,7 +12,7 @@ use llparse::TableFault;
 use normalform::NormalFault;
 
 /// Why a text makes no translator. Want of memory is in none but its own variant.
-#[derive(Debug, Drop)]
+#[derive(Drop)]
 pub enum BuildFault {
     /// G1 to G4: the text reads as no grammar.
     Text(TextFault),

@@ -1,10 +1,11 @@
-//! The program's faults: their messages, their statuses, and the faults of the crates below.
+//! The program's faults, their statuses, and which of them the faults of the crates below become.
 
 ghost use Rattle.std.specs.Prelude.{◌≡◌};
-ghost use Rattle.aggen.specs.Status.{build_fault_of, device_fault_of, expr_fault_of};
-ghost use Rattle.aggen.specs.Status.{frame_fault_of, job_fault_of, listing_fault_of, out_fault_of};
-ghost use Rattle.aggen.specs.Status.{parse_fault_of, run_fault_of, scan_fault_of, status_of};
-ghost use Rattle.aggen.specs.declared.fault.Fault.TheVariants as program_fault;
+ghost use Rattle.ag_fault.specs.Faults.{build_fault_of, device_fault_of, expr_fault_of};
+ghost use Rattle.ag_fault.specs.Faults.{frame_fault_of, job_fault_of, listing_fault_of, out_fault_of};
+ghost use Rattle.ag_fault.specs.Faults.{parse_fault_of, run_fault_of, scan_fault_of};
+ghost use Rattle.ag_fault.specs.Status.{status_of};
+ghost use Rattle.ag_fault.specs.declared.fault.Fault.TheVariants as program_fault;
 
 use crate::build_fault::BuildFault;
 use crate::stuck_grammar::StuckGrammar;
@@ -19,67 +20,49 @@ use normalform::NormalFault;
 use passrun::RunFault;
 use roottext::OutFault;
 use std::alloc::AllocError;
-use thiserror::Error;
 use treefile::{DeviceFault, FileFault, FrameFault};
 
 /// Why the program, or a call of it, did not do what it was asked for. Each has a number, which is
 /// printed first.
-#[derive(Debug, Drop, Error)]
+#[derive(Debug, Drop)]
 pub enum Fault {
     /// The words of the command line are not as they should be.
-    #[error("usage: the words of the command line can't be read")]
     Usage,
     /// F1: a file can't be opened, read or made.
-    #[error("F1 the file can't be opened, read or made")]
     File,
     /// X1 to X4: the text is no expression. Want of memory is never in it.
-    #[error("{0}")]
     Expr(ExprFault),
     /// G1 to G4: the text reads as no grammar. Want of memory is never in it.
-    #[error("{0}")]
     Text(TextFault),
     /// N1 to N10: the grammar is not accepted. Want of memory is never in it.
-    #[error("{0}")]
     Normal(NormalFault),
     /// L1: one token of look-ahead doesn't tell which production comes next. Want of memory is
     /// never in it.
-    #[error("{0}")]
     Table(TableFault),
     /// A1: no assignment of passes to the grammar's attributes is legal.
-    #[error("{0}")]
     Assign(StuckGrammar),
     /// S1 to S4: the sentence has no tokens. Want of memory is never in it.
-    #[error("{0}")]
     Scan(ScanFault),
     /// P1 to P3: the sentence has no tree within the limits. A failed device and want of memory are
     /// never in it.
-    #[error("{0}")]
     Parse(ParseFault),
     /// R1, P2 and P3 of a tree file that a pass read. A failed device and want of memory are never in
     /// it.
-    #[error("{0}")]
     Run(RunFault),
     /// J1 to J3: what a reader gives is no job. Want of memory is never in it.
-    #[error("{0}")]
     Job(JobFault),
     /// O1: the translation is this value, and no text.
-    #[error("O1 the translation is no text")]
     NoText(Value),
     /// B1: a device holds no tree file.
-    #[error("B1 the device holds no tree file")]
     NotATreeFile,
     /// B2: no frame ends at this offset in bytes, where one should, or its body is not as it should
     /// be.
-    #[error("B2 at {0}: the tree file is damaged here")]
     Damaged(u64),
     /// D1: a call of a device failed.
-    #[error("D1 the device failed")]
     Device,
     /// O2: a write failed, or took no byte. A beginning of the text may have gone out.
-    #[error("O2 the text could not be written whole")]
     Write,
     /// A growth was refused.
-    #[error("NoMemory a request for memory was refused")]
     NoMemory,
 }
 
