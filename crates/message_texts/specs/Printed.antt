@@ -5,4 +5,4 @@ use Rattle.message_texts.specs.declared.position.Position.{Position}
 -- how the position in a text that has no file is printed, as `(line 4, column 47)`
 abbrev pub position_text : Position → List ℕ
 position_text position =
-  codes "(line " ++ decimal position.line ++ codes ", column " ++ decimal position.column ++ codes ")"
+    codes "(line " ++ decimal position.line ++ codes ", column " ++ decimal position.column ++ codes ")"

@@ -80,7 +80,11 @@ fn describe_no_token(parts: &mut Parts, context: &Context<'_>) -> Result<(), All
 
 /// Describes a number that is too large.
 fn describe_number(parts: &mut Parts, context: &Context<'_>) -> Result<(), AllocError> {
-    write!(parts.found, "the number is too large in {}", Found(context.found))?;
+    write!(
+        parts.found,
+        "the number is too large in {}",
+        Found(context.found)
+    )?;
     write!(
         parts.expected,
         "where {} is the greatest, and {MOST_PLACE} the greatest place behind $",

@@ -9,7 +9,8 @@ use std::alloc::{AllocError, Global};
 const MAX_TEXT_BYTES: usize = MAX_WEIGHT as usize - 5;
 
 /// What to do about a value that is an error.
-const MEND_RULE: &str = "which a rule in the tree gave and others carried on, mend that rule, or write `orelse(v, w)` where v may be an error";
+const MEND_RULE: &str =
+    "which a rule in the tree gave and others carried on, mend that rule, or write `orelse(v, w)` where v may be an error";
 
 /// What to do about a value that is neither a text nor an error.
 const GIVE_TEXT: &str =

@@ -141,10 +141,7 @@ pub fn at_place<'a>(
     place: usize,
 ) -> Option<AtPlace<'a>> {
     if place == 0 {
-        return Some(AtPlace::Symbol(symbol_named(
-            raw,
-            production.left.name.as_str(),
-        )?));
+        return Some(AtPlace::Symbol(symbol_named(raw, production.left.name.as_str())?));
     }
     match production.item_at(place)? {
         RawItem::Name(name) => Some(AtPlace::Symbol(symbol_named(raw, name.name.as_str())?)),

@@ -126,7 +126,11 @@ fn describe_first(
 /// Describes N1: a symbol that is not declared, or an occurrence of an attribute that does not exist.
 fn describe_unknown(parts: &mut Parts, raw: &RawGrammar, at: usize) -> Result<(), AllocError> {
     if let Some(placed) = placed_at(raw, at) {
-        write!(parts.found, "`{}` is not there", AsWritten(placed.occurrence))?;
+        write!(
+            parts.found,
+            "`{}` is not there",
+            AsWritten(placed.occurrence)
+        )?;
         return write_existing(&mut parts.expected, raw, &placed);
     }
     match name_at(raw, at) {
@@ -231,13 +235,9 @@ fn describe_no_start(parts: &mut Parts, name: &str) -> Result<(), AllocError> {
 /// Describes N3 of a start symbol with the wrong attributes.
 fn describe_bad_start(parts: &mut Parts, symbol: &RawSymbol) -> Result<(), AllocError> {
     let Some(attribute) = symbol.inh.as_slice().first() else {
-        return parts
-            .found
-            .push_str("has no synthesized attribute `out`, which is the translation");
+        return parts.found.push_str("has no synthesized attribute `out`, which is the translation");
     };
-    parts
-        .found
-        .push_str("may have no inherited attribute")?;
+    parts.found.push_str("may have no inherited attribute")?;
     write!(parts.help, "take `{}` out", attribute.name.as_str())
 }
 
@@ -260,16 +260,10 @@ fn describe_unproductive(
 }
 
 /// Describes N5: that the start symbol does not reach a symbol.
-fn describe_unreachable(
-    parts: &mut Parts,
-    raw: &RawGrammar,
-    name: &str,
-) -> Result<(), AllocError> {
+fn describe_unreachable(parts: &mut Parts, raw: &RawGrammar, name: &str) -> Result<(), AllocError> {
     let start = raw.start.name.as_str();
     write!(parts.found, "`{start}` does not reach `{name}`")?;
-    parts
-        .help
-        .push_str("use it in a production or take it out")
+    parts.help.push_str("use it in a production or take it out")
 }
 
 /// Describes N6: the rules that a production lacks. Nothing if memory for finding them is refused.

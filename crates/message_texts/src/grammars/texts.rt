@@ -9,7 +9,7 @@ use crate::parts::{Location, Parts};
 use ag_expr::ExprFault;
 use ag_grammar::limits::MOST_TEXT_BYTES;
 use ag_text::{Expected, TextFault, expected_at};
-use std::alloc::{AllocError, Global};
+use std::alloc::AllocError;
 
 /// What a literal needs.
 const LITERAL_NEEDS: &str =
@@ -34,13 +34,12 @@ fn offset_of(fault: TextFault) -> Option<usize> {
 
 /// Describes G1 to G4 of a grammar's text.
 pub fn describe_text(
-    alloc: Global,
     parts: &mut Parts,
     fault: TextFault,
     text: &GrammarText<'_>,
 ) -> Result<(), AllocError> {
     let context = Context::of(text.text, offset_of(fault));
-    match expected_at(alloc, text.text, fault) {
+    match expected_at(text.alloc, text.text, fault) {
         Ok(expected) => describe_in(parts, fault, &context, expected.as_slice()),
         Err(_) => describe_in(parts, fault, &context, &[]),
     }

@@ -40,9 +40,7 @@ pub fn describe_scan(
             write!(parts.found, "no token begins with {} here", Found(found))?;
             describe_tokens(parts, grammar, found, quote_before(sentence, at))
         }
-        ScanFault::LongToken(_) => {
-            parts.add_size_limit("the token here", MOST_TOKEN_BYTES, CUT)
-        }
+        ScanFault::LongToken(_) => { parts.add_size_limit("the token here", MOST_TOKEN_BYTES, CUT) }
         ScanFault::TooLong => parts.add_size_limit("the sentence", MOST_TEXT_BYTES, CUT),
         ScanFault::NoMemory => Ok(()),
     }

@@ -26,7 +26,8 @@ const ANOTHER_PASS: &str = "the number of the pass should be 0 here, and it is a
 const ANEW: &str = "make the file anew with `aggen parse`";
 
 /// What to do if it may be a file of version 1.
-const ANEW_OR_UPGRADE: &str = "make the file anew with `aggen parse`, or bring one that begins with `AGT1` over with `aggen upgrade`";
+const ANEW_OR_UPGRADE: &str =
+    "make the file anew with `aggen parse`, or bring one that begins with `AGT1` over with `aggen upgrade`";
 
 /// What no tree within the limits has.
 const THIS_FILE: &str = "this file";
