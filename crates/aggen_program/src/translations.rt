@@ -133,12 +133,7 @@ fn translate_in<R: Files + Print>(
 }
 
 /// The report of a fault of a sentence, or of its translation.
-fn report_of(
-    alloc: Global,
-    fault: Fault,
-    translator: &Translator,
-    sentence: Source<'_>,
-) -> Report {
+fn report_of(alloc: Global, fault: Fault, translator: &Translator, sentence: Source<'_>) -> Report {
     Report::of_sentence(
         alloc,
         fault,

@@ -12,7 +12,7 @@ use Rattle.messages.specs.declared.report.Report.{Report}
 -- a position with its file as editors read it, as in ` (grammar.ag:4:47)`, or without one
 abbrev pub place_text : Option (String Global) → Position → List ℕ
 place_text (Some path) position =
-  codes " (" ++ string_bytes path ++ codes ":" ++ decimal position.line ++ codes ":" ++ decimal position.column ++ codes ")"
+    codes " (" ++ string_bytes path ++ codes ":" ++ decimal position.line ++ codes ":" ++ decimal position.column ++ codes ")"
 place_text None position = codes " " ++ position_text position
 
 -- what follows the number: the position, if there is one
@@ -21,7 +21,7 @@ location_text location.Whole file = []
 location_text location.WithNumber file = []
 location_text (location.At position) file = place_text file position
 
--- what is before the first part: there is no colon after a number that stands alone
+-- the separator before the first part: a colon only if the number says where the fault is
 abbrev pub first_separator : Location → List ℕ
 first_separator location.Whole = codes " "
 first_separator location.WithNumber = codes ": "
@@ -38,14 +38,14 @@ next_separator separator part = if length part == 0 then separator else codes ",
 -- three parts, each after its separator
 abbrev pub three_parts : List ℕ → List ℕ → List ℕ → List ℕ → List ℕ
 three_parts separator first second third =
-  part_text separator first
-  ++ part_text (next_separator separator first) second
-  ++ part_text (next_separator (next_separator separator first) second) third
+    part_text separator first
+    ++ part_text (next_separator separator first) second
+    ++ part_text (next_separator (next_separator separator first) second) third
 
 -- what was found, what was expected, and what to do
 abbrev pub parts_text : List ℕ → Parts → List ℕ
 parts_text separator parts =
-  three_parts separator (string_bytes parts.found) (string_bytes parts.expected) (string_bytes parts.help)
+    three_parts separator (string_bytes parts.found) (string_bytes parts.expected) (string_bytes parts.help)
 
 -- the file at the end of a line that has no position
 abbrev pub file_text : Location → Option (String Global) → List ℕ
@@ -58,4 +58,4 @@ file_text location.WithNumber (Some path) = codes ": " ++ string_bytes path
 -- the line: the fault with its number first, where it is, and what a reader can do
 abbrev pub line_of : Report → List ℕ
 line_of report = printed report.number ++ location_text report.location report.file
-  ++ parts_text (first_separator report.location) report.parts ++ file_text report.location report.file
+    ++ parts_text (first_separator report.location) report.parts ++ file_text report.location report.file

@@ -11,7 +11,7 @@ use std::fmt;
 
 /// Prints `N8 at 95 (grammar.ag:4:47): ..`: the number, the position, and after a colon what was found,
 /// what was expected and what to do, with commas between. A report without a position ends with its file,
-/// if it has one. After a number that stands alone there is no colon.
+/// if it has one. A number that is printed without its offset or names has a space after it, not a colon.
 impl fmt::Display for Report {
     ghost use Rattle.std.specs.Prelude.{Some};
     ghost use Rattle.messages.specs.Printed.{line_of};
@@ -48,7 +48,7 @@ impl Report {
         }
     }
 
-    /// Writes the file at the end, if there is no position.
+    /// Writes the file at the end of a line without a position.
     fn write_file<W: fmt::Write>(&self, f: &mut fmt::Formatter<W>) -> fmt::Result
         ensures { WritesOnOk W.write_str_gives f.old result
             (file_text self.now.location self.now.file) f.new }
@@ -78,11 +78,7 @@ fn write_place<W: fmt::Write>(
 }
 
 /// Writes the parts, the first after a separator.
-fn write_parts<W: fmt::Write>(
-    f: &mut fmt::Formatter<W>,
-    first: &str,
-    parts: &Parts,
-) -> fmt::Result
+fn write_parts<W: fmt::Write>(f: &mut fmt::Formatter<W>, first: &str, parts: &Parts) -> fmt::Result
     ensures { WritesOnOk W.write_str_gives f.old result (parts_text first.now parts.now) f.new }
 {
     let (found, expected) = (parts.found.as_str(), parts.expected.as_str());
@@ -94,11 +90,7 @@ fn write_parts<W: fmt::Write>(
 }
 
 /// Writes a part after its separator, unless it is empty.
-fn write_part<W: fmt::Write>(
-    f: &mut fmt::Formatter<W>,
-    separator: &str,
-    part: &str,
-) -> fmt::Result
+fn write_part<W: fmt::Write>(f: &mut fmt::Formatter<W>, separator: &str, part: &str) -> fmt::Result
     ensures { WritesOnOk W.write_str_gives f.old result (part_text separator.now part.now) f.new }
 {
     if part.is_empty() {

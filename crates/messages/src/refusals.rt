@@ -78,8 +78,12 @@ impl Report {
             tables,
             source: sentence,
         };
-        let written =
-            describe_fault_of_sentence(alloc, &mut report.parts, &report.number, &sentence);
+        let written = describe_fault_of_sentence(
+            alloc,
+            &mut report.parts,
+            &report.number,
+            &sentence,
+        );
         report.or_bare(written)
     }
 
