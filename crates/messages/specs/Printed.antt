@@ -21,7 +21,7 @@ location_text location.Whole file = []
 location_text location.WithNumber file = []
 location_text (location.At position) file = place_text file position
 
--- the separator before the first part: a colon only if the number says where the fault is
+-- the separator before the first part: a colon, left out for a fault in the whole of its input
 abbrev pub first_separator : Location → List ℕ
 first_separator location.Whole = codes " "
 first_separator location.WithNumber = codes ": "

@@ -11,7 +11,7 @@ use std::fmt;
 
 /// Prints `N8 at 95 (grammar.ag:4:47): ..`: the number, the position, and after a colon what was found,
 /// what was expected and what to do, with commas between. A report without a position ends with its file,
-/// if it has one. A number that is printed without its offset or names has a space after it, not a colon.
+/// if it has one. For a fault in the whole of its input the colon is left out.
 impl fmt::Display for Report {
     ghost use Rattle.std.specs.Prelude.{Some};
     ghost use Rattle.messages.specs.Printed.{line_of};
