@@ -16,7 +16,7 @@ use aggen::{
 };
 use aggen_files::{parse_to_file, upgrade_file};
 use command::{Paths, Request, UpgradePaths, request_of};
-use messages::{Report, Source};
+use messages::{ConvertedPaths, Report, Source};
 use noted_file::Record;
 use std::alloc::{AllocError, Global};
 use std::process::ExitCode;
@@ -149,7 +149,13 @@ fn parse_file<R: Files + Print>(rt: &R, alloc: Global, paths: &Paths<'_>) -> Res
         )),
         Err(fault) => {
             let sentence = Source::new(paths.sentence, sentence);
-            Err(Report::of_sentence(alloc, fault, &translator, sentence))
+            Err(Report::of_sentence(
+                alloc,
+                fault,
+                translator.grammar(),
+                translator.tables(),
+                sentence,
+            ))
         }
     }
 }
@@ -186,10 +192,12 @@ fn convert_file<R: Files + Print>(
         Err(fault) => Err(Report::of_old_tree(
             alloc,
             fault,
-            &translator,
+            translator.grammar(),
             &mut old,
-            paths.old,
-            paths.tree,
+            ConvertedPaths {
+                old: paths.old,
+                new: paths.tree,
+            },
         )),
     }
 }

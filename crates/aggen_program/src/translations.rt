@@ -53,7 +53,13 @@ pub fn evaluate_file<R: Files + Print>(
     let mut out = io::writer(rt);
     match aggen_files::evaluate_file(alloc, &translator, &mut tree, &mut out) {
         Ok(_) => Ok(()),
-        Err(fault) => Err(Report::of_tree(alloc, fault, &translator, &mut tree, paths.tree)),
+        Err(fault) => Err(Report::of_tree(
+            alloc,
+            fault,
+            translator.grammar(),
+            &mut tree,
+            paths.tree,
+        )),
     }
 }
 
@@ -93,7 +99,7 @@ fn run_in_memory<R: Print>(
     let mut out = io::writer(rt);
     match translator.translate(sentence.bytes, &mut a, &mut b, &mut out) {
         Ok(_) => Ok(()),
-        Err(fault) => Err(Report::of_sentence(alloc, fault, translator, sentence)),
+        Err(fault) => Err(report_of(alloc, fault, translator, sentence)),
     }
 }
 
@@ -108,7 +114,7 @@ fn run_in_folder<R: Files + Print>(
     match translate_in(rt, alloc, translator, sentence.bytes, folder) {
         Ok(()) => Ok(()),
         Err(fault @ (Fault::File | Fault::Device)) => Err(Report::of_file(alloc, fault, folder)),
-        Err(fault) => Err(Report::of_sentence(alloc, fault, translator, sentence)),
+        Err(fault) => Err(report_of(alloc, fault, translator, sentence)),
     }
 }
 
@@ -124,4 +130,15 @@ fn translate_in<R: Files + Print>(
     let mut out = io::writer(rt);
     files.translate(alloc, translator, sentence, &mut out)?;
     Ok(())
+}
+
+/// The report of a fault of a sentence, or of its translation.
+fn report_of(alloc: Global, fault: Fault, translator: &Translator, sentence: Source<'_>) -> Report {
+    Report::of_sentence(
+        alloc,
+        fault,
+        translator.grammar(),
+        translator.tables(),
+        sentence,
+    )
 }
