@@ -13,12 +13,12 @@ use Rattle.passassign.specs.Rows.{passes_of}
 use Rattle.passcode.specs.Order.{AreInOrder}
 use Rattle.passcode.specs.Rows.{Lists}
 use Rattle.planchecker.specs.Plans.{IsPlan}
-use Rattle.aggen.specs.Building.{IsBuildFault, IsLeastPlan, build_fault_of_table}
+use Rattle.aggen.specs.Building.{IsBuildFault, IsLeastPlan}
 use Rattle.aggen.specs.Checking.{IsGrammarOf}
 use Rattle.aggen.specs.Listing.{OfPlan}
-use Rattle.aggen.specs.Status.{listing_fault_of}
-use Rattle.aggen.specs.declared.fault.Fault.{Fault}
-use Rattle.aggen.specs.declared.fault.Fault.TheVariants as fault
+use Rattle.ag_fault.specs.Faults.{build_fault_of_table, listing_fault_of}
+use Rattle.ag_fault.specs.declared.fault.Fault.{Fault}
+use Rattle.ag_fault.specs.declared.fault.Fault.TheVariants as fault
 
 -- a conflict of the grammar of a text is one of the text
 pub conflict_told : (t : List ℕ) (g : Grammar) → IsGrammarOf t g → (f : TableFault)

@@ -8,7 +8,7 @@ use Rattle.ag_expr.specs.language.Expression.{IsAt, IsRefused, ReadsAsExpr, Read
 use Rattle.ag_expr.proofs.language.Texts.{one_expression}
 use Rattle.ag_value.specs.declared.value.Value.{Value}
 use Rattle.aggen.specs.Showing.{HasNone, HasValue, IsExplained, IsExprFault, IsUnexpectedAt, OccursAt, first_offset}
-use Rattle.aggen.specs.Status.{expr_fault_of}
+use Rattle.ag_fault.specs.Faults.{expr_fault_of}
 
 none_closed : (text : List ℕ) → ReadsAsNone text → HasNone text
 none_closed text none is has = none (has.tree, []) has.reads

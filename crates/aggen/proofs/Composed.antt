@@ -24,7 +24,7 @@ use Rattle.passrun.specs.declared.run_fault.RunFault.{RunFault}
 use Rattle.passrun.specs.declared.run_fault.RunFault.TheVariants as run
 use Rattle.roottext.specs.declared.fault.OutFault.{OutFault}
 use Rattle.roottext.specs.declared.fault.OutFault.TheVariants as out
-use Rattle.aggen.specs.Status.{out_fault_of, run_fault_of}
+use Rattle.ag_fault.specs.Faults.{out_fault_of, run_fault_of}
 use Rattle.aggen.specs.Translation.{BeginsTranslation, IsOneTree}
 use Rattle.passrun.specs.Rounds.{last_content}
 use Rattle.roottext.specs.Roots.{IsRootText, TellsRoot}

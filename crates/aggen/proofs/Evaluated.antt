@@ -40,7 +40,7 @@ use Rattle.roottext.specs.declared.fault.OutFault.{OutFault}
 use Rattle.roottext.specs.declared.fault.OutFault.TheVariants as out
 use Rattle.aggen.specs.Building.{IsLeastPlan}
 use Rattle.aggen.specs.Evaluating.{AreLeftOfTree, EvaluatesTree, IsEvaluationFault, IsPassesFault, LeavesFilesOfTree}
-use Rattle.aggen.specs.Status.{out_fault_of, run_fault_of}
+use Rattle.ag_fault.specs.Faults.{out_fault_of, run_fault_of}
 use Rattle.aggen.specs.Translation.{BeginsTranslation, IsTreeInFile, before_last}
 use Rattle.aggen.specs.declared.translations.report.Report.{Report}
 use Rattle.aggen.proofs.Composed.{some_pass}

@@ -5,10 +5,10 @@ use Rattle.ag_grammar.specs.grammars.AttributeGrammar.{Grammar}
 use Rattle.aggen.specs.Building.{IsBuildFault}
 use Rattle.aggen.specs.Checking.{IsGrammarOf}
 use Rattle.aggen.specs.Jobs.{HasJob, IsJobRefusal}
-use Rattle.aggen.specs.Status.{build_fault_of}
+use Rattle.ag_fault.specs.Faults.{build_fault_of}
 use Rattle.aggen.specs.Translating.{IsTranslationFault}
-use Rattle.aggen.specs.declared.build_fault.BuildFault.{BuildFault}
-use Rattle.aggen.specs.declared.fault.Fault.{Fault}
+use Rattle.ag_fault.specs.declared.build_fault.BuildFault.{BuildFault}
+use Rattle.ag_fault.specs.declared.fault.Fault.{Fault}
 use Rattle.aggen.specs.declared.translations.report.Report.{Report}
 
 module _ (known : Option (List ℕ)) (text sentence : List ℕ) (ha hb : Bool) (old new : Option (List ℕ)) (job : HasJob known text sentence) where

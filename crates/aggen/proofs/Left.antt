@@ -30,12 +30,12 @@ use Rattle.aggen.specs.Checking.{IsGrammarOf}
 use Rattle.aggen.specs.Evaluating.{IsPassesFault, LeavesFilesOfTree}
 use Rattle.aggen.specs.Jobs.{HasJob, LeavesLastFilesOfJob}
 use Rattle.aggen.specs.Sentences.{IsParseFault}
-use Rattle.aggen.specs.Status.{build_fault_of, device_fault_of, job_fault_of, out_fault_of, run_fault_of, scan_fault_of}
+use Rattle.ag_fault.specs.Faults.{build_fault_of, device_fault_of, job_fault_of, out_fault_of, run_fault_of, scan_fault_of}
 use Rattle.aggen.specs.Translating.{IsAfterPasses, IsFilesFault, LeavesFiles, LeavesLastFiles}
-use Rattle.aggen.specs.declared.build_fault.BuildFault.{BuildFault}
-use Rattle.aggen.specs.declared.build_fault.BuildFault.TheVariants as build
-use Rattle.aggen.specs.declared.fault.Fault.{Fault}
-use Rattle.aggen.specs.declared.fault.Fault.TheVariants as fault
+use Rattle.ag_fault.specs.declared.build_fault.BuildFault.{BuildFault}
+use Rattle.ag_fault.specs.declared.build_fault.BuildFault.TheVariants as build
+use Rattle.ag_fault.specs.declared.fault.Fault.{Fault}
+use Rattle.ag_fault.specs.declared.fault.Fault.TheVariants as fault
 use Rattle.aggen.specs.declared.translations.report.Report.{Report}
 
 -- the file of pass 0 of a tree is a prefix of a file of pass 0: all of it

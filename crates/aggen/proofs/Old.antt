@@ -5,7 +5,7 @@ use Rattle.passrun.specs.Upgrading.{IsUpgradeFault}
 use Rattle.passrun.specs.declared.run_fault.RunFault.{RunFault}
 use Rattle.passrun.specs.declared.run_fault.RunFault.TheVariants as run
 use Rattle.treefile.specs.devices.Device.{WhenHonest}
-use Rattle.aggen.specs.Status.{run_fault_of}
+use Rattle.ag_fault.specs.Faults.{run_fault_of}
 use Rattle.aggen.specs.Upgrading.{IsOldFileFault}
 
 pub old_fault : (g : Grammar) (ho hm : Bool) (content : List ℕ) (f : RunFault) → WhenHonest ho (WhenHonest hm (IsUpgradeFault g content f)) → IsOldFileFault g ho hm content (run_fault_of f)

@@ -10,10 +10,10 @@ use Rattle.treefile.specs.ways.Ending.{Told, last_body_of, version_two_usable}
 use Rattle.treefile.specs.records.TreeFile.{body_of, version_two}
 use Rattle.treefile.proofs.ways.Files.{damaged_at_end, last_of_file}
 use Rattle.treefile.proofs.records.Sizes.{body_size}
-use Rattle.aggen.specs.declared.fault.Fault.{Fault}
-use Rattle.aggen.specs.declared.fault.Fault.TheVariants as fault
+use Rattle.ag_fault.specs.declared.fault.Fault.{Fault}
+use Rattle.ag_fault.specs.declared.fault.Fault.TheVariants as fault
 use Rattle.aggen.specs.Showing.{IsWant, file_of}
-use Rattle.aggen.specs.Status.{frame_fault_of}
+use Rattle.ag_fault.specs.Faults.{frame_fault_of}
 
 one_well : (value : Value) → IsWell value → All IsWell (value ∷ [])
 one_well value well zero d lt = well

@@ -16,7 +16,7 @@ use Rattle.llparse.specs.declared.sentence.parse_fault.ParseFault.{ParseFault}
 use Rattle.llparse.specs.declared.sentence.parse_fault.ParseFault.TheVariants as parse
 use Rattle.llparse.proofs.steps.Steps.{one_parse}
 use Rattle.aggen.specs.Sentences.{HasNoTree, IsTreeOfSentence, IsSentenceFault}
-use Rattle.aggen.specs.Status.{parse_fault_of, scan_fault_of}
+use Rattle.ag_fault.specs.Faults.{parse_fault_of, scan_fault_of}
 
 same_tokens : (g : Grammar) → IsAccepted g → (sentence : List ℕ) (ts us : List Token) → AreTokensOf (vocabulary_of g) sentence ts → AreTokensOf (vocabulary_of g) sentence us → us ≡ ts
 same_tokens g ok sentence ts us a b = let same : Ok us ≡ Ok ts = at_most_one g ok sentence (Ok us) (Ok ts) b a in cc

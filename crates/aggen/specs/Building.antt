@@ -16,22 +16,9 @@ use Rattle.passcode.specs.Order.{AreInOrder}
 use Rattle.passcode.specs.Rows.{Lists}
 use Rattle.planchecker.specs.Plans.{IsPlan}
 use Rattle.aggen.specs.Checking.{IsGrammarOf, IsNormalFaultOf, IsTextFaultOf}
-use Rattle.aggen.specs.declared.build_fault.BuildFault.{BuildFault}
-use Rattle.aggen.specs.declared.build_fault.BuildFault.TheVariants as build
-use Rattle.aggen.specs.declared.stuck_grammar.StuckGrammar.{StuckGrammar}
-
--- want of memory is a fault of its own, and never inside another
-abbrev pub build_fault_of_text : TextFault → BuildFault
-build_fault_of_text text.NoMemory = build.NoMemory
-build_fault_of_text e = build.Text e
-
-abbrev pub build_fault_of_normal : NormalFault → BuildFault
-build_fault_of_normal normal.NoMemory = build.NoMemory
-build_fault_of_normal e = build.Normal e
-
-abbrev pub build_fault_of_table : TableFault → BuildFault
-build_fault_of_table table.NoMemory = build.NoMemory
-build_fault_of_table e = build.Table e
+use Rattle.ag_fault.specs.declared.build_fault.BuildFault.{BuildFault}
+use Rattle.ag_fault.specs.declared.build_fault.BuildFault.TheVariants as build
+use Rattle.ag_fault.specs.declared.stuck_grammar.StuckGrammar.{StuckGrammar}
 
 -- L1: the text is an accepted grammar, whose least conflict this is; want of memory is no L1
 abbrev pub IsConflictOf : List ℕ → TableFault → Type 0

@@ -15,8 +15,8 @@ use Rattle.normalform.specs.numbers.Numbers.{numbered}
 use Rattle.normalform.specs.declared.fault.NormalFault.{NormalFault}
 use Rattle.agoutput.specs.Lines.{counts_line}
 use Rattle.agoutput.specs.Writing.{AppendsBeginning}
-use Rattle.aggen.specs.declared.fault.Fault.{Fault}
-use Rattle.aggen.specs.declared.fault.Fault.TheVariants as fault
+use Rattle.ag_fault.specs.declared.fault.Fault.{Fault}
+use Rattle.ag_fault.specs.declared.fault.Fault.TheVariants as fault
 
 -- The literals and classes of what a text reads as are those that a text gives.
 abbrev pub TextsAreReadable : Type 0

@@ -17,8 +17,8 @@ use Rattle.treefile.specs.devices.Device.{WhenHonest}
 use Rattle.aggen.specs.Building.{IsLeastPlan}
 use Rattle.aggen.specs.Translating.{ArePassesOf}
 use Rattle.aggen.specs.Translation.{BeginsTranslation, Evaluates, HasNoText, IsOneTree, IsReport, IsTreeInFile, before_last}
-use Rattle.aggen.specs.declared.fault.Fault.{Fault}
-use Rattle.aggen.specs.declared.fault.Fault.TheVariants as fault
+use Rattle.ag_fault.specs.declared.fault.Fault.{Fault}
+use Rattle.ag_fault.specs.declared.fault.Fault.TheVariants as fault
 use Rattle.aggen.specs.declared.translations.report.Report.{Report}
 
 -- the translation theorem for the file of a tree: its passes are those of the least plan

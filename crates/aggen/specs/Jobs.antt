@@ -7,11 +7,11 @@ use Rattle.ag_job.specs.Jobs.{IsJob, IsJobFault}
 use Rattle.ag_job.specs.declared.fault.JobFault.{JobFault}
 use Rattle.aggen.specs.Building.{IsBuildFault}
 use Rattle.aggen.specs.Checking.{IsGrammarOf}
-use Rattle.aggen.specs.Status.{build_fault_of, job_fault_of}
+use Rattle.ag_fault.specs.Faults.{build_fault_of, job_fault_of}
 use Rattle.aggen.specs.Translating.{IsTranslationFault, LeavesLastFiles, TranslatesSentence}
-use Rattle.aggen.specs.declared.build_fault.BuildFault.{BuildFault}
-use Rattle.aggen.specs.declared.fault.Fault.{Fault}
-use Rattle.aggen.specs.declared.fault.Fault.TheVariants as fault
+use Rattle.ag_fault.specs.declared.build_fault.BuildFault.{BuildFault}
+use Rattle.ag_fault.specs.declared.fault.Fault.{Fault}
+use Rattle.ag_fault.specs.declared.fault.Fault.TheVariants as fault
 use Rattle.aggen.specs.declared.translations.report.Report.{Report}
 
 -- What a reader gives, where that is known, is a job with this text of a grammar and this sentence.

@@ -7,8 +7,8 @@ use Rattle.agoutput.specs.Writing.{AppendsBeginning}
 use Rattle.passcode.specs.Rows.{Lists}
 use Rattle.aggen.specs.Building.{IsConflictOf, IsLeastPlan, IsStuckOf}
 use Rattle.aggen.specs.Checking.{IsGrammarOf, IsNormalFaultOf, IsTextFaultOf}
-use Rattle.aggen.specs.declared.fault.Fault.{Fault}
-use Rattle.aggen.specs.declared.fault.Fault.TheVariants as fault
+use Rattle.ag_fault.specs.declared.fault.Fault.{Fault}
+use Rattle.ag_fault.specs.declared.fault.Fault.TheVariants as fault
 
 -- something holds of the grammar that a text is, and of its least plan
 pub record OfPlan (text : List ℕ) (P : Grammar → List (List ℕ) → Lists → Type 0) : Type 0 where

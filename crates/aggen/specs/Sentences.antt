@@ -10,8 +10,8 @@ use Rattle.ag_scan.specs.declared.fault.ScanFault.TheVariants as scan
 use Rattle.llparse.specs.sentence.Sentences.{IsTreeWith, IsUnexpectedAt, LeavesOnlyDeeper, LeavesOnlyLarger, words_of}
 use Rattle.llparse.specs.declared.sentence.parse_fault.ParseFault.{ParseFault}
 use Rattle.llparse.specs.declared.sentence.parse_fault.ParseFault.TheVariants as parse
-use Rattle.aggen.specs.declared.fault.Fault.{Fault}
-use Rattle.aggen.specs.declared.fault.Fault.TheVariants as fault
+use Rattle.ag_fault.specs.declared.fault.Fault.{Fault}
+use Rattle.ag_fault.specs.declared.fault.Fault.TheVariants as fault
 
 -- a derivation tree of a sentence: its yield is the sentence's tokens, each the longest that begins where it stands
 pub record IsTreeOfSentence (g : Grammar) (sentence : List ℕ) (t : Tree) : Type 0 where

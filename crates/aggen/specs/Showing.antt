@@ -13,8 +13,8 @@ use Rattle.ag_value.specs.declared.value.Value.{Value}
 use Rattle.ag_value.specs.declared.value.Value.TheVariants as value
 use Rattle.treefile.specs.records.TreeFile.{body_of, file, version_two}
 use Rattle.treefile.specs.declared.body.Kind.TheVariants.{Token}
-use Rattle.aggen.specs.declared.fault.Fault.{Fault}
-use Rattle.aggen.specs.declared.fault.Fault.TheVariants as fault
+use Rattle.ag_fault.specs.declared.fault.Fault.{Fault}
+use Rattle.ag_fault.specs.declared.fault.Fault.TheVariants as fault
 use Rattle.agoutput.specs.Lines.{value_line}
 use Rattle.agoutput.specs.Writing.{AppendsBeginning}
 

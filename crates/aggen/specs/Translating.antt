@@ -12,8 +12,8 @@ use Rattle.treefile.specs.devices.Device.{WhenHonest}
 use Rattle.aggen.specs.Building.{IsLeastPlan}
 use Rattle.aggen.specs.Sentences.{IsParseFaultOf, IsScanFaultOf, IsTreeOfSentence}
 use Rattle.aggen.specs.Translation.{BeginsTranslation, HasNoText, IsOneTree, IsReport, Translates}
-use Rattle.aggen.specs.declared.fault.Fault.{Fault}
-use Rattle.aggen.specs.declared.fault.Fault.TheVariants as fault
+use Rattle.ag_fault.specs.declared.fault.Fault.{Fault}
+use Rattle.ag_fault.specs.declared.fault.Fault.TheVariants as fault
 use Rattle.aggen.specs.declared.translations.report.Report.{Report}
 
 -- The passes are those of a least plan, and so many: its greatest number.

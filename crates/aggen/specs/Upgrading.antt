@@ -3,8 +3,8 @@ use Rattle.std.specs.Prelude.{ℕ, Bool, List}
 use Rattle.ag_grammar.specs.grammars.AttributeGrammar.{Grammar}
 use Rattle.passrun.specs.Upgrading.{IsUpgradeFault}
 use Rattle.treefile.specs.devices.Device.{WhenHonest}
-use Rattle.aggen.specs.declared.fault.Fault.{Fault}
-use Rattle.aggen.specs.declared.fault.Fault.TheVariants as fault
+use Rattle.ag_fault.specs.declared.fault.Fault.{Fault}
+use Rattle.ag_fault.specs.declared.fault.Fault.TheVariants as fault
 
 -- R1, with its offset, P2 and P3 are true of the old content. A failed device and want of memory say nothing, and no other fault
 -- comes.

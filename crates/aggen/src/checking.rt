@@ -4,8 +4,7 @@ ghost use Rattle.std.specs.Prelude.{◌≡◌, ◌≢◌, IfErr, IfOk, IsErrOf, 
 ghost use Rattle.aggen.specs.Building.{IsGrammarFault};
 ghost use Rattle.aggen.specs.Checking.{BeginsCounts, IsCheckFault, IsGrammarOf, TellsCounts};
 
-use crate::build_fault::BuildFault;
-use crate::fault::Fault;
+use ag_fault::{BuildFault, Fault};
 use ag_grammar::Grammar;
 use ag_text::read_grammar;
 use agoutput::{counts_line, write_text};

@@ -3,23 +3,18 @@
 //! sentence in one text. Beside it the value of an expression, by way of a tree file.
 #![tactic(auto)]
 
-mod build_fault;
 mod checking;
-mod fault;
 pub mod laws;
 mod listing;
 mod source;
-mod stuck_grammar;
 mod translations;
 mod translator;
 mod values;
 
-pub use build_fault::BuildFault;
+pub use ag_fault::{BuildFault, Fault, StuckGrammar, status};
 pub use checking::{grammar_of, print_counts};
-pub use fault::{Fault, status};
 pub use listing::{print_code, print_plan};
 pub use source::{bytes_of, source_of};
-pub use stuck_grammar::StuckGrammar;
 pub use translations::job::run_job;
 pub use translations::report::Report;
 pub use translator::Translator;

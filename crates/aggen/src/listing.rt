@@ -4,8 +4,8 @@ ghost use Rattle.std.specs.Prelude.{◌≡◌, ◌≢◌, IfErr, IsErrOf, OnOk};
 ghost use Rattle.aggen.specs.Listing.{BeginsCode, BeginsPlan, IsTranslatorFault};
 ghost use Rattle.aggen.specs.Listing.{TellsCode, TellsPlan};
 
-use crate::fault::Fault;
 use crate::translator::Translator;
+use ag_fault::Fault;
 use agoutput::{write_code, write_plan};
 use std::alloc::Global;
 use std::io::Write;

@@ -4,7 +4,7 @@ ghost use Rattle.std.specs.Prelude.{◌≡◌, ◌+◌, IfErr, IfOk, IfSome, tak
 ghost use Rattle.ag_grammar.specs.grammars.Accepted.{most_text_bytes};
 ghost use Rattle.aggen.specs.Status.{IsSourceFault};
 
-use crate::fault::Fault;
+use ag_fault::Fault;
 use ag_grammar::limits::MOST_TEXT_BYTES;
 use ag_job::{ReadFault, read_front};
 use std::alloc::Global;

@@ -26,13 +26,11 @@ ghost use Rattle.aggen.specs.Upgrading.{IsOldFileFault};
 ghost use Rattle.passrun.specs.Rounds.{LeavesSomeFile};
 ghost use Rattle.passrun.specs.Upgrading.{IsUpgraded};
 
-use crate::build_fault::BuildFault;
 use crate::checking::grammar_of;
-use crate::fault::Fault;
-use crate::stuck_grammar::StuckGrammar;
 use crate::translations::evaluating::run_tree;
 use crate::translations::report::Report;
 use crate::translations::translating::{last_text, leave_files};
+use ag_fault::{BuildFault, Fault, StuckGrammar};
 use ag_grammar::Grammar;
 use ag_scan::scan;
 use ag_value::NoMemory;

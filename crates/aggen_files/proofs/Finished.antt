@@ -10,8 +10,8 @@ use Rattle.treefile.specs.devices.Device.{WhenHonest}
 use Rattle.aggen.specs.Sentences.{IsTreeOfSentence}
 use Rattle.aggen.specs.Translating.{IsAfterPasses, IsTranslationFault, LeavesLastFiles, TranslatesSentence}
 use Rattle.aggen.specs.Translation.{BeginsTranslation}
-use Rattle.aggen.specs.declared.fault.Fault.{Fault}
-use Rattle.aggen.specs.declared.fault.Fault.TheVariants as fault
+use Rattle.ag_fault.specs.declared.fault.Fault.{Fault}
+use Rattle.ag_fault.specs.declared.fault.Fault.TheVariants as fault
 use Rattle.aggen.specs.declared.translations.report.Report.{Report}
 
 module _ (g : Grammar) (sentence : List ℕ) (ha hb ha' hb' : Bool) (first : ha' ≡ true → ha ≡ true) (second : hb' ≡ true → hb ≡ true) where

@@ -1,6 +1,6 @@
 -- What can go wrong when files are opened. This project's.
-use Rattle.aggen.specs.declared.fault.Fault.{Fault}
-use Rattle.aggen.specs.declared.fault.Fault.TheVariants as fault
+use Rattle.ag_fault.specs.declared.fault.Fault.{Fault}
+use Rattle.ag_fault.specs.declared.fault.Fault.TheVariants as fault
 
 -- a file can't be opened (F1), or there is no memory for its path
 abbrev pub IsOpeningFault : Fault → Type 0

@@ -6,8 +6,8 @@ use Rattle.treefile.specs.devices.Device.{WhenHonest}
 use Rattle.aggen.specs.Evaluating.{EvaluatesTree, IsEvaluationFault}
 use Rattle.aggen.specs.Sentences.{IsSentenceFault}
 use Rattle.aggen.specs.Upgrading.{IsOldFileFault}
-use Rattle.aggen.specs.declared.fault.Fault.{Fault}
-use Rattle.aggen.specs.declared.fault.Fault.TheVariants as fault
+use Rattle.ag_fault.specs.declared.fault.Fault.{Fault}
+use Rattle.ag_fault.specs.declared.fault.Fault.TheVariants as fault
 use Rattle.aggen.specs.declared.translations.report.Report.{Report}
 
 -- the translation theorem for the tree in a file, where the passes leave some files in memory

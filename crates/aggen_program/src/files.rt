@@ -1,4 +1,4 @@
-//! The files that the commands read.
+//! The files that the commands read, and the report of a rejected sentence.
 
 use aggen::{Fault, Translator, source_of};
 use messages::{Report, Source};
@@ -25,4 +25,15 @@ pub fn build_translator(alloc: Global, grammar: Source<'_>) -> Result<Translator
         Ok(translator) => Ok(translator),
         Err(fault) => Err(Report::of_grammar(alloc, Fault::from(fault), grammar)),
     }
+}
+
+/// Returns the report of a fault of a sentence, or of its translation.
+pub fn report_of_sentence(
+    alloc: Global,
+    fault: Fault,
+    translator: &Translator,
+    sentence: Source<'_>,
+) -> Report {
+    let (grammar, tables) = (translator.grammar(), translator.tables());
+    Report::of_sentence(alloc, fault, grammar, tables, sentence)
 }

@@ -1,6 +1,6 @@
 //! The commands that translate: `run`, `eval`, and the job on standard input.
 
-use crate::files::{build_translator, read_file, read_translator};
+use crate::files::{build_translator, read_file, read_translator, report_of_sentence};
 use ag_job::Job;
 use aggen::{Fault, Translator};
 use aggen_files::WorkFiles;
@@ -88,7 +88,7 @@ fn evaluate_tree<R: Files + Print>(
     let mut out = io::writer(rt);
     match aggen_files::evaluate_file(alloc, translator, tree, &mut out) {
         Ok(_) => Ok(()),
-        Err(fault) => Err(Report::of_tree(alloc, fault, translator, tree, path)),
+        Err(fault) => Err(Report::of_tree(alloc, fault, translator.grammar(), tree, path)),
     }
 }
 
@@ -101,7 +101,7 @@ fn run_in_memory<R: Print>(
 ) -> Result<(), Report> {
     match translate_in_memory(rt, alloc, translator, sentence.bytes) {
         Ok(()) => Ok(()),
-        Err(fault) => Err(Report::of_sentence(alloc, fault, translator, sentence)),
+        Err(fault) => Err(report_of_sentence(alloc, fault, translator, sentence)),
     }
 }
 
@@ -133,7 +133,7 @@ fn run_in_folder<R: Files + Print>(
     match translate_in_folder(rt, alloc, translator, sentence.bytes, folder) {
         Ok(()) => Ok(()),
         Err(fault @ (Fault::File | Fault::Device)) => Err(Report::of_file(alloc, fault, folder)),
-        Err(fault) => Err(Report::of_sentence(alloc, fault, translator, sentence)),
+        Err(fault) => Err(report_of_sentence(alloc, fault, translator, sentence)),
     }
 }
 

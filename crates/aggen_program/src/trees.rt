@@ -1,10 +1,10 @@
 //! The commands that write tree files: `parse` and `upgrade`.
 
-use crate::files::{read_file, read_translator};
+use crate::files::{read_file, read_translator, report_of_sentence};
 use aggen::{Fault, Translator};
 use aggen_files::{parse_to_file, upgrade_file};
 use command_line::{ParsePaths, UpgradePaths};
-use messages::{Report, Source};
+use messages::{ConvertedPaths, Report, Source};
 use noted_file::Record;
 use std::alloc::Global;
 use std::io;
@@ -36,7 +36,7 @@ fn parse_file_by<R: Files + Print>(
         Err(fault @ (Fault::File | Fault::Device)) => Err(Report::of_file(
             alloc, fault, paths.tree,
         )),
-        Err(fault) => Err(Report::of_sentence(alloc, fault, translator, sentence)),
+        Err(fault) => Err(report_of_sentence(alloc, fault, translator, sentence)),
     }
 }
 
@@ -91,9 +91,13 @@ fn convert_tree<R: Files + Print>(
 ) -> Result<(), Report> {
     match write_converted(rt, alloc, translator, old, paths.tree) {
         Ok(()) => Ok(()),
-        Err(fault) => Err(Report::of_old_tree(
-            alloc, fault, translator, old, paths.old, paths.tree,
-        )),
+        Err(fault) => {
+            let paths = ConvertedPaths {
+                old: paths.old,
+                new: paths.tree,
+            };
+            Err(Report::of_old_tree(alloc, fault, translator.grammar(), old, paths))
+        }
     }
 }
 

@@ -1,216 +1,208 @@
-//! Which report is made of a refusal, by what was refused.
+//! The reports of faults, by the kind of input.
 
 ghost use Rattle.treefile.specs.devices.Device.{LeavesContent, Persists};
 
-use crate::again::Again;
-use crate::expressions::{spot_in_expression, tell_expression};
-use crate::grammars::conflicts::{spot_of_conflict, tell_conflict};
-use crate::grammars::normal::{spot_in_grammar, tell_normal};
-use crate::grammars::stuck::tell_stuck;
-use crate::grammars::texts::{spot_in_text, tell_text};
-use crate::position::Source;
-use crate::report::{Report, Spot, Words};
-use crate::sentences::cutting::{spot_of_token, tell_scan};
-use crate::sentences::parsing::{Parsed, spot_in_sentence, tell_parse};
-use crate::shown::{Found, Grouped};
-use crate::trees::damage::{Kept, spot_in_tree, tell_tree};
-use ag_value::{ErrorCode, MAX_WEIGHT, Value, show};
-use aggen::{Fault, Translator};
+use crate::report::Report;
+use ag_fault::Fault;
+use ag_grammar::Grammar;
+use llparse::Tables;
+use message_texts::expressions::{describe_expression, locate_in_expression};
+use message_texts::grammar_text::GrammarText;
+use message_texts::grammars::conflicts::{describe_conflict, locate_conflict};
+use message_texts::grammars::normal::{describe_normal, locate_in_grammar};
+use message_texts::grammars::stuck::describe_stuck;
+use message_texts::grammars::texts::{describe_text, locate_in_text};
+use message_texts::sentences::parsing::{ParsedSentence, describe_parse, locate_in_sentence};
+use message_texts::sentences::scanning::{describe_scan, locate_token};
+use message_texts::trees::damage::{TreeFormat, describe_damage};
+use message_texts::values::describe_value;
+use message_texts::{Location, Parts, Source};
+use passrun::RunFault;
 use std::alloc::{AllocError, Global};
 use treefile::{Device, FileVersion};
 
-/// The greatest number of bytes of a text that is a value: its spelling has 5 more.
-const MAX_TEXT_BYTES: usize = MAX_WEIGHT as usize - 5;
+/// The names of an old tree file and of the file that it is converted to.
+#[derive(Clone, Copy)]
+pub struct ConvertedPaths<'a> {
+    pub old: &'a str,
+    pub new: &'a str,
+}
 
 impl Report {
-    /// Of the file of this name, or of what is in it.
+    /// Returns the report of a fault of the file of this name, or of its content.
     pub fn of_file(alloc: Global, number: Fault, path: &str) -> Report {
-        let is_told = matches!(number, Fault::File | Fault::Device | Fault::Run(_));
+        let is_named = matches!(number, Fault::File | Fault::Device | Fault::Run(_));
         let report = Report::new(alloc, number);
-        if is_told {
-            report.named(alloc, path)
+        if is_named {
+            report.with_file(alloc, path)
         } else {
             report
         }
     }
 
-    /// Of the text of an expression.
+    /// Returns the report of a fault of the text of an expression.
     pub fn of_expression(alloc: Global, number: Fault, text: &str) -> Report {
         let mut report = Report::new(alloc, number);
-        let told = match &report.number {
+        let written = match &report.number {
             Fault::Expr(fault) => {
-                report.spot = spot_in_expression(*fault, text);
-                tell_expression(alloc, &mut report.words, *fault, text)
+                report.location = locate_in_expression(*fault, text);
+                describe_expression(alloc, &mut report.parts, *fault, text)
             }
             _ => Ok(()),
         };
-        report.once(told)
+        report.or_bare(written)
     }
 
-    /// Of the text of a grammar, which is read again.
+    /// Returns the report of a fault of the text of a grammar, which is read again.
     pub fn of_grammar(alloc: Global, number: Fault, source: Source<'_>) -> Report {
-        let again = Again::of(alloc, source);
-        let spot = spot_of_grammar(&number, &again);
-        let mut report = Report::new(alloc, number).placed(alloc, spot, source.name);
-        let told = tell_grammar(alloc, &mut report.words, &report.number, &again);
-        report.once(told)
+        let text = GrammarText::new(alloc, source);
+        let location = locate_fault_of_grammar(&number, &text);
+        let mut report = Report::new(alloc, number).with_location(alloc, location, source.name);
+        let written = describe_fault_of_grammar(&mut report.parts, &report.number, &text);
+        report.or_bare(written)
     }
 
-    /// Of a sentence, which is cut again, or of its translation.
+    /// Returns the report of a fault of a sentence, which is scanned again, or of its translation. The
+    /// tables are the grammar's.
     pub fn of_sentence(
         alloc: Global,
         number: Fault,
-        translator: &Translator,
+        grammar: &Grammar,
+        tables: &Tables,
         sentence: Source<'_>,
     ) -> Report {
-        let spot = spot_of_sentence(&number, &sentence);
-        let mut report = Report::new(alloc, number).placed(alloc, spot, sentence.name);
-        let words = &mut report.words;
-        let grammar = translator.grammar();
-        let told = match &report.number {
-            Fault::Scan(fault) => tell_scan(words, *fault, grammar, &sentence),
-            Fault::Parse(fault) => {
-                let parsed = Parsed {
-                    grammar,
-                    tables: translator.tables(),
-                    sentence,
-                };
-                tell_parse(alloc, words, *fault, &parsed)
-            }
-            Fault::NoText(value) => tell_value(alloc, words, value),
-            _ => Ok(()),
+        let location = locate_fault_of_sentence(&number, &sentence);
+        let mut report = Report::new(alloc, number).with_location(alloc, location, sentence.name);
+        let sentence = ParsedSentence {
+            grammar,
+            tables,
+            source: sentence,
         };
-        report.once(told)
+        let written =
+            describe_fault_of_sentence(alloc, &mut report.parts, &report.number, &sentence);
+        report.or_bare(written)
     }
 
-    /// Of the tree in the file of this name, which is read again, or of its translation.
+    /// Returns the report of a fault of the tree in the file of this name, which is read again, or of its
+    /// translation.
     pub fn of_tree<D: Device>(
         alloc: Global,
         number: Fault,
-        translator: &Translator,
+        grammar: &Grammar,
         tree: &mut D,
         path: &str,
     ) -> Report
         ensures content { LeavesContent (D.is_honest tree.new)
             (D.content tree.old) (D.content tree.new) }
-        // nothing tells of a device that failed
+        // nothing is said of a device that failed
         ensures persists { Persists (D.is_honest tree.old) (D.is_honest tree.new)
             (D.failures tree.old) (D.failures tree.new) ⊥ }
     {
-        let kept = Kept {
+        let format = TreeFormat {
             version: FileVersion::Two,
-            grammar: translator.grammar(),
+            grammar,
         };
-        Report::of_file(alloc, number, path).with_tree(alloc, kept, tree)
+        Report::of_file(alloc, number, path).with_tree(alloc, format, tree)
     }
 
-    /// Of bringing over the tree in an old file, which is read again, into the file of the other name: of
-    /// the old one where that fails again, as one that failed does.
+    /// Returns the report of a fault of converting the tree in an old file, which is read again. It names
+    /// the old file if the fault is of that one: if reading it fails again after a failed call.
     pub fn of_old_tree<D: Device>(
         alloc: Global,
         number: Fault,
-        translator: &Translator,
+        grammar: &Grammar,
         old: &mut D,
-        old_path: &str,
-        path: &str,
+        paths: ConvertedPaths<'_>,
     ) -> Report
         ensures content { LeavesContent (D.is_honest old.new)
             (D.content old.old) (D.content old.new) }
-        // nothing tells of a device that failed
+        // nothing is said of a device that failed
         ensures persists { Persists (D.is_honest old.old) (D.is_honest old.new)
             (D.failures old.old) (D.failures old.new) ⊥ }
     {
-        let kept = Kept {
+        let format = TreeFormat {
             version: FileVersion::One,
-            grammar: translator.grammar(),
+            grammar,
         };
         let is_of_old = match &number {
             Fault::Run(_) => true,
             Fault::Device => old.len().is_err(),
             _ => false,
         };
-        let path = if is_of_old { old_path } else { path };
-        Report::of_file(alloc, number, path).with_tree(alloc, kept, old)
+        let path = if is_of_old { paths.old } else { paths.new };
+        Report::of_file(alloc, number, path).with_tree(alloc, format, old)
     }
 
-    /// The report with what is wrong with the tree in a file, or with its translation.
-    fn with_tree<D: Device>(mut self, alloc: Global, kept: Kept<'_>, tree: &mut D) -> Report
+    /// Returns the report with what is wrong with the tree in a file, or with its translation.
+    fn with_tree<D: Device>(mut self, alloc: Global, format: TreeFormat<'_>, tree: &mut D) -> Report
         ensures content { LeavesContent (D.is_honest tree.new)
             (D.content tree.old) (D.content tree.new) }
         ensures persists { Persists (D.is_honest tree.old) (D.is_honest tree.new)
             (D.failures tree.old) (D.failures tree.new) ⊥ }
     {
-        let told = match &self.number {
-            Fault::Run(fault) => {
-                self.spot = spot_in_tree(*fault);
-                tell_tree(alloc, &mut self.words, *fault, kept, tree)
+        let parts = &mut self.parts;
+        let written = match &self.number {
+            Fault::Run(RunFault::Damaged(at)) => describe_damage(alloc, parts, format, tree, *at),
+            Fault::Run(RunFault::TooDeep) => {
+                self.location = Location::Whole;
+                format.describe_depth_limit(parts)
             }
-            Fault::NoText(value) => tell_value(alloc, &mut self.words, value),
+            Fault::Run(RunFault::TooManyNodes) => {
+                self.location = Location::Whole;
+                format.describe_node_limit(parts)
+            }
+            Fault::NoText(value) => describe_value(alloc, parts, value),
             _ => Ok(()),
         };
-        self.once(told)
+        self.or_bare(written)
     }
 }
 
-/// Where the text of a grammar is refused.
-fn spot_of_grammar(number: &Fault, again: &Again<'_>) -> Spot {
+/// Returns the location of a fault of the text of a grammar.
+fn locate_fault_of_grammar(number: &Fault, text: &GrammarText<'_>) -> Location {
     match number {
-        Fault::Text(fault) => spot_in_text(*fault, again),
-        Fault::Normal(fault) => spot_in_grammar(fault, again),
-        Fault::Table(fault) => spot_of_conflict(*fault, again),
-        _ => Spot::Told,
+        Fault::Text(fault) => locate_in_text(*fault, text),
+        Fault::Normal(fault) => locate_in_grammar(fault, text),
+        Fault::Table(fault) => locate_conflict(*fault, text),
+        _ => Location::WithNumber,
     }
 }
 
-/// Where a sentence is refused.
-fn spot_of_sentence(number: &Fault, sentence: &Source<'_>) -> Spot {
+/// Returns the location of a fault of a sentence.
+fn locate_fault_of_sentence(number: &Fault, sentence: &Source<'_>) -> Location {
     match number {
-        Fault::Scan(fault) => spot_of_token(*fault, sentence),
-        Fault::Parse(fault) => spot_in_sentence(*fault, sentence),
-        _ => Spot::Told,
+        Fault::Scan(fault) => locate_token(*fault, sentence),
+        Fault::Parse(fault) => locate_in_sentence(*fault, sentence),
+        _ => Location::WithNumber,
     }
 }
 
-/// Tells what is wrong with the text of a grammar.
-fn tell_grammar(
-    alloc: Global,
-    words: &mut Words,
+/// Describes a fault of the text of a grammar.
+fn describe_fault_of_grammar(
+    parts: &mut Parts,
     number: &Fault,
-    again: &Again<'_>,
+    text: &GrammarText<'_>,
 ) -> Result<(), AllocError> {
     match number {
-        Fault::Text(fault) => tell_text(alloc, words, *fault, again),
-        Fault::Normal(fault) => tell_normal(words, fault, again),
-        Fault::Table(fault) => tell_conflict(words, *fault, again),
-        Fault::Assign(grammar) => tell_stuck(words, &grammar.stuck, again),
+        Fault::Text(fault) => describe_text(parts, *fault, text),
+        Fault::Normal(fault) => describe_normal(parts, fault, text),
+        Fault::Table(fault) => describe_conflict(parts, *fault, text),
+        Fault::Assign(grammar) => describe_stuck(parts, &grammar.stuck, text),
         _ => Ok(()),
     }
 }
 
-/// Tells of O1 the value that the root's `out` has. Nothing where memory for showing it is refused.
-fn tell_value(alloc: Global, words: &mut Words, value: &Value) -> Result<(), AllocError> {
-    let Ok(shown) = show(alloc, value) else {
-        return Ok(());
-    };
-    write!(words.found, "found {}", Found(Some(shown.as_str())))?;
-    match value {
-        Value::Fault(ErrorCode::Big) => tell_size(&mut words.help),
-        Value::Fault(_) => write!(
-            words.help,
-            "which a rule in the tree gave and others carried on, mend that rule, or write `orelse(v, w)` where v may be an error"
-        ),
-        _ => write!(
-            words.help,
-            "let the rule of the root's `out` give a text, as `text(..)` makes one of a number"
-        ),
+/// Describes a fault of a sentence, or of its translation.
+fn describe_fault_of_sentence(
+    alloc: Global,
+    parts: &mut Parts,
+    number: &Fault,
+    sentence: &ParsedSentence<'_>,
+) -> Result<(), AllocError> {
+    match number {
+        Fault::Scan(fault) => describe_scan(parts, *fault, sentence.grammar, &sentence.source),
+        Fault::Parse(fault) => describe_parse(alloc, parts, *fault, sentence),
+        Fault::NoText(value) => describe_value(alloc, parts, value),
+        _ => Ok(()),
     }
-}
-
-/// Tells of O1 which limit a value exceeded, and what to do.
-fn tell_size(out: &mut String) -> Result<(), AllocError> {
-    let (most, most_of_text) = (Grouped(MAX_WEIGHT as usize), Grouped(MAX_TEXT_BYTES));
-    write!(
-        out,
-        "a value's spelling has at most {most} bytes, so a text at most {most_of_text}, and the translation or a value that it was computed from is larger, cut the sentence into smaller ones"
-    )
 }

@@ -1,133 +1,167 @@
-//! The one line that is told of a refusal.
+//! The report of a fault, which prints as one line.
 
-use crate::position::Position;
-use crate::shown::Plain;
-use aggen::Fault;
+ghost use Rattle.std.specs.Prelude.{◌≡◌, Some};
+ghost use Rattle.std.specs.Fmt.{WritesOnOk};
+ghost use Rattle.messages.specs.Printed.{file_text, first_separator, location_text, next_separator};
+ghost use Rattle.messages.specs.Printed.{part_text, parts_text, place_text};
+
+use ag_fault::Fault;
+use message_texts::display::Plain;
+use message_texts::{Location, Parts, Position};
 use std::alloc::{AllocError, Global};
 use std::fmt;
 
-/// Where a refusal is.
-#[derive(Clone, Copy, Debug, PartialEq, Eq)]
-pub enum Spot {
-    /// In the whole of a text or a file: its number stands alone.
-    Whole,
-    /// Where the number is followed by it, as by an offset or by names.
-    Told,
-    /// At a line and a column too, of the report's file where it has one.
-    At(Position),
-}
-
-/// What is told of a refusal. What is empty is not told.
-#[derive(Drop)]
-pub struct Words {
-    /// What was found, or is wrong.
-    pub found: String,
-    /// What could stand there.
-    pub expected: String,
-    /// What helps.
-    pub help: String,
-}
-
-/// All that is told of a refusal.
+/// The report of a fault.
 #[derive(Drop)]
 pub struct Report {
-    /// The refusal, which prints its number first.
+    /// The fault, which prints its number first.
     pub number: Fault,
     /// Where it is.
-    pub spot: Spot,
-    /// The name of the file that the position is in, or that the refusal is about.
+    pub location: Location,
+    /// The name of the file that the location is in, or that the fault is about.
     pub file: Option<String>,
-    /// What is told of it.
-    pub words: Words,
+    /// What else is said of it.
+    pub parts: Parts,
 }
 
 impl Report {
-    /// A report that tells its number alone. Takes no memory.
+    /// Returns a report that says the number alone. Takes no memory.
     pub fn new(alloc: Global, number: Fault) -> Report {
         Report {
             number,
-            spot: Spot::Told,
+            location: Location::WithNumber,
             file: None,
-            words: Words {
-                found: String::new(alloc),
-                expected: String::new(alloc),
-                help: String::new(alloc),
-            },
+            parts: Parts::new(alloc),
         }
     }
 
     /// Returns the report with the name of its file. Takes memory; if that is refused, the name is left
     /// out.
-    pub fn named(mut self, alloc: Global, path: &str) -> Report {
+    pub fn with_file(mut self, alloc: Global, path: &str) -> Report {
         self.file = Plain(path).to_string(alloc).ok();
         self
     }
 
-    /// Returns the report with where it is in a text, and if that is a position, with the name of the
-    /// file. Takes memory; if that is refused, the name is left out.
-    pub fn placed(mut self, alloc: Global, spot: Spot, name: &str) -> Report {
-        self.spot = spot;
-        match spot {
-            Spot::At(_) => self.named(alloc, name),
-            Spot::Whole | Spot::Told => self,
+    /// Returns the report with its location in a text, and with the name of the file if the location is a
+    /// position. Takes memory; if that is refused, the name is left out.
+    pub fn with_location(mut self, alloc: Global, location: Location, name: &str) -> Report {
+        self.location = location;
+        match location {
+            Location::At(_) => self.with_file(alloc, name),
+            Location::Whole | Location::WithNumber => self,
         }
     }
 
-    /// The report, once its words are written: none of them where memory for that was refused.
-    pub fn once(mut self, told: Result<(), AllocError>) -> Report {
-        if told.is_err() {
-            self.words.found.clear();
-            self.words.expected.clear();
-            self.words.help.clear();
+    /// Returns the report once its parts are written, without them if memory for that was refused.
+    pub fn or_bare(mut self, written: Result<(), AllocError>) -> Report {
+        if written.is_err() {
+            self.parts.clear();
         }
         self
     }
 }
 
-/// Prints `N8 at 95 (grammar.ag:4:47): ..`: the number, the place, and after a colon what was found, what
-/// could stand there and what helps, with commas between. A report without a position ends with its file,
+/// Prints `N8 at 95 (grammar.ag:4:47): ..`: the number, the position, and after a colon what was found,
+/// what was expected and what to do, with commas between. A report without a position ends with its file,
 /// if it has one. After a number that stands alone there is no colon.
 impl fmt::Display for Report {
+    ghost use Rattle.std.specs.Prelude.{Some};
+    ghost use Rattle.messages.specs.Printed.{line_of};
+
+    ghost output = { λ report. Some (line_of report) };
+
     fn fmt<W: fmt::Write>(&self, f: &mut fmt::Formatter<W>) -> fmt::Result {
         write!(f, "{}", self.number)?;
-        if let Spot::At(position) = self.spot {
-            self.print_place(f, position)?;
+        self.write_location(f)?;
+        write_parts(f, self.first_separator(), &self.parts)?;
+        self.write_file(f)
+    }
+}
+
+impl Report {
+    /// Writes the position, if there is one.
+    fn write_location<W: fmt::Write>(&self, f: &mut fmt::Formatter<W>) -> fmt::Result
+        ensures { WritesOnOk W.write_str_gives f.old result
+            (location_text self.now.location self.now.file) f.new }
+    {
+        match self.location {
+            Location::At(position) => write_place(f, &self.file, position),
+            Location::Whole | Location::WithNumber => Ok(()),
         }
-        let first = if self.spot == Spot::Whole { " " } else { ": " };
-        let joint = tell_part(f, first, self.words.found.as_str())?;
-        let joint = tell_part(f, joint, self.words.expected.as_str())?;
-        tell_part(f, joint, self.words.help.as_str())?;
-        match (self.spot, &self.file) {
-            (Spot::Whole | Spot::Told, Some(path)) => write!(f, ": {}", path.as_str()),
+    }
+
+    /// Returns what is before the first part.
+    fn first_separator(&self) -> &'static str
+        ensures { result.now ≡ first_separator self.now.location }
+    {
+        match self.location {
+            Location::Whole => " ",
+            Location::WithNumber | Location::At(_) => ": ",
+        }
+    }
+
+    /// Writes the file at the end, if there is no position.
+    fn write_file<W: fmt::Write>(&self, f: &mut fmt::Formatter<W>) -> fmt::Result
+        ensures { WritesOnOk W.write_str_gives f.old result
+            (file_text self.now.location self.now.file) f.new }
+    {
+        match (self.location, &self.file) {
+            (Location::Whole | Location::WithNumber, Some(path)) => {
+                write!(f, ": {}", path.as_str())
+            }
             _ => Ok(()),
         }
     }
 }
 
-impl Report {
-    /// Prints a position, as editors read it if the report has a file.
-    fn print_place<W: fmt::Write>(
-        &self,
-        f: &mut fmt::Formatter<W>,
-        position: Position,
-    ) -> fmt::Result {
-        let Position { line, column } = position;
-        match &self.file {
-            Some(path) => write!(f, " ({}:{line}:{column})", path.as_str()),
-            None => write!(f, " {position}"),
-        }
+/// Writes a position, as editors read it if there is a file.
+fn write_place<W: fmt::Write>(
+    f: &mut fmt::Formatter<W>,
+    file: &Option<String>,
+    position: Position,
+) -> fmt::Result
+    ensures { WritesOnOk W.write_str_gives f.old result (place_text file.now position) f.new }
+{
+    let Position { line, column } = position;
+    match file {
+        Some(path) => write!(f, " ({}:{line}:{column})", path.as_str()),
+        None => write!(f, " {position}"),
     }
 }
 
-/// A part behind what joins it to the one before; what joins the next one.
-fn tell_part<W: fmt::Write>(
+/// Writes the parts, the first after a separator.
+fn write_parts<W: fmt::Write>(
     f: &mut fmt::Formatter<W>,
-    joint: &'static str,
+    first: &str,
+    parts: &Parts,
+) -> fmt::Result
+    ensures { WritesOnOk W.write_str_gives f.old result (parts_text first.now parts.now) f.new }
+{
+    let (found, expected) = (parts.found.as_str(), parts.expected.as_str());
+    let second = next_separator(first, found);
+    let third = next_separator(second, expected);
+    write_part(f, first, found)?;
+    write_part(f, second, expected)?;
+    write_part(f, third, parts.help.as_str())
+}
+
+/// Writes a part after its separator, unless it is empty.
+fn write_part<W: fmt::Write>(
+    f: &mut fmt::Formatter<W>,
+    separator: &str,
     part: &str,
-) -> Result<&'static str, fmt::Error> {
+) -> fmt::Result
+    ensures { WritesOnOk W.write_str_gives f.old result (part_text separator.now part.now) f.new }
+{
     if part.is_empty() {
-        return Ok(joint);
+        return Ok(());
     }
-    write!(f, "{joint}{part}")?;
-    Ok(", ")
+    write!(f, "{separator}{part}")
+}
+
+/// Returns the separator before the part after this one.
+fn next_separator<'a>(separator: &'a str, part: &str) -> &'a str
+    ensures { result.now ≡ next_separator separator.now part.now }
+{
+    if part.is_empty() { separator } else { ", " }
 }

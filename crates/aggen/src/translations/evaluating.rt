@@ -7,10 +7,10 @@ ghost use Rattle.passrun.specs.Rounds.{LeavesSomeFile, other_last};
 ghost use Rattle.treefile.specs.devices.Device.{LeavesContent, WhenHonest};
 ghost use Rattle.treefile.specs.devices.Several.{ThreeLast};
 
-use crate::fault::Fault;
 use crate::translations::report::Report;
 use crate::translator::Translator;
 use ag_eval::Meter;
+use ag_fault::Fault;
 use passrun::{Last, run_all, run_pass};
 use planchecker::Plan;
 use std::alloc::Global;

@@ -11,9 +11,9 @@ ghost use Rattle.treefile.specs.ways.Beginning.{BeginsFile};
 ghost use Rattle.treefile.specs.devices.Device.{WhenHonest};
 ghost use Rattle.treefile.specs.devices.Several.{BothLast};
 
-use crate::fault::Fault;
 use crate::translations::report::Report;
 use crate::translator::Translator;
+use ag_fault::Fault;
 use ag_job::Job;
 use std::alloc::Global;
 use std::io::{Read, Write};

@@ -12,10 +12,10 @@ ghost use Rattle.treefile.specs.ways.Beginning.{BeginsFile};
 ghost use Rattle.treefile.specs.devices.Device.{LeavesContent, WhenHonest};
 ghost use Rattle.treefile.specs.devices.Several.{BothLast};
 
-use crate::fault::Fault;
 use crate::translations::report::Report;
 use crate::translator::Translator;
 use ag_eval::Meter;
+use ag_fault::Fault;
 use ag_grammar::Grammar;
 use ag_value::Text;
 use passrun::{Last, run_all};

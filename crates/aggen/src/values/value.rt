@@ -10,10 +10,10 @@ ghost use Rattle.aggen.specs.Showing.{IsExprFault, IsShowFault, IsTextFault, IsU
 ghost use Rattle.aggen.specs.Showing.{OccursAt, Shows};
 ghost use Rattle.aggen.specs.Showing.{ShowsBeginning, WritesLine, first_offset};
 
-use crate::fault::Fault;
 use crate::values::value_file::{read_file, write_file};
 use ag_eval::{Environment, Meter, eval};
 use ag_expr::{ExprFault, read_expr};
+use ag_fault::Fault;
 use ag_grammar::{Expr, occurrences};
 use ag_value::Value;
 use agoutput::{value_line, write_text};

@@ -10,7 +10,7 @@ ghost use Rattle.treefile.specs.ways.Ending.{last_body_of};
 ghost use Rattle.treefile.specs.records.TreeFile.{body_of, version_two};
 ghost use Rattle.aggen.specs.Showing.{IsFileFault, IsWant, file_of};
 
-use crate::fault::Fault;
+use ag_fault::Fault;
 use ag_value::{Value, ValueFault, decode};
 use std::alloc::Global;
 use treefile::{Device, Kind, Writer, last_body, split_body};

@@ -1,0 +1,54 @@
+-- How the program's faults are printed: each line begins with the fault's number. This project's.
+use Rattle.std.specs.Prelude.{ℕ, List, [], ◌++◌, Option, Some, None, codes, decimal, flat_map, slice_get}
+use Rattle.ag_expr.specs.Printed.{printed as printed_expr}
+use Rattle.ag_grammar.specs.declared.grammar.Symbol.{Symbol}
+use Rattle.ag_grammar.specs.grammars.AttributeGrammar.{Grammar, attribute_names}
+use Rattle.ag_job.specs.Printed.{printed as printed_job}
+use Rattle.ag_scan.specs.Printed.{printed as printed_scan}
+use Rattle.ag_text.specs.Printed.{printed as printed_text}
+use Rattle.llparse.specs.Printed.{printed as printed_parse, printed_table}
+use Rattle.normalform.specs.Printed.{printed as printed_normal}
+use Rattle.passrun.specs.Printed.{printed as printed_run}
+use Rattle.ag_fault.specs.declared.fault.Fault.{Fault}
+use Rattle.ag_fault.specs.declared.fault.Fault.TheVariants as fault
+use Rattle.ag_fault.specs.declared.stuck_grammar.StuckGrammar.{StuckGrammar}
+
+-- the name of a symbol, a point and the name of its attribute, as in `L.p`; nothing where there is no such attribute
+abbrev pub name_of_attribute : Symbol → Option (List ℕ) → List ℕ
+name_of_attribute symbol None = []
+name_of_attribute symbol (Some name) = symbol.name ++ codes "." ++ name
+
+abbrev pub name_at : Option Symbol → ℕ → List ℕ
+name_at None attribute = []
+name_at (Some symbol) attribute = name_of_attribute symbol (slice_get (attribute_names symbol) attribute)
+
+abbrev pub qualified_name : Grammar → ℕ → ℕ → List ℕ
+qualified_name g symbol attribute = name_at (slice_get g.symbols symbol) attribute
+
+-- the same with a space before it, of an attribute by its symbol's number and its own
+abbrev pub attribute_text : Grammar → ℕ × ℕ → List ℕ
+attribute_text g x = codes " " ++ qualified_name g x.0 x.1
+
+-- A1, and then each attribute that no pass can have, as in `A1 R.out A.s A.i`
+abbrev pub printed_stuck : StuckGrammar → List ℕ
+printed_stuck s = codes "A1" ++ flat_map (attribute_text s.grammar) s.stuck.set
+
+-- the number first; a fault that contains one of another crate is printed as that one
+abbrev pub printed : Fault → List ℕ
+printed fault.Usage = codes "usage: the words of the command line can't be read"
+printed fault.File = codes "F1 the file can't be opened, read or made"
+printed (fault.Expr e) = printed_expr e
+printed (fault.Text e) = printed_text e
+printed (fault.Normal e) = printed_normal e
+printed (fault.Table e) = printed_table e
+printed (fault.Assign s) = printed_stuck s
+printed (fault.Scan e) = printed_scan e
+printed (fault.Parse e) = printed_parse e
+printed (fault.Run e) = printed_run e
+printed (fault.Job e) = printed_job e
+printed (fault.NoText x) = codes "O1 the translation is no text"
+printed fault.NotATreeFile = codes "B1 the device holds no tree file"
+printed (fault.Damaged at) = codes "B2 at " ++ decimal at ++ codes ": the tree file is damaged here"
+printed fault.Device = codes "D1 the device failed"
+printed fault.Write = codes "O2 the text could not be written whole"
+printed fault.NoMemory = codes "NoMemory a request for memory was refused"

@@ -1,0 +1,45 @@
+-- The status that the program ends with after each fault. This project's.
+use Rattle.std.specs.Prelude.{ℕ}
+use Rattle.ag_expr.specs.declared.fault.ExprFault.TheVariants as expr
+use Rattle.ag_job.specs.declared.fault.JobFault.TheVariants as job
+use Rattle.ag_scan.specs.declared.fault.ScanFault.TheVariants as scan
+use Rattle.ag_text.specs.declared.fault.TextFault.TheVariants as text
+use Rattle.llparse.specs.declared.sentence.parse_fault.ParseFault.TheVariants as parse
+use Rattle.llparse.specs.declared.table.fault.TableFault.TheVariants as table
+use Rattle.normalform.specs.declared.fault.NormalFault.TheVariants as normal
+use Rattle.passrun.specs.declared.run_fault.RunFault.TheVariants as run
+use Rattle.ag_fault.specs.declared.fault.Fault.{Fault}
+use Rattle.ag_fault.specs.declared.fault.Fault.TheVariants as fault
+
+-- 2 for the command line, J1 and J3, 3 for X, G, N, L and A, 4 for S and P of a sentence, 5 for B1, B2, R1 and P2 and P3 of a tree
+-- file, 6 for O1, 7 for want of memory, 8 for F1, J2, D1 and O2; memory and device also inside another fault
+abbrev pub status_of : Fault → ℕ
+status_of fault.Usage = 2
+status_of fault.File = 8
+status_of (fault.Expr expr.NoMemory) = 7
+status_of (fault.Expr e) = 3
+status_of (fault.Text text.NoMemory) = 7
+status_of (fault.Text (text.Expr expr.NoMemory)) = 7
+status_of (fault.Text e) = 3
+status_of (fault.Normal normal.NoMemory) = 7
+status_of (fault.Normal e) = 3
+status_of (fault.Table table.NoMemory) = 7
+status_of (fault.Table e) = 3
+status_of (fault.Assign e) = 3
+status_of (fault.Scan scan.NoMemory) = 7
+status_of (fault.Scan e) = 4
+status_of (fault.Parse parse.Device) = 8
+status_of (fault.Parse parse.NoMemory) = 7
+status_of (fault.Parse e) = 4
+status_of (fault.Run run.Device) = 8
+status_of (fault.Run run.NoMemory) = 7
+status_of (fault.Run e) = 5
+status_of (fault.Job job.NoMemory) = 7
+status_of (fault.Job job.Read) = 8
+status_of (fault.Job e) = 2
+status_of (fault.NoText x) = 6
+status_of fault.NotATreeFile = 5
+status_of (fault.Damaged at) = 5
+status_of fault.Device = 8
+status_of fault.Write = 8
+status_of fault.NoMemory = 7

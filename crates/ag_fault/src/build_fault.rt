@@ -1,0 +1,68 @@
+//! Why a text makes no translator.
+
+ghost use Rattle.std.specs.Prelude.{◌≡◌};
+ghost use Rattle.ag_fault.specs.Faults.{build_fault_of_normal, build_fault_of_table};
+ghost use Rattle.ag_fault.specs.Faults.{build_fault_of_text};
+ghost use Rattle.ag_fault.specs.declared.build_fault.BuildFault.TheVariants as build_fault;
+
+use crate::stuck_grammar::StuckGrammar;
+use ag_text::TextFault;
+use ag_value::NoMemory;
+use llparse::TableFault;
+use normalform::NormalFault;
+
+/// Why a text makes no translator. Want of memory is in none but its own variant.
+#[derive(Drop)]
+pub enum BuildFault {
+    /// G1 to G4: the text reads as no grammar.
+    Text(TextFault),
+    /// N1 to N10: the grammar is not accepted.
+    Normal(NormalFault),
+    /// L1: one token of look-ahead doesn't tell which production comes next.
+    Table(TableFault),
+    /// A1: no assignment of passes to the grammar's attributes is legal.
+    Assign(StuckGrammar),
+    /// A growth was refused.
+    NoMemory,
+}
+
+impl From<TextFault> for BuildFault {
+    ghost from_gives = { λ fault e. e ≡ build_fault_of_text fault };
+
+    fn from(fault: TextFault) -> BuildFault {
+        match fault {
+            TextFault::NoMemory => BuildFault::NoMemory,
+            _ => BuildFault::Text(fault),
+        }
+    }
+}
+
+impl From<NormalFault> for BuildFault {
+    ghost from_gives = { λ fault e. e ≡ build_fault_of_normal fault };
+
+    fn from(fault: NormalFault) -> BuildFault {
+        match fault {
+            NormalFault::NoMemory => BuildFault::NoMemory,
+            other => BuildFault::Normal(other),
+        }
+    }
+}
+
+impl From<TableFault> for BuildFault {
+    ghost from_gives = { λ fault e. e ≡ build_fault_of_table fault };
+
+    fn from(fault: TableFault) -> BuildFault {
+        match fault {
+            TableFault::NoMemory => BuildFault::NoMemory,
+            _ => BuildFault::Table(fault),
+        }
+    }
+}
+
+impl From<NoMemory> for BuildFault {
+    ghost from_gives = { λ _ e. e ≡ build_fault.NoMemory };
+
+    fn from(_error: NoMemory) -> BuildFault {
+        BuildFault::NoMemory
+    }
+}

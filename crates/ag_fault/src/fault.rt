@@ -1,0 +1,245 @@
+//! The program's faults, their statuses, and which of them the faults of the crates below become.
+
+ghost use Rattle.std.specs.Prelude.{◌≡◌};
+ghost use Rattle.ag_fault.specs.Faults.{build_fault_of, device_fault_of, expr_fault_of};
+ghost use Rattle.ag_fault.specs.Faults.{frame_fault_of, job_fault_of, listing_fault_of, out_fault_of};
+ghost use Rattle.ag_fault.specs.Faults.{parse_fault_of, run_fault_of, scan_fault_of};
+ghost use Rattle.ag_fault.specs.Status.{status_of};
+ghost use Rattle.ag_fault.specs.declared.fault.Fault.TheVariants as program_fault;
+
+use crate::build_fault::BuildFault;
+use crate::stuck_grammar::StuckGrammar;
+use ag_expr::ExprFault;
+use ag_job::JobFault;
+use ag_scan::ScanFault;
+use ag_text::TextFault;
+use ag_value::{NoMemory, Value};
+use agoutput::{ListingFault, TextOutFault};
+use llparse::{ParseFault, TableFault};
+use normalform::NormalFault;
+use passrun::RunFault;
+use roottext::OutFault;
+use std::alloc::AllocError;
+use treefile::{DeviceFault, FileFault, FrameFault};
+
+/// Why the program, or a call of it, did not do what it was asked for. Each has a number, which is
+/// printed first.
+#[derive(Debug, Drop)]
+pub enum Fault {
+    /// The words of the command line are not as they should be.
+    Usage,
+    /// F1: a file can't be opened, read or made.
+    File,
+    /// X1 to X4: the text is no expression. Want of memory is never in it.
+    Expr(ExprFault),
+    /// G1 to G4: the text reads as no grammar. Want of memory is never in it.
+    Text(TextFault),
+    /// N1 to N10: the grammar is not accepted. Want of memory is never in it.
+    Normal(NormalFault),
+    /// L1: one token of look-ahead doesn't tell which production comes next. Want of memory is
+    /// never in it.
+    Table(TableFault),
+    /// A1: no assignment of passes to the grammar's attributes is legal.
+    Assign(StuckGrammar),
+    /// S1 to S4: the sentence has no tokens. Want of memory is never in it.
+    Scan(ScanFault),
+    /// P1 to P3: the sentence has no tree within the limits. A failed device and want of memory are
+    /// never in it.
+    Parse(ParseFault),
+    /// R1, P2 and P3 of a tree file that a pass read. A failed device and want of memory are never in
+    /// it.
+    Run(RunFault),
+    /// J1 to J3: what a reader gives is no job. Want of memory is never in it.
+    Job(JobFault),
+    /// O1: the translation is this value, and no text.
+    NoText(Value),
+    /// B1: a device holds no tree file.
+    NotATreeFile,
+    /// B2: no frame ends at this offset in bytes, where one should, or its body is not as it should
+    /// be.
+    Damaged(u64),
+    /// D1: a call of a device failed.
+    Device,
+    /// O2: a write failed, or took no byte. A beginning of the text may have gone out.
+    Write,
+    /// A growth was refused.
+    NoMemory,
+}
+
+/// Returns the status that the program ends with after a fault: 2 for usage, J1 and J3; 3 for X, G,
+/// N, L and A; 4 for S and P of a sentence; 5 for B1, B2, R1, and P2 and P3 of a tree file; 6 for
+/// O1; 7 for want of memory; 8 for F1, J2, D1 and O2. Want of memory and a failed device count as
+/// such inside another fault too.
+pub fn status(fault: &Fault) -> u8
+    ensures { result ≡ status_of fault.now }
+{
+    match fault {
+        Fault::Job(JobFault::NoMemory) | Fault::Expr(ExprFault::NoMemory) => 7,
+        Fault::Text(TextFault::NoMemory | TextFault::Expr(ExprFault::NoMemory)) => 7,
+        Fault::Normal(NormalFault::NoMemory) | Fault::Table(TableFault::NoMemory) => 7,
+        Fault::Scan(ScanFault::NoMemory) | Fault::Parse(ParseFault::NoMemory) => 7,
+        Fault::Run(RunFault::NoMemory) => 7,
+        Fault::Job(JobFault::Read) => 8,
+        Fault::Parse(ParseFault::Device) | Fault::Run(RunFault::Device) => 8,
+        Fault::Usage | Fault::Job(_) => 2,
+        Fault::Expr(_) | Fault::Text(_) => 3,
+        Fault::Normal(_) | Fault::Table(_) | Fault::Assign(_) => 3,
+        Fault::Scan(_) | Fault::Parse(_) => 4,
+        Fault::Run(_) | Fault::NotATreeFile | Fault::Damaged(_) => 5,
+        Fault::NoText(_) => 6,
+        Fault::NoMemory => 7,
+        Fault::File | Fault::Device | Fault::Write => 8,
+    }
+}
+
+impl From<ExprFault> for Fault {
+    ghost from_gives = { λ fault e. e ≡ expr_fault_of fault };
+
+    fn from(fault: ExprFault) -> Fault {
+        match fault {
+            ExprFault::NoMemory => Fault::NoMemory,
+            _ => Fault::Expr(fault),
+        }
+    }
+}
+
+impl From<BuildFault> for Fault {
+    ghost from_gives = { λ fault e. e ≡ build_fault_of fault };
+
+    fn from(fault: BuildFault) -> Fault {
+        match fault {
+            BuildFault::Text(fault) => Fault::Text(fault),
+            BuildFault::Normal(fault) => Fault::Normal(fault),
+            BuildFault::Table(fault) => Fault::Table(fault),
+            BuildFault::Assign(stuck) => Fault::Assign(stuck),
+            BuildFault::NoMemory => Fault::NoMemory,
+        }
+    }
+}
+
+impl From<JobFault> for Fault {
+    ghost from_gives = { λ fault e. e ≡ job_fault_of fault };
+
+    fn from(fault: JobFault) -> Fault {
+        match fault {
+            JobFault::NoMemory => Fault::NoMemory,
+            _ => Fault::Job(fault),
+        }
+    }
+}
+
+impl From<FileFault> for Fault {
+    ghost from_gives = { λ _ e. e ≡ program_fault.File };
+
+    fn from(_fault: FileFault) -> Fault {
+        Fault::File
+    }
+}
+
+impl From<DeviceFault> for Fault {
+    ghost from_gives = { λ fault e. e ≡ device_fault_of fault };
+
+    fn from(fault: DeviceFault) -> Fault {
+        match fault {
+            DeviceFault::Failed => Fault::Device,
+            DeviceFault::NoMemory => Fault::NoMemory,
+        }
+    }
+}
+
+impl From<ScanFault> for Fault {
+    ghost from_gives = { λ fault e. e ≡ scan_fault_of fault };
+
+    fn from(fault: ScanFault) -> Fault {
+        match fault {
+            ScanFault::NoMemory => Fault::NoMemory,
+            _ => Fault::Scan(fault),
+        }
+    }
+}
+
+impl From<ParseFault> for Fault {
+    ghost from_gives = { λ fault e. e ≡ parse_fault_of fault };
+
+    fn from(fault: ParseFault) -> Fault {
+        match fault {
+            ParseFault::Device => Fault::Device,
+            ParseFault::NoMemory => Fault::NoMemory,
+            _ => Fault::Parse(fault),
+        }
+    }
+}
+
+impl From<RunFault> for Fault {
+    ghost from_gives = { λ fault e. e ≡ run_fault_of fault };
+
+    fn from(fault: RunFault) -> Fault {
+        match fault {
+            RunFault::Device => Fault::Device,
+            RunFault::NoMemory => Fault::NoMemory,
+            _ => Fault::Run(fault),
+        }
+    }
+}
+
+impl From<OutFault> for Fault {
+    ghost from_gives = { λ fault e. e ≡ out_fault_of fault };
+
+    fn from(fault: OutFault) -> Fault {
+        match fault {
+            OutFault::NoText(value) => Fault::NoText(value),
+            OutFault::NotATreeFile => Fault::NotATreeFile,
+            OutFault::Damaged(at) => Fault::Damaged(at),
+            OutFault::Device => Fault::Device,
+            OutFault::NoMemory => Fault::NoMemory,
+        }
+    }
+}
+
+impl From<FrameFault> for Fault {
+    ghost from_gives = { λ fault e. e ≡ frame_fault_of fault };
+
+    fn from(fault: FrameFault) -> Fault {
+        match fault {
+            FrameFault::NotATreeFile => Fault::NotATreeFile,
+            FrameFault::Damaged(at) => Fault::Damaged(at),
+            FrameFault::Device => Fault::Device,
+            FrameFault::NoMemory => Fault::NoMemory,
+        }
+    }
+}
+
+impl From<TextOutFault> for Fault {
+    ghost from_gives = { λ _ e. e ≡ program_fault.Write };
+
+    fn from(_fault: TextOutFault) -> Fault {
+        Fault::Write
+    }
+}
+
+impl From<ListingFault> for Fault {
+    ghost from_gives = { λ fault e. e ≡ listing_fault_of fault };
+
+    fn from(fault: ListingFault) -> Fault {
+        match fault {
+            ListingFault::Write => Fault::Write,
+            ListingFault::NoMemory => Fault::NoMemory,
+        }
+    }
+}
+
+impl From<NoMemory> for Fault {
+    ghost from_gives = { λ _ e. e ≡ program_fault.NoMemory };
+
+    fn from(_error: NoMemory) -> Fault {
+        Fault::NoMemory
+    }
+}
+
+impl From<AllocError> for Fault {
+    ghost from_gives = { λ _ e. e ≡ program_fault.NoMemory };
+
+    fn from(_error: AllocError) -> Fault {
+        Fault::NoMemory
+    }
+}

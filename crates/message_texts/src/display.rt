@@ -1,0 +1,149 @@
+//! How numbers and parts of texts are printed in a message, and which part of a text is at an offset.
+
+use ag_expr::{Cursor, ExprFault, refusal};
+use std::fmt;
+
+/// The greatest number of terminals or attributes that a message names.
+pub const MAX_NAMED: usize = 12;
+
+/// The greatest number of characters of a token that a message shows.
+const MAX_SHOWN: usize = 24;
+
+/// A number, with a comma before each of its last two groups of three digits.
+#[derive(Clone, Copy)]
+pub struct Grouped(pub usize);
+
+impl fmt::Display for Grouped {
+    fn fmt<W: fmt::Write>(&self, f: &mut fmt::Formatter<W>) -> fmt::Result {
+        let (thousands, rest) = (self.0 / 1_000, self.0 % 1_000);
+        if thousands == 0 {
+            return write!(f, "{rest}");
+        }
+        if thousands < 1_000 {
+            return write!(f, "{thousands},{rest:03}");
+        }
+        write!(
+            f,
+            "{},{:03},{rest:03}",
+            thousands / 1_000,
+            thousands % 1_000
+        )
+    }
+}
+
+/// A text, with the number of each character that controls a terminal, can't be seen, or can be taken
+/// for a plain space.
+#[derive(Clone, Copy)]
+pub struct Plain<'a>(pub &'a str);
+
+impl fmt::Display for Plain<'_> {
+    fn fmt<W: fmt::Write>(&self, f: &mut fmt::Formatter<W>) -> fmt::Result {
+        for character in self.0.chars() {
+            write_character(f, character)?;
+        }
+        Ok(())
+    }
+}
+
+/// The text at an offset, printed as by `Plain`, and only the first characters of a long one. None is the
+/// end of the text.
+#[derive(Clone, Copy)]
+pub struct Found<'a>(pub Option<&'a str>);
+
+impl fmt::Display for Found<'_> {
+    fn fmt<W: fmt::Write>(&self, f: &mut fmt::Formatter<W>) -> fmt::Result {
+        let Some(found) = self.0 else {
+            return write!(f, "the end of the text");
+        };
+        write!(f, "`")?;
+        let mut shown = 0usize;
+        for character in found.chars() {
+            if shown == MAX_SHOWN {
+                write!(f, "..")?;
+                break;
+            }
+            write_character(f, character)?;
+            shown = shown.saturating_add(1);
+        }
+        write!(f, "`")
+    }
+}
+
+/// Returns whether a character has no shape of its own, or turns the direction of those beside it: a byte
+/// order mark, and the other characters of Unicode's category Cf that belong to no script.
+fn is_unseen(character: char) -> bool {
+    matches!(
+        character,
+        '\u{ad}' | '\u{61c}' | '\u{180e}' | '\u{200b}'..='\u{200f}' | '\u{202a}'..='\u{202e}'
+            | '\u{2060}'..='\u{206f}' | '\u{feff}' | '\u{e0000}'..='\u{e007f}'
+    )
+}
+
+/// Writes a character, by its number if it controls a terminal, can't be seen, or can be taken for a plain
+/// space.
+fn write_character<W: fmt::Write>(f: &mut fmt::Formatter<W>, character: char) -> fmt::Result {
+    let is_plain = character == ' ' || !character.is_whitespace();
+    if is_plain && !character.is_control() && !is_unseen(character) {
+        return write!(f, "{character}");
+    }
+    for part in character.escape_unicode() {
+        write!(f, "{part}")?;
+    }
+    Ok(())
+}
+
+/// Returns the longest prefix of bytes that is UTF-8.
+pub fn utf8_prefix(bytes: &[u8]) -> &str {
+    let fault = match str::from_utf8(bytes) {
+        Ok(text) => return text,
+        Err(fault) => fault,
+    };
+    match bytes.get(..fault.valid_up_to()) {
+        Some(prefix) => str::from_utf8(prefix).unwrap_or(""),
+        None => "",
+    }
+}
+
+/// Returns the token at an offset, or else the characters up to the next separator, at least one. None at
+/// the text's end.
+pub fn found_at(text: &str, at: usize) -> Option<&str> {
+    let rest = text.get(at..)?;
+    let mut cursor = Cursor::new(rest);
+    if cursor.peek().is_none() {
+        return first_word(rest);
+    }
+    cursor.bump();
+    Some(rest.get(..cursor.offset()).unwrap_or(rest).trim_end())
+}
+
+/// Returns the characters before the first separator, at least one. None for an empty text.
+fn first_word(text: &str) -> Option<&str> {
+    for (offset, character) in text.char_indices() {
+        if 0 < offset && is_separator(character) {
+            return text.get(..offset);
+        }
+    }
+    if text.is_empty() { None } else { Some(text) }
+}
+
+/// Returns whether a character separates tokens: no other space does.
+fn is_separator(character: char) -> bool {
+    matches!(character, ' ' | '\t' | '\r' | '\n')
+}
+
+/// Returns why no token begins with what was found. None if one does.
+pub fn token_fault(found: &str) -> Option<ExprFault> {
+    let cursor = Cursor::new(found);
+    match cursor.peek() {
+        Some(_) => None,
+        None => Some(refusal(&cursor)),
+    }
+}
+
+/// Returns whether what was found begins with a character.
+pub fn begins_with(found: Option<&str>, character: char) -> bool {
+    match found {
+        Some(found) => found.starts_with(character),
+        None => false,
+    }
+}

@@ -1,0 +1,64 @@
+//! What a text could go on with.
+
+use ag_expr::Expected as Part;
+use ag_text::Expected;
+use std::alloc::AllocError;
+
+/// Returns the separator after an item of a list, by the number of items that follow.
+pub fn separator_before(left: usize) -> &'static str {
+    match left {
+        0 => "",
+        1 => " or ",
+        _ => ", ",
+    }
+}
+
+/// Writes what a text could go on with, if that is known.
+pub fn write_expected(out: &mut String, expected: &[Expected]) -> Result<(), AllocError> {
+    if expected.is_empty() {
+        return Ok(());
+    }
+    out.push_str("where only ")?;
+    let mut left = expected.len();
+    for one in expected {
+        left = left.saturating_sub(1);
+        write_one(out, *one, separator_before(left))?;
+    }
+    out.push_str(" can stand")
+}
+
+/// Writes one thing that a text could go on with, and the separator after it.
+fn write_one(out: &mut String, expected: Expected, separator: &str) -> Result<(), AllocError> {
+    let quote = match expected {
+        Expected::Sign(_) | Expected::Part(Part::Sign(_)) => "`",
+        _ => "",
+    };
+    let name = name_of(expected);
+    write!(out, "{quote}{name}{quote}{separator}")
+}
+
+/// Returns the name of a thing that a text could go on with.
+fn name_of(expected: Expected) -> &'static str {
+    match expected {
+        Expected::Name => "a name",
+        Expected::Item => "an item (a name, literal or class)",
+        Expected::Rule => "a rule",
+        Expected::Part(part) => name_of_part(part),
+        Expected::Sign(sign) => sign,
+        Expected::End => "the end",
+    }
+}
+
+/// Returns the name of a part that an expression could go on with.
+fn name_of_part(part: Part) -> &'static str {
+    match part {
+        Part::Expression => "an expression",
+        Part::Operand => "an operand",
+        Part::BoundName => "a bound name",
+        Part::NewName => "a name to bind",
+        Part::Operator => "an operator",
+        Part::TighterOperator => "an operator other than `==` and `<`",
+        Part::Sign(sign) => sign,
+        Part::End => "the end",
+    }
+}

@@ -1,0 +1,128 @@
+//! Faults of expressions.
+
+use crate::display::{Found, begins_with};
+use crate::expected::write_expected;
+use crate::hints::Context;
+use crate::parts::{Location, Parts};
+use crate::position::Position;
+use ag_expr::{Expected as Part, ExprFault, expected_at};
+use ag_grammar::limits::{MOST_LEVELS, MOST_PLACE};
+use ag_text::Expected;
+use ag_value::NoMemory;
+use std::alloc::{AllocError, Global};
+
+/// Returns the location of a fault of an expression: a line and a column too, if its text has several
+/// lines.
+pub fn locate_in_expression(fault: ExprFault, text: &str) -> Location {
+    match offset_in(fault) {
+        Some(at) if text.contains('\n') => Location::At(Position::of(text, at)),
+        _ => Location::WithNumber,
+    }
+}
+
+/// Describes X1 to X4 of the text of an expression.
+pub fn describe_expression(
+    alloc: Global,
+    parts: &mut Parts,
+    fault: ExprFault,
+    text: &str,
+) -> Result<(), AllocError> {
+    let context = Context::of(text, offset_in(fault));
+    match expected_in(alloc, fault, text) {
+        Ok(expected) => describe_fault(parts, fault, &context, expected.as_slice()),
+        Err(_) => describe_fault(parts, fault, &context, &[]),
+    }
+}
+
+/// Returns what an expression could go on with at X2, and nothing for other faults.
+fn expected_in(alloc: Global, fault: ExprFault, text: &str) -> Result<Vec<Expected>, NoMemory> {
+    let mut expected = Vec::new(alloc);
+    if let ExprFault::Unexpected(at) = fault {
+        for part in &expected_at(alloc, text, at)? {
+            expected.push(Expected::Part(*part))?;
+        }
+    }
+    Ok(expected)
+}
+
+/// Returns the offset of a fault of an expression.
+pub fn offset_in(fault: ExprFault) -> Option<usize> {
+    match fault {
+        ExprFault::NoToken(at)
+        | ExprFault::Unexpected(at)
+        | ExprFault::NumberTooLarge(at)
+        | ExprFault::TooDeep(at) => Some(at),
+        ExprFault::NoMemory => None,
+    }
+}
+
+/// Describes a fault of an expression that could go on with `expected`.
+pub fn describe_fault(
+    parts: &mut Parts,
+    fault: ExprFault,
+    context: &Context<'_>,
+    expected: &[Expected],
+) -> Result<(), AllocError> {
+    match fault {
+        ExprFault::NoToken(_) => describe_no_token(parts, context),
+        ExprFault::Unexpected(_) => describe_unexpected(parts, context, expected),
+        ExprFault::NumberTooLarge(_) => describe_number(parts, context),
+        ExprFault::TooDeep(_) => describe_depth(parts),
+        ExprFault::NoMemory => Ok(()),
+    }
+}
+
+/// Describes characters that begin no token.
+fn describe_no_token(parts: &mut Parts, context: &Context<'_>) -> Result<(), AllocError> {
+    write!(parts.found, "no token begins with {}", Found(context.found))?;
+    parts.help.push_str(context.token_hint())
+}
+
+/// Describes a number that is too large.
+fn describe_number(parts: &mut Parts, context: &Context<'_>) -> Result<(), AllocError> {
+    write!(
+        parts.found,
+        "the number is too large in {}",
+        Found(context.found)
+    )?;
+    write!(
+        parts.expected,
+        "where {} is the greatest, and {MOST_PLACE} the greatest place behind $",
+        i64::MAX
+    )
+}
+
+/// Describes an expression that nests too deep.
+fn describe_depth(parts: &mut Parts) -> Result<(), AllocError> {
+    write!(
+        parts.found,
+        "expressions nest more than {MOST_LEVELS} levels deep"
+    )?;
+    parts.help.push_str("write fewer")
+}
+
+/// Describes a token that an expression does not go on with, and what it could go on with, or what is
+/// wrong with the name or the occurrence.
+fn describe_unexpected(
+    parts: &mut Parts,
+    context: &Context<'_>,
+    expected: &[Expected],
+) -> Result<(), AllocError> {
+    write!(parts.found, "found {}", Found(context.found))?;
+    write_expected_in(&mut parts.expected, context, expected)?;
+    parts.help.push_str(context.expression_hint(expected))
+}
+
+/// Writes what an expression could go on with, or what is wrong with the name or the occurrence there.
+fn write_expected_in(
+    out: &mut String,
+    context: &Context<'_>,
+    expected: &[Expected],
+) -> Result<(), AllocError> {
+    match expected.first() {
+        Some(Expected::Part(Part::BoundName)) => out.push_str("a name that no `let` binds here"),
+        Some(Expected::Part(Part::Expression | Part::Operand)) if begins_with(context.found, '$') =>
+            out.push_str("which has a value in a grammar only"),
+        _ => write_expected(out, expected),
+    }
+}

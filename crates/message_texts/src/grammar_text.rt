@@ -1,0 +1,48 @@
+//! A grammar's text, read again for a message: a fault has offsets and numbers, and its message names.
+
+use crate::parts::Location;
+use crate::position::Source;
+use ag_grammar::{Grammar, RawGrammar};
+use ag_text::read_grammar;
+use normalform::{check, is_readable};
+use std::alloc::Global;
+
+/// A grammar's text that is read again.
+#[derive(Drop)]
+pub struct GrammarText<'a> {
+    /// The allocator that reads it.
+    pub alloc: Global,
+    /// The text, and its file.
+    pub source: Source<'a>,
+    /// The longest prefix of it that is UTF-8.
+    pub text: &'a str,
+    /// The grammar that the text reads as. None if it reads as none, or memory is refused.
+    pub raw: Option<RawGrammar>,
+}
+
+impl<'a> GrammarText<'a> {
+    /// Reads a text again. Takes memory.
+    pub fn new(alloc: Global, source: Source<'a>) -> GrammarText<'a> {
+        GrammarText {
+            alloc,
+            source,
+            text: source.text(),
+            raw: read_grammar(alloc, source.bytes).ok(),
+        }
+    }
+
+    /// Returns the location of an offset in bytes.
+    pub fn location(&self, at: usize) -> Location {
+        Location::At(self.source.position(at))
+    }
+
+    /// Reads the text once more, and returns the grammar by its numbers. None if the text reads as no
+    /// accepted grammar, or memory is refused.
+    pub fn numbered(&self) -> Option<Grammar> {
+        let raw = read_grammar(self.alloc, self.source.bytes).ok()?;
+        if !is_readable(&raw) {
+            return None;
+        }
+        check(self.alloc, raw).ok()
+    }
+}

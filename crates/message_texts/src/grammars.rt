@@ -1,0 +1,9 @@
+//! Faults of grammars.
+
+pub mod conflicts;
+pub mod further;
+pub mod limits;
+pub mod lookup;
+pub mod normal;
+pub mod stuck;
+pub mod texts;

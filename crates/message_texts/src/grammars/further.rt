@@ -1,0 +1,275 @@
+//! Counts the places of a grammar that a refusal is true of, not only the first one.
+
+use ag_grammar::{Named, Occ, RawGrammar, RawItem, RawProduction, RawSymbol, occurrences};
+use ag_value::NoMemory;
+use normalform::NormalFault;
+use std::alloc::Global;
+use std::collections::{HashMap, HashSet};
+
+/// The attribute of a token.
+const LEX: &str = "lex";
+
+/// The symbol or class at a place of a production.
+#[derive(Clone, Copy, PartialEq, Eq)]
+enum Placed {
+    /// The symbol of this number.
+    Symbol(usize),
+    /// A symbol that is not declared.
+    Undeclared,
+    /// A token of a class.
+    Class,
+}
+
+/// The two kinds of attributes.
+#[derive(Clone, Copy, PartialEq, Eq)]
+enum Kind {
+    Synthesized,
+    Inherited,
+}
+
+/// A rule that a production lacks: the place and the name of its target.
+#[derive(Clone, Copy)]
+pub struct Missing<'a> {
+    pub place: usize,
+    pub name: &'a str,
+}
+
+/// The names that a grammar declares, looked up by hash.
+#[derive(Drop)]
+pub struct Declarations<'a> {
+    alloc: Global,
+    symbols: &'a [RawSymbol],
+    /// The number of each symbol, by its first declaration.
+    numbers: HashMap<&'a str, usize>,
+    /// The kind of each attribute, by the number of its symbol and its name.
+    kinds: HashMap<(usize, &'a str), Kind>,
+}
+
+impl<'a> Declarations<'a> {
+    /// Looks up the names that a grammar declares. Takes memory.
+    pub fn of(alloc: Global, raw: &'a RawGrammar) -> Result<Declarations<'a>, NoMemory> {
+        let symbols = raw.symbols.as_slice();
+        let mut declarations = Declarations {
+            alloc,
+            symbols,
+            numbers: HashMap::new(alloc),
+            kinds: HashMap::new(alloc),
+        };
+        for (number, symbol) in symbols.iter().enumerate() {
+            declarations.declare(number, symbol)?;
+        }
+        Ok(declarations)
+    }
+
+    /// Adds a symbol, unless one of its name is there, and its attributes.
+    fn declare(&mut self, number: usize, symbol: &'a RawSymbol) -> Result<(), NoMemory> {
+        let name = symbol.name.name.as_str();
+        if !self.numbers.contains_key(name) {
+            self.numbers.insert(name, number)?;
+        }
+        self.declare_kind(number, symbol.syn.as_slice(), Kind::Synthesized)?;
+        self.declare_kind(number, symbol.inh.as_slice(), Kind::Inherited)
+    }
+
+    /// Adds the attributes of a kind, unless they are there.
+    fn declare_kind(
+        &mut self,
+        number: usize,
+        names: &'a [Named],
+        kind: Kind,
+    ) -> Result<(), NoMemory> {
+        for name in names {
+            let key = (number, name.name.as_str());
+            if !self.kinds.contains_key(&key) {
+                self.kinds.insert(key, kind)?;
+            }
+        }
+        Ok(())
+    }
+
+    /// Returns the number of places in productions that a refusal N1, N7, N8 or N9 is true of, and 0 for
+    /// other faults. An attribute that an expression uses several times counts once. Takes memory.
+    fn count(
+        &self,
+        fault: &NormalFault,
+        productions: &'a [RawProduction],
+    ) -> Result<usize, NoMemory> {
+        let mut count = 0usize;
+        for production in productions {
+            count = count.saturating_add(self.count_in(fault, production)?);
+        }
+        Ok(count)
+    }
+
+    /// Returns the number of places in a production that a refusal is true of.
+    fn count_in(
+        &self,
+        fault: &NormalFault,
+        production: &'a RawProduction,
+    ) -> Result<usize, NoMemory> {
+        let rules = production.rules.as_slice();
+        if let NormalFault::RuleDoubled(_) = fault {
+            return Ok(
+                rules
+                    .len()
+                    .saturating_sub(self.targets_of(production)?.len()),
+            );
+        }
+        let places = self.places_of(production)?;
+        let places = places.as_slice();
+        let mut count = undeclared_in(fault, places);
+        for rule in rules {
+            if self.is_target_refused(fault, places, &rule.target) {
+                count = count.saturating_add(1);
+            }
+            for argument in occurrences(&rule.expr) {
+                if self.is_argument_refused(fault, places, argument) {
+                    count = count.saturating_add(1);
+                }
+            }
+        }
+        Ok(count)
+    }
+
+    /// Returns whether a refusal is true of the target of a rule.
+    fn is_target_refused(&self, fault: &NormalFault, places: &[Placed], target: &Occ) -> bool {
+        match fault {
+            NormalFault::UnknownName(_) => self.kind_of(places, target).is_none(),
+            NormalFault::NotDefinedHere(_) => !self.is_defined(places, target),
+            _ => false,
+        }
+    }
+
+    /// Returns whether a refusal is true of an occurrence in an expression.
+    fn is_argument_refused(&self, fault: &NormalFault, places: &[Placed], argument: &Occ) -> bool {
+        match fault {
+            NormalFault::UnknownName(_) => self.kind_of(places, argument).is_none(),
+            NormalFault::NotNormal(_) => self.is_defined(places, argument),
+            _ => false,
+        }
+    }
+
+    /// Returns the number of rules that productions lack. Takes memory.
+    pub fn count_missing(&self, productions: &'a [RawProduction]) -> Result<usize, NoMemory> {
+        let mut count = 0usize;
+        for production in productions {
+            count = count.saturating_add(self.missing_in(production)?.len());
+        }
+        Ok(count)
+    }
+
+    /// Returns the rules that a production lacks, by place and then in the order of the declarations.
+    /// Takes memory.
+    pub fn missing_in(&self, production: &'a RawProduction) -> Result<Vec<Missing<'a>>, NoMemory> {
+        let targets = self.targets_of(production)?;
+        let places = self.places_of(production)?;
+        let mut missing = Vec::new(self.alloc);
+        self.gather_missing(&targets, places.as_slice(), &mut missing)?;
+        Ok(missing)
+    }
+
+    /// Appends the attributes at places that a production has no rules for.
+    fn gather_missing(
+        &self,
+        targets: &HashSet<(usize, &'a str)>,
+        places: &[Placed],
+        missing: &mut Vec<Missing<'a>>,
+    ) -> Result<(), NoMemory> {
+        for (place, placed) in places.iter().enumerate() {
+            for name in self.defined_at(place, *placed) {
+                let name = name.name.as_str();
+                if !targets.contains(&(place, name)) {
+                    missing.push(Missing { place, name })?;
+                }
+            }
+        }
+        Ok(())
+    }
+
+    /// Returns the attributes at a place that a production has rules for.
+    fn defined_at(&self, place: usize, placed: Placed) -> &'a [Named] {
+        let Placed::Symbol(number) = placed else {
+            return &[];
+        };
+        match self.symbols.get(number) {
+            Some(symbol) if place == 0 => symbol.syn.as_slice(),
+            Some(symbol) => symbol.inh.as_slice(),
+            None => &[],
+        }
+    }
+
+    /// Returns the different targets of a production's rules, by place and name.
+    fn targets_of(
+        &self,
+        production: &'a RawProduction,
+    ) -> Result<HashSet<(usize, &'a str)>, NoMemory> {
+        let mut targets = HashSet::new(self.alloc);
+        for rule in production.rules.as_slice() {
+            targets.insert((usize::from(rule.target.place), rule.target.attr.as_str()))?;
+        }
+        Ok(targets)
+    }
+
+    /// Returns the symbols and classes at the places of a production, from the left side on.
+    fn places_of(&self, production: &RawProduction) -> Result<Vec<Placed>, NoMemory> {
+        let mut places = Vec::new(self.alloc);
+        places.push(self.symbol_of(&production.left))?;
+        for item in production.items.as_slice() {
+            match item {
+                RawItem::Name(name) => places.push(self.symbol_of(name))?,
+                RawItem::Class(_) => places.push(Placed::Class)?,
+                RawItem::Literal(_) => {}
+            }
+        }
+        Ok(places)
+    }
+
+    /// Returns the symbol of a name.
+    fn symbol_of(&self, name: &Named) -> Placed {
+        match self.numbers.get(name.name.as_str()) {
+            Some(number) => Placed::Symbol(*number),
+            None => Placed::Undeclared,
+        }
+    }
+
+    /// Returns whether the rules of a production are for the attribute of an occurrence.
+    fn is_defined(&self, places: &[Placed], occurrence: &Occ) -> bool {
+        match self.kind_of(places, occurrence) {
+            Some(kind) => (kind == Kind::Synthesized) == (occurrence.place == 0),
+            None => false,
+        }
+    }
+
+    /// Returns the kind of the attribute of an occurrence. None if the place or the attribute is not there.
+    fn kind_of(&self, places: &[Placed], occurrence: &Occ) -> Option<Kind> {
+        let name = occurrence.attr.as_str();
+        match places.get(usize::from(occurrence.place))? {
+            Placed::Symbol(number) => self.kinds.get(&(*number, name)).copied(),
+            Placed::Class if name == LEX => Some(Kind::Synthesized),
+            Placed::Class | Placed::Undeclared => None,
+        }
+    }
+}
+
+/// Returns the number of further places of a grammar that a refusal N1, N7, N8 or N9 is true of. Takes
+/// memory.
+pub fn count_further(
+    alloc: Global,
+    fault: &NormalFault,
+    raw: &RawGrammar,
+) -> Result<usize, NoMemory> {
+    let declarations = Declarations::of(alloc, raw)?;
+    let count = declarations.count(fault, raw.productions.as_slice())?;
+    Ok(count.saturating_sub(1))
+}
+
+/// Returns the number of symbols of a production that are not declared, where that is the refusal.
+fn undeclared_in(fault: &NormalFault, places: &[Placed]) -> usize {
+    match fault {
+        NormalFault::UnknownName(_) => places
+            .iter()
+            .filter(|placed| **placed == Placed::Undeclared)
+            .count(),
+        _ => 0,
+    }
+}

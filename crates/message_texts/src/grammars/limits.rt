@@ -1,0 +1,117 @@
+//! Grammars that exceed a limit.
+
+use crate::display::Grouped;
+use crate::parts::Parts;
+use ag_grammar::limits::{
+    MOST_ATTRIBUTES, MOST_ITEMS, MOST_LITERAL_BYTES, MOST_LITERALS, MOST_PRODUCTIONS, MOST_STORED,
+    MOST_SYMBOLS,
+};
+use ag_grammar::{RawGrammar, RawItem, RawProduction, RawSymbol};
+use normalform::LimitKind;
+use std::alloc::AllocError;
+
+/// Returns the offset of what exceeds a limit: of the name of a symbol, or of that on the left of a
+/// production. None if it is the whole grammar.
+pub fn offset_of_limit(raw: &RawGrammar, kind: LimitKind) -> Option<usize> {
+    if kind == LimitKind::Attributes {
+        return Some(large_symbol(raw)?.name.at);
+    }
+    Some(large_production(raw, kind)?.left.at)
+}
+
+/// Describes N10: the limit that a grammar exceeds, and what to do.
+pub fn describe_limit(
+    parts: &mut Parts,
+    raw: &RawGrammar,
+    kind: LimitKind,
+) -> Result<(), AllocError> {
+    write_large(&mut parts.found, raw, kind)?;
+    write_excess(&mut parts.found, kind)?;
+    parts.help.push_str(hint_of(kind))
+}
+
+/// Writes what exceeds the limit.
+fn write_large(out: &mut String, raw: &RawGrammar, kind: LimitKind) -> Result<(), AllocError> {
+    match kind {
+        LimitKind::Attributes => match large_symbol(raw) {
+            Some(symbol) => write!(out, "`{}`", symbol.name.name.as_str()),
+            None => Ok(()),
+        },
+        LimitKind::Items | LimitKind::Stored | LimitKind::LiteralLength => {
+            match large_production(raw, kind) {
+                Some(production) => write!(
+                    out,
+                    "this production of `{}`",
+                    production.left.name.as_str()
+                ),
+                None => Ok(()),
+            }
+        }
+        _ => out.push_str("the grammar"),
+    }
+}
+
+/// Writes the limit.
+fn write_excess(out: &mut String, kind: LimitKind) -> Result<(), AllocError> {
+    let (limit, unit) = match kind {
+        LimitKind::Symbols => (MOST_SYMBOLS, " symbols"),
+        LimitKind::Attributes => (MOST_ATTRIBUTES, " attributes"),
+        LimitKind::Productions => (MOST_PRODUCTIONS, " productions"),
+        LimitKind::Items => (MOST_ITEMS, " items on its right side"),
+        LimitKind::Stored => (MOST_STORED, " symbols and classes on its right side"),
+        LimitKind::LiteralLength => (MOST_LITERAL_BYTES, " bytes"),
+        LimitKind::Literals => (MOST_LITERALS, " different literals"),
+    };
+    let what = match kind {
+        LimitKind::LiteralLength => " has a literal of more than ",
+        _ => " has more than ",
+    };
+    write!(out, "{what}{}{unit}", Grouped(limit))
+}
+
+/// Returns what to do.
+fn hint_of(kind: LimitKind) -> &'static str {
+    match kind {
+        LimitKind::Items | LimitKind::Stored => "give a part of it a symbol of its own",
+        LimitKind::LiteralLength => "write a shorter one",
+        _ => "write fewer",
+    }
+}
+
+/// Returns the first symbol with too many attributes.
+fn large_symbol(raw: &RawGrammar) -> Option<&RawSymbol> {
+    for symbol in raw.symbols.as_slice() {
+        let syn = symbol.syn.as_slice().len();
+        if syn.saturating_add(symbol.inh.as_slice().len()) > MOST_ATTRIBUTES {
+            return Some(symbol);
+        }
+    }
+    None
+}
+
+/// Returns the first production that exceeds a limit of productions.
+fn large_production(raw: &RawGrammar, kind: LimitKind) -> Option<&RawProduction> {
+    for production in raw.productions.as_slice() {
+        let exceeds = match kind {
+            LimitKind::Items => production.items.as_slice().len() > MOST_ITEMS,
+            LimitKind::Stored => production.last_place() > MOST_STORED,
+            LimitKind::LiteralLength => has_long_literal(production),
+            _ => false,
+        };
+        if exceeds {
+            return Some(production);
+        }
+    }
+    None
+}
+
+/// Returns whether a production has a literal that is too long.
+fn has_long_literal(production: &RawProduction) -> bool {
+    for item in production.items.as_slice() {
+        match item {
+            RawItem::Literal(text) if text.as_str().len() > MOST_LITERAL_BYTES => return true,
+            _ => {}
+        }
+    }
+    false
+}

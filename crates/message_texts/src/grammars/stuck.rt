@@ -1,0 +1,178 @@
+//! Grammars that no order of passes evaluates.
+
+use crate::grammar_text::GrammarText;
+use crate::grammars::lookup::AsWritten;
+use crate::parts::Parts;
+use crate::position::Source;
+use ag_grammar::{Direction, Occ, RawGrammar, occurrences};
+use passassign::{Strike, Stuck};
+use std::alloc::AllocError;
+
+/// The greatest number of rules that a message names.
+const MAX_NAMED_RULES: usize = 8;
+
+/// Describes A1, after the attributes that no pass can have: the rules that keep them out of the passes of
+/// the direction in which fewest rules do so, or of the first one. Nothing if memory for reading the text
+/// again is refused.
+pub fn describe_stuck(
+    parts: &mut Parts,
+    stuck: &Stuck,
+    text: &GrammarText<'_>,
+) -> Result<(), AllocError> {
+    match &text.raw {
+        Some(raw) => describe_fewest(parts, stuck, raw, &text.source),
+        None => Ok(()),
+    }
+}
+
+/// Describes A1 by the direction in which fewest rules are in the way.
+fn describe_fewest(
+    parts: &mut Parts,
+    stuck: &Stuck,
+    raw: &RawGrammar,
+    source: &Source<'_>,
+) -> Result<(), AllocError> {
+    let first = Struck {
+        direction: Direction::RightToLeft,
+        strikes: stuck.odd.as_slice(),
+        raw,
+    };
+    let second = Struck {
+        direction: Direction::LeftToRight,
+        strikes: stuck.even.as_slice(),
+        raw,
+    };
+    let fewest = if second.count() < first.count() {
+        second
+    } else {
+        first
+    };
+    parts
+        .found
+        .push_str("no order of whole passes computes these attributes")?;
+    fewest.describe(parts, source)
+}
+
+/// Why a rule for a child's attribute comes before what it uses.
+#[derive(Clone, Copy)]
+enum Reason {
+    /// It uses an attribute of a child that is visited later.
+    Later,
+    /// It uses an attribute of the same child, which is known only after the child's visit.
+    Within,
+}
+
+/// A rule that a pass comes to before what it uses is known.
+#[derive(Clone, Copy)]
+struct Obstacle<'a> {
+    target: &'a Occ,
+    argument: &'a Occ,
+    reason: Reason,
+}
+
+impl Obstacle<'_> {
+    /// Writes the rule by its target, with its place, and why the pass comes too early.
+    fn write(&self, out: &mut String, source: &Source<'_>) -> Result<(), AllocError> {
+        let (target, argument) = (AsWritten(self.target), AsWritten(self.argument));
+        let place = source.place(self.target.at);
+        write!(out, "`{target}` {place} uses `{argument}`, ")?;
+        let (child, other) = (self.target.place, self.argument.place);
+        match self.reason {
+            Reason::Later => write!(out, "and ${other} is visited after ${child}"),
+            Reason::Within => write!(out, "which is known only after the visit of ${child}"),
+        }
+    }
+}
+
+/// The strikes of the passes of a direction, and the grammar as it is written.
+#[derive(Clone, Copy)]
+struct Struck<'a> {
+    direction: Direction,
+    strikes: &'a [Strike],
+    raw: &'a RawGrammar,
+}
+
+impl<'a> Struck<'a> {
+    /// Returns the rule of a strike that waits for no other strike. None for one that does.
+    fn obstacle(&self, strike: Strike) -> Option<Obstacle<'a>> {
+        let productions = self.raw.productions.as_slice();
+        let production = productions.get(usize::from(strike.production))?;
+        let rule = production.rules.as_slice().get(usize::from(strike.rule))?;
+        let argument = occurrences(&rule.expr).get(usize::from(strike.arg))?;
+        let target = &rule.target;
+        Some(Obstacle {
+            target,
+            argument,
+            reason: self.reason(target.place, argument.place)?,
+        })
+    }
+
+    /// Returns why a rule for a place can't use what is at another in one pass of the direction. None if
+    /// it can, once that is computed.
+    fn reason(&self, target: u16, argument: u16) -> Option<Reason> {
+        if target == 0 || argument == 0 {
+            None
+        } else if target == argument {
+            Some(Reason::Within)
+        } else if self.direction.is_before(target, argument) {
+            Some(Reason::Later)
+        } else {
+            None
+        }
+    }
+
+    /// Returns the number of strikes that wait for no other.
+    fn count(&self) -> usize {
+        self.strikes
+            .iter()
+            .filter(|strike| self.obstacle(**strike).is_some())
+            .count()
+    }
+
+    /// Describes the rules of the strikes that wait for no other, and what to do.
+    fn describe(&self, parts: &mut Parts, source: &Source<'_>) -> Result<(), AllocError> {
+        let count = self.count();
+        let (noun, help) = match count {
+            0 => return Ok(()),
+            1 => ("this rule", "change it"),
+            _ => ("these rules", "change them"),
+        };
+        let direction = match self.direction {
+            Direction::RightToLeft => "From right to left",
+            Direction::LeftToRight => "From left to right",
+        };
+        write!(parts.found, ". {direction} they all wait for {noun}: ")?;
+        self.write_named(&mut parts.found, source)?;
+        write_others(&mut parts.found, count.saturating_sub(MAX_NAMED_RULES))?;
+        write!(
+            parts.help,
+            "{help}, or give each direction attributes of its own"
+        )
+    }
+
+    /// Writes the first rules, as many as are named.
+    fn write_named(&self, out: &mut String, source: &Source<'_>) -> Result<(), AllocError> {
+        let mut named = 0usize;
+        for strike in self.strikes {
+            let Some(obstacle) = self.obstacle(*strike) else {
+                continue;
+            };
+            if named == MAX_NAMED_RULES {
+                break;
+            }
+            let separator = if named == 0 { "" } else { "; " };
+            out.push_str(separator)?;
+            obstacle.write(out, source)?;
+            named = named.saturating_add(1);
+        }
+        Ok(())
+    }
+}
+
+/// Writes the number of rules that are not named.
+fn write_others(out: &mut String, others: usize) -> Result<(), AllocError> {
+    match others {
+        0 => Ok(()),
+        _ => write!(out, "; and {others} more"),
+    }
+}

@@ -1,0 +1,89 @@
+//! Texts that read as no grammar.
+
+use crate::display::{Found, begins_with, token_fault};
+use crate::expected::write_expected;
+use crate::expressions::{describe_fault, offset_in};
+use crate::grammar_text::GrammarText;
+use crate::hints::Context;
+use crate::parts::{Location, Parts};
+use ag_expr::ExprFault;
+use ag_grammar::limits::MOST_TEXT_BYTES;
+use ag_text::{Expected, TextFault, expected_at};
+use std::alloc::AllocError;
+
+/// What a literal needs.
+const LITERAL_NEEDS: &str =
+    "where a literal has a character at least and no space, tab or line break";
+
+/// Returns the location at which a text reads as no grammar.
+pub fn locate_in_text(fault: TextFault, text: &GrammarText<'_>) -> Location {
+    match offset_of(fault) {
+        Some(at) => text.location(at),
+        None => Location::Whole,
+    }
+}
+
+/// Returns the offset at which a text reads as no grammar.
+fn offset_of(fault: TextFault) -> Option<usize> {
+    match fault {
+        TextFault::BadUtf8(at) | TextFault::Unexpected(_, at) => Some(at),
+        TextFault::Expr(fault) => offset_in(fault),
+        TextFault::TooLong | TextFault::NoMemory => None,
+    }
+}
+
+/// Describes G1 to G4 of a grammar's text.
+pub fn describe_text(
+    parts: &mut Parts,
+    fault: TextFault,
+    text: &GrammarText<'_>,
+) -> Result<(), AllocError> {
+    let context = Context::of(text.text, offset_of(fault));
+    match expected_at(text.alloc, text.text, fault) {
+        Ok(expected) => describe_in(parts, fault, &context, expected.as_slice()),
+        Err(_) => describe_in(parts, fault, &context, &[]),
+    }
+}
+
+/// Describes a fault of a text that could go on with `expected`.
+fn describe_in(
+    parts: &mut Parts,
+    fault: TextFault,
+    context: &Context<'_>,
+    expected: &[Expected],
+) -> Result<(), AllocError> {
+    if let Some(fault) = spoiled_token(context.found, expected) {
+        return describe_fault(parts, fault, context, &[]);
+    }
+    match fault {
+        TextFault::BadUtf8(_) => parts.add("the bytes here are no UTF-8", "save the file as UTF-8"),
+        TextFault::Unexpected(_, _) => describe_unexpected(parts, context, expected),
+        TextFault::Expr(fault) => describe_fault(parts, fault, context, expected),
+        TextFault::TooLong => {
+            parts.add_size_limit("the file", MOST_TEXT_BYTES, "write the grammar shorter")
+        }
+        TextFault::NoMemory => Ok(()),
+    }
+}
+
+/// Returns why what was found is not a literal or an occurrence, if it begins as one and one could come.
+fn spoiled_token(found: Option<&str>, expected: &[Expected]) -> Option<ExprFault> {
+    let is_meant = begins_with(found, '"') && expected.contains(&Expected::Item)
+        || begins_with(found, '$') && expected.contains(&Expected::Rule);
+    if is_meant { token_fault(found?) } else { None }
+}
+
+/// Describes a token outside the expressions, and what the text could go on with, or what is wrong with
+/// the literal there.
+fn describe_unexpected(
+    parts: &mut Parts,
+    context: &Context<'_>,
+    expected: &[Expected],
+) -> Result<(), AllocError> {
+    write!(parts.found, "found {}", Found(context.found))?;
+    if expected.contains(&Expected::Item) && begins_with(context.found, '"') {
+        return parts.expected.push_str(LITERAL_NEEDS);
+    }
+    write_expected(&mut parts.expected, expected)?;
+    parts.help.push_str(context.grammar_hint(expected))
+}

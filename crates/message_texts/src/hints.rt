@@ -1,0 +1,149 @@
+//! Hints for writers who are used to other languages: what they may have meant where a text is refused.
+
+use crate::display::{begins_with, found_at};
+use ag_expr::{Cursor, Expected as Part, Token};
+use ag_text::Expected;
+
+/// The character that some editors write at the beginning of a file.
+pub const BYTE_ORDER_MARK: char = '\u{feff}';
+
+/// What a byte order mark is, and what helps.
+pub const MARK: &str = "`\\u{feff}` is a byte order mark, save the text without it";
+
+/// What helps at a comment of another language.
+const COMMENT: &str = "grammars and expressions have no comments";
+
+/// What helps at `--` where an operand is expected.
+const COMMENT_OR_SIGN: &str =
+    "grammars and expressions have no comments, and `-a` is written `(0 - a)`";
+
+/// What helps at a reserved word where a name is expected.
+const RESERVED: &str = "this word is reserved";
+
+/// What helps at a sign before an operand.
+const SIGN: &str = "`-a` is written `(0 - a)`";
+
+/// What helps at a quote that begins no text.
+const TEXT: &str = "a text ends with a quote and has only the escapes \\\" \\\\ \\n \\t \\r";
+
+/// What helps at a `$` that begins no occurrence.
+const OCCURRENCE: &str = "an occurrence is `$`, digits, `.` and a name with nothing between";
+
+/// Hints at what begins no token, by its first characters: mostly signs of other languages. A sign comes
+/// after those that begin with it.
+const SIGNS: [(&str, &str); 8] = [
+    ("\"", TEXT),
+    ("$", OCCURRENCE),
+    ("!=", "`a != b` is written `(a == b) == 0`"),
+    ("!", "`!a` is written `(a) == 0`"),
+    (">=", "`a >= b` is written `(a < b) == 0`"),
+    (">", "`a > b` is written `b < a`"),
+    ("&", "`a < b && c < d` is written `(a < b) * (c < d)`"),
+    ("|", "`a < b || c < d` is written `(a < b) + (c < d)`"),
+];
+
+/// The text around the offset at which it is refused.
+#[derive(Clone, Copy)]
+pub struct Context<'a> {
+    /// What is before the offset.
+    before: &'a str,
+    /// What is from the offset on.
+    rest: &'a str,
+    /// The token at the offset, or the characters up to the next separator. None at the text's end.
+    pub found: Option<&'a str>,
+}
+
+impl<'a> Context<'a> {
+    /// Returns the text around an offset in bytes, or nothing around no offset.
+    pub fn of(text: &'a str, at: Option<usize>) -> Context<'a> {
+        match at {
+            Some(at) => Context {
+                before: text.get(..at).unwrap_or(""),
+                rest: text.get(at..).unwrap_or(""),
+                found: found_at(text, at),
+            },
+            None => Context {
+                before: "",
+                rest: "",
+                found: None,
+            },
+        }
+    }
+
+    /// Returns a hint at what begins no token, or an empty text.
+    pub fn token_hint(&self) -> &'static str {
+        if begins_with(self.found, BYTE_ORDER_MARK) {
+            return MARK;
+        }
+        if self.is_comment() {
+            return COMMENT;
+        }
+        if self.before.ends_with('<') && begins_with(self.found, '>') {
+            return "`a <> b` is written `(a == b) == 0`";
+        }
+        for (sign, hint) in &SIGNS {
+            if self.rest.starts_with(*sign) {
+                return hint;
+            }
+        }
+        ""
+    }
+
+    /// Returns a hint at a token that an expression does not go on with, or an empty text.
+    pub fn expression_hint(&self, expected: &[Expected]) -> &'static str {
+        let is_operand = expected.contains(&Expected::Part(Part::Operand))
+            || expected.contains(&Expected::Part(Part::Expression));
+        if is_operand && begins_with(self.found, '-') {
+            return if self.is_comment() {
+                COMMENT_OR_SIGN
+            } else {
+                SIGN
+            };
+        }
+        if self.is_comment() {
+            return COMMENT;
+        }
+        match self.found {
+            Some("not") => "`not a` is written `(a) == 0`",
+            Some("and") => "`a < b and c < d` is written `(a < b) * (c < d)`",
+            Some("or") => "`a < b or c < d` is written `(a < b) + (c < d)`",
+            Some("=") if self.before.ends_with('<') => "`a <= b` is written `(b < a) == 0`",
+            _ if is_operand || expected.contains(&Expected::Part(Part::NewName)) => {
+                self.reserved_hint()
+            }
+            _ => "",
+        }
+    }
+
+    /// Returns a hint at what a grammar does not go on with outside its expressions, or an empty text.
+    pub fn grammar_hint(&self, expected: &[Expected]) -> &'static str {
+        if begins_with(self.found, BYTE_ORDER_MARK) {
+            return MARK;
+        }
+        if self.is_comment() {
+            return COMMENT;
+        }
+        if expected.contains(&Expected::Name) || expected.contains(&Expected::Item) {
+            return self.reserved_hint();
+        }
+        ""
+    }
+
+    /// Returns whether a comment of another language begins at the offset, or with the sign before it.
+    fn is_comment(&self) -> bool {
+        let is_second = self.before.ends_with('-') && self.rest.starts_with('-');
+        let is_first = |sign: &&str| self.rest.starts_with(*sign);
+        is_second || ["//", "#", "--", "/*"].iter().any(is_first)
+    }
+
+    /// Returns the hint at a name where another name is expected: it is a reserved one then.
+    fn reserved_hint(&self) -> &'static str {
+        let Some(found) = self.found else {
+            return "";
+        };
+        match Cursor::new(found).peek() {
+            Some(Token::Name(_)) => RESERVED,
+            _ => "",
+        }
+    }
+}

@@ -1,0 +1,23 @@
+//! The texts of messages: where a fault is, what was found there, what was expected, and what to do, with
+//! the names of the grammar. The crate `messages` makes reports of them.
+//!
+//! Each kind of fault has a function that locates it (`locate_..`) and one that writes the parts of its
+//! message (`describe_..`). They take memory, and leave out what it is refused for. Characters that control
+//! a terminal are written by their numbers.
+#![tactic(auto)]
+
+pub mod display;
+pub mod expected;
+pub mod expressions;
+pub mod grammar_text;
+pub mod grammars;
+pub mod hints;
+pub mod parts;
+pub mod position;
+pub mod sentences;
+pub mod terminals;
+pub mod trees;
+pub mod values;
+
+pub use parts::{Location, Parts};
+pub use position::{Position, Source};

@@ -1,0 +1,76 @@
+//! The parts of a message, and the location that it is about.
+
+use crate::display::Grouped;
+use crate::position::Position;
+use std::alloc::{AllocError, Global};
+
+/// Where a fault is.
+#[derive(Clone, Copy)]
+pub enum Location {
+    /// In the whole of a text or a file: the fault's number stands alone.
+    Whole,
+    /// Where the number is followed by it, as by an offset or by names.
+    WithNumber,
+    /// At a line and a column too, of the message's file if it has one.
+    At(Position),
+}
+
+/// What a message says after the fault's number and its location. Empty parts are not printed.
+#[derive(Drop)]
+pub struct Parts {
+    /// What was found, or is wrong.
+    pub found: String,
+    /// What was expected.
+    pub expected: String,
+    /// What to do.
+    pub help: String,
+}
+
+impl Parts {
+    /// Returns empty parts. Takes no memory.
+    pub fn new(alloc: Global) -> Parts {
+        Parts {
+            found: String::new(alloc),
+            expected: String::new(alloc),
+            help: String::new(alloc),
+        }
+    }
+
+    /// Empties the parts.
+    pub fn clear(&mut self) {
+        self.found.clear();
+        self.expected.clear();
+        self.help.clear();
+    }
+
+    /// Appends to what was found, and to what to do.
+    pub fn add(&mut self, found: &str, help: &str) -> Result<(), AllocError> {
+        self.found.push_str(found)?;
+        self.help.push_str(help)
+    }
+
+    /// Appends that something has more bytes than it may have, and what to do.
+    pub fn add_size_limit(
+        &mut self,
+        subject: &str,
+        bytes: usize,
+        help: &str,
+    ) -> Result<(), AllocError> {
+        let most = Grouped(bytes);
+        write!(self.found, "{subject} has more than {most} bytes")?;
+        self.help.push_str(help)
+    }
+
+    /// Appends that no tree within a limit has these tokens or this file, and what to do.
+    pub fn add_tree_limit(
+        &mut self,
+        limit: usize,
+        unit: &str,
+        of: &str,
+        help: &str,
+    ) -> Result<(), AllocError> {
+        let most = Grouped(limit);
+        write!(self.found, "no tree of at most {most} {unit} has {of}")?;
+        self.help.push_str(help)
+    }
+}

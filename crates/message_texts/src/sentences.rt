@@ -1,0 +1,4 @@
+//! Faults of sentences.
+
+pub mod parsing;
+pub mod scanning;

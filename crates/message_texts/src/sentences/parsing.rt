@@ -1,0 +1,106 @@
+//! Sentences that have no tree.
+
+use crate::display::Found;
+use crate::parts::{Location, Parts};
+use crate::position::Source;
+use crate::terminals::{class_name, write_aheads};
+use ag_grammar::limits::{MOST_DEPTH, MOST_NODES};
+use ag_grammar::{Grammar, Terminal};
+use ag_scan::{Sentence, Token, scan};
+use llparse::{ParseFault, Stuck, Tables, expected_at};
+use std::alloc::{AllocError, Global};
+
+/// What no tree within the limits has.
+const TOKENS: &str = "these tokens";
+
+/// What to do about a sentence whose tree has too many nodes.
+const CUT_SENTENCE: &str = "cut the sentence into smaller ones";
+
+/// Returns the location at which a sentence has no tree.
+pub fn locate_in_sentence(fault: ParseFault, sentence: &Source<'_>) -> Location {
+    match fault {
+        ParseFault::Unexpected(at) => Location::At(sentence.position(at as usize)),
+        _ => Location::Whole,
+    }
+}
+
+/// A sentence, and the grammar by whose tables it was parsed.
+#[derive(Clone, Copy)]
+pub struct ParsedSentence<'a> {
+    pub grammar: &'a Grammar,
+    pub tables: &'a Tables,
+    pub source: Source<'a>,
+}
+
+/// Describes P1 to P3 of a sentence, which is scanned again. Takes memory.
+pub fn describe_parse(
+    alloc: Global,
+    parts: &mut Parts,
+    fault: ParseFault,
+    sentence: &ParsedSentence<'_>,
+) -> Result<(), AllocError> {
+    match fault {
+        ParseFault::Unexpected(_) => {
+            match scan(alloc, sentence.grammar, sentence.source.bytes) {
+                Ok(tokens) => describe_unexpected(alloc, parts, sentence, &tokens),
+                Err(_) => Ok(()),
+            }
+        }
+        ParseFault::TooDeep => {
+            parts.add_tree_limit(MOST_DEPTH, "levels", TOKENS, "nest them less")
+        }
+        ParseFault::TooManyNodes => {
+            parts.add_tree_limit(MOST_NODES as usize, "nodes", TOKENS, CUT_SENTENCE)
+        }
+        ParseFault::Device | ParseFault::NoMemory => Ok(()),
+    }
+}
+
+/// Describes the token that can't be taken, and the tokens that could come in its place. Nothing if memory
+/// for finding them is refused.
+fn describe_unexpected(
+    alloc: Global,
+    parts: &mut Parts,
+    sentence: &ParsedSentence<'_>,
+    tokens: &Sentence<'_>,
+) -> Result<(), AllocError> {
+    match expected_at(alloc, sentence.grammar, sentence.tables, tokens) {
+        Ok(stuck) => describe_stuck(parts, sentence, &stuck),
+        Err(_) => Ok(()),
+    }
+}
+
+/// Describes what was found where a parse is stuck, and what was expected.
+fn describe_stuck(
+    parts: &mut Parts,
+    sentence: &ParsedSentence<'_>,
+    stuck: &Stuck<'_>,
+) -> Result<(), AllocError> {
+    if stuck.expected.is_empty() {
+        return Ok(());
+    }
+    let found = match stuck.found {
+        Some(token) => text_of(sentence.source.text(), token),
+        None => None,
+    };
+    write!(parts.found, "found {}", Found(found))?;
+    parts.expected.push_str("where only ")?;
+    write_aheads(
+        &mut parts.expected,
+        sentence.grammar,
+        stuck.expected.as_slice(),
+    )?;
+    parts.expected.push_str(" can stand")
+}
+
+/// Returns a token as it is written in the text of a sentence, a TEXT with its quotes.
+fn text_of<'a>(text: &'a str, token: Token<'_>) -> Option<&'a str> {
+    let length = match token.kind {
+        Terminal::Class(number) if class_name(number) == "TEXT" => {
+            token.lex.len().saturating_add(2)
+        }
+        _ => token.lex.len(),
+    };
+    let at = token.at as usize;
+    text.get(at..at.saturating_add(length))
+}

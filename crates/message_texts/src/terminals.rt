@@ -1,0 +1,88 @@
+//! The terminals of a grammar, by their names.
+
+use crate::display::{MAX_NAMED, Plain};
+use crate::expected::separator_before;
+use ag_grammar::limits::{NAME, NUMBER};
+use ag_grammar::{Grammar, Terminal};
+use llparse::Ahead;
+use std::alloc::AllocError;
+
+/// Writes a terminal, a literal by its text and a class by its name, or the end of the sentence.
+pub fn write_ahead(out: &mut String, grammar: &Grammar, ahead: Ahead) -> Result<(), AllocError> {
+    match ahead {
+        Ahead::Terminal(Terminal::Literal(number)) => {
+            match grammar.literals().get(usize::from(number)) {
+                Some(text) => write!(out, "`{}`", Plain(text.as_str())),
+                None => Ok(()),
+            }
+        }
+        Ahead::Terminal(Terminal::Class(number)) => write!(out, "a {}", class_name(number)),
+        Ahead::End => out.push_str("the end"),
+    }
+}
+
+/// Returns the name of a class of tokens.
+pub fn class_name(number: u16) -> &'static str {
+    match number {
+        NAME => "NAME",
+        NUMBER => "NUMBER",
+        _ => "TEXT",
+    }
+}
+
+/// Writes a list of look-aheads, at most the first twelve: `0`, `1` or the end.
+pub fn write_aheads(
+    out: &mut String,
+    grammar: &Grammar,
+    aheads: &[Ahead],
+) -> Result<(), AllocError> {
+    let mut left = aheads.len();
+    for ahead in aheads.iter().take(MAX_NAMED) {
+        write_ahead(out, grammar, *ahead)?;
+        left = left.saturating_sub(1);
+        out.push_str(separator_before(left))?;
+    }
+    write_rest(out, left)
+}
+
+/// Writes the number of those that are not named.
+fn write_rest(out: &mut String, left: usize) -> Result<(), AllocError> {
+    match left {
+        0 => Ok(()),
+        1 => out.push_str("one more"),
+        _ => write!(out, "one of {left} more"),
+    }
+}
+
+/// Writes what a token of the grammar can be, its literals and the classes that it uses, or that it has
+/// none.
+pub fn write_terminals(out: &mut String, grammar: &Grammar) -> Result<(), AllocError> {
+    let literals = grammar.literals().len();
+    let count = literals.saturating_add(grammar.classes().len());
+    if count == 0 {
+        return out.push_str("the grammar has no literal and no class");
+    }
+    out.push_str("a token is ")?;
+    write_first(out, grammar, count)
+}
+
+/// Writes the first of a number of terminals of a grammar, and the number of the rest.
+fn write_first(out: &mut String, grammar: &Grammar, count: usize) -> Result<(), AllocError> {
+    let mut left = count;
+    for index in 0..count.min(MAX_NAMED) {
+        if let Some(terminal) = terminal_at(grammar, index) {
+            write_ahead(out, grammar, Ahead::Terminal(terminal))?;
+        }
+        left = left.saturating_sub(1);
+        out.push_str(separator_before(left))?;
+    }
+    write_rest(out, left)
+}
+
+/// Returns the terminal of an index: the literals first, and then the classes in use.
+fn terminal_at(grammar: &Grammar, index: usize) -> Option<Terminal> {
+    match index.checked_sub(grammar.literals().len()) {
+        Some(among) => Some(Terminal::Class(*grammar.classes().get(among)?)),
+        None => Some(Terminal::Literal(index as u16)),
+    }
+}

@@ -1,0 +1,4 @@
+//! Faults of tree files.
+
+pub mod damage;
+pub mod frames;

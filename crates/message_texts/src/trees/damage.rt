@@ -1,0 +1,207 @@
+//! Tree files that are damaged, or whose trees exceed a limit.
+
+ghost use Rattle.treefile.specs.devices.Device.{LeavesContent, Persists};
+
+use crate::display::Plain;
+use crate::parts::Parts;
+use crate::terminals::class_name;
+use crate::trees::frames::{Frame, expected_before, frame_before};
+use ag_grammar::limits::{MOST_DEPTH, MOST_NODES, MOST_TURNED_DEPTH, MOST_TURNED_NODES, TEXT};
+use ag_grammar::{Grammar, Item, Terminal};
+use std::alloc::{AllocError, Global};
+use treefile::{Device, FileVersion, HEADER_BYTES};
+
+/// What is wrong at the front of a file that begins as no tree file.
+const NO_TREE_FILE: &str =
+    "a tree file begins with `AGT2` and the number of a pass, and this one doesn't";
+
+/// The same if a file of version 1 is converted.
+const NO_OLD_FILE: &str =
+    "a tree file of version 1 begins with `AGT1` and the number of a pass, and this one doesn't";
+
+/// What is wrong at the number of a pass that is not 0.
+const ANOTHER_PASS: &str = "the number of the pass should be 0 here, and it is another";
+
+/// What to do about a file that is not a tree's.
+const ANEW: &str = "make the file anew with `aggen parse`";
+
+/// What to do if it may be a file of version 1.
+const ANEW_OR_UPGRADE: &str =
+    "make the file anew with `aggen parse`, or bring one that begins with `AGT1` over with `aggen upgrade`";
+
+/// What no tree within the limits has.
+const THIS_FILE: &str = "this file";
+
+/// What to do about a tree file with too many nodes.
+const CUT_SENTENCE: &str = "cut the sentence into smaller ones";
+
+/// A file of pass 0 that is read: of this version, with a tree of this grammar.
+#[derive(Clone, Copy)]
+pub struct TreeFormat<'a> {
+    pub version: FileVersion,
+    pub grammar: &'a Grammar,
+}
+
+/// Describes R1 of a tree file at an offset in bytes. The file is read once more from its end if a record
+/// is damaged. Takes memory for the records that the tree needs there. If the file can't be read, leaves
+/// out what it would have said of it.
+pub fn describe_damage<D: Device>(
+    alloc: Global,
+    parts: &mut Parts,
+    format: TreeFormat<'_>,
+    tree: &mut D,
+    at: u64,
+) -> Result<(), AllocError>
+    ensures content { LeavesContent (D.is_honest tree.new)
+        (D.content tree.old) (D.content tree.new) }
+    // nothing is said of a device that failed
+    ensures persists { Persists (D.is_honest tree.old) (D.is_honest tree.new)
+        (D.failures tree.old) (D.failures tree.new) ⊥ }
+{
+    if at < HEADER_BYTES {
+        return format.describe_header(parts, at);
+    }
+    let found = frame_before(format.version, tree, at);
+    match expected_before(alloc, format.version, format.grammar, tree, at) {
+        Some(expected) => format.describe_record(parts, at, found, Some(expected.as_slice())),
+        None => format.describe_record(parts, at, found, None),
+    }
+}
+
+impl TreeFormat<'_> {
+    /// Describes how a tree file begins, and that this one doesn't.
+    fn describe_header(&self, parts: &mut Parts, at: u64) -> Result<(), AllocError> {
+        let (found, help) = match self.version {
+            _ if at != 0 => (ANOTHER_PASS, ANEW),
+            FileVersion::One => (NO_OLD_FILE, ANEW),
+            FileVersion::Two => (NO_TREE_FILE, ANEW_OR_UPGRADE),
+        };
+        parts.add(found, help)
+    }
+
+    /// Describes what ends at an offset, and what should.
+    fn describe_record(
+        &self,
+        parts: &mut Parts,
+        at: u64,
+        found: Option<Frame>,
+        expected: Option<&[Item]>,
+    ) -> Result<(), AllocError> {
+        parts.found.push_str("found ")?;
+        self.write_found(&mut parts.found, at, found)?;
+        if let Some(expected) = expected {
+            self.write_expected(&mut parts.expected, expected)?;
+        }
+        parts.help.push_str(ANEW)
+    }
+
+    /// Writes what ends at an offset.
+    fn write_found(
+        &self,
+        out: &mut String,
+        at: u64,
+        found: Option<Frame>,
+    ) -> Result<(), AllocError> {
+        match found {
+            Some(frame) => {
+                self.write_frame(out, frame)?;
+                write!(
+                    out,
+                    " with {} bytes of values",
+                    frame.bytes.saturating_sub(3)
+                )
+            }
+            None if at == HEADER_BYTES => out.push_str("the end of the header"),
+            None => out.push_str("no frame that ends here"),
+        }
+    }
+
+    /// Writes what should end at the offset, by the records that the tree still needs.
+    fn write_expected(&self, out: &mut String, expected: &[Item]) -> Result<(), AllocError> {
+        out.push_str("where only ")?;
+        match expected.last() {
+            Some(item) => {
+                self.write_item(out, *item)?;
+                out.push_str(self.content_of(*item))?;
+            }
+            None => out.push_str("the header")?,
+        }
+        out.push_str(" can end")
+    }
+
+    /// Writes the kind of a frame.
+    fn write_frame(&self, out: &mut String, frame: Frame) -> Result<(), AllocError> {
+        let number = frame.number;
+        match frame.kind {
+            0 => self.write_node(out, number),
+            1 if number <= TEXT => write!(out, "a {}", class_name(number)),
+            1 => write!(out, "a token of no class (number {number})"),
+            kind => write!(out, "a record of no kind (number {kind})"),
+        }
+    }
+
+    /// Writes a node by the number of its production.
+    fn write_node(&self, out: &mut String, number: u16) -> Result<(), AllocError> {
+        match self.grammar.productions().get(usize::from(number)) {
+            Some(production) => {
+                self.write_item(out, Item::Symbol(production.left))?;
+                write!(out, " by production {number}")
+            }
+            None => write!(out, "a node by no production (number {number})"),
+        }
+    }
+
+    /// Returns what the record of an item has in a file of pass 0.
+    fn content_of(&self, item: Item) -> &'static str {
+        match item {
+            Item::Symbol(number) if self.version == FileVersion::Two && self.has_tokens(number) => {
+                " with the texts of its tokens"
+            }
+            Item::Symbol(_) => " without values",
+            Item::Terminal(_) => " with the text that its node has",
+        }
+    }
+
+    /// Describes P2 of a tree file, and what to do.
+    pub fn describe_depth_limit(&self, parts: &mut Parts) -> Result<(), AllocError> {
+        let most = match self.version {
+            FileVersion::One => MOST_TURNED_DEPTH,
+            FileVersion::Two => MOST_DEPTH,
+        };
+        parts.add_tree_limit(most, "levels", THIS_FILE, "nest the sentence less")
+    }
+
+    /// Describes P3 of a tree file, and what to do.
+    pub fn describe_node_limit(&self, parts: &mut Parts) -> Result<(), AllocError> {
+        let most = match self.version {
+            FileVersion::One => MOST_TURNED_NODES,
+            FileVersion::Two => MOST_NODES,
+        };
+        parts.add_tree_limit(most as usize, "nodes", THIS_FILE, CUT_SENTENCE)
+    }
+
+    /// Returns whether some node of a symbol has tokens below it, so that its record has their texts.
+    fn has_tokens(&self, symbol: u16) -> bool {
+        self.grammar.productions().iter().any(|production| production.left == symbol
+            && has_token(production.items.as_slice()))
+    }
+
+    /// Writes a child: a node of a symbol, or a token of a class. A literal has no record.
+    fn write_item(&self, out: &mut String, item: Item) -> Result<(), AllocError> {
+        match item {
+            Item::Symbol(number) => match self.grammar.symbols().get(usize::from(number)) {
+                Some(symbol) => write!(out, "a node of `{}`", Plain(symbol.name.as_str())),
+                None => out.push_str("a node"),
+            },
+            Item::Terminal(Terminal::Class(number)) => write!(out, "a {}", class_name(number)),
+            Item::Terminal(Terminal::Literal(_)) => Ok(()),
+        }
+    }
+}
+
+/// Returns whether a token is among the items of a right side.
+fn has_token(items: &[Item]) -> bool {
+    items
+        .iter()
+        .any(|item| matches!(item, Item::Terminal(Terminal::Class(_))))
+}

@@ -1,0 +1,87 @@
+//! The frames of a tree file of pass 0, and the records that its tree still needs.
+
+ghost use Rattle.treefile.specs.devices.Device.{LeavesContent, Persists};
+
+use ag_grammar::limits::MOST_NODES;
+use ag_grammar::{Grammar, Item};
+use std::alloc::Global;
+use treefile::{Device, FileVersion, LENGTH_BYTES, fits_before};
+
+/// A frame of a tree file: where it begins, the kind and the number in its body, and the length of the
+/// body.
+#[derive(Clone, Copy)]
+pub struct Frame {
+    pub begin: u64,
+    pub kind: u8,
+    pub number: u16,
+    pub bytes: u64,
+}
+
+/// Returns the frame that ends at an offset of a file of a version. None if none does, or if it can't be
+/// read. Takes no memory.
+pub fn frame_before<D: Device>(version: FileVersion, tree: &mut D, end: u64) -> Option<Frame>
+    ensures content { LeavesContent (D.is_honest tree.new)
+        (D.content tree.old) (D.content tree.new) }
+    ensures persists { Persists (D.is_honest tree.old) (D.is_honest tree.new)
+        (D.failures tree.old) (D.failures tree.new) ⊥ }
+{
+    let mut length = [0; 4];
+    tree.read_at(end.checked_sub(LENGTH_BYTES)?, &mut length)
+        .ok()?;
+    let bytes = u64::from(u32::from_be_bytes(length));
+    if !fits_before(version, end, bytes) {
+        return None;
+    }
+    let begin = end - LENGTH_BYTES - bytes;
+    let mut front = [0; 3];
+    tree.read_at(begin, &mut front).ok()?;
+    let [kind, high, low] = front;
+    Some(Frame {
+        begin,
+        kind,
+        number: u16::from_be_bytes([high, low]),
+        bytes,
+    })
+}
+
+/// Returns what a tree still needs once all records of its file of a version from an offset on have been
+/// read, the next one last. None if they can't be read, or memory is refused.
+pub fn expected_before<D: Device>(
+    alloc: Global,
+    version: FileVersion,
+    grammar: &Grammar,
+    tree: &mut D,
+    at: u64,
+) -> Option<Vec<Item>>
+    ensures content { LeavesContent (D.is_honest tree.new)
+        (D.content tree.old) (D.content tree.new) }
+    ensures persists { Persists (D.is_honest tree.old) (D.is_honest tree.new)
+        (D.failures tree.old) (D.failures tree.new) ⊥ }
+{
+    let mut expected = Vec::new(alloc);
+    expected.push(Item::Symbol(grammar.start())).ok()?;
+    let mut end = tree.len().ok()?;
+    for _ in 0..MOST_NODES {
+        if end <= at {
+            break;
+        }
+        let frame = frame_before(version, tree, end)?;
+        expected.pop();
+        if frame.kind == 0 {
+            push_children(grammar, frame.number, &mut expected)?;
+        }
+        end = frame.begin;
+    }
+    Some(expected)
+}
+
+/// Appends the children that a node of a production has, the rightmost one last.
+fn push_children(grammar: &Grammar, number: u16, expected: &mut Vec<Item>) -> Option<()> {
+    let production = grammar.productions().get(usize::from(number))?;
+    for item in production.items.as_slice() {
+        if item.has_place() {
+            expected.push(*item).ok()?;
+        }
+    }
+    Some(())
+}

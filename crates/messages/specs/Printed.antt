@@ -1,0 +1,61 @@
+-- How a report is printed: one line, which begins with the number of the fault. This project's.
+use Rattle.std.specs.Prelude.{ℕ, List, [], ◌++◌, ◌==◌, Option, Some, None, String, if◌then◌else◌, codes, decimal, length, string_bytes}
+use Rattle.std.specs.declared.alloc.Global.{Global}
+use Rattle.ag_fault.specs.Printed.{printed}
+use Rattle.message_texts.specs.Printed.{position_text}
+use Rattle.message_texts.specs.declared.parts.Location.{Location}
+use Rattle.message_texts.specs.declared.parts.Location.TheVariants as location
+use Rattle.message_texts.specs.declared.parts.Parts.{Parts}
+use Rattle.message_texts.specs.declared.position.Position.{Position}
+use Rattle.messages.specs.declared.report.Report.{Report}
+
+-- a position with its file as editors read it, as in ` (grammar.ag:4:47)`, or without one
+abbrev pub place_text : Option (String Global) → Position → List ℕ
+place_text (Some path) position =
+  codes " (" ++ string_bytes path ++ codes ":" ++ decimal position.line ++ codes ":" ++ decimal position.column ++ codes ")"
+place_text None position = codes " " ++ position_text position
+
+-- what follows the number: the position, if there is one
+abbrev pub location_text : Location → Option (String Global) → List ℕ
+location_text location.Whole file = []
+location_text location.WithNumber file = []
+location_text (location.At position) file = place_text file position
+
+-- what is before the first part: there is no colon after a number that stands alone
+abbrev pub first_separator : Location → List ℕ
+first_separator location.Whole = codes " "
+first_separator location.WithNumber = codes ": "
+first_separator (location.At position) = codes ": "
+
+-- a part after its separator; an empty one is not printed
+abbrev pub part_text : List ℕ → List ℕ → List ℕ
+part_text separator part = if length part == 0 then [] else separator ++ part
+
+-- what is before the part after this one
+abbrev pub next_separator : List ℕ → List ℕ → List ℕ
+next_separator separator part = if length part == 0 then separator else codes ", "
+
+-- three parts, each after its separator
+abbrev pub three_parts : List ℕ → List ℕ → List ℕ → List ℕ → List ℕ
+three_parts separator first second third =
+  part_text separator first
+  ++ part_text (next_separator separator first) second
+  ++ part_text (next_separator (next_separator separator first) second) third
+
+-- what was found, what was expected, and what to do
+abbrev pub parts_text : List ℕ → Parts → List ℕ
+parts_text separator parts =
+  three_parts separator (string_bytes parts.found) (string_bytes parts.expected) (string_bytes parts.help)
+
+-- the file at the end of a line that has no position
+abbrev pub file_text : Location → Option (String Global) → List ℕ
+file_text (location.At position) file = []
+file_text location.Whole None = []
+file_text location.WithNumber None = []
+file_text location.Whole (Some path) = codes ": " ++ string_bytes path
+file_text location.WithNumber (Some path) = codes ": " ++ string_bytes path
+
+-- the line: the fault with its number first, where it is, and what a reader can do
+abbrev pub line_of : Report → List ℕ
+line_of report = printed report.number ++ location_text report.location report.file
+  ++ parts_text (first_separator report.location) report.parts ++ file_text report.location report.file

@@ -1,4 +1,0 @@
-//! What is wrong with a sentence.
-
-pub mod cutting;
-pub mod parsing;

@@ -1,4 +1,0 @@
-//! What is wrong with a tree file.
-
-pub mod damage;
-pub mod standing;
