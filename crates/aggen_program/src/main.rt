@@ -71,7 +71,7 @@ fn run_words<R: Files + Input + Print + Eprint>(
 ) -> Result<ExitCode, Report> {
     match Request::from_words(rt, alloc, words) {
         Ok(request) => {
-            answer(rt, alloc, request)?;
+            perform(rt, alloc, request)?;
             Ok(ExitCode::SUCCESS)
         }
         // what is wrong with the words was printed

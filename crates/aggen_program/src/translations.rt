@@ -20,11 +20,11 @@ pub fn run_files<R: Files + Print>(
     paths: &RunPaths<'_>,
 ) -> Result<(), Report> {
     let translator = read_translator(rt, alloc, paths.grammar)?;
-    run_files_by(rt, alloc, &translator, paths)
+    run_files_with(rt, alloc, &translator, paths)
 }
 
-/// Reads the sentence, translates it by a translator, and prints the translation.
-fn run_files_by<R: Files + Print>(
+/// Reads the sentence, translates it with a translator, and prints the translation.
+fn run_files_with<R: Files + Print>(
     rt: &R,
     alloc: Global,
     translator: &Translator,
@@ -61,11 +61,11 @@ pub fn evaluate_file<R: Files + Print>(
     paths: &EvalPaths<'_>,
 ) -> Result<(), Report> {
     let translator = read_translator(rt, alloc, paths.grammar)?;
-    evaluate_file_by(rt, alloc, &translator, paths.tree)
+    evaluate_file_with(rt, alloc, &translator, paths.tree)
 }
 
-/// Opens the tree file at `path`, translates its tree by a translator, and prints the translation.
-fn evaluate_file_by<R: Files + Print>(
+/// Opens the tree file at `path`, translates its tree with a translator, and prints the translation.
+fn evaluate_file_with<R: Files + Print>(
     rt: &R,
     alloc: Global,
     translator: &Translator,

@@ -19,11 +19,11 @@ pub fn parse_file<R: Files + Print>(
     paths: &ParsePaths<'_>,
 ) -> Result<(), Report> {
     let translator = read_translator(rt, alloc, paths.grammar)?;
-    parse_file_by(rt, alloc, &translator, paths)
+    parse_file_with(rt, alloc, &translator, paths)
 }
 
-/// Reads the sentence, writes its tree file by a translator, and prints the number of its nodes.
-fn parse_file_by<R: Files + Print>(
+/// Reads the sentence, writes its tree file with a translator, and prints the number of its nodes.
+fn parse_file_with<R: Files + Print>(
     rt: &R,
     alloc: Global,
     translator: &Translator,
@@ -65,11 +65,11 @@ pub fn convert_file<R: Files + Print>(
     paths: &UpgradePaths<'_>,
 ) -> Result<(), Report> {
     let translator = read_translator(rt, alloc, paths.grammar)?;
-    convert_file_by(rt, alloc, &translator, paths)
+    convert_file_with(rt, alloc, &translator, paths)
 }
 
-/// Opens the old file, converts it by a translator, and prints the number of its nodes.
-fn convert_file_by<R: Files + Print>(
+/// Opens the old file, converts it with a translator, and prints the number of its nodes.
+fn convert_file_with<R: Files + Print>(
     rt: &R,
     alloc: Global,
     translator: &Translator,

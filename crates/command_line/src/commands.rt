@@ -152,7 +152,7 @@ fn work_folder<'a>(alloc: Global) -> Arg<'a> {
 
 /// Returns the program's command with all its subcommands. Fails if memory is refused.
 pub fn program<'a>(alloc: Global) -> Result<Command<'a>, AllocError> {
-    let mut program = top(alloc)?;
+    let mut program = root_command(alloc)?;
     for entry in COMMANDS {
         program = with_command(alloc, program, *entry)?;
     }
@@ -172,7 +172,7 @@ fn with_command<'a>(
 }
 
 /// Returns the program's command without subcommands.
-fn top<'a>(alloc: Global) -> Result<Command<'a>, AllocError> {
+fn root_command<'a>(alloc: Global) -> Result<Command<'a>, AllocError> {
     let program = Command::new(alloc, "aggen")
         .version("0.1.0")
         .about("Makes translators from attribute grammars")
