@@ -6,6 +6,7 @@
 //! and leave out what it is refused for. Characters that control a terminal are written by their numbers.
 #![tactic(auto)]
 
+mod display;
 mod refusals;
 mod report;
 

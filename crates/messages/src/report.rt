@@ -1,15 +1,9 @@
 //! The report of a fault, which prints as one line.
 
-ghost use Rattle.std.specs.Prelude.{◌≡◌, Some};
-ghost use Rattle.std.specs.Fmt.{WritesOnOk};
-ghost use Rattle.messages.specs.Printed.{file_text, first_separator, location_text, next_separator};
-ghost use Rattle.messages.specs.Printed.{part_text, parts_text, place_text};
-
 use ag_fault::Fault;
 use message_texts::display::Plain;
-use message_texts::{Location, Parts, Position};
+use message_texts::{Location, Parts};
 use std::alloc::{AllocError, Global};
-use std::fmt;
 
 /// The report of a fault.
 #[derive(Drop)]
@@ -59,109 +53,4 @@ impl Report {
         }
         self
     }
-}
-
-/// Prints `N8 at 95 (grammar.ag:4:47): ..`: the number, the position, and after a colon what was found,
-/// what was expected and what to do, with commas between. A report without a position ends with its file,
-/// if it has one. After a number that stands alone there is no colon.
-impl fmt::Display for Report {
-    ghost use Rattle.std.specs.Prelude.{Some};
-    ghost use Rattle.messages.specs.Printed.{line_of};
-
-    ghost output = { λ report. Some (line_of report) };
-
-    fn fmt<W: fmt::Write>(&self, f: &mut fmt::Formatter<W>) -> fmt::Result {
-        write!(f, "{}", self.number)?;
-        self.write_location(f)?;
-        write_parts(f, self.first_separator(), &self.parts)?;
-        self.write_file(f)
-    }
-}
-
-impl Report {
-    /// Writes the position, if there is one.
-    fn write_location<W: fmt::Write>(&self, f: &mut fmt::Formatter<W>) -> fmt::Result
-        ensures { WritesOnOk W.write_str_gives f.old result
-            (location_text self.now.location self.now.file) f.new }
-    {
-        match self.location {
-            Location::At(position) => write_place(f, &self.file, position),
-            Location::Whole | Location::WithNumber => Ok(()),
-        }
-    }
-
-    /// Returns what is before the first part.
-    fn first_separator(&self) -> &'static str
-        ensures { result.now ≡ first_separator self.now.location }
-    {
-        match self.location {
-            Location::Whole => " ",
-            Location::WithNumber | Location::At(_) => ": ",
-        }
-    }
-
-    /// Writes the file at the end, if there is no position.
-    fn write_file<W: fmt::Write>(&self, f: &mut fmt::Formatter<W>) -> fmt::Result
-        ensures { WritesOnOk W.write_str_gives f.old result
-            (file_text self.now.location self.now.file) f.new }
-    {
-        match (self.location, &self.file) {
-            (Location::Whole | Location::WithNumber, Some(path)) => {
-                write!(f, ": {}", path.as_str())
-            }
-            _ => Ok(()),
-        }
-    }
-}
-
-/// Writes a position, as editors read it if there is a file.
-fn write_place<W: fmt::Write>(
-    f: &mut fmt::Formatter<W>,
-    file: &Option<String>,
-    position: Position,
-) -> fmt::Result
-    ensures { WritesOnOk W.write_str_gives f.old result (place_text file.now position) f.new }
-{
-    let Position { line, column } = position;
-    match file {
-        Some(path) => write!(f, " ({}:{line}:{column})", path.as_str()),
-        None => write!(f, " {position}"),
-    }
-}
-
-/// Writes the parts, the first after a separator.
-fn write_parts<W: fmt::Write>(
-    f: &mut fmt::Formatter<W>,
-    first: &str,
-    parts: &Parts,
-) -> fmt::Result
-    ensures { WritesOnOk W.write_str_gives f.old result (parts_text first.now parts.now) f.new }
-{
-    let (found, expected) = (parts.found.as_str(), parts.expected.as_str());
-    let second = next_separator(first, found);
-    let third = next_separator(second, expected);
-    write_part(f, first, found)?;
-    write_part(f, second, expected)?;
-    write_part(f, third, parts.help.as_str())
-}
-
-/// Writes a part after its separator, unless it is empty.
-fn write_part<W: fmt::Write>(
-    f: &mut fmt::Formatter<W>,
-    separator: &str,
-    part: &str,
-) -> fmt::Result
-    ensures { WritesOnOk W.write_str_gives f.old result (part_text separator.now part.now) f.new }
-{
-    if part.is_empty() {
-        return Ok(());
-    }
-    write!(f, "{separator}{part}")
-}
-
-/// Returns the separator before the part after this one.
-fn next_separator<'a>(separator: &'a str, part: &str) -> &'a str
-    ensures { result.now ≡ next_separator separator.now part.now }
-{
-    if part.is_empty() { separator } else { ", " }
 }
