@@ -34,6 +34,11 @@ pub fn report_of_sentence(
     translator: &Translator,
     sentence: Source<'_>,
 ) -> Report {
-    let (grammar, tables) = (translator.grammar(), translator.tables());
-    Report::of_sentence(alloc, fault, grammar, tables, sentence)
+    Report::of_sentence(
+        alloc,
+        fault,
+        translator.grammar(),
+        translator.tables(),
+        sentence,
+    )
 }
