@@ -92,7 +92,7 @@ fn fault_of(fault: CommandLineFault) -> Fault
 }
 
 /// Does what a request asks for.
-fn answer<R: Files + Input + Print>(
+fn perform<R: Files + Input + Print>(
     rt: &R,
     alloc: Global,
     request: Request<'_>,

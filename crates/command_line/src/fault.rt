@@ -1,7 +1,7 @@
 //! Why a command line makes no request.
 
 /// Why a command line makes no request.
-#[derive(Clone, Copy, Debug, PartialEq, Eq)]
+#[derive(Clone, Copy)]
 pub enum CommandLineFault {
     /// The words are not those of a command. What is wrong with them was printed.
     Usage,
