@@ -1,0 +1,119 @@
+//! The commands that write tree files: `parse` and `upgrade`.
+
+use crate::files::{read_file, read_translator, report_of_sentence};
+use aggen::{Fault, Translator};
+use aggen_files::{parse_to_file, upgrade_file};
+use command_line::{ParsePaths, UpgradePaths};
+use messages::{ConvertedPaths, Report, Source};
+use noted_file::Record;
+use std::alloc::Global;
+use std::io;
+use std::rt::Files;
+use treefile::FileDevice;
+
+/// Writes the tree file of the sentence in a file, and prints the number of its nodes. The grammar is
+/// read first, then the sentence, and only then is the tree file created.
+pub fn parse_file<R: Files + Print>(
+    rt: &R,
+    alloc: Global,
+    paths: &ParsePaths<'_>,
+) -> Result<(), Report> {
+    let translator = read_translator(rt, alloc, paths.grammar)?;
+    parse_file_with(rt, alloc, &translator, paths)
+}
+
+/// Reads the sentence, writes its tree file with a translator, and prints the number of its nodes.
+fn parse_file_with<R: Files + Print>(
+    rt: &R,
+    alloc: Global,
+    translator: &Translator,
+    paths: &ParsePaths<'_>,
+) -> Result<(), Report> {
+    let bytes = read_file(rt, alloc, paths.sentence)?;
+    let sentence = Source::new(paths.sentence, bytes.as_slice());
+    match write_tree(rt, alloc, translator, sentence.bytes, paths.tree) {
+        Ok(()) => Ok(()),
+        Err(fault @ (Fault::File | Fault::Device)) => Err(Report::of_file(
+            alloc, fault, paths.tree,
+        )),
+        Err(fault) => Err(report_of_sentence(alloc, fault, translator, sentence)),
+    }
+}
+
+/// Opens the file at `path`, writes the tree file of a sentence there, and prints the number of its
+/// nodes.
+fn write_tree<R: Files + Print>(
+    rt: &R,
+    alloc: Global,
+    translator: &Translator,
+    sentence: &[u8],
+    path: &str,
+) -> Result<(), Fault> {
+    let mut tree = FileDevice::create(rt, alloc, path, Record::new())?;
+    let mut out = io::writer(rt);
+    match parse_to_file(alloc, translator, sentence, &mut tree, &mut out) {
+        Ok(_) => Ok(()),
+        Err(fault) => Err(fault),
+    }
+}
+
+/// Converts a tree file of version 1 to version 2, and prints the number of its nodes. The grammar is
+/// read first, then the old file is opened, and only then is the other one created.
+pub fn convert_file<R: Files + Print>(
+    rt: &R,
+    alloc: Global,
+    paths: &UpgradePaths<'_>,
+) -> Result<(), Report> {
+    let translator = read_translator(rt, alloc, paths.grammar)?;
+    convert_file_with(rt, alloc, &translator, paths)
+}
+
+/// Opens the old file, converts it with a translator, and prints the number of its nodes.
+fn convert_file_with<R: Files + Print>(
+    rt: &R,
+    alloc: Global,
+    translator: &Translator,
+    paths: &UpgradePaths<'_>,
+) -> Result<(), Report> {
+    match FileDevice::existing(rt, alloc, paths.old, Record::new()) {
+        Ok(mut old) => convert_tree(rt, alloc, translator, &mut old, paths),
+        Err(fault) => Err(Report::of_file(alloc, Fault::from(fault), paths.old)),
+    }
+}
+
+/// Converts the tree file of `old`, and prints the number of its nodes.
+fn convert_tree<R: Files + Print>(
+    rt: &R,
+    alloc: Global,
+    translator: &Translator,
+    old: &mut FileDevice<R::File>,
+    paths: &UpgradePaths<'_>,
+) -> Result<(), Report> {
+    match write_converted(rt, alloc, translator, old, paths.tree) {
+        Ok(()) => Ok(()),
+        Err(fault) => {
+            let paths = ConvertedPaths {
+                old: paths.old,
+                new: paths.tree,
+            };
+            Err(Report::of_old_tree(alloc, fault, translator.grammar(), old, paths))
+        }
+    }
+}
+
+/// Opens the file at `path`, converts the tree file of `old` to it, and prints the number of its
+/// nodes.
+fn write_converted<R: Files + Print>(
+    rt: &R,
+    alloc: Global,
+    translator: &Translator,
+    old: &mut FileDevice<R::File>,
+    path: &str,
+) -> Result<(), Fault> {
+    let mut tree = FileDevice::create(rt, alloc, path, Record::new())?;
+    let mut out = io::writer(rt);
+    match upgrade_file(alloc, translator, old, &mut tree, &mut out) {
+        Ok(_) => Ok(()),
+        Err(fault) => Err(fault),
+    }
+}
