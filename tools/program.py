@@ -6,7 +6,7 @@ TOP = Path(__file__).resolve().parent.parent
 
 
 def program_of(given):
-    """Returns the path of the program that a script runs: the given one, or else the proved one, which ./aggen builds if need be."""
+    """Returns the path of the program that a script runs: the given one, or else the proved one, which ./aggen builds first."""
     if given is not None:
         return Path(given).resolve()
     subprocess.run([TOP / "aggen", "value", "1"], stdout=subprocess.DEVNULL, check=True)

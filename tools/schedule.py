@@ -25,7 +25,7 @@ UNKNOWN = (100, 0, 0)
 
 
 class Task(NamedTuple):
-    """A task of `rt ci`: the keys of those that it waits for, its processor seconds, and whether it begins when nothing else can."""
+    """A task of `rt ci`: the keys of those that it waits for, its processor seconds, and whether proofs go before it."""
 
     after: list
     work: float
@@ -49,7 +49,7 @@ def read_crates():
 
 
 def edit_tasks(crate, proofs, work, count):
-    """Returns the tasks that try a crate's edits. Of several the first is a second proof of the crate, which the others begin with."""
+    """Returns the tasks that try a crate's edits. Several begin with the work of one more task, a second proof of the crate."""
     if count == 1:
         return {(crate, "edit", 0): Task(proofs, work, True)}
     first = 0.5 * work
