@@ -1,7 +1,7 @@
 #!/usr/bin/env python3
 """Predicts how long `rt ci` and the scripts of .ci/run take from nothing, from the processor seconds in build-times.txt.
 
-    tools/schedule.py [--cores N]
+    tools/schedule.py [--cores N] [--crates]
 
 It simulates the schedule of `rt ci`: a crate's proof, and beside it that of its tests, begins when the crates that it uses are
 proved, and first the one with the longest chain of work after it. An idle core that no other proof waits for is one more job of a
@@ -128,9 +128,10 @@ def main():
         for end, crate in sorted((ends[it, "proof"], it) for it in crates):
             print(f"{end / 60:6.1f} {crate}")
     work = sum(it.work for it in tasks.values())
-    scripts = [sum(them) for name, them in times.items() if "/" in name]
     print(f"rt ci: {max(ends.values()) / 60:.1f} minutes on {options.cores} cores, {work / 60:.0f} processor minutes")
-    print(f"scripts: {sum(scripts) / options.cores / 60:.1f} minutes at least, {sum(scripts) / 60:.0f} processor minutes")
+    scripts = sum(sum(them) for name, them in times.items() if "/" in name)
+    if scripts:
+        print(f"scripts: at least {scripts / options.cores / 60:.1f} minutes, {scripts / 60:.0f} processor minutes")
 
 
 if __name__ == "__main__":
