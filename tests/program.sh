@@ -13,5 +13,5 @@ if [ "${1-}" = --program ]; then
     shift 2
 else
     "$top/aggen" value 1 >/dev/null
-    program=$top/crates/aggen_program/out/aggen_program
+    program=$top/out/program/aggen
 fi

@@ -1,0 +1,13 @@
+"""The proved program, for the scripts that run it."""
+import subprocess
+from pathlib import Path
+
+TOP = Path(__file__).resolve().parent.parent
+
+
+def program_of(given):
+    """Returns the path of the program that a script runs: the given one, or else the proved one, which ./aggen builds first."""
+    if given is not None:
+        return Path(given).resolve()
+    subprocess.run([TOP / "aggen", "value", "1"], stdout=subprocess.DEVNULL, check=True)
+    return TOP / "out" / "program" / "aggen"

@@ -1,0 +1,138 @@
+#!/usr/bin/env python3
+"""Predicts how long `rt ci` and the scripts of .ci/run take from nothing, from the processor seconds in build-times.txt.
+
+    tools/schedule.py [--cores N] [--crates]
+
+It simulates the schedule of `rt ci`: a crate's proof, and beside it that of its tests, begins when the crates that it uses are
+proved, and first the one with the longest chain of work after it. An idle core that no other proof waits for is one more job of a
+proof. The edits that must fail begin when nothing else can.
+"""
+import argparse
+import os
+import sys
+from pathlib import Path
+from typing import NamedTuple
+
+sys.dont_write_bytecode = True
+sys.path.insert(0, str(Path(__file__).resolve().parent))
+from rooms import TOP, crates_in
+
+CORES = len(os.sched_getaffinity(0))
+# the part of a proof that one job does alone, and what several jobs take more in all
+ALONE, OVERHEAD = 0.25, 1.2
+# processor seconds of a crate that the table does not name
+UNKNOWN = (100, 0, 0)
+
+
+class Task(NamedTuple):
+    """A task of `rt ci`: the keys of those that it waits for, its processor seconds, and whether proofs go before it."""
+
+    after: list
+    work: float
+    is_edit: bool = False
+
+
+def times_in(text):
+    """Returns the processor seconds of each line: of a crate those of its proof, its tests and its edits, of a script its own."""
+    lines = (line.split("#")[0].split() for line in text.splitlines())
+    return {it[0]: tuple(map(float, it[1:])) for it in lines if it}
+
+
+def read_times():
+    return times_in((TOP / "build-times.txt").read_text(encoding="utf-8"))
+
+
+def read_crates():
+    """Returns the crates of the repository, each with those of them that it uses."""
+    uses = crates_in((TOP / "crates.txt").read_text(encoding="utf-8"))
+    return {crate: [it for it in used if it in uses] for crate, used in uses.items()}
+
+
+def edit_tasks(crate, proofs, work, count):
+    """Returns the tasks that try a crate's edits. Several begin with the work of one more task, a second proof of the crate."""
+    if count == 1:
+        return {(crate, "edit", 0): Task(proofs, work, True)}
+    first = 0.5 * work
+    tasks = {(crate, "seed"): Task(proofs[:-2], first, True)}
+    for number in range(count):
+        tasks[crate, "edit", number] = Task([*proofs, (crate, "seed")], (work - first) / (count + 1), True)
+    tasks[crate, "sound"] = Task([(crate, "edit", it) for it in range(count)], (work - first) / (count + 1), True)
+    return tasks
+
+
+def tasks_of(crates, times, kept=()):
+    """Returns the tasks of `rt ci` by their keys; the crates in `kept` cost nothing."""
+    tasks = {}
+    for crate, used in crates.items():
+        proof, tests, edits = (0, 0, 0) if crate in kept else times.get(crate, UNKNOWN)
+        below = [(it, "proof") for it in used]
+        tasks[crate, "proof"], tasks[crate, "tests"] = Task(below, proof), Task(below, tests)
+        count = len([*(TOP / "crates" / crate / "must-fail").glob("*.edit")])
+        if edits and count:
+            tasks |= edit_tasks(crate, [*below, (crate, "proof"), (crate, "tests")], edits, count)
+    return tasks
+
+
+def chains(tasks):
+    """Returns the processor seconds of the longest chain of tasks that each one begins."""
+    users, found = {it: [] for it in tasks}, {}
+    for key, task in tasks.items():
+        for it in task.after:
+            users[it].append(key)
+
+    def chain(key):
+        if key not in found:
+            found[key] = tasks[key].work + max(map(chain, users[key]), default=0)
+        return found[key]
+
+    for it in tasks:
+        chain(it)
+    return found
+
+
+def seconds_of(work, jobs):
+    return work if jobs == 1 else work * (ALONE + (1 - ALONE) * OVERHEAD / jobs)
+
+
+def ends_of(tasks, cores):
+    """Returns the second at which each task ends."""
+    chain = chains(tasks)
+    waiting = sorted(tasks, key=lambda it: (tasks[it].is_edit, -chain[it]))
+    now, running, ends = 0.0, {}, {}
+    while waiting or running:
+        ready = [it for it in waiting if all(used in ends for used in tasks[it].after)]
+        proofs = [it for it in ready if not tasks[it].is_edit]
+        for key in ready:
+            idle = cores - sum(jobs for _, jobs in running.values())
+            if idle < 1:
+                break
+            rivals = len(proofs) - proofs.index(key) if key in proofs else idle
+            jobs = max(1, min(4, idle // rivals))
+            running[key] = now + seconds_of(tasks[key].work, jobs), jobs
+            waiting.remove(key)
+        now = min(end for end, _ in running.values())
+        for key in [it for it, (end, _) in running.items() if end <= now]:
+            ends[key] = running.pop(key)[0]
+    return ends
+
+
+def main():
+    options = argparse.ArgumentParser(description=__doc__, formatter_class=argparse.RawDescriptionHelpFormatter)
+    options.add_argument("--cores", type=int, default=CORES, help="the number of cores, if not that of this machine")
+    options.add_argument("--crates", action="store_true", help="also print when the proof of each crate ends")
+    options = options.parse_args()
+    times, crates = read_times(), read_crates()
+    tasks = tasks_of(crates, times)
+    ends = ends_of(tasks, options.cores)
+    if options.crates:
+        for end, crate in sorted((ends[it, "proof"], it) for it in crates):
+            print(f"{end / 60:6.1f} {crate}")
+    work = sum(it.work for it in tasks.values())
+    print(f"rt ci: {max(ends.values()) / 60:.1f} minutes on {options.cores} cores, {work / 60:.0f} processor minutes")
+    scripts = sum(sum(them) for name, them in times.items() if "/" in name)
+    if scripts:
+        print(f"scripts: at least {scripts / options.cores / 60:.1f} minutes, {scripts / 60:.0f} processor minutes")
+
+
+if __name__ == "__main__":
+    main()
