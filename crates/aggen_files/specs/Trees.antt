@@ -1,10 +1,14 @@
 -- What the commands over one tree file do, and why they fail. All of this is this project's.
-use Rattle.std.specs.Prelude.{ℕ, List, Bool, true, Option}
+use Rattle.std.specs.Prelude.{ℕ, ◌≡◌, ◌⊎◌, List, Bool, true, Option}
 use Rattle.ag_grammar.specs.grammars.AttributeGrammar.{Grammar}
+use Rattle.ag_grammar.specs.grammars.Tree.{Tree, node_count}
 use Rattle.passrun.specs.Upgrading.{IsUpgraded}
 use Rattle.treefile.specs.devices.Device.{WhenHonest}
+use Rattle.treefile.specs.records.FirstFile.{IsFirstFile}
+use Rattle.treefile.specs.records.TreeFile.{version_two}
+use Rattle.treefile.specs.ways.Beginning.{LeavesBeginning}
 use Rattle.aggen.specs.Evaluating.{EvaluatesTree, IsEvaluationFault}
-use Rattle.aggen.specs.Sentences.{IsSentenceFault}
+use Rattle.aggen.specs.Sentences.{IsSentenceFault, IsTreeOfSentence}
 use Rattle.aggen.specs.Upgrading.{IsOldFileFault}
 use Rattle.ag_fault.specs.declared.fault.Fault.{Fault}
 use Rattle.ag_fault.specs.declared.fault.Fault.TheVariants as fault
@@ -21,6 +25,18 @@ IsFileEvaluationFault g honest content old new e = IsEvaluationFault g honest tr
 -- the tree of the old file is in the new one, after some file in memory
 abbrev pub UpgradesFile : Grammar → (honest_old : Bool) → List ℕ → (honest_tree : Bool) → List ℕ → ℕ → Type 0
 UpgradesFile g honest_old content honest_tree tree count = WhenHonest honest_old ((between : List ℕ) × IsUpgraded g content between honest_tree tree count)
+
+-- The sentence has a tree with this number of nodes, and an honest file has the tree.
+pub record ParsesSentence (g : Grammar) (sentence : List ℕ) (honest : Bool) (content : List ℕ) (count : ℕ) : Type 0 where
+  pub tree : Tree
+  pub is : IsTreeOfSentence g sentence tree
+  pub file : WhenHonest honest (IsFirstFile version_two g tree content)
+  pub nodes : count ≡ node_count tree
+
+-- What a refused conversion leaves of the new content: the previous content, a prefix of a file of pass 0, or the file of the old
+-- tree. If the old device is dishonest, nothing is said of the last case.
+abbrev pub LeavesConversion : Grammar → (honest_old : Bool) → List ℕ → (old new : List ℕ) → Type 0
+LeavesConversion g honest content old new = LeavesBeginning 0 old new ⊎ ((count : ℕ) × UpgradesFile g honest content true new count)
 
 -- S1 to S4 and P1 to P3 are true of the sentence. O2 (the line could not be printed), a failed device and want of memory say
 -- nothing of it, and no other fault comes.

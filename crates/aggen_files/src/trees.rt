@@ -1,7 +1,7 @@
 //! Tree files: the file of a sentence's tree, the translation of a tree in a file, and the conversion
 //! of files of version 1.
 
-ghost use Rattle.std.specs.Prelude.{◌≡◌, ◌≢◌, true, IfErr, IfOk, IsErrOf, OnErr, OnOk};
+ghost use Rattle.std.specs.Prelude.{◌≡◌, ◌≢◌, [], true, Err, IfErr, IfOk, IsErrOf, OnErr, OnOk};
 ghost use Rattle.std.specs.Io.KnownBytes.{Appends};
 ghost use Rattle.ag_grammar.specs.grammars.Tree.{IsWithinLimits, Tree, node_count};
 ghost use Rattle.ag_grammar.specs.grammars.Tree.{most_depth, most_nodes};
@@ -9,14 +9,16 @@ ghost use Rattle.agoutput.specs.Lines.{nodes_line};
 ghost use Rattle.treefile.specs.devices.Device.{LeavesContent, WhenHonest};
 ghost use Rattle.treefile.specs.devices.Files.{FilePersists, content_of, is_honest_of};
 ghost use Rattle.treefile.specs.devices.Several.{BothLast};
-ghost use Rattle.treefile.specs.ways.Beginning.{LeavesBeginning};
+ghost use Rattle.treefile.specs.ways.Beginning.{BeginsFile, LeavesBeginning};
 ghost use Rattle.treefile.specs.records.FirstFile.{IsFirstFile};
 ghost use Rattle.treefile.specs.records.TreeFile.{version_two};
-ghost use Rattle.aggen.specs.Sentences.{IsTreeOfSentence};
+ghost use Rattle.aggen.specs.Sentences.{IsParseFault, IsScanFault, IsTreeOfSentence};
 ghost use Rattle.aggen.specs.Translation.{BeginsText};
-ghost use Rattle.aggen_files.specs.Stored.{stored_of};
+ghost use Rattle.aggen_files.specs.Printing.{BeginsCount};
+ghost use Rattle.aggen_files.specs.Stored.{StoresContent, stored_of};
 ghost use Rattle.aggen_files.specs.Trees.{EvaluatesFile, IsConversionFault, IsFileEvaluationFault};
-ghost use Rattle.aggen_files.specs.Trees.{IsParsingFault, UpgradesFile};
+ghost use Rattle.aggen_files.specs.Trees.{IsParsingFault, LeavesConversion};
+ghost use Rattle.aggen_files.specs.Trees.{ParsesSentence, UpgradesFile};
 
 use crate::count::print_count;
 use aggen::{Fault, Report, Translator};
@@ -29,7 +31,8 @@ use treefile::{FileDevice, MemDevice};
 /// number of the tree's nodes.
 ///
 /// Fails with D1 if the file can't be written out, and else as `Translator::parse_tree` and
-/// `print_count` do.
+/// `print_count` do. After S1 to S4 the file has the content that it had, after P1 to P3 a prefix of
+/// the file of pass 0. After O2 it has the tree, and a prefix of the line was printed.
 pub fn parse_to_file<F: Read + Write + Seek + OpenFile, W: Write>(
     alloc: Global,
     translator: &Translator,
@@ -52,9 +55,20 @@ pub fn parse_to_file<F: Read + Write + Seek + OpenFile, W: Write>(
         Appends (W.contents out.old) (W.contents out.new) (nodes_line count)) }
     ensures refused { IfErr result (IsParsingFault translator.now sentence.now) }
     ensures kept { IfErr result (λ e. e ≢ Fault.Write → out.new ≡ out.old) }
+    // O2: the file has the tree, and a prefix of the line with its number of nodes was printed
+    ensures begins { IsErrOf result Fault.Write → BeginsCount
+        (ParsesSentence translator.now sentence.now
+        (is_honest_of tree.new) (stored_of tree.new))
+        (W.contents out.old) (W.contents out.new) }
+    // S: the file has the content that the device had; P: a prefix of a file of pass 0
+    ensures untouched { IfErr result (λ e. IsScanFault e → StoresContent tree.old tree.new) }
+    ensures parsed { IfErr result (λ e. IsParseFault e →
+        WhenHonest (is_honest_of tree.new) (BeginsFile 0 (stored_of tree.new))) }
     // what the device had, or a prefix of a file of pass 0
     ensures left { OnErr result (WhenHonest (is_honest_of tree.new)
         (LeavesBeginning 0 (content_of tree.old) (content_of tree.new))) }
+    // unless D1, all bytes were written to the file
+    ensures gathered { result ≢ Err Fault.Device → tree.new.gathered ≡ [] }
     // D1 only if the number of failures rose
     ensures persists { FilePersists tree.old tree.new (IsErrOf result Fault.Device) }
 {
@@ -100,7 +114,8 @@ pub fn evaluate_file<F: Read + Write + Seek + OpenFile, W: Write>(
 /// be one file.
 ///
 /// Fails with D1 if the file can't be written out, and else as `Translator::upgrade` and
-/// `print_count` do.
+/// `print_count` do. After O2 the new file has the tree, and a prefix of the line was printed. After
+/// another refusal it has the content that it had, a prefix of a file of pass 0, or the whole file.
 pub fn upgrade_file<F: Read + Write + Seek + OpenFile, W: Write>(
     alloc: Global,
     translator: &Translator,
@@ -116,6 +131,17 @@ pub fn upgrade_file<F: Read + Write + Seek + OpenFile, W: Write>(
     ensures refused { IfErr result (IsConversionFault translator.now
         (is_honest_of old.new) (content_of old.old)) }
     ensures kept { IfErr result (λ e. e ≢ Fault.Write → out.new ≡ out.old) }
+    // O2: the file has the old tree, and a prefix of the line with its number of nodes was printed
+    ensures begins { IsErrOf result Fault.Write → BeginsCount
+        (UpgradesFile translator.now (is_honest_of old.new) (content_of old.old)
+        (is_honest_of tree.new) (stored_of tree.new))
+        (W.contents out.old) (W.contents out.new) }
+    // what the new device had, a prefix of a file of pass 0, or the file of the old tree
+    ensures left { OnErr result (WhenHonest (is_honest_of tree.new)
+        (LeavesConversion translator.now (is_honest_of old.new) (content_of old.old)
+        (content_of tree.old) (content_of tree.new))) }
+    // unless D1, all bytes were written to the new file
+    ensures gathered { result ≢ Err Fault.Device → tree.new.gathered ≡ [] }
     ensures content { LeavesContent (is_honest_of old.new)
         (content_of old.old) (content_of old.new) }
     // D1 only if the number of failures rose on one of the two

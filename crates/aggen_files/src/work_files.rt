@@ -1,15 +1,17 @@
 //! The two tree files of a translation, in a folder.
 
-ghost use Rattle.std.specs.Prelude.{◌≡◌, ◌≢◌, ◌++◌, ◌⊎◌, Err, IfErr, IfOk, IsErrOf, OnErr, OnOk, string_bytes};
+ghost use Rattle.std.specs.Prelude.{◌≡◌, ◌≢◌, ◌++◌, ◌⊎◌, [], Err, IfErr, IfOk, IsErrOf, OnErr, OnOk, string_bytes};
 ghost use Rattle.std.specs.Prelude.{Ok};
 ghost use Rattle.passrun.specs.Rounds.{LeavesSomeFile};
 ghost use Rattle.treefile.specs.devices.Device.{LeavesContent, WhenHonest};
 ghost use Rattle.treefile.specs.declared.file.Access.TheVariants.{Writing};
 ghost use Rattle.treefile.specs.devices.Files.{IsNew, content_of, is_honest_of};
 ghost use Rattle.treefile.specs.devices.Several.{BothLast};
-ghost use Rattle.aggen.specs.Translating.{IsAfterPasses, IsTranslationFault, LeavesLastFiles};
-ghost use Rattle.aggen.specs.Translating.{TranslatesSentence};
-ghost use Rattle.aggen.specs.Translation.{BeginsText};
+ghost use Rattle.treefile.specs.ways.Beginning.{BeginsFile};
+ghost use Rattle.aggen.specs.Sentences.{IsParseFault, IsScanFault};
+ghost use Rattle.aggen.specs.Translating.{IsAfterPasses, IsRefusedSentence, IsTranslationFault};
+ghost use Rattle.aggen.specs.Translating.{LeavesLastFiles, TranslatesSentence};
+ghost use Rattle.aggen.specs.Translation.{BeginsText, WritesText};
 ghost use Rattle.aggen_files.specs.Opening.{IsOpeningFault};
 ghost use Rattle.aggen_files.specs.Paths.{path_of_a, path_of_b};
 ghost use Rattle.aggen_files.specs.Stored.{StoresContent, stored_of};
@@ -72,6 +74,8 @@ impl<F: Read + Write + Seek + OpenFile> WorkFiles<F> {
     fn finish(&mut self) -> Result<(), DeviceFault>
         ensures a { OnOk result (StoresContent self.old.a self.new.a) }
         ensures b { OnOk result (StoresContent self.old.b self.new.b) }
+        ensures gathered { OnOk result
+            ((self.new.a.gathered ≡ []) × (self.new.b.gathered ≡ [])) }
         ensures a_content { LeavesContent (is_honest_of self.new.a)
             (content_of self.old.a) (content_of self.new.a) }
         ensures b_content { LeavesContent (is_honest_of self.new.b)
@@ -92,7 +96,9 @@ impl<F: Read + Write + Seek + OpenFile> WorkFiles<F> {
     ///
     /// Fails with D1 if a file can't be written out, and else as `Translator::translate` does; with
     /// NoMemory also if there is no memory for the translation's bytes. Only with O2 has anything
-    /// been printed. After O1 and O2 the files are the last two tree files.
+    /// been printed. After O1 and O2 the files are the last two tree files. After S1 to S4 both files
+    /// have the contents that they had. After P1 to P3 b.agt has, and a.agt has a prefix of the file of
+    /// pass 0.
     pub fn translate<W: Write>(
         &mut self,
         alloc: Global,
@@ -105,12 +111,22 @@ impl<F: Read + Write + Seek + OpenFile> WorkFiles<F> {
             (is_honest_of self.new.a) (is_honest_of self.new.b)
             (stored_of self.new.a) (stored_of self.new.b)
             (W.contents out.old) (W.contents out.new) report) }
+        // whatever the files returned
+        ensures text { OnOk result (WritesText (W.contents out.old) (W.contents out.new)) }
         ensures refused { IfErr result (λ e. IsTranslationFault translator.now sentence.now
             (is_honest_of self.new.a) (is_honest_of self.new.b)
             (W.contents out.old) (W.contents out.new) e) }
         ensures kept { IfErr result (λ e. e ≢ Fault.Write → out.new ≡ out.old) }
         ensures begins { IsErrOf result Fault.Write →
             BeginsText (W.contents out.old) (W.contents out.new) }
+        // S: both files have the content that their devices had; P: b.agt has
+        ensures untouched { IfErr result (λ e. IsScanFault e →
+            StoresContent self.old.a self.new.a) }
+        ensures b_untouched { IfErr result (λ e. IsRefusedSentence e →
+            StoresContent self.old.b self.new.b) }
+        // P: a.agt has a prefix of a file of pass 0
+        ensures parsed { IfErr result (λ e. IsParseFault e →
+            WhenHonest (is_honest_of self.new.a) (BeginsFile 0 (stored_of self.new.a))) }
         // each device has what it had, or a prefix of the file of some pass
         ensures a_left { WhenHonest (is_honest_of self.new.a)
             (LeavesSomeFile (content_of self.old.a) (content_of self.new.a)) }
@@ -121,6 +137,9 @@ impl<F: Read + Write + Seek + OpenFile> WorkFiles<F> {
             LeavesLastFiles translator.now sentence.now
             (is_honest_of self.new.a) (is_honest_of self.new.b)
             (stored_of self.new.a) (stored_of self.new.b)) }
+        // unless D1, all bytes were written to the files
+        ensures gathered { result ≢ Err Fault.Device →
+            (self.new.a.gathered ≡ []) × (self.new.b.gathered ≡ []) }
         // D1 only if the number of failures rose on one of the two
         ensures devices { BothLast is_honest_of (λ d. d.failures) self.old.a self.new.a
             is_honest_of (λ d. d.failures) self.old.b self.new.b
