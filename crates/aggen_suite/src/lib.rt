@@ -3,6 +3,8 @@
 #![tactic(auto)]
 
 #[cfg(test)]
+mod counting;
+#[cfg(test)]
 mod devices;
 #[cfg(test)]
 mod endings;
@@ -14,6 +16,10 @@ mod jobs;
 mod lying;
 #[cfg(test)]
 mod narrow;
+#[cfg(test)]
+mod parsing;
+#[cfg(test)]
+mod passes;
 #[cfg(test)]
 mod sources;
 #[cfg(test)]

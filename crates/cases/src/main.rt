@@ -3,14 +3,18 @@
 //! number, and then how many answers were right. `tests/README.md` lists the verbs.
 #![tactic(auto)]
 
+mod faults;
+mod files;
 mod grammars;
 mod passes;
 mod plans;
 mod questions;
 mod raw_grammars;
+mod reports;
 mod roots;
 mod sentences;
 mod stuck;
+mod translators;
 
 use questions::Cases;
 use rows::try_rows;

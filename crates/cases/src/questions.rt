@@ -1,12 +1,16 @@
 //! Which verb asks for what of grammars, plans and sentences.
 
+use crate::faults::{message_told, status_told};
+use crate::files::{file_told, source_told};
 use crate::grammars::{check_told, could_told, grammar, parts_told, read_told};
 use crate::passes::{pass_told, run_by_told, run_bytes_told, run_told, through_told};
 use crate::plans::{list_told, listing_told, passes_told, plan_told};
 use crate::raw_grammars::chain_told;
+use crate::reports::{evaluate_told, job_told, translate_told};
 use crate::roots::{root_bytes_told, root_told};
 use crate::sentences::{choice_told, parse_told, scan_told, stand_told, table_told};
 use crate::stuck::{assign_told, stuck_told};
+use crate::translators::{grammar_of_told, parse_tree_told};
 use ag_grammar::Grammar;
 use rows::{Answers, Mistake, Written, bytes_of, number};
 use std::alloc::Global;
@@ -111,6 +115,23 @@ impl Asked<'_> {
             }
             "parse" => parse_told(alloc, &self.grammar()?, self.text()),
             "stand" => stand_told(alloc, &self.grammar()?, self.text()),
+            _ => self.of_translators(),
+        }
+    }
+
+    /// Answers what translators make of texts, sentences, jobs and trees, and questions about faults and files.
+    fn of_translators(&self) -> Result<String, Mistake> {
+        let (alloc, grammar) = (self.alloc, self.written.grammar.as_str());
+        match self.verb {
+            "grammar-of" => grammar_of_told(alloc, grammar),
+            "parse-tree" => parse_tree_told(alloc, grammar, self.text()),
+            "translate" => translate_told(alloc, grammar, self.text()),
+            "evaluate" => evaluate_told(alloc, grammar, self.text()),
+            "job" => job_told(alloc, self.text()),
+            "file" => file_told(alloc, self.text()),
+            "source" => source_told(alloc, self.text()),
+            "status" => status_told(alloc, self.rest),
+            "message" => message_told(alloc, self.rest),
             _ => rows::answer(alloc, self.written, self.verb, self.rest),
         }
     }

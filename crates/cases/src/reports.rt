@@ -1,6 +1,6 @@
 //! What sentences, jobs, and the trees of files are translated to.
 
-use crate::sentences::translator;
+use crate::translators::translator;
 use ag_value::{Value, show};
 use aggen::{Fault, Report, run_job};
 use rows::{Mistake, bytes_of, printed};
