@@ -5,10 +5,10 @@ ghost use Rattle.ag_scan.specs.Tokens.{FitAll};
 ghost use Rattle.ag_scan.specs.Words.{vocabulary_of};
 ghost use Rattle.llparse.specs.table.Tables.{FitsGrammar};
 
+use crate::words::{Mistake, first_word, printed, short_number, shown_bytes};
 use ag_grammar::{Grammar, Terminal};
 use ag_scan::{Sentence, Token, scan};
 use llparse::{Ahead, ParseFault, Tables, expected_at, parse, tables};
-use rows::{Mistake, first_word, printed, short_number, shown_bytes};
 use std::alloc::{AllocError, Global};
 use treefile::{MemDevice, Writer};
 
@@ -141,12 +141,15 @@ fn parse_sentence(
 pub fn parse_told(alloc: Global, grammar: &Grammar, sentence: &str) -> Result<String, Mistake> {
     let mut device = MemDevice::new(alloc);
     match parse_sentence(alloc, grammar, sentence, &mut device)? {
-        Ok(count) => {
-            let file = shown_bytes(alloc, device.bytes())?;
-            Ok(format!(in alloc; "{count} nodes, {file}")?)
-        }
+        Ok(count) => tree_file_told(alloc, count, device.bytes()),
         Err(fault) => Ok(fault.to_string(alloc)?),
     }
+}
+
+/// The number of the nodes of a tree, and its file.
+pub fn tree_file_told(alloc: Global, count: u32, file: &[u8]) -> Result<String, Mistake> {
+    let file = shown_bytes(alloc, file)?;
+    Ok(format!(in alloc; "{count} nodes, {file}")?)
 }
 
 /// The file of the tree of a sentence, which has one.

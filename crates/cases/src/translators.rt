@@ -1,8 +1,9 @@
 //! What is told of the text of a grammar, and of the trees of its sentences.
 
 use crate::faults::message;
+use crate::sentences::tree_file_told;
+use crate::words::{Mistake, printed};
 use aggen::{BuildFault, Fault, Translator, grammar_of};
-use rows::{Mistake, printed, shown_bytes};
 use std::alloc::Global;
 use treefile::MemDevice;
 
@@ -34,10 +35,7 @@ pub fn parse_tree_told(alloc: Global, text: &str, sentence: &str) -> Result<Stri
 fn parsed(alloc: Global, translator: &Translator, sentence: &str) -> Result<String, Mistake> {
     let mut device = MemDevice::new(alloc);
     match translator.parse_tree(sentence.as_bytes(), &mut device) {
-        Ok(count) => {
-            let file = shown_bytes(alloc, device.bytes())?;
-            Ok(format!(in alloc; "{count} nodes, {file}")?)
-        }
+        Ok(count) => tree_file_told(alloc, count, device.bytes()),
         Err(fault) => message(alloc, &fault),
     }
 }

@@ -6,7 +6,7 @@ use ag_eval::{Environment, Meter, eval};
 use ag_expr::{expected_at, read_expr, read_until};
 use ag_grammar::{Expr, occurrences};
 use ag_value::{Value, is_well, show};
-use std::alloc::Global;
+use std::alloc::{AllocError, Global};
 
 /// How many occurrences an expression has at most that is evaluated.
 const LENT: usize = 65_536;
@@ -105,11 +105,16 @@ pub fn alike_told(alloc: Global, texts: &str) -> Result<String, Mistake> {
 /// The occurrences of an expression.
 fn listed(alloc: Global, expr: &Expr) -> Result<String, Mistake> {
     let mut told = format!(in alloc; "{} occurrences", occurrences(expr).len())?;
+    show_occurrences(&mut told, expr)?;
+    Ok(told)
+}
+
+fn show_occurrences(told: &mut String, expr: &Expr) -> Result<(), AllocError> {
     for occurrence in occurrences(expr) {
         let name = occurrence.attr.as_str();
         write!(told, ", {}.{name} at {}", occurrence.place, occurrence.at)?;
     }
-    Ok(told)
+    Ok(())
 }
 
 /// How many occurrences a text has, and each of them.

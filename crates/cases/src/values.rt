@@ -78,12 +78,15 @@ pub fn same_told(alloc: Global, text: &str, value: &Value) -> Result<String, Mis
 }
 
 /// The value with which bytes begin, and how many of them it takes.
-pub fn decode_told(alloc: Global, bytes: Vec<u8>) -> Result<String, Mistake> {
-    match decode(alloc, bytes.as_slice()) {
-        Ok((value, length)) => {
-            let shown = show(alloc, &value)?;
-            Ok(format!(in alloc; "{shown} of {length} bytes")?)
-        }
+pub fn decode_told(alloc: Global, bytes: &[u8]) -> Result<String, Mistake> {
+    match decode(alloc, bytes) {
+        Ok((value, length)) => decoded_told(alloc, &value, length),
         Err(fault) => printed(alloc, &fault),
     }
+}
+
+/// A value, and the number of its bytes.
+fn decoded_told(alloc: Global, value: &Value, length: usize) -> Result<String, Mistake> {
+    let shown = show(alloc, value)?;
+    Ok(format!(in alloc; "{shown} of {length} bytes")?)
 }

@@ -38,7 +38,7 @@ fn answer_of_values(
         "spell" => spell_told(alloc, &written.value),
         "weight" | "depth" | "well" | "copy" => told_of_value(alloc, verb, &written.value),
         "same" => same_told(alloc, written.text_or(rest), &written.value),
-        "decode" => decode_told(alloc, bytes_of(alloc, written.text_or(rest))?),
+        "decode" => decode_told(alloc, bytes_of(alloc, written.text_or(rest))?.as_slice()),
         _ => answer_of_contents(alloc, written, verb, rest),
     }
 }

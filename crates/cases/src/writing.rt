@@ -56,7 +56,7 @@ fn write_times(alloc: Global, text: &mut String, rest: &str) -> Result<(), Mista
         return Ok(write_alike(alloc, text, piece, count as usize)?);
     }
     for turn in 0..count {
-        write_turn(alloc, text, piece, turn)?;
+        write_turn(text, piece, turn)?;
     }
     Ok(())
 }
@@ -69,15 +69,15 @@ fn write_alike(
     count: usize,
 ) -> Result<(), AllocError> {
     let mut one = String::new(alloc);
-    write_turn(alloc, &mut one, piece, 0)?;
+    write_turn(&mut one, piece, 0)?;
     text.push_str(one.as_str().repeat(alloc, count)?.as_str())
 }
 
-fn write_turn(alloc: Global, text: &mut String, piece: &str, turn: u32) -> Result<(), AllocError> {
+fn write_turn(text: &mut String, piece: &str, turn: u32) -> Result<(), AllocError> {
     for letter in piece.chars() {
         match letter {
-            '#' => text.push_str(turn.to_string(alloc)?.as_str())?,
-            '@' => text.push_str(turn.wrapping_add(1).to_string(alloc)?.as_str())?,
+            '#' => write!(text, "{turn}")?,
+            '@' => write!(text, "{}", turn.wrapping_add(1))?,
             '~' => text.push(' ')?,
             _ => text.push(letter)?,
         }

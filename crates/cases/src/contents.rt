@@ -90,9 +90,15 @@ pub fn turn_told(alloc: Global, pass: u16, bytes: Vec<u8>) -> Result<String, Mis
     let mut from = MemDevice::from_bytes(bytes);
     let mut to = used(alloc)?;
     match turn(alloc, &mut from, &mut to, pass, &Fractions {}) {
-        Ok(count) => Ok(format!(in alloc; "{count} records, {}", shown_bytes(alloc, to.bytes())?)?),
+        Ok(count) => file_told(alloc, u64::from(count), to.bytes()),
         Err(fault) => printed(alloc, &fault),
     }
+}
+
+/// The number of the records of a file, and the file.
+fn file_told(alloc: Global, count: u64, file: &[u8]) -> Result<String, Mistake> {
+    let file = shown_bytes(alloc, file)?;
+    Ok(format!(in alloc; "{count} records, {file}")?)
 }
 
 /// The file of a pass with the records of a text, which has `;` between them: `node 4 1 0` and
@@ -100,24 +106,35 @@ pub fn turn_told(alloc: Global, pass: u16, bytes: Vec<u8>) -> Result<String, Mis
 pub fn write_told(alloc: Global, text: &str) -> Result<String, Mistake> {
     let (pass, records) = halves(text, " : ")?;
     let mut device = used(alloc)?;
-    let Ok(writer) = Writer::begin(alloc, &mut device, short_number(pass)?) else {
-        return Err(Mistake::NoMemory);
-    };
-    let count = put_all(alloc, writer, &mut device, records)?;
-    Ok(format!(in alloc; "{count} records, {}", shown_bytes(alloc, device.bytes())?)?)
+    let count = put_all(alloc, short_number(pass)?, &mut device, records)?;
+    file_told(alloc, count, device.bytes())
 }
 
-/// Puts the records of a text, and tells how many were.
+/// Writes the file of a pass with the records of a text. Returns their number.
 fn put_all(
     alloc: Global,
-    mut writer: Writer,
+    pass: u16,
     device: &mut MemDevice,
     records: &str,
 ) -> Result<u64, Mistake> {
-    for record in parts(alloc, records, " ; ")?.as_slice() {
-        put_record(alloc, &mut writer, device, record)?;
-    }
+    let Ok(mut writer) = Writer::begin(alloc, device, pass) else {
+        return Err(Mistake::NoMemory);
+    };
+    put_records(alloc, &mut writer, device, records)?;
     Ok(writer.written())
+}
+
+/// Puts the records of a text.
+fn put_records(
+    alloc: Global,
+    writer: &mut Writer,
+    device: &mut MemDevice,
+    records: &str,
+) -> Result<(), Mistake> {
+    for record in parts(alloc, records, " ; ")?.as_slice() {
+        put_record(alloc, writer, device, record)?;
+    }
+    Ok(())
 }
 
 fn put_record(
@@ -156,12 +173,29 @@ fn put_values(
     kind: Kind,
     rest: &str,
 ) -> Result<(), Mistake> {
+    let (number_word, values) = first_word(rest);
+    let number = short_number(number_word)?;
+    put_numbers(
+        writer,
+        device,
+        kind,
+        number,
+        numbers(alloc, values)?.as_slice(),
+    )
+}
+
+/// Puts a record with none, one or three numbers.
+fn put_numbers(
+    writer: &mut Writer,
+    device: &mut MemDevice,
+    kind: Kind,
+    number: u16,
+    numbers: &[i64],
+) -> Result<(), Mistake> {
     if writer.written() == u64::MAX {
         return Err(Mistake::Unfit);
     }
-    let (number_word, values) = first_word(rest);
-    let number = short_number(number_word)?;
-    match numbers(alloc, values)?.as_slice() {
+    match numbers {
         [] => put_or(writer.put(device, kind, number, &[])),
         [one] => put_or(writer.put(device, kind, number, &[Value::Num(*one)])),
         [one, two, three] => {

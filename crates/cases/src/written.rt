@@ -19,7 +19,7 @@ pub struct Written {
 
 impl Written {
     /// Nothing but empty texts, and the number 0.
-    pub(crate) fn new(alloc: Global) -> Written {
+    pub fn new(alloc: Global) -> Written {
         Written {
             text: String::new(alloc),
             grammar: String::new(alloc),
@@ -28,12 +28,7 @@ impl Written {
     }
 
     /// Follows a line that writes something, and tells whether it does.
-    pub(crate) fn follow(
-        &mut self,
-        alloc: Global,
-        verb: &str,
-        rest: &str,
-    ) -> Result<bool, Mistake> {
+    pub fn follow(&mut self, alloc: Global, verb: &str, rest: &str) -> Result<bool, Mistake> {
         if write_on(alloc, &mut self.text, verb, rest)? {
             return Ok(true);
         }
