@@ -1,6 +1,6 @@
 //! What is told of contents of devices: files that are written, read back and turned round.
 
-use crate::words::{
+use crate::rows::words::{
     Mistake, bytes_of, first_word, halves, number, parts, printed, short_number, shown_bytes,
 };
 use ag_value::Value;

@@ -1,7 +1,7 @@
 //! What is told of the text of an expression.
 
-use crate::words::{Mistake, first_word, halves, number, printed};
-use crate::written::Written;
+use crate::rows::words::{Mistake, first_word, halves, number, printed};
+use crate::rows::written::Written;
 use ag_eval::{Environment, Meter, eval};
 use ag_expr::{expected_at, read_expr, read_until};
 use ag_grammar::{Expr, occurrences};

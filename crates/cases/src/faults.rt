@@ -1,6 +1,6 @@
 //! What is told of the program's faults.
 
-use crate::words::{Mistake, first_word, number};
+use crate::rows::words::{Mistake, first_word, number};
 use ag_expr::ExprFault;
 use ag_text::TextFault;
 use ag_value::Value;

@@ -1,6 +1,6 @@
 //! What is told of the file of a value, and of what is read of a file.
 
-use crate::words::{Mistake, shown_bytes};
+use crate::rows::words::{Mistake, shown_bytes};
 use aggen::{bytes_of, show_value};
 use std::alloc::{AllocError, Global};
 use treefile::MemDevice;

@@ -3,7 +3,7 @@
 ghost use Rattle.std.specs.Prelude.{IfOk};
 ghost use Rattle.normalform.specs.faults.Faults.{IsReadable};
 
-use crate::words::{Mistake, printed};
+use crate::rows::words::{Mistake, printed};
 use ag_grammar::{
     Grammar, Named, Production, RawGrammar, RawItem, RawProduction, RawRule, RawSymbol, occurrences,
 };

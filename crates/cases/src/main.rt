@@ -5,6 +5,7 @@
 
 mod contents;
 mod expressions;
+mod failures;
 mod faults;
 mod files;
 mod grammars;
@@ -14,17 +15,15 @@ mod questions;
 mod raw_grammars;
 mod reports;
 mod roots;
+mod rows;
 mod sentences;
-mod sheet;
+mod sources;
 mod stuck;
 mod translators;
 mod value_questions;
 mod values;
-mod words;
-mod writing;
-mod written;
 
-use sheet::try_rows;
+use rows::sheet::try_rows;
 use std::io;
 
 fn main(rt: HostRuntime) -> io::Result<()> {

@@ -3,7 +3,7 @@
 ghost use Rattle.std.specs.Prelude.{IfOk};
 ghost use Rattle.planchecker.specs.Plans.{IsPlan};
 
-use crate::words::{Mistake, first_word, halves, parts, short_number, short_numbers};
+use crate::rows::words::{Mistake, first_word, halves, parts, short_number, short_numbers};
 use ag_grammar::Grammar;
 use agoutput::{write_code, write_plan};
 use passassign::{Assignment, assign};

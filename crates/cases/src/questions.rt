@@ -8,12 +8,14 @@ use crate::plans::{list_told, listing_told, passes_told, plan_told};
 use crate::raw_grammars::chain_told;
 use crate::reports::{evaluate_told, job_told, translate_told};
 use crate::roots::{root_bytes_told, root_told};
-use crate::sentences::{choice_told, parse_told, scan_told, stand_told, table_told};
+use crate::rows::words::{Mistake, bytes_of, number};
+use crate::rows::written::Written;
+use crate::sentences::{
+    choice_told, parse_failing_told, parse_told, scan_told, stand_told, table_told,
+};
 use crate::stuck::{assign_told, stuck_told};
 use crate::translators::{grammar_of_told, parse_tree_told};
 use crate::value_questions;
-use crate::words::{Mistake, bytes_of, number};
-use crate::written::Written;
 use ag_grammar::Grammar;
 use std::alloc::Global;
 
@@ -58,7 +60,8 @@ impl Question<'_> {
         match self.verb {
             "parts" | "listing" | "assign" | "plan" | "stuck" => true,
             "pass" | "through" | "run" | "run-by" | "run-bytes" | "root" | "root-bytes" => true,
-            "table" | "choice" | "scan" | "scan-bytes" | "parse" | "stand" => true,
+            "table" | "choice" | "scan" | "scan-bytes" => true,
+            "parse" | "parse-failing" | "stand" => true,
             _ => false,
         }
     }
@@ -100,6 +103,7 @@ impl Question<'_> {
             "scan" => scan_told(alloc, grammar, self.text().as_bytes()),
             "scan-bytes" => scan_told(alloc, grammar, bytes_of(alloc, self.text())?.as_slice()),
             "parse" => parse_told(alloc, grammar, self.text()),
+            "parse-failing" => parse_failing_told(alloc, grammar, self.rest),
             "stand" => stand_told(alloc, grammar, self.text()),
             _ => Err(Mistake::Misspelt),
         }

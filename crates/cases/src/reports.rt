@@ -1,7 +1,7 @@
 //! What sentences, jobs, and the trees of files are translated to.
 
+use crate::rows::words::{Mistake, bytes_of, printed};
 use crate::translators::translator;
-use crate::words::{Mistake, bytes_of, printed};
 use ag_value::{Value, show};
 use aggen::{Fault, Report, run_job};
 use std::alloc::{AllocError, Global};

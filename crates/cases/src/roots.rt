@@ -3,8 +3,8 @@
 ghost use Rattle.planchecker.specs.Plans.{IsPlan};
 
 use crate::plans::plan_of;
+use crate::rows::words::{Mistake, bytes_of, printed};
 use crate::sentences::tree_of;
-use crate::words::{Mistake, bytes_of, printed};
 use ag_eval::Meter;
 use ag_grammar::Grammar;
 use passrun::run_pass;

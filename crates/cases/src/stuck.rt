@@ -1,6 +1,6 @@
 //! What is told of the least assignment of a grammar, and of certificates that there is none.
 
-use crate::words::{Mistake, halves, parts, printed, short_number};
+use crate::rows::words::{Mistake, halves, parts, printed, short_number};
 use ag_grammar::Grammar;
 use ag_value::Items;
 use passassign::{AssignFault, Strike, Stuck, assign};

@@ -1,8 +1,8 @@
 //! What is told of the text of a grammar, and of the trees of its sentences.
 
 use crate::faults::message;
+use crate::rows::words::{Mistake, printed};
 use crate::sentences::tree_file_told;
-use crate::words::{Mistake, printed};
 use aggen::{BuildFault, Fault, Translator, grammar_of};
 use std::alloc::Global;
 use treefile::MemDevice;

@@ -5,9 +5,10 @@ use crate::expressions::{
     alike_told, count_told, expected_told, meter_told, occurrences_told, tree_told, until_told,
     value_told,
 };
+use crate::failures;
+use crate::rows::words::{Mistake, bytes_of, first_word, short_number};
+use crate::rows::written::Written;
 use crate::values::{decode_told, same_told, spell_told, told_of_value};
-use crate::words::{Mistake, bytes_of, first_word, short_number};
-use crate::written::Written;
 use std::alloc::Global;
 
 /// What is told of expressions: of the text behind the verb, or else of the text that was written;
@@ -60,6 +61,6 @@ fn answer_of_contents(
             let bytes = bytes_of(alloc, written.text_or(rest))?;
             turn_told(alloc, short_number(pass)?, bytes)
         }
-        _ => Err(Mistake::Misspelt),
+        _ => failures::answer(alloc, verb, rest),
     }
 }

@@ -1,7 +1,7 @@
 //! What is told of the value that was given, and of the spelling of a value.
 
 use crate::expressions::value_of;
-use crate::words::{Mistake, number, printed, shown_bytes};
+use crate::rows::words::{Mistake, number, printed, shown_bytes};
 use ag_value::{Items, Text, Value, copy, decode, depth, encode, is_well, same, show, weight};
 use std::alloc::{AllocError, Global};
 

@@ -1,8 +1,7 @@
 //! A writer that doesn't take all.
 
-use std::alloc::Global;
+use std::alloc::{AllocError, Global};
 use std::io::{self, Write};
-use std::test::Fail;
 
 /// A writer that takes so many bytes, one at a time, and then none, or fails.
 #[derive(Drop)]
@@ -31,7 +30,7 @@ impl Write for Narrow {
 }
 
 /// A writer of so many bytes, which has the memory for them.
-pub fn with_room(alloc: Global, room: usize, fails: bool) -> Result<Narrow, Fail> {
+pub fn with_room(alloc: Global, room: usize, fails: bool) -> Result<Narrow, AllocError> {
     Ok(Narrow {
         taken: Vec::with_capacity(alloc, room)?,
         room,

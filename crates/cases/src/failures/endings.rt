@@ -4,7 +4,7 @@ use ag_job::JobFault;
 use aggen::Fault;
 use std::alloc::{AllocError, Global};
 
-/// How a call ends, as far as the tests ask.
+/// How a call ends, as far as the rows ask.
 #[derive(Clone, Copy, Debug, PartialEq, Eq)]
 pub enum Ending {
     /// With an answer.
@@ -40,9 +40,9 @@ impl Ending {
         }
     }
 
-    /// How a call ended, and what it wrote.
+    /// Returns how a call ended, and what it wrote, quoted.
     pub fn told(self, alloc: Global, written: &[u8]) -> Result<String, AllocError> {
         let written = str::from_utf8(written).unwrap_or("what is no text");
-        format!(in alloc; "{self:?} {written}")
+        format!(in alloc; "{self:?} {written:?}")
     }
 }

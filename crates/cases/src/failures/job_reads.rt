@@ -1,11 +1,11 @@
 //! Jobs of a reader that fails at one of its reads, each in turn, counted up until there are fewer.
 
-use crate::endings::Ending;
-use crate::translators::FRACTIONS;
+use crate::failures::endings::Ending;
+use crate::failures::fractions::FRACTIONS;
+use crate::rows::words::{Mistake, first_word, number};
 use aggen::run_job;
 use std::alloc::Global;
 use std::io::{self, Read};
-use std::test::Fail;
 use treefile::MemDevice;
 
 /// A reader that gives so many bytes a read, and fails at one of its reads.
@@ -39,7 +39,7 @@ fn ended(alloc: Global, reader: Faltering<'_>, out: &mut Vec<u8>) -> Ending {
 
 /// How a job ends of a reader that gives so many bytes a read and fails at this read, and what goes
 /// out.
-fn told_of(alloc: Global, bytes: &[u8], step: usize, read: u64) -> Result<String, Fail> {
+fn told_of(alloc: Global, bytes: &[u8], step: usize, read: u64) -> Result<String, Mistake> {
     let reader = Faltering {
         bytes,
         step,
@@ -51,37 +51,32 @@ fn told_of(alloc: Global, bytes: &[u8], step: usize, read: u64) -> Result<String
 }
 
 /// Whether a job is done where the reader fails at this read. Else it is refused, and nothing goes out.
-fn is_done(alloc: Global, job: &[u8], step: usize, read: u64) -> Result<bool, Fail> {
+fn is_done(alloc: Global, job: &[u8], step: usize, read: u64) -> Result<bool, Mistake> {
     let told = told_of(alloc, job, step, read)?;
     match told.as_str() {
-        "Read " => Ok(false),
-        "Done 868352" => Ok(true),
-        _ => Err(Fail::from("a job that is neither refused nor done")),
+        "Read \"\"" => Ok(false),
+        "Done \"868352\"" => Ok(true),
+        _ => Err(Mistake::Unfit),
     }
 }
 
 /// The first read that is not made of a job, counted from 1. At each read before it the reader
 /// fails.
-fn reads_of(alloc: Global, job: &[u8], step: usize) -> Result<u64, Fail> {
+fn reads_of(alloc: Global, job: &[u8], step: usize) -> Result<u64, Mistake> {
     for read in 1..1000 {
         if is_done(alloc, job, step, read)? {
             return Ok(read);
         }
     }
-    Err(Fail::from("a job of a thousand reads"))
+    Err(Mistake::Unfit)
 }
 
-/// The first read that is not made of a job of binary fractions.
-fn reads_made(alloc: Global, step: usize) -> Result<u64, Fail> {
+/// Whether each read of a job of binary fractions fails where it is to, and there are more than so many.
+pub fn job_reads_told(alloc: Global, spelled: &str) -> Result<String, Mistake> {
+    let (step, least) = first_word(spelled);
+    let step = number(step)? as usize;
+    let least = number(least)? as u64;
     let job = format!(in alloc; "{FRACTIONS}%%\n1101.01")?;
-    reads_of(alloc, job.as_bytes(), step)
-}
-
-/// All bytes at once, and one byte a read, each of which can be the one that fails.
-#[test]
-fn a_reader_that_fails(rt: HostRuntime) -> Result<(), Fail> {
-    assert!(rt; 1 < reads_made(rt.alloc(), 1000)?);
-    let letters = FRACTIONS.len() as u64;
-    assert!(rt; letters < reads_made(rt.alloc(), 1)?);
-    Ok(())
+    let reads = reads_of(alloc, job.as_bytes(), step)?;
+    Ok(format!(in alloc; "{}", least < reads)?)
 }

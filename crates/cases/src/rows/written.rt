@@ -1,8 +1,8 @@
 //! What rows have written so far, which the questions ask about.
 
+use crate::rows::words::Mistake;
+use crate::rows::writing::write_on;
 use crate::values::given;
-use crate::words::Mistake;
-use crate::writing::write_on;
 use ag_value::Value;
 use std::alloc::{AllocError, Global};
 

@@ -2,17 +2,18 @@
 
 ghost use Rattle.std.specs.Prelude.{[], false, Some};
 
-use crate::translators::{SENTENCE, TREE, evaluated, fractions, old_tree, translated};
+use crate::failures::fractions::{FRACTIONS, SENTENCE, TREE, evaluated, old_tree, translated};
+use crate::rows::words::Mistake;
+use crate::translators::translator;
 use ag_eval::Meter;
 use aggen::Translator;
 use backreader::{Arity, Back, turn};
 use passrun::{run_all, run_pass};
 use std::alloc::Global;
-use std::test::Fail;
 use treefile::{Device, DeviceFault, Kind, MemDevice};
 
 /// What a device lies about.
-#[derive(Clone, Copy, Debug)]
+#[derive(Clone, Copy)]
 enum Lie {
     /// Its length is 2^63.
     Long,
@@ -71,8 +72,16 @@ impl Device for Liar {
     }
 }
 
-/// Lies, each told by devices of their own.
-const LIES: [Lie; 4] = [Lie::Long, Lie::Shrinking, Lie::Growing, Lie::Changing];
+/// The lie that a word names.
+fn lie(word: &str) -> Result<Lie, Mistake> {
+    match word {
+        "long" => Ok(Lie::Long),
+        "shrinking" => Ok(Lie::Shrinking),
+        "growing" => Ok(Lie::Growing),
+        "changing" => Ok(Lie::Changing),
+        _ => Err(Mistake::Misspelt),
+    }
+}
 
 /// Records that stand for nodes of one child.
 struct Chain {}
@@ -86,7 +95,7 @@ impl Arity for Chain {
 }
 
 /// A device that lies, over these bytes.
-fn liar_over(alloc: Global, bytes: &[u8], lie: Lie) -> Result<Liar, Fail> {
+fn liar_over(alloc: Global, bytes: &[u8], lie: Lie) -> Result<Liar, Mistake> {
     let bytes = bytes.to_vec(alloc)?;
     Ok(Liar {
         file: MemDevice::from_bytes(bytes),
@@ -106,18 +115,18 @@ fn empty_liar(alloc: Global, lie: Lie) -> Liar {
 
 /// Whether nothing goes out where a run is refused for another cause than the writer.
 fn is_clean(told: &str) -> bool {
-    told.starts_with("Done ") || told.starts_with("Write ") || told.ends_with(' ')
+    told.starts_with("Done ") || told.starts_with("Write ") || told.ends_with(" \"\"")
 }
 
 /// How a translation over devices that lie ends, and what goes out.
-fn translation(alloc: Global, translator: &Translator, lie: Lie) -> Result<String, Fail> {
+fn translation(alloc: Global, translator: &Translator, lie: Lie) -> Result<String, Mistake> {
     let mut a = empty_liar(alloc, lie);
     let mut b = empty_liar(alloc, lie);
     translated(alloc, translator, SENTENCE, &mut a, &mut b)
 }
 
 /// How an evaluation over devices that lie ends, and what goes out.
-fn evaluation(alloc: Global, translator: &Translator, lie: Lie) -> Result<String, Fail> {
+fn evaluation(alloc: Global, translator: &Translator, lie: Lie) -> Result<String, Mistake> {
     let mut tree = liar_over(alloc, TREE, lie)?;
     let mut a = empty_liar(alloc, lie);
     let mut b = empty_liar(alloc, lie);
@@ -137,7 +146,7 @@ fn run_passes(alloc: Global, translator: &Translator, a: &mut Liar, b: &mut Liar
 }
 
 /// Runs passes where the first device has the sentence's tree.
-fn passes(alloc: Global, translator: &Translator, lie: Lie) -> Result<(), Fail> {
+fn passes(alloc: Global, translator: &Translator, lie: Lie) -> Result<(), Mistake> {
     let mut a = liar_over(alloc, TREE, lie)?;
     let mut b = empty_liar(alloc, lie);
     run_passes(alloc, translator, &mut a, &mut b);
@@ -145,7 +154,7 @@ fn passes(alloc: Global, translator: &Translator, lie: Lie) -> Result<(), Fail> 
 }
 
 /// Brings an old tree over by way of devices that lie.
-fn upgrade(alloc: Global, translator: &Translator, lie: Lie) -> Result<(), Fail> {
+fn upgrade(alloc: Global, translator: &Translator, lie: Lie) -> Result<(), Mistake> {
     let bytes = old_tree(alloc)?;
     let mut old = liar_over(alloc, bytes.as_slice(), lie)?;
     let mut mid = empty_liar(alloc, lie);
@@ -155,7 +164,7 @@ fn upgrade(alloc: Global, translator: &Translator, lie: Lie) -> Result<(), Fail>
 }
 
 /// Whether all runs of a translator return, and nothing goes out where one is refused.
-fn return_clean(alloc: Global, translator: &Translator, lie: Lie) -> Result<bool, Fail> {
+fn return_clean(alloc: Global, translator: &Translator, lie: Lie) -> Result<bool, Mistake> {
     passes(alloc, translator, lie)?;
     upgrade(alloc, translator, lie)?;
     let translation = translation(alloc, translator, lie)?;
@@ -163,39 +172,33 @@ fn return_clean(alloc: Global, translator: &Translator, lie: Lie) -> Result<bool
     Ok(is_clean(translation.as_str()) && is_clean(evaluation.as_str()))
 }
 
-/// The same, of a translator of its own.
-fn runs_return_clean(alloc: Global, lie: Lie) -> Result<bool, Fail> {
-    let translator = fractions(alloc)?;
-    return_clean(alloc, &translator, lie)
-}
-
-#[test]
-fn passes_translate_evaluate_tree_and_upgrade_return(rt: HostRuntime) -> Result<(), Fail> {
-    for lie in LIES {
-        assert!(rt; runs_return_clean(rt.alloc(), lie)?, "{lie:?}");
-    }
-    Ok(())
+/// Whether passes, `translate`, `evaluate_tree` and `upgrade` return, and nothing goes out where one is refused.
+pub fn lie_told(alloc: Global, word: &str) -> Result<String, Mistake> {
+    let lie = lie(word)?;
+    let translator = translator(alloc, FRACTIONS)?;
+    let is_clean = return_clean(alloc, &translator, lie)?;
+    Ok(format!(in alloc; "{is_clean}")?)
 }
 
 /// Turns a file round over devices that lie.
-fn turned(alloc: Global, lie: Lie) -> Result<(), Fail> {
+fn turned(alloc: Global, lie: Lie) -> Result<(), Mistake> {
     let mut from = liar_over(alloc, TREE, lie)?;
     let mut to = empty_liar(alloc, lie);
     let _turned = turn(alloc, &mut from, &mut to, 1, &Chain {});
     Ok(())
 }
 
-#[test]
-fn turn_returns(rt: HostRuntime) -> Result<(), Fail> {
-    for lie in LIES {
-        turned(rt.alloc(), lie)?;
-    }
-    Ok(())
+/// That turning a file round returns.
+pub fn lie_turn_told(alloc: Global, word: &str) -> Result<String, Mistake> {
+    turned(alloc, lie(word)?)?;
+    Ok(String::from_str(alloc, "returned")?)
 }
 
 /// How many bodies a reader lends of a device.
-fn lent(alloc: Global, device: &mut Liar) -> Result<u64, Fail> {
-    let mut back = Back::start(alloc, device)?;
+fn lent(alloc: Global, device: &mut Liar) -> Result<u64, Mistake> {
+    let Ok(mut back) = Back::start(alloc, device) else {
+        return Err(Mistake::Unfit);
+    };
     for _call in 0..1000 {
         if !matches!(back.back(device), Ok(Some(_))) {
             break;
@@ -204,17 +207,9 @@ fn lent(alloc: Global, device: &mut Liar) -> Result<u64, Fail> {
     Ok(back.records())
 }
 
-/// How many bodies a reader lends of a device that lies.
-fn lent_by(alloc: Global, lie: Lie) -> Result<u64, Fail> {
-    let mut device = liar_over(alloc, TREE, lie)?;
-    lent(alloc, &mut device)
-}
-
-#[test]
-fn back_returns(rt: HostRuntime) -> Result<(), Fail> {
-    for lie in LIES {
-        // a file of 118 bytes has 16 frames, and there is no longer one
-        assert!(rt; lent_by(rt.alloc(), lie)? < 17, "{lie:?}");
-    }
-    Ok(())
+/// Whether a reader lends no more bodies than there are frames: a file of 118 bytes has 16, and there is no longer one.
+pub fn lie_back_told(alloc: Global, word: &str) -> Result<String, Mistake> {
+    let mut device = liar_over(alloc, TREE, lie(word)?)?;
+    let lent = lent(alloc, &mut device)?;
+    Ok(format!(in alloc; "{}", lent < 17)?)
 }

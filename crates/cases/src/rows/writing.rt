@@ -1,6 +1,6 @@
 //! The text that rows ask about, and the lines that write it.
 
-use crate::words::{Mistake, bytes_of, first_word, number};
+use crate::rows::words::{Mistake, bytes_of, first_word, number};
 use std::alloc::{AllocError, Global};
 
 /// Writes on a text, where a line tells so, and tells whether it does.

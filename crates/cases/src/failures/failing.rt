@@ -1,11 +1,12 @@
 //! Devices of which one call fails: each call in turn, counted up until a run makes fewer. Nothing
 //! goes out where one fails, and the same translator and devices serve the next run.
 
-use crate::endings::Ending;
-use crate::translators::{SENTENCE, TREE, evaluated, fractions, old_tree, translated};
+use crate::failures::endings::Ending;
+use crate::failures::fractions::{FRACTIONS, SENTENCE, TREE, evaluated, old_tree, translated};
+use crate::rows::words::{Mistake, first_word, number};
+use crate::translators::translator;
 use aggen::Translator;
 use std::alloc::Global;
-use std::test::Fail;
 use treefile::{FuseDevice, MemDevice};
 
 /// A device in memory of which a call fails.
@@ -35,11 +36,11 @@ enum RunDevice {
 /// Whether the first of two runs ends with the translation: then the call that fails is the first
 /// one of the second run. Else the first run has failed, nothing went out, and the second one ends
 /// with the translation.
-fn is_whole(first: &str, second: &str) -> Result<bool, Fail> {
+fn is_whole(first: &str, second: &str) -> Result<bool, Mistake> {
     match (first, second) {
-        ("Done 868352", "Device ") => Ok(true),
-        ("Device ", "Done 868352") => Ok(false),
-        _ => Err(Fail::from("a run that neither fails nor is whole")),
+        ("Done \"868352\"", "Device \"\"") => Ok(true),
+        ("Device \"\"", "Done \"868352\"") => Ok(false),
+        _ => Err(Mistake::Unfit),
     }
 }
 
@@ -54,7 +55,7 @@ fn translates_twice(
     translator: &Translator,
     a: &mut Fused,
     b: &mut Fused,
-) -> Result<bool, Fail> {
+) -> Result<bool, Mistake> {
     let first = translated(alloc, translator, SENTENCE, a, b)?;
     let second = translated(alloc, translator, SENTENCE, a, b)?;
     is_whole(first.as_str(), second.as_str())
@@ -66,7 +67,7 @@ fn translates_without(
     translator: &Translator,
     a: u64,
     b: u64,
-) -> Result<bool, Fail> {
+) -> Result<bool, Mistake> {
     let mut a = fused(alloc, a);
     let mut b = fused(alloc, b);
     translates_twice(alloc, translator, &mut a, &mut b)
@@ -80,11 +81,11 @@ fn evaluates_twice(
     tree: &mut Fused,
     a: &mut Fused,
     b: &mut Fused,
-) -> Result<bool, Fail> {
+) -> Result<bool, Mistake> {
     let first = evaluated(alloc, translator, tree, a, b)?;
     let second = evaluated(alloc, translator, tree, a, b)?;
     if tree.inner().bytes() != TREE {
-        return Err(Fail::from("a tree that has changed"));
+        return Err(Mistake::Unfit);
     }
     is_whole(first.as_str(), second.as_str())
 }
@@ -96,7 +97,7 @@ fn evaluates_without(
     tree: u64,
     a: u64,
     b: u64,
-) -> Result<bool, Fail> {
+) -> Result<bool, Mistake> {
     let bytes = TREE.to_vec(alloc)?;
     let mut tree = FuseDevice::new(MemDevice::from_bytes(bytes), tree);
     let mut a = fused(alloc, a);
@@ -112,17 +113,17 @@ fn upgrades_twice(
     old: &mut Fused,
     mid: &mut Fused,
     to: &mut Fused,
-) -> Result<bool, Fail> {
+) -> Result<bool, Mistake> {
     let first = Ending::of(translator.upgrade(old, mid, to));
     let is_whole = to.inner().bytes() == TREE;
     let second = Ending::of(translator.upgrade(old, mid, to));
     if old.inner().bytes() != kept {
-        return Err(Fail::from("an old tree that has changed"));
+        return Err(Mistake::Unfit);
     }
     match (first, second) {
         (Ending::Done, Ending::Device) if is_whole => Ok(true),
         (Ending::Device, Ending::Done) if to.inner().bytes() == TREE => Ok(false),
-        _ => Err(Fail::from("a run that neither fails nor is whole")),
+        _ => Err(Mistake::Unfit),
     }
 }
 
@@ -133,7 +134,7 @@ fn upgrades_without(
     old: u64,
     mid: u64,
     to: u64,
-) -> Result<bool, Fail> {
+) -> Result<bool, Mistake> {
     let kept = old_tree(alloc)?;
     let mut old = FuseDevice::new(MemDevice::from_bytes(old_tree(alloc)?), old);
     let mut mid = fused(alloc, mid);
@@ -147,7 +148,7 @@ fn is_whole_without(
     translator: &Translator,
     device: RunDevice,
     call: u64,
-) -> Result<bool, Fail> {
+) -> Result<bool, Mistake> {
     match device {
         RunDevice::First => translates_without(alloc, translator, call, 0),
         RunDevice::Second => translates_without(alloc, translator, 0, call),
@@ -162,41 +163,36 @@ fn is_whole_without(
 
 /// The first call of a device that no run makes, counted from 1. Each call before it fails where
 /// it is to.
-fn counted(alloc: Global, translator: &Translator, device: RunDevice) -> Result<u64, Fail> {
+fn counted(alloc: Global, translator: &Translator, device: RunDevice) -> Result<u64, Mistake> {
     for call in 1..1000 {
         if is_whole_without(alloc, translator, device, call)? {
             return Ok(call);
         }
     }
-    Err(Fail::from("a run of a thousand calls"))
+    Err(Mistake::Unfit)
 }
 
-/// The same, of a translator of its own.
-fn calls_made(alloc: Global, device: RunDevice) -> Result<u64, Fail> {
-    let translator = fractions(alloc)?;
-    counted(alloc, &translator, device)
-}
-
-#[test]
-fn each_call_of_a_device_of_translate_fails(rt: HostRuntime) -> Result<(), Fail> {
-    // the seventh call of the first device appends the frame of the fifth node
-    assert!(rt; 7 < calls_made(rt.alloc(), RunDevice::First)?);
-    assert!(rt; 1 < calls_made(rt.alloc(), RunDevice::Second)?);
-    Ok(())
-}
-
-#[test]
-fn each_call_of_a_device_of_evaluate_tree_fails(rt: HostRuntime) -> Result<(), Fail> {
-    for device in [RunDevice::Tree, RunDevice::A, RunDevice::B] {
-        assert!(rt; 1 < calls_made(rt.alloc(), device)?);
+/// The device that a word names.
+fn run_device(word: &str) -> Result<RunDevice, Mistake> {
+    match word {
+        "first" => Ok(RunDevice::First),
+        "second" => Ok(RunDevice::Second),
+        "tree" => Ok(RunDevice::Tree),
+        "a" => Ok(RunDevice::A),
+        "b" => Ok(RunDevice::B),
+        "old" => Ok(RunDevice::Old),
+        "mid" => Ok(RunDevice::Mid),
+        "to" => Ok(RunDevice::To),
+        _ => Err(Mistake::Misspelt),
     }
-    Ok(())
 }
 
-#[test]
-fn each_call_of_a_device_of_upgrade_fails(rt: HostRuntime) -> Result<(), Fail> {
-    for device in [RunDevice::Old, RunDevice::Mid, RunDevice::To] {
-        assert!(rt; 1 < calls_made(rt.alloc(), device)?);
-    }
-    Ok(())
+/// Whether each call of a device fails where it is to, and there are more than so many.
+pub fn failing_told(alloc: Global, spelled: &str) -> Result<String, Mistake> {
+    let (word, least) = first_word(spelled);
+    let device = run_device(word)?;
+    let least = number(least)? as u64;
+    let translator = translator(alloc, FRACTIONS)?;
+    let calls = counted(alloc, &translator, device)?;
+    Ok(format!(in alloc; "{}", least < calls)?)
 }

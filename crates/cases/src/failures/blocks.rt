@@ -3,20 +3,21 @@
 ghost use Rattle.std.specs.Prelude.{◌≡◌, IfOk};
 ghost use Rattle.planchecker.specs.Plans.{IsPlan};
 
-use crate::counting::CountingDevice;
+use crate::failures::counting::CountingDevice;
+use crate::rows::words::Mistake;
+use crate::translators::translator;
 use ag_eval::Meter;
 use ag_grammar::Grammar;
-use aggen::{Fault, Translator};
+use aggen::Translator;
 use passassign::Assignment;
 use passcode::{Code, Instr};
 use passrun::run_all;
 use planchecker::{Plan, check_plan};
 use std::alloc::{AllocError, Global};
 use std::cell::Cell;
-use std::test::Fail;
 
 /// The grammar of lists in groups.
-const GROUPS: &[u8] = b"start S; symbol S syn out; symbol T syn c; symbol V syn c;
+const GROUPS: &str = "start S; symbol S syn out; symbol T syn c; symbol V syn c;
 S = T \";\" S { $0.out = \"\"; }
 S = { $0.out = \"\"; }
 T = V \",\" T { $0.c = 0; }
@@ -30,11 +31,6 @@ const NODES: u64 = 65_536;
 
 /// How many bytes the record of a node without values has, with its length.
 const FRAME: u64 = 7;
-
-/// The translator of lists in groups.
-fn groups(alloc: Global) -> Result<Translator, Fault> {
-    Ok(Translator::build(alloc, GROUPS)?)
-}
 
 /// 85 groups of 24 lists: 23 lists of 31 letters, of 33 nodes each, and one of 8, of 10 nodes. With
 /// one node at either end a group has 771, and with the last one the tree has 65,536.
@@ -62,15 +58,17 @@ fn translate<'p>(
     translator: &Translator,
     a: &mut CountingDevice<'p>,
     b: &mut CountingDevice<'p>,
-) -> Result<String, Fail> {
+) -> Result<String, Mistake> {
     let sentence = sentence(alloc)?;
     let mut out = Vec::new(alloc);
-    let report = translator.translate(sentence.as_bytes(), a, b, &mut out)?;
-    Ok(format!(in alloc; "{} read, {} written", report.read, report.written)?)
+    match translator.translate(sentence.as_bytes(), a, b, &mut out) {
+        Ok(report) => Ok(format!(in alloc; "{} read, {} written", report.read, report.written)?),
+        Err(_) => Err(Mistake::Unfit),
+    }
 }
 
 /// What a translation of the sentence tells, and what its devices have counted.
-fn translated(alloc: Global, translator: &Translator) -> Result<String, Fail> {
+fn translated(alloc: Global, translator: &Translator) -> Result<String, Mistake> {
     let puts = Cell::new(0);
     let mut a = CountingDevice::new(alloc, &puts);
     let mut b = CountingDevice::new(alloc, &puts);
@@ -82,18 +80,9 @@ fn translated(alloc: Global, translator: &Translator) -> Result<String, Fail> {
 }
 
 /// What a translation tells, by a translator of its own.
-fn groups_translated(alloc: Global) -> Result<String, Fail> {
-    let translator = groups(alloc)?;
+pub fn blocks_of_translate_told(alloc: Global) -> Result<String, Mistake> {
+    let translator = translator(alloc, GROUPS)?;
     translated(alloc, &translator)
-}
-
-#[test]
-fn a_translation_writes_while_it_reads(rt: HostRuntime) -> Result<(), Fail> {
-    assert_eq!(rt;
-        groups_translated(rt.alloc())?.as_str(),
-        "65536 read, 65536 written; 65536 read, 65536 put; by blocks: true"
-    );
-    Ok(())
 }
 
 /// The list of a production whose children stand so in the order of the pass.
@@ -147,14 +136,14 @@ fn assignment(alloc: Global) -> Result<Assignment, AllocError> {
 }
 
 /// A plan whose first two passes have no rules.
-fn plan(alloc: Global, grammar: &Grammar) -> Result<Plan, Fail>
+fn plan(alloc: Global, grammar: &Grammar) -> Result<Plan, Mistake>
     ensures { IfOk result (λ plan. IsPlan grammar.now plan.0 plan.1) }
 {
     let code = code(alloc)?;
     let assignment = assignment(alloc)?;
     match check_plan(grammar, assignment, code) {
         Ok(plan) => Ok(plan),
-        Err(fault) => Err(Fail::from(fault)),
+        Err(fault) => Err(Mistake::Unfit),
     }
 }
 
@@ -163,10 +152,12 @@ fn parse(
     alloc: Global,
     translator: &Translator,
     device: &mut CountingDevice<'_>,
-) -> Result<(), Fail> {
+) -> Result<(), Mistake> {
     let sentence = sentence(alloc)?;
-    translator.parse_tree(sentence.as_bytes(), device)?;
-    Ok(())
+    match translator.parse_tree(sentence.as_bytes(), device) {
+        Ok(_) => Ok(()),
+        Err(_) => Err(Mistake::Unfit),
+    }
 }
 
 /// What three passes over the tree on the first device tell.
@@ -176,20 +167,22 @@ fn run<'p>(
     plan: &Plan,
     a: &mut CountingDevice<'p>,
     b: &mut CountingDevice<'p>,
-) -> Result<String, Fail>
+) -> Result<String, Mistake>
     requires { IsPlan grammar.now plan.now.0 plan.now.1 }
 {
     let mut meter = Meter::new();
     let _passes = plan.assignment().passes();
-    let (last, passed) = run_all(alloc, grammar, plan, 1, a, b, &mut meter)?;
-    Ok(format!(in alloc;
-        "last {last:?}, {} read, {} written",
-        passed.read, passed.written
-    )?)
+    match run_all(alloc, grammar, plan, 1, a, b, &mut meter) {
+        Ok((last, passed)) => Ok(format!(in alloc;
+            "last {last:?}, {} read, {} written",
+            passed.read, passed.written
+        )?),
+        Err(_) => Err(Mistake::Unfit),
+    }
 }
 
 /// What three passes over the sentence's tree tell, and what their devices have counted.
-fn run_thrice(alloc: Global, translator: &Translator, plan: &Plan) -> Result<String, Fail>
+fn run_thrice(alloc: Global, translator: &Translator, plan: &Plan) -> Result<String, Mistake>
     requires { IsPlan translator.now plan.now.0 plan.now.1 }
 {
     let puts = Cell::new(0);
@@ -206,22 +199,13 @@ fn run_thrice(alloc: Global, translator: &Translator, plan: &Plan) -> Result<Str
 }
 
 /// What three passes tell, by a plan whose first two have no rules.
-fn run_by_plan(alloc: Global, translator: &Translator) -> Result<String, Fail> {
+fn run_by_plan(alloc: Global, translator: &Translator) -> Result<String, Mistake> {
     let plan = plan(alloc, translator.grammar())?;
     run_thrice(alloc, translator, &plan)
 }
 
 /// What three passes tell, by a translator of their own.
-fn groups_run(alloc: Global) -> Result<String, Fail> {
-    let translator = groups(alloc)?;
+pub fn blocks_of_passes_told(alloc: Global) -> Result<String, Mistake> {
+    let translator = translator(alloc, GROUPS)?;
     run_by_plan(alloc, &translator)
-}
-
-#[test]
-fn each_pass_writes_while_it_reads(rt: HostRuntime) -> Result<(), Fail> {
-    assert_eq!(rt;
-        groups_run(rt.alloc())?.as_str(),
-        "last B, 196608 read, 196608 written; 196608 read, 196608 put; by blocks: true"
-    );
-    Ok(())
 }

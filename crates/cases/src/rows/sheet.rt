@@ -2,25 +2,31 @@
 //! answer.
 
 use crate::questions::answer;
-use crate::words::{Mistake, first_word};
-use crate::written::Written;
+use crate::rows::words::{Mistake, first_word};
+use crate::rows::written::Written;
+use crate::sources::source_of_told;
 use std::alloc::{AllocError, Global};
 use std::io;
+use std::rt::Files;
 
 /// Tries the rows on standard input. Prints each wrong line with its number, and then the number of right answers.
-pub fn try_rows<R: Input + Print>(rt: &R, alloc: Global) -> io::Result<()> {
+pub fn try_rows<R: Files + Input + Print>(rt: &R, alloc: Global) -> io::Result<()> {
     let mut sheet = Sheet::new(alloc);
     take_lines(rt, alloc, &mut sheet)?;
     println!(rt; "{} answers are right", sheet.right)
 }
 
 /// Takes the lines on standard input. Prints each wrong line with its number.
-fn take_lines<R: Input + Print>(rt: &R, alloc: Global, sheet: &mut Sheet) -> io::Result<()> {
+fn take_lines<R: Files + Input + Print>(
+    rt: &R,
+    alloc: Global,
+    sheet: &mut Sheet,
+) -> io::Result<()> {
     let mut number = 0u64;
     for line in rt.lines(alloc) {
         let line = line?;
         number = number.wrapping_add(1);
-        print_wrong(rt, number, &sheet.take(alloc, line.as_str())?)?;
+        print_wrong(rt, number, &sheet.take(rt, alloc, line.as_str())?)?;
     }
     print_wrong(rt, number, &sheet.left(alloc)?)
 }
@@ -52,13 +58,18 @@ impl Sheet {
     }
 
     /// What is wrong with a further line, if something is.
-    fn take(&mut self, alloc: Global, line: &str) -> Result<Option<String>, AllocError> {
+    fn take<R: Files>(
+        &mut self,
+        rt: &R,
+        alloc: Global,
+        line: &str,
+    ) -> Result<Option<String>, AllocError> {
         if line.is_empty() || line.starts_with('#') {
             return Ok(None);
         }
         match line.strip_prefix("= ") {
             Some(wanted) => self.compare(alloc, wanted),
-            None => self.ask(alloc, line),
+            None => self.ask(rt, alloc, line),
         }
     }
 
@@ -100,20 +111,29 @@ impl Sheet {
     }
 
     /// Follows a line that writes or asks something. The question above has to have its answer.
-    fn ask(&mut self, alloc: Global, line: &str) -> Result<Option<String>, AllocError> {
+    fn ask<R: Files>(
+        &mut self,
+        rt: &R,
+        alloc: Global,
+        line: &str,
+    ) -> Result<Option<String>, AllocError> {
         let left = self.left(alloc)?;
-        match self.follow(alloc, line) {
+        match self.follow(rt, alloc, line) {
             Ok(()) => Ok(left),
             Err(mistake) => Ok(Some(format!(in alloc; "{mistake:?}: {line}")?)),
         }
     }
 
     /// Follows a line, and keeps the answer if it asks something.
-    fn follow(&mut self, alloc: Global, line: &str) -> Result<(), Mistake> {
+    fn follow<R: Files>(&mut self, rt: &R, alloc: Global, line: &str) -> Result<(), Mistake> {
         let (verb, rest) = first_word(line);
-        if !self.written.follow(alloc, verb, rest)? {
-            self.told = Some(answer(alloc, &self.written, verb, rest)?);
+        if self.written.follow(alloc, verb, rest)? {
+            return Ok(());
         }
+        self.told = Some(match verb {
+            "source-of" => source_of_told(rt, alloc, rest)?,
+            _ => answer(alloc, &self.written, verb, rest)?,
+        });
         Ok(())
     }
 }

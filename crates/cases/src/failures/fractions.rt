@@ -1,9 +1,10 @@
-//! Translators over a device that fails.
+//! Binary fractions: their grammar, a sentence with its tree, and translations over devices of any kind.
 
-use crate::endings::Ending;
-use aggen::{Fault, Translator};
+use crate::failures::endings::Ending;
+use crate::rows::words::{Mistake, number, printed};
+use crate::translators::translator;
+use aggen::Translator;
 use std::alloc::Global;
-use std::test::Fail;
 use treefile::{Device, FuseDevice, MemDevice};
 
 /// The grammar of binary fractions.
@@ -36,17 +37,12 @@ pub const TREE: &[u8] = b"AGT2\0\0\
 
 /// The same file as version 1 has it: the tree has no tokens, so that only the number of the version is
 /// another.
-pub fn old_tree(alloc: Global) -> Result<Vec<u8>, Fail> {
+pub fn old_tree(alloc: Global) -> Result<Vec<u8>, Mistake> {
     let mut bytes = TREE.to_vec(alloc)?;
     if let Some(version) = bytes.get_mut(3) {
         *version = b'1';
     }
     Ok(bytes)
-}
-
-/// The translator of binary fractions.
-pub fn fractions(alloc: Global) -> Result<Translator, Fault> {
-    Ok(Translator::build(alloc, FRACTIONS.as_bytes())?)
 }
 
 /// How translating a sentence over two devices ends, and what goes out.
@@ -56,7 +52,7 @@ pub fn translated<D: Device>(
     sentence: &[u8],
     a: &mut D,
     b: &mut D,
-) -> Result<String, Fail> {
+) -> Result<String, Mistake> {
     let mut out = Vec::new(alloc);
     let ending = Ending::of(translator.translate(sentence, a, b, &mut out));
     Ok(ending.told(alloc, out.as_slice())?)
@@ -69,28 +65,21 @@ pub fn evaluated<D: Device>(
     tree: &mut D,
     a: &mut D,
     b: &mut D,
-) -> Result<String, Fail> {
+) -> Result<String, Mistake> {
     let mut out = Vec::new(alloc);
     let ending = Ending::of(translator.evaluate_tree(tree, a, b, &mut out));
     Ok(ending.told(alloc, out.as_slice())?)
 }
 
-/// How parsing a sentence ends at a device of which a call fails.
+/// How parsing `1` ends at a device of which a call fails.
 fn parsed_without(alloc: Global, translator: &Translator, call: u64) -> Ending {
     let mut device = FuseDevice::new(MemDevice::new(alloc), call);
     Ending::of(translator.parse_tree(b"1", &mut device))
 }
 
-/// How parsing ends where the first call of the device fails, and so on.
-fn parsed_without_each(alloc: Global) -> Result<[Ending; 8], Fail> {
-    let translator = fractions(alloc)?;
-    Ok([1, 2, 3, 4, 5, 6, 7, 8].map(|call| parsed_without(alloc, &translator, call)))
-}
-
-#[test]
-fn a_device_that_fails(rt: HostRuntime) -> Result<(), Fail> {
-    let mut wanted = [Ending::Device; 8];
-    wanted[7] = Ending::Done;
-    assert_eq!(rt; parsed_without_each(rt.alloc())?, wanted);
-    Ok(())
+/// The same, by a translator of its own.
+pub fn parse_without_told(alloc: Global, call: &str) -> Result<String, Mistake> {
+    let call = number(call)? as u64;
+    let translator = translator(alloc, FRACTIONS)?;
+    printed(alloc, &parsed_without(alloc, &translator, call))
 }
