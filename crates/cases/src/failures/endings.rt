@@ -5,7 +5,7 @@ use aggen::Fault;
 use std::alloc::{AllocError, Global};
 
 /// How a call ends, as far as the rows ask.
-#[derive(Clone, Copy, Debug, PartialEq, Eq)]
+#[derive(Clone, Copy, Debug)]
 pub enum Ending {
     /// With an answer.
     Done,

@@ -6,7 +6,7 @@ use std::alloc::{AllocError, Global};
 use std::fmt::Debug;
 
 /// Why a row asks for nothing that can be told.
-#[derive(Clone, Copy, Debug, PartialEq, Eq)]
+#[derive(Clone, Copy, Debug)]
 pub enum Mistake {
     /// A word of the row is none that may stand there, or one is missing.
     Misspelt,
