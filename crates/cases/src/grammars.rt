@@ -3,12 +3,12 @@
 ghost use Rattle.std.specs.Prelude.{IfOk};
 ghost use Rattle.normalform.specs.faults.Faults.{IsReadable};
 
+use crate::rows::words::{Mistake, printed};
 use ag_grammar::{
     Grammar, Named, Production, RawGrammar, RawItem, RawProduction, RawRule, RawSymbol, occurrences,
 };
 use ag_text::{expected_at, read_grammar};
 use normalform::{NormalFault, check, is_readable};
-use rows::{Mistake, printed};
 use std::alloc::{AllocError, Global};
 
 /// What is read of a text, or its fault.
@@ -22,13 +22,18 @@ pub fn read_told(alloc: Global, text: &[u8]) -> Result<String, Mistake> {
 /// A raw grammar, with a line for each symbol and each production.
 fn raw_shown(alloc: Global, raw: &RawGrammar) -> Result<String, Mistake> {
     let mut told = format!(in alloc; "start {} at {}", raw.start.name.as_str(), raw.start.at)?;
+    show_lines(&mut told, raw)?;
+    Ok(told)
+}
+
+fn show_lines(told: &mut String, raw: &RawGrammar) -> Result<(), AllocError> {
     for symbol in raw.symbols.as_slice() {
-        show_symbol(&mut told, symbol)?;
+        show_symbol(told, symbol)?;
     }
     for production in raw.productions.as_slice() {
-        show_production(&mut told, production)?;
+        show_production(told, production)?;
     }
-    Ok(told)
+    Ok(())
 }
 
 fn show_symbol(told: &mut String, symbol: &RawSymbol) -> Result<(), AllocError> {
@@ -144,13 +149,18 @@ pub fn parts_told(alloc: Global, grammar: &Grammar) -> Result<String, AllocError
         grammar.symbols().len(),
         grammar.classes()
     )?;
+    show_literals_and_productions(&mut told, grammar)?;
+    Ok(told)
+}
+
+fn show_literals_and_productions(told: &mut String, grammar: &Grammar) -> Result<(), AllocError> {
     for literal in grammar.literals() {
         write!(told, " {}", literal.as_str())?;
     }
     for production in grammar.productions() {
-        show_numbers(&mut told, production)?;
+        show_numbers(told, production)?;
     }
-    Ok(told)
+    Ok(())
 }
 
 fn show_numbers(told: &mut String, production: &Production) -> Result<(), AllocError> {

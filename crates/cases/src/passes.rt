@@ -3,12 +3,15 @@
 ghost use Rattle.planchecker.specs.Plans.{IsPlan};
 
 use crate::plans::{pair, plan_of};
+use crate::rows::words::{
+    Mistake, bytes_of, first_word, halves, printed, short_number, shown_bytes,
+};
+use crate::rows::written::Written;
 use crate::sentences::tree_of;
 use ag_eval::Meter;
 use ag_grammar::Grammar;
 use passrun::{Last, Passed, run_all, run_pass};
 use planchecker::{Plan, check_plan};
-use rows::{Mistake, Written, bytes_of, first_word, halves, printed, short_number, shown_bytes};
 use std::alloc::Global;
 use treefile::MemDevice;
 
@@ -89,12 +92,26 @@ fn passes_told(
     let mut from = tree;
     let mut told = String::new(alloc);
     for pass in 1..=plan.assignment().passes() {
-        let mut to = MemDevice::new(alloc);
-        let line = pass_over(alloc, grammar, plan, pass, &mut from, &mut to)?;
-        write!(told, "pass {pass}: {line}\n")?;
-        from = to;
+        from = next_file(alloc, grammar, plan, pass, &mut from, &mut told)?;
     }
     Ok(String::from_str(alloc, told.as_str().trim_end())?)
+}
+
+/// The file that a pass of a plan leaves of another one. Adds the pass to what is told, on a line of its own.
+fn next_file(
+    alloc: Global,
+    grammar: &Grammar,
+    plan: &Plan,
+    pass: u16,
+    from: &mut MemDevice,
+    told: &mut String,
+) -> Result<MemDevice, Mistake>
+    requires { IsPlan grammar.now plan.now.0 plan.now.1 }
+{
+    let mut to = MemDevice::new(alloc);
+    let line = pass_over(alloc, grammar, plan, pass, from, &mut to)?;
+    write!(told, "pass {pass}: {line}\n")?;
+    Ok(to)
 }
 
 /// What passes counted, and the file that they left on a device.
@@ -105,10 +122,11 @@ fn sum_told(
     rules: u64,
     file: &MemDevice,
 ) -> Result<String, Mistake> {
-    let nodes = sum.nodes;
-    let counts = format!(in alloc; "{} read, {} written", sum.read, sum.written)?;
     let file = shown_bytes(alloc, file.bytes())?;
-    Ok(format!(in alloc; "{nodes} nodes, {rules} rules, {counts}, last {last:?}, {file}")?)
+    Ok(format!(in alloc;
+        "{} nodes, {rules} rules, {} read, {} written, last {last:?}, {file}",
+        sum.nodes, sum.read, sum.written
+    )?)
 }
 
 /// What the passes of a plan from one on make of a file, to and fro between it and a device that has

@@ -3,12 +3,12 @@
 ghost use Rattle.std.specs.Prelude.{IfOk};
 ghost use Rattle.planchecker.specs.Plans.{IsPlan};
 
+use crate::rows::words::{Mistake, first_word, halves, parts, short_number, short_numbers};
 use ag_grammar::Grammar;
 use agoutput::{write_code, write_plan};
 use passassign::{Assignment, assign};
 use passcode::{Code, Instr, generate};
 use planchecker::{Plan, check_plan};
-use rows::{Mistake, first_word, halves, parts, short_number, short_numbers};
 use std::alloc::{AllocError, Global};
 
 /// The instruction that a word spells: `g2`, `o2` and `p2` get, go to and put the second child,
@@ -130,13 +130,23 @@ pub fn plan_of(alloc: Global, grammar: &Grammar) -> Result<Plan, Mistake>
 pub fn listing_told(alloc: Global, grammar: &Grammar) -> Result<String, Mistake> {
     let plan = plan_of(alloc, grammar)?;
     let mut listing = Vec::new(alloc);
-    if write_plan(alloc, &mut listing, grammar, &plan).is_err() {
-        return Err(Mistake::Unfit);
-    }
-    if write_code(alloc, &mut listing, grammar, &plan).is_err() {
-        return Err(Mistake::Unfit);
-    }
+    write_listings(alloc, &mut listing, grammar, &plan)?;
     whole_lines(alloc, listing.as_slice())
+}
+
+/// Writes the listings of the passes and of the code of a plan.
+fn write_listings(
+    alloc: Global,
+    listing: &mut Vec<u8>,
+    grammar: &Grammar,
+    plan: &Plan,
+) -> Result<(), Mistake>
+    requires { IsPlan grammar.now plan.now.0 plan.now.1 }
+{
+    if write_plan(alloc, listing, grammar, plan).is_err() {
+        return Err(Mistake::Unfit);
+    }
+    write_code(alloc, listing, grammar, plan).map_err(|_| Mistake::Unfit)
 }
 
 /// Lines, each of which is ended, without the end of the last.

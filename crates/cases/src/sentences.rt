@@ -5,12 +5,12 @@ ghost use Rattle.ag_scan.specs.Tokens.{FitAll};
 ghost use Rattle.ag_scan.specs.Words.{vocabulary_of};
 ghost use Rattle.llparse.specs.table.Tables.{FitsGrammar};
 
+use crate::rows::words::{Mistake, first_word, number, printed, short_number, shown_bytes};
 use ag_grammar::{Grammar, Terminal};
 use ag_scan::{Sentence, Token, scan};
 use llparse::{Ahead, ParseFault, Tables, expected_at, parse, tables};
-use rows::{Mistake, first_word, printed, short_number, shown_bytes};
 use std::alloc::{AllocError, Global};
-use treefile::{MemDevice, Writer};
+use treefile::{Device, FuseDevice, MemDevice, Writer};
 
 /// Whether a grammar has tables, or its least conflict.
 pub fn table_told(alloc: Global, grammar: &Grammar) -> Result<String, Mistake> {
@@ -111,12 +111,12 @@ fn tokens_of<'s>(
 }
 
 /// How many nodes the tree of tokens has, whose file a device gets, or why they have none.
-fn parse_tokens(
+fn parse_tokens<D: Device>(
     alloc: Global,
     grammar: &Grammar,
     tables: &Tables,
     tokens: &Sentence<'_>,
-    device: &mut MemDevice,
+    device: &mut D,
 ) -> Result<u32, ParseFault>
     requires tables { FitsGrammar grammar.now tables.now }
     requires tokens { FitAll (vocabulary_of grammar.now) tokens.now }
@@ -141,12 +141,29 @@ fn parse_sentence(
 pub fn parse_told(alloc: Global, grammar: &Grammar, sentence: &str) -> Result<String, Mistake> {
     let mut device = MemDevice::new(alloc);
     match parse_sentence(alloc, grammar, sentence, &mut device)? {
-        Ok(count) => {
-            let file = shown_bytes(alloc, device.bytes())?;
-            Ok(format!(in alloc; "{count} nodes, {file}")?)
-        }
+        Ok(count) => tree_file_told(alloc, count, device.bytes()),
         Err(fault) => Ok(fault.to_string(alloc)?),
     }
+}
+
+/// The number of the nodes of a tree, and its file.
+pub fn tree_file_told(alloc: Global, count: u32, file: &[u8]) -> Result<String, Mistake> {
+    let file = shown_bytes(alloc, file)?;
+    Ok(format!(in alloc; "{count} nodes, {file}")?)
+}
+
+/// How parsing a sentence ends where a call of the device fails, and how many bytes the device has then.
+pub fn parse_failing_told(
+    alloc: Global,
+    grammar: &Grammar,
+    spelled: &str,
+) -> Result<String, Mistake> {
+    let (call, sentence) = first_word(spelled);
+    let mut device = FuseDevice::new(MemDevice::new(alloc), number(call)? as u64);
+    let tokens = tokens_of(alloc, grammar, sentence)?;
+    let tables = tables_of(alloc, grammar)?;
+    let parsed = parse_tokens(alloc, grammar, &tables, &tokens, &mut device);
+    Ok(format!(in alloc; "{parsed:?} {}", device.inner().bytes().len())?)
 }
 
 /// The file of the tree of a sentence, which has one.

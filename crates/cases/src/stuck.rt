@@ -1,10 +1,10 @@
 //! What is told of the least assignment of a grammar, and of certificates that there is none.
 
+use crate::rows::words::{Mistake, halves, parts, printed, short_number};
 use ag_grammar::Grammar;
 use ag_value::Items;
 use passassign::{AssignFault, Strike, Stuck, assign};
 use planchecker::check_stuck;
-use rows::{Mistake, halves, parts, printed, short_number};
 use std::alloc::{AllocError, Global};
 
 /// The least assignment of a grammar, or the certificate that there is none.
@@ -19,12 +19,16 @@ pub fn assign_told(alloc: Global, grammar: &Grammar) -> Result<String, Mistake> 
 /// A certificate as a row spells it.
 fn shown(alloc: Global, stuck: &Stuck) -> Result<String, Mistake> {
     let mut told = String::from_str(alloc, "stuck")?;
+    show_parts(&mut told, stuck)?;
+    Ok(told)
+}
+
+fn show_parts(told: &mut String, stuck: &Stuck) -> Result<(), AllocError> {
     for (symbol, attr) in stuck.set.as_slice() {
         write!(told, " {symbol}.{attr}")?;
     }
-    show_strikes(&mut told, stuck.odd.as_slice())?;
-    show_strikes(&mut told, stuck.even.as_slice())?;
-    Ok(told)
+    show_strikes(told, stuck.odd.as_slice())?;
+    show_strikes(told, stuck.even.as_slice())
 }
 
 fn show_strikes(told: &mut String, strikes: &[Strike]) -> Result<(), AllocError> {

@@ -126,16 +126,26 @@ fn lent_at_last(
 fn tell(
     alloc: Global,
     version: FileVersion,
-    mut device: CountingDevice,
+    bytes: Vec<u8>,
+    lines: &mut String,
+) -> Result<(), Fail> {
+    let mut device = device_of(bytes);
+    let started = match version {
+        FileVersion::One => Back::start_old(alloc, &mut device),
+        FileVersion::Two => Back::start(alloc, &mut device),
+    };
+    tell_bodies(&mut started?, &mut device, lines)
+}
+
+/// Writes the lengths of the bodies that a reader lends, and its next answer.
+fn tell_bodies(
+    back: &mut Back,
+    device: &mut CountingDevice,
     lines: &mut String,
 ) -> Result<(), Fail> {
     let mut at = device.memory.bytes().len();
-    let mut back = match version {
-        FileVersion::One => Back::start_old(alloc, &mut device)?,
-        FileVersion::Two => Back::start(alloc, &mut device)?,
-    };
     for _call in 0..10 {
-        match lent_at_last(&mut back, &mut device, at) {
+        match lent_at_last(back, device, at) {
             Ok(Some(length)) => {
                 at = at.saturating_sub(length.saturating_add(4));
                 write!(lines, "{length} ")?;
@@ -151,20 +161,27 @@ fn tell(
 
 /// Tells how many frames of 7 bytes a reader takes, what it answers then, and how often it has read
 /// the device.
-fn tell_frames(alloc: Global, mut device: CountingDevice, lines: &mut String) -> Result<(), Fail> {
-    let mut at = device.memory.bytes().len();
+fn tell_frames(alloc: Global, bytes: Vec<u8>, lines: &mut String) -> Result<(), Fail> {
+    let mut device = device_of(bytes);
     let mut back = Back::start(alloc, &mut device)?;
+    let told = last_answer(&mut back, &mut device);
+    let (records, reads) = (back.records(), device.reads);
+    writeln!(lines, "{records} {told:?} {reads}")?;
+    Ok(())
+}
+
+/// The first answer of a reader that is not a body of 3 bytes, of 100,000 answers.
+fn last_answer(back: &mut Back, device: &mut CountingDevice) -> Result<Option<usize>, FrameFault> {
+    let mut at = device.memory.bytes().len();
     let mut told = Ok(Some(3));
     for _call in 0..100_000 {
         if told != Ok(Some(3)) {
             break;
         }
-        told = lent(&mut back, &mut device, at);
+        told = lent(back, device, at);
         at = at.saturating_sub(7);
     }
-    let (records, reads) = (back.records(), device.reads);
-    writeln!(lines, "{records} {told:?} {reads}")?;
-    Ok(())
+    told
 }
 
 #[test]
@@ -172,8 +189,8 @@ fn names_of_many_letters(rt: HostRuntime) -> Result<(), Fail> {
     let alloc = rt.alloc();
     let mut lines = String::new(alloc);
     for letters in [4, 4084, 4085, 65_535] {
-        let device = device_of(file_of_name(alloc, letters)?);
-        tell(alloc, FileVersion::Two, device, &mut lines)?;
+        let bytes = file_of_name(alloc, letters)?;
+        tell(alloc, FileVersion::Two, bytes, &mut lines)?;
     }
     assert_eq!(rt;
         lines.as_str(),
@@ -188,7 +205,7 @@ fn frames_at_the_front_of_the_buffer(rt: HostRuntime) -> Result<(), Fail> {
     let mut lines = String::new(alloc);
     for length in [2087, 2088, 2091, 2092, 2093, 2096, 2097] {
         let bytes = file_of_lengths(alloc, FileVersion::Two, &[10, length, 1996])?;
-        tell(alloc, FileVersion::Two, device_of(bytes), &mut lines)?;
+        tell(alloc, FileVersion::Two, bytes, &mut lines)?;
     }
     assert_eq!(rt;
         lines.as_str(),
@@ -212,7 +229,7 @@ fn bodies_of_many_lengths(rt: HostRuntime) -> Result<(), Fail> {
     ];
     for lengths in rows {
         let bytes = file_of_lengths(alloc, FileVersion::Two, lengths)?;
-        tell(alloc, FileVersion::Two, device_of(bytes), &mut lines)?;
+        tell(alloc, FileVersion::Two, bytes, &mut lines)?;
     }
     assert_eq!(rt;
         lines.as_str(),
@@ -229,16 +246,17 @@ fn files_of_version_1(rt: HostRuntime) -> Result<(), Fail> {
     let mut lines = String::new(alloc);
     for lengths in [[3, 4092, 4093, 16_777_219].as_slice(), &[3, 16_777_220]] {
         let bytes = file_of_lengths(alloc, FileVersion::One, lengths)?;
-        tell(alloc, FileVersion::One, device_of(bytes), &mut lines)?;
+        tell(alloc, FileVersion::One, bytes, &mut lines)?;
     }
     assert_eq!(rt;
         lines.as_str(),
         "16777219 4093 4092 3 Ok(None)\nErr(Damaged(16777237))\n"
     );
+    // a reader of version 2 over a file of version 1, and the other way round
     let mut old = device_of(file_of_lengths(alloc, FileVersion::One, &[3])?);
-    let mut new = device_of(file_of_lengths(alloc, FileVersion::Two, &[3])?);
     let started = Back::start(alloc, &mut old);
     assert!(rt; matches!(started, Err(FrameFault::NotATreeFile)));
+    let mut new = device_of(file_of_lengths(alloc, FileVersion::Two, &[3])?);
     let started = Back::start_old(alloc, &mut new);
     assert!(rt; matches!(started, Err(FrameFault::NotATreeFile)));
     Ok(())
@@ -250,10 +268,10 @@ fn one_read_for_a_block(rt: HostRuntime) -> Result<(), Fail> {
     let mut lines = String::new(alloc);
     for frames in [0, 1, 584, 585, 586, 1170, 1171, 65_536] {
         let bytes = file_of_frames(alloc, b"AGT2\0\0", frames)?;
-        tell_frames(alloc, device_of(bytes), &mut lines)?;
+        tell_frames(alloc, bytes, &mut lines)?;
     }
     let odd = file_of_frames(alloc, b"AGT2\0\0\x07", 2000)?;
-    tell_frames(alloc, device_of(odd), &mut lines)?;
+    tell_frames(alloc, odd, &mut lines)?;
     assert_eq!(rt;
         lines.as_str(),
         "0 Ok(None) 1\n1 Ok(None) 2\n584 Ok(None) 2\n585 Ok(None) 2\n586 Ok(None) 3\n\

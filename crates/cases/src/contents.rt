@@ -1,0 +1,216 @@
+//! What is told of contents of devices: files that are written, read back and turned round.
+
+use crate::rows::words::{
+    Mistake, bytes_of, first_word, halves, number, parts, printed, short_number, shown_bytes,
+};
+use ag_value::Value;
+use backreader::{Arity, Back, turn};
+use std::alloc::{AllocError, Global};
+use treefile::{Device, DeviceFault, FrameFault, Kind, MemDevice, Writer, last_body, split_body};
+
+/// How many children the nodes of binary fractions have.
+struct Fractions {}
+
+impl Arity for Fractions {
+    ghost use Rattle.backreader.specs.Worked.{children_in_fractions};
+
+    ghost children_of = { λ _. children_in_fractions };
+
+    fn children(&self, kind: Kind, number: u16) -> Option<u32> {
+        match (kind, number) {
+            (Kind::Node, 0 | 3 | 5) => Some(2),
+            (Kind::Node, 2) => Some(1),
+            (Kind::Node, 1 | 4 | 6 | 7) => Some(0),
+            _ => None,
+        }
+    }
+}
+
+/// A device that has something.
+fn used(alloc: Global) -> Result<MemDevice, AllocError> {
+    Ok(MemDevice::from_bytes(vec![in alloc; 1, 2, 3]?))
+}
+
+/// The last body of a content, or its fault.
+pub fn last_told(alloc: Global, bytes: Vec<u8>) -> Result<String, Mistake> {
+    match last_body(alloc, &mut MemDevice::from_bytes(bytes)) {
+        Ok(body) => Ok(shown_bytes(alloc, body.as_slice())?),
+        Err(fault) => printed(alloc, &fault),
+    }
+}
+
+/// The kind, the number and the spellings of a body.
+pub fn split_told(alloc: Global, body: &[u8]) -> Result<String, Mistake> {
+    match split_body(body) {
+        Some((kind, number, spellings)) => {
+            let spellings = shown_bytes(alloc, spellings)?;
+            Ok(format!(in alloc; "{kind:?} {number} [{spellings}]")?)
+        }
+        None => Ok(String::from_str(alloc, "no body")?),
+    }
+}
+
+/// The bodies of a content, from the last to the first, and what is told behind them, twice.
+pub fn back_told(alloc: Global, bytes: Vec<u8>) -> Result<String, Mistake> {
+    bodies_told(alloc, &mut MemDevice::from_bytes(bytes))
+}
+
+/// The most bodies that are read.
+const READ: u32 = 1000;
+
+/// What a reader tells of a device, body by body.
+fn bodies_told<D: Device>(alloc: Global, device: &mut D) -> Result<String, Mistake> {
+    let mut back = match Back::start(alloc, device) {
+        Ok(back) => back,
+        Err(fault) => return printed(alloc, &fault),
+    };
+    let mut told = format!(in alloc; "pass {}:", back.pass())?;
+    for _turn in 0..READ {
+        let fault = match back.back(device) {
+            Ok(Some(body)) => {
+                write!(told, " {}", shown_bytes(alloc, body)?)?;
+                continue;
+            }
+            Ok(None) => {
+                let again = back.back(device) == Ok(None);
+                write!(told, " end {again}, {} bodies", back.records())?;
+                return Ok(told);
+            }
+            Err(fault) => fault,
+        };
+        let again = back.back(device) == Err(fault);
+        write!(told, " {fault:?} {again}, {} bodies", back.records())?;
+        return Ok(told);
+    }
+    Err(Mistake::Unfit)
+}
+
+/// The content turned round, as the file of a pass, or its fault.
+pub fn turn_told(alloc: Global, pass: u16, bytes: Vec<u8>) -> Result<String, Mistake> {
+    let mut from = MemDevice::from_bytes(bytes);
+    let mut to = used(alloc)?;
+    match turn(alloc, &mut from, &mut to, pass, &Fractions {}) {
+        Ok(count) => file_told(alloc, u64::from(count), to.bytes()),
+        Err(fault) => printed(alloc, &fault),
+    }
+}
+
+/// The number of the records of a file, and the file.
+fn file_told(alloc: Global, count: u64, file: &[u8]) -> Result<String, Mistake> {
+    let file = shown_bytes(alloc, file)?;
+    Ok(format!(in alloc; "{count} records, {file}")?)
+}
+
+/// The file of a pass with the records of a text, which has `;` between them: `node 4 1 0` and
+/// `token 0 14` have values, `body 090807` has bytes.
+pub fn write_told(alloc: Global, text: &str) -> Result<String, Mistake> {
+    let (pass, records) = halves(text, " : ")?;
+    let mut device = used(alloc)?;
+    let count = put_all(alloc, short_number(pass)?, &mut device, records)?;
+    file_told(alloc, count, device.bytes())
+}
+
+/// Writes the file of a pass with the records of a text. Returns their number.
+fn put_all(
+    alloc: Global,
+    pass: u16,
+    device: &mut MemDevice,
+    records: &str,
+) -> Result<u64, Mistake> {
+    let Ok(mut writer) = Writer::begin(alloc, device, pass) else {
+        return Err(Mistake::NoMemory);
+    };
+    put_records(alloc, &mut writer, device, records)?;
+    Ok(writer.written())
+}
+
+/// Puts the records of a text.
+fn put_records(
+    alloc: Global,
+    writer: &mut Writer,
+    device: &mut MemDevice,
+    records: &str,
+) -> Result<(), Mistake> {
+    for record in parts(alloc, records, " ; ")?.as_slice() {
+        put_record(alloc, writer, device, record)?;
+    }
+    Ok(())
+}
+
+fn put_record(
+    alloc: Global,
+    writer: &mut Writer,
+    device: &mut MemDevice,
+    record: &str,
+) -> Result<(), Mistake> {
+    let (kind, rest) = first_word(record);
+    match kind {
+        "node" => put_values(alloc, writer, device, Kind::Node, rest),
+        "token" => put_values(alloc, writer, device, Kind::Token, rest),
+        "body" => put_bytes(writer, device, bytes_of(alloc, rest)?.as_slice()),
+        _ => Err(Mistake::Misspelt),
+    }
+}
+
+/// What is told of a record that was put.
+fn put_or(put: Result<(), DeviceFault>) -> Result<(), Mistake> {
+    put.map_err(|_| Mistake::NoMemory)
+}
+
+/// Puts a body as it stands.
+fn put_bytes(writer: &mut Writer, device: &mut MemDevice, body: &[u8]) -> Result<(), Mistake> {
+    if writer.written() == u64::MAX || body.len() < 3 || body.len() > 16_777_219 {
+        return Err(Mistake::Unfit);
+    }
+    put_or(writer.put_body(device, body))
+}
+
+/// Puts a record with its number and its values, which are none, one or three numbers.
+fn put_values(
+    alloc: Global,
+    writer: &mut Writer,
+    device: &mut MemDevice,
+    kind: Kind,
+    rest: &str,
+) -> Result<(), Mistake> {
+    let (number_word, values) = first_word(rest);
+    let number = short_number(number_word)?;
+    put_numbers(
+        writer,
+        device,
+        kind,
+        number,
+        numbers(alloc, values)?.as_slice(),
+    )
+}
+
+/// Puts a record with none, one or three numbers.
+fn put_numbers(
+    writer: &mut Writer,
+    device: &mut MemDevice,
+    kind: Kind,
+    number: u16,
+    numbers: &[i64],
+) -> Result<(), Mistake> {
+    if writer.written() == u64::MAX {
+        return Err(Mistake::Unfit);
+    }
+    match numbers {
+        [] => put_or(writer.put(device, kind, number, &[])),
+        [one] => put_or(writer.put(device, kind, number, &[Value::Num(*one)])),
+        [one, two, three] => {
+            let values = [Value::Num(*one), Value::Num(*two), Value::Num(*three)];
+            put_or(writer.put(device, kind, number, &values))
+        }
+        _ => Err(Mistake::Misspelt),
+    }
+}
+
+/// The numbers of a text.
+fn numbers(alloc: Global, text: &str) -> Result<Vec<i64>, Mistake> {
+    let mut numbers = Vec::new(alloc);
+    for word in text.split_whitespace() {
+        numbers.push(number(word)? as i64)?;
+    }
+    Ok(numbers)
+}

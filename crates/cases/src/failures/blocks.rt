@@ -1,0 +1,211 @@
+//! What no clause says: that a pass reads by blocks, and writes while it reads.
+
+ghost use Rattle.std.specs.Prelude.{◌≡◌, IfOk};
+ghost use Rattle.planchecker.specs.Plans.{IsPlan};
+
+use crate::failures::counting::CountingDevice;
+use crate::rows::words::Mistake;
+use crate::translators::translator;
+use ag_eval::Meter;
+use ag_grammar::Grammar;
+use aggen::Translator;
+use passassign::Assignment;
+use passcode::{Code, Instr};
+use passrun::run_all;
+use planchecker::{Plan, check_plan};
+use std::alloc::{AllocError, Global};
+use std::cell::Cell;
+
+/// The grammar of lists in groups.
+const GROUPS: &str = "start S; symbol S syn out; symbol T syn c; symbol V syn c;
+S = T \";\" S { $0.out = \"\"; }
+S = { $0.out = \"\"; }
+T = V \",\" T { $0.c = 0; }
+T = { $0.c = 0; }
+V = \"x\" V { $0.c = 0; }
+V = { $0.c = 0; }
+";
+
+/// How many nodes the tree of the sentence has.
+const NODES: u64 = 65_536;
+
+/// How many bytes the record of a node without values has, with its length.
+const FRAME: u64 = 7;
+
+/// 85 groups of 24 lists: 23 lists of 31 letters, of 33 nodes each, and one of 8, of 10 nodes. With
+/// one node at either end a group has 771, and with the last one the tree has 65,536.
+fn sentence(alloc: Global) -> Result<String, AllocError> {
+    let mut group = "xxxxxxxxxxxxxxxxxxxxxxxxxxxxxxx,".repeat(alloc, 23)?;
+    group.push_str("xxxxxxxx,;")?;
+    group.repeat(alloc, 85)
+}
+
+/// What was really read and put, in frames, where so much had been put before.
+fn frames_told(alloc: Global, bytes: u64, puts: u64, before: u64) -> Result<String, AllocError> {
+    let (read, put) = (bytes / FRAME, puts.saturating_sub(before));
+    format!(in alloc; "{read} read, {put} put")
+}
+
+/// Whether each file that a device had was read at least 112 times, and whether at least 400 frames
+/// were put between two reads, but for those of the header and the last one.
+fn is_by_blocks(device: &CountingDevice<'_>) -> bool {
+    device.fewest_reads() >= 112 && device.least_gap() >= 400
+}
+
+/// How many records a translation of the sentence reads, and how many it writes, as it tells.
+fn translate<'p>(
+    alloc: Global,
+    translator: &Translator,
+    a: &mut CountingDevice<'p>,
+    b: &mut CountingDevice<'p>,
+) -> Result<String, Mistake> {
+    let sentence = sentence(alloc)?;
+    let mut out = Vec::new(alloc);
+    match translator.translate(sentence.as_bytes(), a, b, &mut out) {
+        Ok(report) => Ok(format!(in alloc; "{} read, {} written", report.read, report.written)?),
+        Err(_) => Err(Mistake::Unfit),
+    }
+}
+
+/// What a translation of the sentence tells, and what its devices have counted.
+fn translated(alloc: Global, translator: &Translator) -> Result<String, Mistake> {
+    let puts = Cell::new(0);
+    let mut a = CountingDevice::new(alloc, &puts);
+    let mut b = CountingDevice::new(alloc, &puts);
+    let told = translate(alloc, translator, &mut a, &mut b)?;
+    // the parser puts a header and each node, and the pass a header
+    let frames = frames_told(alloc, a.bytes, puts.get(), NODES + 2)?;
+    let by_blocks = is_by_blocks(&a);
+    Ok(format!(in alloc; "{told}; {frames}; by blocks: {by_blocks}")?)
+}
+
+/// What a translation tells, by a translator of its own.
+pub fn blocks_of_translate_told(alloc: Global) -> Result<String, Mistake> {
+    let translator = translator(alloc, GROUPS)?;
+    translated(alloc, &translator)
+}
+
+/// The list of a production whose children stand so in the order of the pass.
+fn list(alloc: Global, children: &[u16], has_rule: bool) -> Result<Vec<Instr>, AllocError> {
+    let mut list = Vec::new(alloc);
+    for child in children {
+        list.push(Instr::Get(*child))?;
+        list.push(Instr::Go(*child))?;
+        list.push(Instr::Put(*child))?;
+    }
+    if has_rule {
+        list.push(Instr::Def { attr: 0, rule: 0 })?;
+    }
+    list.push(Instr::End)?;
+    Ok(list)
+}
+
+/// The lists of a production for three passes, of which the last has its rule.
+fn lists(alloc: Global, left: &[u16], right: &[u16]) -> Result<Vec<Vec<Instr>>, AllocError> {
+    let mut lists = Vec::new(alloc);
+    for (children, has_rule) in [(left, false), (right, false), (left, true)] {
+        lists.push(list(alloc, children, has_rule)?)?;
+    }
+    Ok(lists)
+}
+
+/// The code of three passes: for each production its children from right to left, and from left
+/// to right.
+fn code(alloc: Global) -> Result<Code, AllocError> {
+    let mut rows = Vec::new(alloc);
+    for (left, right) in [
+        ([2, 1].as_slice(), [1, 2].as_slice()),
+        (&[], &[]),
+        (&[2, 1], &[1, 2]),
+        (&[], &[]),
+        (&[1], &[1]),
+        (&[], &[]),
+    ] {
+        rows.push(lists(alloc, left, right)?)?;
+    }
+    Ok(Code::of_rows(rows))
+}
+
+/// The assignment of pass 3 to the one attribute of each of three symbols.
+fn assignment(alloc: Global) -> Result<Assignment, AllocError> {
+    let mut rows = Vec::new(alloc);
+    for pass in [3, 3, 3] {
+        rows.push(Vec::from_slice(alloc, &[pass])?)?;
+    }
+    Ok(Assignment::of_rows(rows))
+}
+
+/// A plan whose first two passes have no rules.
+fn plan(alloc: Global, grammar: &Grammar) -> Result<Plan, Mistake>
+    ensures { IfOk result (λ plan. IsPlan grammar.now plan.0 plan.1) }
+{
+    let code = code(alloc)?;
+    let assignment = assignment(alloc)?;
+    match check_plan(grammar, assignment, code) {
+        Ok(plan) => Ok(plan),
+        Err(fault) => Err(Mistake::Unfit),
+    }
+}
+
+/// Leaves the file of the sentence's tree on a device.
+fn parse(
+    alloc: Global,
+    translator: &Translator,
+    device: &mut CountingDevice<'_>,
+) -> Result<(), Mistake> {
+    let sentence = sentence(alloc)?;
+    match translator.parse_tree(sentence.as_bytes(), device) {
+        Ok(_) => Ok(()),
+        Err(_) => Err(Mistake::Unfit),
+    }
+}
+
+/// What three passes over the tree on the first device tell.
+fn run<'p>(
+    alloc: Global,
+    grammar: &Grammar,
+    plan: &Plan,
+    a: &mut CountingDevice<'p>,
+    b: &mut CountingDevice<'p>,
+) -> Result<String, Mistake>
+    requires { IsPlan grammar.now plan.now.0 plan.now.1 }
+{
+    let mut meter = Meter::new();
+    let _passes = plan.assignment().passes();
+    match run_all(alloc, grammar, plan, 1, a, b, &mut meter) {
+        Ok((last, passed)) => Ok(format!(in alloc;
+            "last {last:?}, {} read, {} written",
+            passed.read, passed.written
+        )?),
+        Err(_) => Err(Mistake::Unfit),
+    }
+}
+
+/// What three passes over the sentence's tree tell, and what their devices have counted.
+fn run_thrice(alloc: Global, translator: &Translator, plan: &Plan) -> Result<String, Mistake>
+    requires { IsPlan translator.now plan.now.0 plan.now.1 }
+{
+    let puts = Cell::new(0);
+    let mut a = CountingDevice::new(alloc, &puts);
+    let mut b = CountingDevice::new(alloc, &puts);
+    parse(alloc, translator, &mut a)?;
+    // each pass puts a header
+    let before = puts.get().saturating_add(3);
+    let told = run(alloc, translator.grammar(), plan, &mut a, &mut b)?;
+    let bytes = a.bytes.saturating_add(b.bytes);
+    let frames = frames_told(alloc, bytes, puts.get(), before)?;
+    let by_blocks = is_by_blocks(&a) && is_by_blocks(&b);
+    Ok(format!(in alloc; "{told}; {frames}; by blocks: {by_blocks}")?)
+}
+
+/// What three passes tell, by a plan whose first two have no rules.
+fn run_by_plan(alloc: Global, translator: &Translator) -> Result<String, Mistake> {
+    let plan = plan(alloc, translator.grammar())?;
+    run_thrice(alloc, translator, &plan)
+}
+
+/// What three passes tell, by a translator of their own.
+pub fn blocks_of_passes_told(alloc: Global) -> Result<String, Mistake> {
+    let translator = translator(alloc, GROUPS)?;
+    run_by_plan(alloc, &translator)
+}

@@ -1,0 +1,48 @@
+//! How a call of the library ends.
+
+use ag_job::JobFault;
+use aggen::Fault;
+use std::alloc::{AllocError, Global};
+
+/// How a call ends, as far as the rows ask.
+#[derive(Clone, Copy, Debug)]
+pub enum Ending {
+    /// With an answer.
+    Done,
+    /// With F1.
+    File,
+    /// With B1.
+    NotATreeFile,
+    /// With B2, and the offset in bytes that it tells.
+    Damaged(u64),
+    /// With D1.
+    Device,
+    /// With J2.
+    Read,
+    /// With O2.
+    Write,
+    /// With another fault.
+    Other,
+}
+
+impl Ending {
+    /// How a call ended.
+    pub fn of<T: Drop>(told: Result<T, Fault>) -> Ending {
+        match told {
+            Ok(_) => Ending::Done,
+            Err(Fault::File) => Ending::File,
+            Err(Fault::NotATreeFile) => Ending::NotATreeFile,
+            Err(Fault::Damaged(at)) => Ending::Damaged(at),
+            Err(Fault::Device) => Ending::Device,
+            Err(Fault::Job(JobFault::Read)) => Ending::Read,
+            Err(Fault::Write) => Ending::Write,
+            Err(_) => Ending::Other,
+        }
+    }
+
+    /// Returns how a call ended, and what it wrote, quoted.
+    pub fn told(self, alloc: Global, written: &[u8]) -> Result<String, AllocError> {
+        let written = str::from_utf8(written).unwrap_or("what is no text");
+        format!(in alloc; "{self:?} {written:?}")
+    }
+}

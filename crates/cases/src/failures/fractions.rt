@@ -1,0 +1,85 @@
+//! Binary fractions: their grammar, a sentence with its tree, and translations over devices of any kind.
+
+use crate::failures::endings::Ending;
+use crate::rows::words::{Mistake, number, printed};
+use crate::translators::translator;
+use aggen::Translator;
+use std::alloc::Global;
+use treefile::{Device, FuseDevice, MemDevice};
+
+/// The grammar of binary fractions.
+pub const FRACTIONS: &str = "start N;
+symbol N syn out;
+symbol Q syn v;
+symbol L syn p, v inh w;
+symbol T syn p, v inh w;
+symbol B syn bit;
+N = L Q { $0.out = text($1.v + $2.v); $1.w = $1.p; }
+Q = { $0.v = 0; }
+Q = \".\" L { $0.v = $1.v; $1.w = 32768; }
+L = B T { $0.p = $2.p; $0.v = $1.bit * $0.w + $2.v; $2.w = $0.w div 2; }
+T = { $0.p = 65536; $0.v = 0; }
+T = B T { $0.p = $2.p * 2; $0.v = $1.bit * $0.w + $2.v; $2.w = $0.w div 2; }
+B = \"0\" { $0.bit = 0; }
+B = \"1\" { $0.bit = 1; }
+";
+
+/// A sentence of it, 13.25. Its translation is 868352.
+pub const SENTENCE: &[u8] = b"1101.01";
+
+/// The file of its tree before the first pass: nodes of the productions 7, 7, 6, 7, 4, 5, 5, 5, 3, 6,
+/// 7, 4, 5, 3, 2 and 0.
+pub const TREE: &[u8] = b"AGT2\0\0\
+    \0\0\x07\0\0\0\x03\0\0\x07\0\0\0\x03\0\0\x06\0\0\0\x03\0\0\x07\0\0\0\x03\
+    \0\0\x04\0\0\0\x03\0\0\x05\0\0\0\x03\0\0\x05\0\0\0\x03\0\0\x05\0\0\0\x03\
+    \0\0\x03\0\0\0\x03\0\0\x06\0\0\0\x03\0\0\x07\0\0\0\x03\0\0\x04\0\0\0\x03\
+    \0\0\x05\0\0\0\x03\0\0\x03\0\0\0\x03\0\0\x02\0\0\0\x03\0\0\0\0\0\0\x03";
+
+/// The same file as version 1 has it: the tree has no tokens, so that only the number of the version is
+/// another.
+pub fn old_tree(alloc: Global) -> Result<Vec<u8>, Mistake> {
+    let mut bytes = TREE.to_vec(alloc)?;
+    if let Some(version) = bytes.get_mut(3) {
+        *version = b'1';
+    }
+    Ok(bytes)
+}
+
+/// How translating a sentence over two devices ends, and what goes out.
+pub fn translated<D: Device>(
+    alloc: Global,
+    translator: &Translator,
+    sentence: &[u8],
+    a: &mut D,
+    b: &mut D,
+) -> Result<String, Mistake> {
+    let mut out = Vec::new(alloc);
+    let ending = Ending::of(translator.translate(sentence, a, b, &mut out));
+    Ok(ending.told(alloc, out.as_slice())?)
+}
+
+/// How evaluating a tree over two other devices ends, and what goes out.
+pub fn evaluated<D: Device>(
+    alloc: Global,
+    translator: &Translator,
+    tree: &mut D,
+    a: &mut D,
+    b: &mut D,
+) -> Result<String, Mistake> {
+    let mut out = Vec::new(alloc);
+    let ending = Ending::of(translator.evaluate_tree(tree, a, b, &mut out));
+    Ok(ending.told(alloc, out.as_slice())?)
+}
+
+/// How parsing `1` ends at a device of which a call fails.
+fn parsed_without(alloc: Global, translator: &Translator, call: u64) -> Ending {
+    let mut device = FuseDevice::new(MemDevice::new(alloc), call);
+    Ending::of(translator.parse_tree(b"1", &mut device))
+}
+
+/// The same, by a translator of its own.
+pub fn parse_without_told(alloc: Global, call: &str) -> Result<String, Mistake> {
+    let call = number(call)? as u64;
+    let translator = translator(alloc, FRACTIONS)?;
+    printed(alloc, &parsed_without(alloc, &translator, call))
+}

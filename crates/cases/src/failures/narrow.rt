@@ -1,0 +1,39 @@
+//! A writer that doesn't take all.
+
+use std::alloc::{AllocError, Global};
+use std::io::{self, Write};
+
+/// A writer that takes so many bytes, one at a time, and then none, or fails.
+#[derive(Drop)]
+pub struct Narrow {
+    /// What it has taken.
+    pub taken: Vec<u8>,
+    room: usize,
+    fails: bool,
+}
+
+impl Write for Narrow {
+    fn write(&mut self, buf: &[u8]) -> io::Result<usize> {
+        if self.taken.len() < self.room && !buf.is_empty() {
+            self.taken.push(buf[0])?;
+            return Ok(1);
+        }
+        if self.fails {
+            return Err(io::Error::from(io::ErrorKind::Other));
+        }
+        Ok(0)
+    }
+
+    fn flush(&mut self) -> io::Result<()> {
+        Ok(())
+    }
+}
+
+/// A writer of so many bytes, which has the memory for them.
+pub fn with_room(alloc: Global, room: usize, fails: bool) -> Result<Narrow, AllocError> {
+    Ok(Narrow {
+        taken: Vec::with_capacity(alloc, room)?,
+        room,
+        fails,
+    })
+}

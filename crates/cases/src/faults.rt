@@ -1,0 +1,46 @@
+//! What is told of the program's faults.
+
+use crate::rows::words::{Mistake, first_word, number};
+use ag_expr::ExprFault;
+use ag_text::TextFault;
+use ag_value::Value;
+use aggen::{Fault, status};
+use normalform::NormalFault;
+use passrun::RunFault;
+use std::alloc::Global;
+
+/// The fault that a text names.
+fn fault(text: &str) -> Result<Fault, Mistake> {
+    let (name, rest) = first_word(text);
+    match name {
+        "usage" => Ok(Fault::Usage),
+        "file" => Ok(Fault::File),
+        "expression" => Ok(Fault::Expr(ExprFault::Unexpected(number(rest)? as usize))),
+        "text" => Ok(Fault::Text(TextFault::TooLong)),
+        "grammar" => Ok(Fault::Normal(NormalFault::BadStart)),
+        "pass" => Ok(Fault::Run(RunFault::Damaged(number(rest)? as u64))),
+        "deep-file" => Ok(Fault::Run(RunFault::TooDeep)),
+        "no-text" => Ok(Fault::NoText(Value::Num(i64::from(number(rest)?)))),
+        "no-tree-file" => Ok(Fault::NotATreeFile),
+        "damaged" => Ok(Fault::Damaged(number(rest)? as u64)),
+        "device" => Ok(Fault::Device),
+        "write" => Ok(Fault::Write),
+        "memory" => Ok(Fault::NoMemory),
+        _ => Err(Mistake::Misspelt),
+    }
+}
+
+/// The status of a fault.
+pub fn status_told(alloc: Global, text: &str) -> Result<String, Mistake> {
+    Ok(status(&fault(text)?).to_string(alloc)?)
+}
+
+/// A fault's message.
+pub fn message(alloc: Global, fault: &Fault) -> Result<String, Mistake> {
+    Ok(fault.to_string(alloc)?)
+}
+
+/// The message of the fault that a text names.
+pub fn message_told(alloc: Global, text: &str) -> Result<String, Mistake> {
+    message(alloc, &fault(text)?)
+}

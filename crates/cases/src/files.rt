@@ -1,0 +1,30 @@
+//! What is told of the file of a value, and of what is read of a file.
+
+use crate::rows::words::{Mistake, shown_bytes};
+use aggen::{bytes_of, show_value};
+use std::alloc::{AllocError, Global};
+use treefile::MemDevice;
+
+/// A file, and the text that was written of it.
+fn shown(alloc: Global, file: &MemDevice, out: &[u8]) -> Result<String, AllocError> {
+    let file = shown_bytes(alloc, file.bytes())?;
+    format!(in alloc; "{file} {:?}", str::from_utf8(out))
+}
+
+/// The file of the value of an expression, and the line that is written of it.
+pub fn file_told(alloc: Global, text: &str) -> Result<String, Mistake> {
+    let mut device = MemDevice::new(alloc);
+    let mut out = Vec::new(alloc);
+    match show_value(alloc, text, &mut device, &mut out) {
+        Ok(()) => Ok(shown(alloc, &device, out.as_slice())?),
+        Err(_) => Err(Mistake::Unfit),
+    }
+}
+
+/// How many bytes are read of a file with a text.
+pub fn source_told(alloc: Global, text: &str) -> Result<String, Mistake> {
+    match bytes_of(alloc, text.as_bytes()) {
+        Ok(bytes) => Ok(format!(in alloc; "{} bytes", bytes.len())?),
+        Err(_) => Err(Mistake::Unfit),
+    }
+}

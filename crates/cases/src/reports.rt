@@ -1,0 +1,77 @@
+//! What sentences, jobs, and the trees of files are translated to.
+
+use crate::rows::words::{Mistake, bytes_of, printed};
+use crate::translators::translator;
+use ag_value::{Value, show};
+use aggen::{Fault, Report, run_job};
+use std::alloc::{AllocError, Global};
+use treefile::MemDevice;
+
+/// A text, quoted, and of a long one how many bytes it has.
+fn text_told(alloc: Global, text: &str) -> Result<String, AllocError> {
+    if text.len() > 64 {
+        return format!(in alloc; "{} bytes", text.len());
+    }
+    format!(in alloc; "{text:?}")
+}
+
+/// A report and the text that was written.
+fn report_told(alloc: Global, report: &Report, out: &[u8]) -> Result<String, Mistake> {
+    let Ok(text) = str::from_utf8(out) else {
+        return Err(Mistake::Unfit);
+    };
+    let text = text_told(alloc, text)?;
+    Ok(format!(in alloc;
+        "{text}, {} nodes, {} passes, {} rules, {} read, {} written, last {:?}",
+        report.nodes, report.passes, report.evals, report.read, report.written, report.last
+    )?)
+}
+
+/// A value that is no text.
+fn value_told(alloc: Global, value: &Value) -> Result<String, Mistake> {
+    let shown = show(alloc, value)?;
+    Ok(format!(in alloc; "no text: {shown}")?)
+}
+
+/// How a translation ended: the text that was written with its report, or the fault.
+fn ending_told(
+    alloc: Global,
+    ended: &Result<Report, Fault>,
+    out: &[u8],
+) -> Result<String, Mistake> {
+    match ended {
+        Ok(report) => report_told(alloc, report, out),
+        Err(Fault::NoText(value)) => value_told(alloc, value),
+        Err(fault) => printed(alloc, fault),
+    }
+}
+
+/// The translation of a sentence.
+pub fn translate_told(alloc: Global, text: &str, sentence: &str) -> Result<String, Mistake> {
+    let translator = translator(alloc, text)?;
+    let mut a = MemDevice::new(alloc);
+    let mut b = MemDevice::new(alloc);
+    let mut out = Vec::new(alloc);
+    let ended = translator.translate(sentence.as_bytes(), &mut a, &mut b, &mut out);
+    ending_told(alloc, &ended, out.as_slice())
+}
+
+/// The translation of a job.
+pub fn job_told(alloc: Global, text: &str) -> Result<String, Mistake> {
+    let mut a = MemDevice::new(alloc);
+    let mut b = MemDevice::new(alloc);
+    let mut out = Vec::new(alloc);
+    let ended = run_job(alloc, text.as_bytes(), &mut out, &mut a, &mut b);
+    ending_told(alloc, &ended, out.as_slice())
+}
+
+/// The translation of the tree whose file a content is.
+pub fn evaluate_told(alloc: Global, text: &str, content: &str) -> Result<String, Mistake> {
+    let mut tree = MemDevice::from_bytes(bytes_of(alloc, content)?);
+    let translator = translator(alloc, text)?;
+    let mut a = MemDevice::new(alloc);
+    let mut b = MemDevice::new(alloc);
+    let mut out = Vec::new(alloc);
+    let ended = translator.evaluate_tree(&mut tree, &mut a, &mut b, &mut out);
+    ending_told(alloc, &ended, out.as_slice())
+}

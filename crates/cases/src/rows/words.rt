@@ -1,0 +1,107 @@
+//! The words of which rows are made, and how bytes are printed.
+
+use ag_value::OutOfMemory;
+use hex::{FromHexError, decode, encode};
+use std::alloc::{AllocError, Global};
+use std::fmt::Debug;
+
+/// Why a row asks for nothing that can be told.
+#[derive(Clone, Copy, Debug)]
+pub enum Mistake {
+    /// A word of the row is none that may stand there, or one is missing.
+    Misspelt,
+    /// The row asks for more than its grammar, its expression or its value allows.
+    Unfit,
+    /// A growth was refused.
+    NoMemory,
+}
+
+impl<M: OutOfMemory> From<M> for Mistake {
+    fn from(_error: M) -> Mistake {
+        Mistake::NoMemory
+    }
+}
+
+/// A value as `{:?}` prints it.
+pub fn printed<T: Debug>(alloc: Global, value: &T) -> Result<String, Mistake> {
+    Ok(format!(in alloc; "{value:?}")?)
+}
+
+/// The first word of a text, and what stands behind the space that ends it.
+pub fn first_word(text: &str) -> (&str, &str) {
+    text.split_once(' ').unwrap_or((text, ""))
+}
+
+/// What stands on both sides of a mark.
+pub fn halves<'a>(text: &'a str, mark: &str) -> Result<(&'a str, &'a str), Mistake> {
+    text.split_once(mark).ok_or(Mistake::Misspelt)
+}
+
+/// The number that a word spells.
+pub fn number(word: &str) -> Result<u32, Mistake> {
+    word.parse::<u32>().map_err(|_| Mistake::Misspelt)
+}
+
+/// The number that a word spells, of two bytes.
+pub fn short_number(word: &str) -> Result<u16, Mistake> {
+    word.parse::<u16>().map_err(|_| Mistake::Misspelt)
+}
+
+/// The parts of a text between marks; `-` alone has none.
+pub fn parts<'a>(alloc: Global, text: &'a str, mark: &str) -> Result<Vec<&'a str>, AllocError> {
+    let mut found = Vec::new(alloc);
+    if text == "-" {
+        return Ok(found);
+    }
+    let mut rest = text;
+    for _ in 0..text.len() {
+        let Some((part, behind)) = rest.split_once(mark) else {
+            break;
+        };
+        found.push(part)?;
+        rest = behind;
+    }
+    found.push(rest)?;
+    Ok(found)
+}
+
+/// The numbers of a text, with spaces between them; `-` alone has none.
+pub fn short_numbers(alloc: Global, text: &str) -> Result<Vec<u16>, Mistake> {
+    let mut numbers = Vec::new(alloc);
+    for word in parts(alloc, text, " ")?.as_slice() {
+        numbers.push(short_number(word)?)?;
+    }
+    Ok(numbers)
+}
+
+/// The bytes that a text spells, two digits each. Of several words `00*1000` spells 1,000 times what
+/// stands in front of the `*`.
+pub fn bytes_of(alloc: Global, text: &str) -> Result<Vec<u8>, Mistake> {
+    let mut bytes = Vec::new(alloc);
+    for word in text.split_whitespace() {
+        let (piece, count) = word.split_once('*').unwrap_or((word, "1"));
+        let piece = bytes_of_word(alloc, piece)?;
+        let times = piece.as_slice().repeat(alloc, number(count)? as usize)?;
+        bytes.extend_from_slice(times.as_slice())?;
+    }
+    Ok(bytes)
+}
+
+fn bytes_of_word(alloc: Global, word: &str) -> Result<Vec<u8>, Mistake> {
+    match decode(alloc, word.as_bytes()) {
+        Ok(bytes) => Ok(bytes),
+        Err(FromHexError::OutOfMemory) => Err(Mistake::NoMemory),
+        Err(_) => Err(Mistake::Misspelt),
+    }
+}
+
+/// The most bytes that are printed one by one.
+const PRINTED: usize = 128;
+
+/// Bytes as two digits each, and many bytes by their number alone.
+pub fn shown_bytes(alloc: Global, bytes: &[u8]) -> Result<String, AllocError> {
+    if bytes.len() > PRINTED {
+        return format!(in alloc; "{} bytes", bytes.len());
+    }
+    encode(alloc, bytes)
+}

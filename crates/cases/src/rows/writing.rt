@@ -1,0 +1,86 @@
+//! The text that rows ask about, and the lines that write it.
+
+use crate::rows::words::{Mistake, bytes_of, first_word, number};
+use std::alloc::{AllocError, Global};
+
+/// Writes on a text, where a line tells so, and tells whether it does.
+pub fn write_on(alloc: Global, text: &mut String, verb: &str, rest: &str) -> Result<bool, Mistake> {
+    match verb {
+        "text" => {
+            text.clear();
+            text.push_str(rest)?;
+        }
+        "more" => {
+            text.push('\n')?;
+            text.push_str(rest)?;
+        }
+        "and" => text.push_str(rest)?,
+        "chars" => write_chars(text, bytes_of(alloc, rest)?.as_slice())?,
+        "times" => write_times(alloc, text, rest)?,
+        "twice" => write_twice(alloc, text, rest)?,
+        "front" => write_in_front(alloc, text, rest)?,
+        _ => return Ok(false),
+    }
+    Ok(true)
+}
+
+/// Writes the characters of these numbers.
+fn write_chars(text: &mut String, numbers: &[u8]) -> Result<(), AllocError> {
+    for number in numbers {
+        text.push(char::from(*number))?;
+    }
+    Ok(())
+}
+
+/// Writes what was written once more, and then a text.
+fn write_twice(alloc: Global, text: &mut String, rest: &str) -> Result<(), AllocError> {
+    let so_far = String::from_str(alloc, text.as_str())?;
+    text.push_str(so_far.as_str())?;
+    text.push_str(rest)
+}
+
+/// Writes a text in front of what was written.
+fn write_in_front(alloc: Global, text: &mut String, rest: &str) -> Result<(), AllocError> {
+    let so_far = String::from_str(alloc, text.as_str())?;
+    text.clear();
+    text.push_str(rest)?;
+    text.push_str(so_far.as_str())
+}
+
+/// Writes a text as often as the number in front of it says, with the turn's number, from 0, in the
+/// place of each `#`, the next one in the place of each `@`, and a space in the place of each `~`.
+fn write_times(alloc: Global, text: &mut String, rest: &str) -> Result<(), Mistake> {
+    let (count, piece) = first_word(rest);
+    let count = number(count)?;
+    if !piece.contains('#') && !piece.contains('@') {
+        return Ok(write_alike(alloc, text, piece, count as usize)?);
+    }
+    for turn in 0..count {
+        write_turn(text, piece, turn)?;
+    }
+    Ok(())
+}
+
+/// Writes a text so often, the same in each turn.
+fn write_alike(
+    alloc: Global,
+    text: &mut String,
+    piece: &str,
+    count: usize,
+) -> Result<(), AllocError> {
+    let mut one = String::new(alloc);
+    write_turn(&mut one, piece, 0)?;
+    text.push_str(one.as_str().repeat(alloc, count)?.as_str())
+}
+
+fn write_turn(text: &mut String, piece: &str, turn: u32) -> Result<(), AllocError> {
+    for letter in piece.chars() {
+        match letter {
+            '#' => write!(text, "{turn}")?,
+            '@' => write!(text, "{}", turn.wrapping_add(1))?,
+            '~' => text.push(' ')?,
+            _ => text.push(letter)?,
+        }
+    }
+    Ok(())
+}

@@ -1,0 +1,16 @@
+//! What is read of files.
+
+use crate::failures::endings::Ending;
+use crate::rows::words::{Mistake, bytes_of, printed};
+use aggen::source_of;
+use std::alloc::Global;
+use std::rt::Files;
+
+/// How reading the file of a path ends, which is spelled by its bytes.
+pub fn source_of_told<R: Files>(rt: &R, alloc: Global, spelled: &str) -> Result<String, Mistake> {
+    let path = bytes_of(alloc, spelled)?;
+    match str::from_utf8(path.as_slice()) {
+        Ok(path) => printed(alloc, &Ending::of(source_of(rt, alloc, path))),
+        Err(_) => Err(Mistake::Unfit),
+    }
+}
