@@ -1,11 +1,10 @@
 //! The code of a grammar under an assignment.
 
-ghost use Rattle.std.specs.Prelude.{ℕ, ◌≡◌, ◌+◌, ◌≤◌, IfOk, Some, List, length, slice_get};
-ghost use Rattle.ag_grammar.specs.grammars.Accepted.{most_attributes, most_stored};
-ghost use Rattle.ag_grammar.specs.grammars.Passes.{IsLegal, direction_of};
+ghost use Rattle.std.specs.Prelude.{ℕ, ◌≡◌, ◌+◌, IfOk, Some, List, length, slice_get};
+ghost use Rattle.ag_grammar.specs.grammars.Passes.{IsLegal};
 ghost use Rattle.passassign.specs.Rows.{passes_of};
 ghost use Rattle.passcode.specs.Agreement.{Agrees};
-ghost use Rattle.passcode.specs.Listing.{IsGenerated, IsMadeOf, IsPart, last_key};
+ghost use Rattle.passcode.specs.Listing.{IsGenerated};
 ghost use Rattle.passcode.specs.Order.{AreInOrder};
 ghost use Rattle.passcode.specs.Rows.{row_of};
 ghost use Rattle.passcode.specs.Shape.{HasLists, HasNumbers, HasShape};
@@ -15,34 +14,11 @@ ghost use Rattle.passcode.specs.declared.instr.Instr.{Instr as TheInstr};
 use crate::code::Code;
 use crate::instr::Instr;
 use crate::listing::list_of;
-use crate::table::{Given, rule_table};
-use ag_grammar::{Grammar, Item, Production};
+use crate::table::rule_table;
+use ag_grammar::{Grammar, Production};
 use ag_value::NoMemory;
 use passassign::Assignment;
 use std::alloc::Global;
-
-/// Returns the lists of a production for the first `passes` passes, from the rules of its targets and
-/// the items at its places.
-fn lists_at(
-    alloc: Global,
-    table: &[Option<Given>],
-    places: &[Item],
-    passes: u16,
-) -> Result<Vec<Vec<Instr>>, NoMemory>
-    requires some { 1 ≤ length places.now }
-    requires few { length places.now ≤ most_stored + 1 }
-    ensures len { IfOk result (λ lists. length lists.items ≡ passes) }
-    ensures lists { IfOk result (λ lists. (i : ℕ) (xs : List TheInstr)
-        → slice_get (row_of lists.items) i ≡ Some xs → IsMadeOf (direction_of (i + 1))
-        (IsPart (direction_of (i + 1)) table.now (i + 1) places.now)
-        (last_key + (most_attributes + 1)) xs) }
-{
-    let mut lists = Vec::new(alloc);
-    for before in 0..passes {
-        lists.push(list_of(alloc, table, before + 1, places)?)?;
-    }
-    Ok(lists)
-}
 
 /// The lists of a production, for so many passes.
 fn lists_of(
@@ -59,7 +35,11 @@ fn lists_of(
 {
     let places = production.places(alloc)?;
     let table = rule_table(alloc, production, places.as_slice(), assignment)?;
-    lists_at(alloc, table.as_slice(), places.as_slice(), passes)
+    let mut lists = Vec::new(alloc);
+    for before in 0..passes {
+        lists.push(list_of(alloc, table.as_slice(), before + 1, places.as_slice())?)?;
+    }
+    Ok(lists)
 }
 
 /// The code of an accepted grammar under a legal assignment: a list of instructions for each

@@ -13,7 +13,7 @@ use passassign::Assignment;
 use std::alloc::Global;
 
 /// The rule that gives an attribute its value, and the attribute's pass.
-#[derive(Clone, Copy)]
+#[derive(Clone, Copy, Debug, PartialEq, Eq)]
 pub(crate) struct Given {
     pub rule: u16,
     pub pass: u16,

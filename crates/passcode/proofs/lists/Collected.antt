@@ -21,15 +21,15 @@ use Rattle.passcode.specs.Tables.{IsPlanned, IsTable}
 use Rattle.passcode.proofs.lists.Agreeing.{generated}
 
 -- a list more is collected
-pub lists_more : (P : ℕ → List Instr → Type 0) (n : ℕ) (lists new : List (Vec Instr)) (one : Vec Instr) → new ≡ lists ++ one ∷ [] → length lists ≡ n → P (n + 1) one.items
-    → ((i : ℕ) (xs : List Instr) → slice_get (row_of lists) i ≡ Some xs → P (i + 1) xs) → (i : ℕ) (xs : List Instr) → slice_get (row_of new) i ≡ Some xs → P (i + 1) xs
-lists_more P n lists new one put len here before i xs is = elim (get_push_cases (row_of lists) one.items xs i (ap (λ r. slice_get r i) (sym row) ∙ is)) [
+pub lists_more : (m : Passes) (q : Production) (n : ℕ) (lists new : List (Vec Instr)) (one : Vec Instr) → new ≡ lists ++ one ∷ [] → length lists ≡ n → IsGenerated m q (n + 1) one.items
+    → ((i : ℕ) (xs : List Instr) → slice_get (row_of lists) i ≡ Some xs → IsGenerated m q (i + 1) xs) → (i : ℕ) (xs : List Instr) → slice_get (row_of new) i ≡ Some xs → IsGenerated m q (i + 1) xs
+lists_more m q n lists new one put len here before i xs is = elim (get_push_cases (row_of lists) one.items xs i (ap (λ r. slice_get r i) (sym row) ∙ is)) [
   | inl old ↦ before i xs old
   | inr last ↦ (
       let a = last.0 in
       let b : length (row_of lists) ≡ length lists = length-map lists (λ (v : Vec Instr). v.items) in
       let at : n ≡ i = omega arith in
-      subst (P (i + 1)) last.1 (subst (λ k. P (k + 1) one.items) at here))
+      subst (IsGenerated m q (i + 1)) last.1 (subst (λ k. IsGenerated m q (k + 1) one.items) at here))
 ]
   where
     row : row_of new ≡ row_of lists ++ one.items ∷ []
