@@ -8,7 +8,7 @@ ghost use Rattle.treefile.specs.records.TreeFile.{version_two};
 use backreader::Back;
 use std::alloc::{AllocError, Global};
 use std::test::Fail;
-use treefile::{Device, DeviceFault, FrameFault, FuseDevice, MemDevice, Writer};
+use treefile::{Device, DeviceFault, FrameFault, FuseDevice, MemDevice};
 
 /// A device that keeps nothing, and says that it has a tree file of 2^63 bytes.
 #[derive(Drop)]
@@ -57,13 +57,12 @@ fn bodies_back<D: Device>(alloc: Global, device: &mut D) -> Result<Vec<Vec<u8>>,
 }
 
 /// The file of pass 0 with bodies of three bytes: nodes of these productions.
-pub(crate) fn file_of(alloc: Global, productions: &[u8]) -> Result<Vec<u8>, Fail> {
-    let mut device = MemDevice::new(alloc);
-    let mut writer = Writer::begin(alloc, &mut device, 0)?;
+pub(crate) fn file_of(alloc: Global, productions: &[u8]) -> Result<Vec<u8>, AllocError> {
+    let mut bytes = Vec::from_slice(alloc, b"AGT2\0\0")?;
     for production in productions {
-        writer.put_body(&mut device, &[0, 0, *production])?;
+        bytes.extend_from_slice(&[0, 0, *production, 0, 0, 0, 3])?;
     }
-    Ok(Vec::from_slice(alloc, device.bytes())?)
+    Ok(bytes)
 }
 
 /// The first refusal of a reader, its next answer if that is a refusal too, and how many bodies
