@@ -1,4 +1,4 @@
-"""The proved program, for the scripts that run it."""
+"""The program that was proved and built in this checkout, for the scripts that run it. It is never the one in dist/."""
 import subprocess
 from pathlib import Path
 
@@ -6,8 +6,8 @@ TOP = Path(__file__).resolve().parent.parent
 
 
 def program_of(given):
-    """Returns the path of the program that a script runs: the given one, or else the proved one, which ./aggen builds first."""
+    """Returns the path of the program that a script runs: the given one, or else the proved one, which ./aggen --build builds first."""
     if given is not None:
         return Path(given).resolve()
-    subprocess.run([TOP / "aggen", "value", "1"], stdout=subprocess.DEVNULL, check=True)
+    subprocess.run([TOP / "aggen", "--build"], stdout=subprocess.DEVNULL, check=True)
     return TOP / "out" / "program" / "aggen"
