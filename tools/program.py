@@ -6,7 +6,7 @@ TOP = Path(__file__).resolve().parent.parent
 
 
 def program_of(given):
-    """Returns the path of the program that a script runs: the given one, or else the proved one, which ./aggen --build builds first."""
+    """Returns the path of the program that a script runs: the given one, or the proved one, which is built first if needed."""
     if given is not None:
         return Path(given).resolve()
     subprocess.run([TOP / "aggen", "--build"], stdout=subprocess.DEVNULL, check=True)
