@@ -12,7 +12,7 @@ use llparse::TableFault;
 use normalform::NormalFault;
 
 /// Why a text makes no translator. Want of memory is in none but its own variant.
-#[derive(Drop)]
+#[derive(Debug, Drop)]
 pub enum BuildFault {
     /// G1 to G4: the text reads as no grammar.
     Text(TextFault),

@@ -3,7 +3,7 @@
 use crate::faults::message;
 use crate::rows::words::{Mistake, printed};
 use crate::sentences::tree_file_told;
-use aggen::{BuildFault, Fault, Translator, grammar_of};
+use aggen::{Fault, Translator, grammar_of};
 use std::alloc::Global;
 use treefile::MemDevice;
 

@@ -73,7 +73,7 @@ impl Device for Liar {
 }
 
 /// The lie that a word names.
-fn lie(word: &str) -> Result<Lie, Mistake> {
+fn lie_named(word: &str) -> Result<Lie, Mistake> {
     match word {
         "long" => Ok(Lie::Long),
         "shrinking" => Ok(Lie::Shrinking),
@@ -174,7 +174,7 @@ fn return_clean(alloc: Global, translator: &Translator, lie: Lie) -> Result<bool
 
 /// Whether passes, `translate`, `evaluate_tree` and `upgrade` return, and nothing goes out where one is refused.
 pub fn lie_told(alloc: Global, word: &str) -> Result<String, Mistake> {
-    let lie = lie(word)?;
+    let lie = lie_named(word)?;
     let translator = translator(alloc, FRACTIONS)?;
     let is_clean = return_clean(alloc, &translator, lie)?;
     Ok(format!(in alloc; "{is_clean}")?)
@@ -190,7 +190,7 @@ fn turned(alloc: Global, lie: Lie) -> Result<(), Mistake> {
 
 /// That turning a file round returns.
 pub fn lie_turn_told(alloc: Global, word: &str) -> Result<String, Mistake> {
-    turned(alloc, lie(word)?)?;
+    turned(alloc, lie_named(word)?)?;
     Ok(String::from_str(alloc, "returned")?)
 }
 
@@ -209,7 +209,7 @@ fn lent(alloc: Global, device: &mut Liar) -> Result<u64, Mistake> {
 
 /// Whether a reader lends no more bodies than there are frames: a file of 118 bytes has 16, and there is no longer one.
 pub fn lie_back_told(alloc: Global, word: &str) -> Result<String, Mistake> {
-    let mut device = liar_over(alloc, TREE, lie(word)?)?;
+    let mut device = liar_over(alloc, TREE, lie_named(word)?)?;
     let lent = lent(alloc, &mut device)?;
     Ok(format!(in alloc; "{}", lent < 17)?)
 }
