@@ -1,5 +1,5 @@
 """Sentences of names.ag in this folder, and variants of that grammar: one with a pass that reads the tables, and some with
-chains of nodes that only hand the table on."""
+chains of nodes that only pass the table on."""
 from pathlib import Path
 
 # the number of declarations of a procedure, itself included, and the number of imported names
@@ -74,7 +74,7 @@ def read_again():
 
 
 def linked(links):
-    """Returns the grammar with this number of nodes between a procedure and the next one, which only hand on their values."""
+    """Returns the grammar with this number of nodes between a procedure and the next one, which only pass their values on."""
     rules = "{ $0.count = $1.count; $0.sum = $1.sum; $0.wrong = $1.wrong; $1.env = $0.env; }"
     names = [f"Link{index}" for index in range(links)]
     symbols = "".join(f"symbol {name} syn count, sum, wrong inh env;\n" for name in names)
