@@ -1,7 +1,7 @@
 """Makes Oberon-0 modules of any length, always the same ones: `python3 oberon0_modules.py LINES` prints one.
 
-A module has procedures of some twenty lines, each with constants, a type, variables, a nested procedure with a VAR parameter, loops,
-CASE and IF, and a call of the procedure before it. Its statements call every twentieth procedure and print what it computes.
+A module has procedures of some fifty lines, each with a constant, a type, variables, a nested procedure with a VAR parameter, loops,
+CASE and IF, and a call of the procedure before it. The module calls every tenth procedure and prints what it computes.
 """
 import sys
 
@@ -13,26 +13,47 @@ HEAD = """MODULE Large;
 
 PROCEDURE = """
   PROCEDURE Work{n}(VAR result: INTEGER; seed: INTEGER; values: Vector);
-    CONST step = {step};
-    TYPE Pair = RECORD sum, count: INTEGER; isOdd: BOOLEAN END;
-    VAR i: INTEGER; pair: Pair;
+    CONST
+      step = {step};
+    TYPE
+      Pair = RECORD
+        sum, count: INTEGER;
+        isOdd: BOOLEAN
+      END;
+    VAR
+      i: INTEGER;
+      pair: Pair;
 
     PROCEDURE Mix(VAR to: INTEGER; by: INTEGER);
     BEGIN
       to := (to * {factor} + by - i) MOD modulus;
-      IF (to MOD 2 = 1) & ~ pair.isOdd THEN pair.isOdd := TRUE; pair.count := pair.count + 1
-      ELSIF (to < step) OR (i = seed) THEN pair.isOdd := FALSE
-      ELSE to := to + 1 END
+      IF (to MOD 2 = 1) & ~ pair.isOdd THEN
+        pair.isOdd := TRUE;
+        pair.count := pair.count + 1
+      ELSIF (to < step) OR (i = seed) THEN
+        pair.isOdd := FALSE
+      ELSE
+        to := to + 1
+      END
     END Mix;
 
   BEGIN
-    pair.sum := seed; pair.count := 0; i := 0; pair.isOdd := seed MOD 2 = 1;
-    WHILE i < size DO values[i] := values[i] + pair.sum; Mix(values[i], step); i := i + 1 END;
+    pair.sum := seed;
+    pair.isOdd := seed MOD 2 = 1;
+    i := 0;
+    WHILE i < size DO
+      values[i] := values[i] + pair.sum;
+      Mix(values[i], step);
+      i := i + 1
+    END;
     FOR i := size - 1 TO 0 BY -step DO
       CASE values[i] MOD 10 OF
-        0 .. 3, 7: pair.sum := pair.sum + values[i]
-      | 5: Mix(pair.sum, {n})
-      ELSE shared[i] := (shared[i] + pair.sum) MOD modulus
+        0 .. 3, 7:
+          pair.sum := pair.sum + values[i]
+      | 5:
+          Mix(pair.sum, {n})
+      ELSE
+        shared[i] := (shared[i] + pair.sum) MOD modulus
       END
     END;
 {call}    result := (result + pair.sum + pair.count) MOD modulus
@@ -42,7 +63,7 @@ PROCEDURE = """
 
 def procedure(number):
     """Returns the text of a procedure, which calls the one before it."""
-    called = f"    IF pair.isOdd & (seed > 0) THEN Work{number - 1}(result, seed - 1, values) END;\n" if number else ""
+    called = f"    IF pair.isOdd & (seed > 0) THEN\n      Work{number - 1}(result, seed - 1, values)\n    END;\n" if number else ""
     return PROCEDURE.format(n=number, step=1 + number % 3, factor=3 + number % 7, call=called)
 
 
@@ -52,9 +73,9 @@ def module(lines):
     while length < lines:
         parts.append(procedure(number))
         length += parts[-1].count("\n")
-        length += number % 20 == 0
+        length += number % 10 == 0
         number += 1
-    calls = "".join(f"  Work{n}(total, {n % 5}, shared); Write(total);\n" for n in range(0, number, 20))
+    calls = "".join(f"  Work{n}(total, {n % 5}, shared); Write(total);\n" for n in range(0, number, 10))
     parts.append(f"\nBEGIN\n  total := 1;\n{calls}  WriteLn\nEND Large.\n")
     return "".join(parts)
 
