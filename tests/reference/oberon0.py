@@ -26,7 +26,7 @@ class Fault(Exception):
 
 
 class NoModule(Exception):
-    """The text is no module: a token that can't be accepted."""
+    """The text is not a module: a token can't be accepted."""
 
 
 @dataclass(eq=False)
@@ -179,7 +179,7 @@ def copy_of(value):
 
 
 def at_level(frame, count):
-    """Returns the frame that is so many levels further out."""
+    """Returns the frame that is `count` levels further out."""
     for _ in range(count):
         frame = frame[None]
     return frame
@@ -749,7 +749,7 @@ class Machine:
         container, key = frame["x"]
         number = next(self.numbers, None)
         if number is None:
-            raise Fault("there is no number to read")
+            raise Fault("no number is left to read")
         container[key] = int(number)
 
     def write(self, frame):

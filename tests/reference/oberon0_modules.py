@@ -68,7 +68,7 @@ def procedure(number):
 
 
 def module(lines):
-    """Returns a module of about so many lines."""
+    """Returns a module of about `lines` lines."""
     parts, length, number = [HEAD], HEAD.count("\n") + 6, 0
     while length < lines:
         parts.append(procedure(number))

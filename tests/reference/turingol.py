@@ -126,10 +126,10 @@ class Program:
             if instruction[0] in ("print", "unless") and instruction[1] not in self.alphabet:
                 self.wrong.append(f"{instruction[1]} is not in the alphabet")
             if instruction[0] == "go" and instruction[1] not in self.labels:
-                self.wrong.append(f"there is no label {instruction[1]}")
+                self.wrong.append(f"the label {instruction[1]} is missing")
 
     def run(self, squares, most):
-        """Runs the program on a tape, with at most so many instructions, and returns the tape's content."""
+        """Runs the program on a tape, for at most `most` instructions, and returns the tape's content."""
         tape, at = Tape(self.alphabet[0], dict(squares)), 0
         for _ in range(most):
             if at == len(self.code):
@@ -159,7 +159,7 @@ class TuringMachine:
             self.quintuples[state, symbol] = then
 
     def run(self, squares, most):
-        """Runs the machine on a tape, with at most so many steps, and returns the tape's content."""
+        """Runs the machine on a tape, for at most `most` steps, and returns the tape's content."""
         tape, state = Tape(self.blank, dict(squares)), self.first
         for _ in range(most):
             step = self.quintuples.get((state, tape.read()))
