@@ -695,7 +695,9 @@ class Reader:
                 self.complain(f"{value.text} has no field {name}")
             else:
                 of = value.type.fields[name]
-        place = lambda frame: (read_place(value.place(frame)), name)
+
+        def place(frame):
+            return read_place(value.place(frame)), name
         return Operand(of, lambda frame: read_place(place(frame)), place=place, text=f"{value.text}.{name}")
 
     def element_of(self, value):
