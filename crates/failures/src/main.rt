@@ -1,10 +1,7 @@
-//! Tries rows about the translator where devices, readers, writers and files fail or lie, and about reads and writes by
-//! blocks. `tests/README.md` lists the verbs.
+//! Tries rows about the translator where devices, readers, writers and files fail or lie. `tests/README.md` lists the verbs.
 #![tactic(auto)]
 
 mod beginnings;
-mod blocks;
-mod counting;
 mod endings;
 mod failing;
 mod fractions;

@@ -1,7 +1,6 @@
-//! Which verb asks which question about failures, and about reads and writes by blocks.
+//! Which verb asks which question about failures.
 
 use crate::beginnings::beginning_told;
-use crate::blocks::{blocks_of_passes_told, blocks_of_translate_told};
 use crate::failing::failing_told;
 use crate::fractions::parse_without_told;
 use crate::job_reads::job_reads_told;
@@ -37,8 +36,6 @@ impl<R: Files> Questions for Failures<'_, R> {
             "job-reads" => job_reads_told(alloc, rest),
             "source-of" => source_of_told(self.rt, alloc, rest),
             "translate-three" => translate_three_told(alloc),
-            "blocks-of-translate" => blocks_of_translate_told(alloc),
-            "blocks-of-passes" => blocks_of_passes_told(alloc),
             _ => answer_of_lies(alloc, verb, rest),
         }
     }

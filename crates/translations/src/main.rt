@@ -1,6 +1,8 @@
-//! Tries rows about the translator: translations, jobs, trees, faults and files. `tests/README.md` lists the verbs.
+//! Tries rows about the translator: translations, jobs, trees, faults, files, and reads and writes by blocks. `tests/README.md` lists the verbs.
 #![tactic(auto)]
 
+mod blocks;
+mod counting;
 mod faults;
 mod files;
 mod questions;

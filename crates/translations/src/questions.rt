@@ -1,5 +1,6 @@
 //! Which verb asks which question about translators, faults and files.
 
+use crate::blocks::{blocks_of_passes_told, blocks_of_translate_told};
 use crate::faults::{message_told, status_told};
 use crate::files::{file_told, source_told};
 use crate::reports::{evaluate_told, job_told, translate_told};
@@ -28,6 +29,8 @@ impl Questions for Translations {
             "translate" => translate_told(alloc, grammar, text),
             "evaluate" => evaluate_told(alloc, grammar, text),
             "job" => job_told(alloc, text),
+            "blocks-of-translate" => blocks_of_translate_told(alloc),
+            "blocks-of-passes" => blocks_of_passes_told(alloc),
             "file" => file_told(alloc, text),
             "source" => source_told(alloc, text),
             "status" => status_told(alloc, rest),

@@ -4,7 +4,7 @@ ghost use Rattle.std.specs.Prelude.{◌≡◌, IfOk};
 ghost use Rattle.planchecker.specs.Plans.{IsPlan};
 
 use crate::counting::CountingDevice;
-use crate::fractions::translator;
+use crate::translators::translator;
 use ag_eval::Meter;
 use ag_grammar::Grammar;
 use aggen::Translator;
