@@ -18,7 +18,7 @@ const COMMENT_OR_SIGN: &str =
     "grammars and expressions have no comments, and `-a` is written `(0 - a)`";
 
 /// What helps at a reserved word where a name is expected.
-const RESERVED: &str = "this word is reserved";
+const RESERVED: &str = "this word is reserved, use another name";
 
 /// What helps at a sign before an operand.
 const SIGN: &str = "`-a` is written `(0 - a)`";
@@ -27,7 +27,8 @@ const SIGN: &str = "`-a` is written `(0 - a)`";
 const TEXT: &str = "a text ends with a quote and has only the escapes \\\" \\\\ \\n \\t \\r";
 
 /// What helps at a `$` that begins no occurrence.
-const OCCURRENCE: &str = "an occurrence is `$`, digits, `.` and a name with nothing between";
+const OCCURRENCE: &str =
+    "an attribute is written `$`, place, `.`, name, without spaces, as in `$1.s`";
 
 /// Hints at what begins no token, by its first characters: mostly signs of other languages. A sign comes
 /// after those that begin with it.
