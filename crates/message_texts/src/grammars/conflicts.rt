@@ -109,7 +109,7 @@ fn write_help(
     if common == first.len() && common == second.len() {
         return out.push_str("remove one of the two: they are the same");
     }
-    if conflict.ahead == Ahead::End {
+    if matches!(conflict.ahead, Ahead::End) {
         return out.push_str("let only one of the two be empty");
     }
     if first.is_empty() || second.is_empty() {

@@ -298,7 +298,7 @@ fn write_symbols(out: &mut String, names: &[&str]) -> Result<(), AllocError> {
             1 => " and ",
             _ => ", ",
         };
-        write!(out, "`{name}`{separator}")?;
+        write!(out, "`{}`{separator}", *name)?;
     }
     match left {
         0 => Ok(()),
@@ -443,7 +443,8 @@ fn describe_unusable(
         AsWritten(placed.occurrence)
     )?;
     parts.help.push_str("use ")?;
-    if write_occurrences(&mut parts.help, raw, placed.production, false)? > 0 {
+    let shown = write_occurrences(&mut parts.help, raw, placed.production, false)?;
+    if shown > 0 {
         parts.help.push_str(", or ")?;
     }
     parts.help.push_str("the expression that defines it")
