@@ -12,9 +12,9 @@ import tree_files
 
 DIRECTIONS = {"right to left": -1, "left to right": 1}
 MESSAGE = re.compile(
-    r"A1((?: \S+)+): no number of passes computes these attributes \(a value depends on itself, or needs both directions in one "
-    r"pass\)\. From (right to left|left to right), all of them wait for (this rule|these rules): (.+), "
-    r"(change it|change one or more of them), or use separate attributes for the two directions\n"
+    r"A1((?: \S+)+): no number of passes computes these attributes \(a value depends on itself, or an attribute needs different "
+    r"passes at different nodes\)\. From (right to left|left to right), all of them wait for (this rule|these rules): (.+), "
+    r"(change it|change one or more of them), or use a separate attribute for each pass\n"
 )
 REASON = re.compile(
     r"`\$(\d+)\.(\w+)` \((.+):(\d+):(\d+)\) uses `\$(\d+)\.(\w+)`, (?:and \$(\d+) is visited after \$(\d+)"

@@ -48,7 +48,7 @@ fn describe_fewest(
         first
     };
     parts.found.push_str(
-        "no number of passes computes these attributes (a value depends on itself, or needs both directions in one pass)",
+        "no number of passes computes these attributes (a value depends on itself, or an attribute needs different passes at different nodes)",
     )?;
     fewest.describe(parts, source)
 }
@@ -146,7 +146,7 @@ impl<'a> Struck<'a> {
         write_others(&mut parts.found, count.saturating_sub(MAX_NAMED_RULES))?;
         write!(
             parts.help,
-            "{help}, or use separate attributes for the two directions"
+            "{help}, or use a separate attribute for each pass"
         )
     }
 
