@@ -1,10 +1,10 @@
 //! What is told of contents of devices: files that are written, read back and turned round.
 
-use crate::rows::words::{
-    Mistake, bytes_of, first_word, halves, number, parts, printed, short_number, shown_bytes,
-};
 use ag_value::Value;
 use backreader::{Arity, Back, turn};
+use rows::words::{
+    Mistake, bytes_of, first_word, halves, number, parts, printed, short_number, shown_bytes,
+};
 use std::alloc::{AllocError, Global};
 use treefile::{Device, DeviceFault, FrameFault, Kind, MemDevice, Writer, last_body, split_body};
 

@@ -1,11 +1,11 @@
 //! What is told of the text of an expression.
 
-use crate::rows::words::{Mistake, first_word, halves, number, printed};
-use crate::rows::written::Written;
 use ag_eval::{Environment, Meter, eval};
 use ag_expr::{expected_at, read_expr, read_until};
 use ag_grammar::{Expr, occurrences};
 use ag_value::{Value, is_well, show};
+use rows::words::{Mistake, first_word, halves, number, printed};
+use rows::written::Written;
 use std::alloc::{AllocError, Global};
 
 /// How many occurrences an expression has at most that is evaluated.

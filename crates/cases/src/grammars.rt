@@ -3,12 +3,12 @@
 ghost use Rattle.std.specs.Prelude.{IfOk};
 ghost use Rattle.normalform.specs.faults.Faults.{IsReadable};
 
-use crate::rows::words::{Mistake, printed};
 use ag_grammar::{
     Grammar, Named, Production, RawGrammar, RawItem, RawProduction, RawRule, RawSymbol, occurrences,
 };
 use ag_text::{expected_at, read_grammar};
 use normalform::{NormalFault, check, is_readable};
+use rows::words::{Mistake, printed};
 use std::alloc::{AllocError, Global};
 
 /// What is read of a text, or its fault.

@@ -1,31 +1,27 @@
-//! Tries rows that are lines of data: each asks something of a public call of the libraries or of the translator,
-//! and the lines after it are the right answer. Prints each wrong line with its number, and then the number of
-//! right answers. `tests/README.md` lists the verbs.
+//! Tries rows about public calls of the libraries, from values to the text of the root. `tests/README.md` lists the verbs.
 #![tactic(auto)]
 
 mod contents;
 mod expressions;
-mod failures;
-mod faults;
-mod files;
 mod grammars;
 mod passes;
 mod plans;
 mod questions;
 mod raw_grammars;
-mod reports;
 mod roots;
-mod rows;
 mod sentences;
-mod sources;
 mod stuck;
-mod translators;
 mod value_questions;
 mod values;
 
+use ag_value::Value;
+use questions::Given;
 use rows::sheet::try_rows;
 use std::io;
 
 fn main(rt: HostRuntime) -> io::Result<()> {
-    try_rows(&rt, rt.alloc())
+    let mut given = Given {
+        value: Value::Num(0),
+    };
+    try_rows(&rt, rt.alloc(), &mut given)
 }

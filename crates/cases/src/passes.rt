@@ -3,15 +3,13 @@
 ghost use Rattle.planchecker.specs.Plans.{IsPlan};
 
 use crate::plans::{pair, plan_of};
-use crate::rows::words::{
-    Mistake, bytes_of, first_word, halves, printed, short_number, shown_bytes,
-};
-use crate::rows::written::Written;
 use crate::sentences::tree_of;
 use ag_eval::Meter;
 use ag_grammar::Grammar;
 use passrun::{Last, Passed, run_all, run_pass};
 use planchecker::{Plan, check_plan};
+use rows::words::{Mistake, bytes_of, first_word, halves, printed, short_number, shown_bytes};
+use rows::written::Written;
 use std::alloc::Global;
 use treefile::MemDevice;
 

@@ -3,12 +3,12 @@
 ghost use Rattle.std.specs.Prelude.{IfOk};
 ghost use Rattle.planchecker.specs.Plans.{IsPlan};
 
-use crate::rows::words::{Mistake, first_word, halves, parts, short_number, short_numbers};
 use ag_grammar::Grammar;
 use agoutput::{write_code, write_plan};
 use passassign::{Assignment, assign};
 use passcode::{Code, Instr, generate};
 use planchecker::{Plan, check_plan};
+use rows::words::{Mistake, first_word, halves, parts, short_number, short_numbers};
 use std::alloc::{AllocError, Global};
 
 /// The instruction that a word spells: `g2`, `o2` and `p2` get, go to and put the second child,

@@ -1,34 +1,53 @@
-//! Which verb asks for what of grammars, plans, sentences and translators.
+//! Which verb asks which question about grammars, plans, sentences and passes.
 
-use crate::faults::{message_told, status_told};
-use crate::files::{file_told, source_told};
 use crate::grammars::{check_told, could_told, grammar, parts_told, read_told};
 use crate::passes::{pass_told, run_by_told, run_bytes_told, run_told, through_told};
 use crate::plans::{list_told, listing_told, passes_told, plan_told};
 use crate::raw_grammars::chain_told;
-use crate::reports::{evaluate_told, job_told, translate_told};
 use crate::roots::{root_bytes_told, root_told};
-use crate::rows::words::{Mistake, bytes_of, number};
-use crate::rows::written::Written;
 use crate::sentences::{
     choice_told, parse_failing_told, parse_told, scan_told, stand_told, table_told,
 };
 use crate::stuck::{assign_told, stuck_told};
-use crate::translators::{grammar_of_told, parse_tree_told};
 use crate::value_questions;
+use crate::values::given;
 use ag_grammar::Grammar;
+use ag_value::Value;
+use rows::sheet::Questions;
+use rows::words::{Mistake, bytes_of, number};
+use rows::written::Written;
 use std::alloc::Global;
 
-/// Answers a question: about texts of grammars, the grammar that was written, plans, sentences, passes and translators,
-/// or else about expressions, values and contents. Fails with `Misspelt` if no question begins with the verb.
-pub fn answer(alloc: Global, written: &Written, verb: &str, rest: &str) -> Result<String, Mistake> {
-    let question = Question {
-        alloc,
-        written,
-        verb,
-        rest,
-    };
-    question.answer()
+/// The value that the rows have given last: that of each occurrence of an expression.
+#[derive(Drop)]
+pub struct Given {
+    pub value: Value,
+}
+
+impl Questions for Given {
+    fn follow(&mut self, alloc: Global, verb: &str, rest: &str) -> Result<bool, Mistake> {
+        if !matches!(verb, "given" | "letters" | "wrap" | "doubled") {
+            return Ok(false);
+        }
+        self.value = given(alloc, verb, rest, &self.value)?;
+        Ok(true)
+    }
+
+    fn answer(
+        &self,
+        alloc: Global,
+        written: &Written,
+        verb: &str,
+        rest: &str,
+    ) -> Result<String, Mistake> {
+        let question = Question {
+            alloc,
+            written,
+            verb,
+            rest,
+        };
+        question.answer(&self.value)
+    }
 }
 
 /// A question: its verb, the words after it, and what was written above.
@@ -46,10 +65,10 @@ impl Question<'_> {
         self.written.text_or(self.rest)
     }
 
-    /// Returns the answer.
-    fn answer(&self) -> Result<String, Mistake> {
+    /// Answers a question about the grammar that was written, or else about texts and the value that was given.
+    fn answer(&self, given: &Value) -> Result<String, Mistake> {
         if !self.is_of_grammar() {
-            return self.of_texts();
+            return self.of_texts(given);
         }
         let grammar = grammar(self.alloc, self.written.grammar.as_str())?;
         self.of_plans(&grammar)
@@ -109,8 +128,8 @@ impl Question<'_> {
         }
     }
 
-    /// Answers questions about texts of grammars, and about assignments and code without a grammar.
-    fn of_texts(&self) -> Result<String, Mistake> {
+    /// Answers questions about texts of grammars, about assignments and code without a grammar, or else about values.
+    fn of_texts(&self, given: &Value) -> Result<String, Mistake> {
         let (alloc, rest) = (self.alloc, self.rest);
         match self.verb {
             "read" => read_told(alloc, self.text().as_bytes()),
@@ -120,24 +139,7 @@ impl Question<'_> {
             "chain" => chain_told(alloc, number(rest)?),
             "passes" => passes_told(alloc, rest),
             "list" => list_told(alloc, rest),
-            _ => self.of_translators(),
-        }
-    }
-
-    /// Answers questions about translators of the text that was written for a grammar, and about faults and files.
-    fn of_translators(&self) -> Result<String, Mistake> {
-        let (alloc, grammar) = (self.alloc, self.written.grammar.as_str());
-        match self.verb {
-            "grammar-of" => grammar_of_told(alloc, grammar),
-            "parse-tree" => parse_tree_told(alloc, grammar, self.text()),
-            "translate" => translate_told(alloc, grammar, self.text()),
-            "evaluate" => evaluate_told(alloc, grammar, self.text()),
-            "job" => job_told(alloc, self.text()),
-            "file" => file_told(alloc, self.text()),
-            "source" => source_told(alloc, self.text()),
-            "status" => status_told(alloc, self.rest),
-            "message" => message_told(alloc, self.rest),
-            _ => value_questions::answer(alloc, self.written, self.verb, self.rest),
+            _ => value_questions::answer(alloc, self.written, given, self.verb, rest),
         }
     }
 }

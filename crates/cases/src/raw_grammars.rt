@@ -1,10 +1,10 @@
 //! Raw grammars by hand, of more symbols than a text has room for.
 
 use crate::grammars::{raw_grammar, verdict};
-use crate::rows::words::Mistake;
 use ag_grammar::{Named, RawGrammar, RawItem, RawProduction, RawSymbol};
 use ag_value::{Items, Text};
 use normalform::is_readable;
+use rows::words::Mistake;
 use std::alloc::{AllocError, Global};
 
 /// The name `s` with a number.

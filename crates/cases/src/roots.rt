@@ -3,13 +3,13 @@
 ghost use Rattle.planchecker.specs.Plans.{IsPlan};
 
 use crate::plans::plan_of;
-use crate::rows::words::{Mistake, bytes_of, printed};
 use crate::sentences::tree_of;
 use ag_eval::Meter;
 use ag_grammar::Grammar;
 use passrun::run_pass;
 use planchecker::Plan;
 use roottext::root_text;
+use rows::words::{Mistake, bytes_of, printed};
 use std::alloc::Global;
 use treefile::MemDevice;
 

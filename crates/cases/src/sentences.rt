@@ -5,10 +5,10 @@ ghost use Rattle.ag_scan.specs.Tokens.{FitAll};
 ghost use Rattle.ag_scan.specs.Words.{vocabulary_of};
 ghost use Rattle.llparse.specs.table.Tables.{FitsGrammar};
 
-use crate::rows::words::{Mistake, first_word, number, printed, short_number, shown_bytes};
 use ag_grammar::{Grammar, Terminal};
 use ag_scan::{Sentence, Token, scan};
 use llparse::{Ahead, ParseFault, Tables, expected_at, parse, tables};
+use rows::words::{Mistake, first_word, number, printed, short_number, shown_tree_file};
 use std::alloc::{AllocError, Global};
 use treefile::{Device, FuseDevice, MemDevice, Writer};
 
@@ -141,15 +141,9 @@ fn parse_sentence(
 pub fn parse_told(alloc: Global, grammar: &Grammar, sentence: &str) -> Result<String, Mistake> {
     let mut device = MemDevice::new(alloc);
     match parse_sentence(alloc, grammar, sentence, &mut device)? {
-        Ok(count) => tree_file_told(alloc, count, device.bytes()),
+        Ok(count) => shown_tree_file(alloc, count, device.bytes()),
         Err(fault) => Ok(fault.to_string(alloc)?),
     }
-}
-
-/// The number of the nodes of a tree, and its file.
-pub fn tree_file_told(alloc: Global, count: u32, file: &[u8]) -> Result<String, Mistake> {
-    let file = shown_bytes(alloc, file)?;
-    Ok(format!(in alloc; "{count} nodes, {file}")?)
 }
 
 /// How parsing a sentence ends where a call of the device fails, and how many bytes the device has then.

@@ -1,10 +1,10 @@
 //! What is told of the least assignment of a grammar, and of certificates that there is none.
 
-use crate::rows::words::{Mistake, halves, parts, printed, short_number};
 use ag_grammar::Grammar;
 use ag_value::Items;
 use passassign::{AssignFault, Strike, Stuck, assign};
 use planchecker::check_stuck;
+use rows::words::{Mistake, halves, parts, printed, short_number};
 use std::alloc::{AllocError, Global};
 
 /// The least assignment of a grammar, or the certificate that there is none.

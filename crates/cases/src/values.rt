@@ -1,8 +1,8 @@
 //! What is told of the value that was given, and of the spelling of a value.
 
 use crate::expressions::value_of;
-use crate::rows::words::{Mistake, number, printed, shown_bytes};
 use ag_value::{Items, Text, Value, copy, decode, depth, encode, is_well, same, show, weight};
+use rows::words::{Mistake, number, printed, shown_bytes};
 use std::alloc::{AllocError, Global};
 
 /// The value that a line gives: that of an expression, a text of so many letters, the value so far

@@ -1,9 +1,8 @@
 //! Translations by a translator that has refused a sentence.
 
-use crate::failures::fractions::{FRACTIONS, SENTENCE, translated};
-use crate::rows::words::Mistake;
-use crate::translators::translator;
+use crate::fractions::{FRACTIONS, SENTENCE, translated, translator};
 use aggen::Translator;
+use rows::words::Mistake;
 use std::alloc::Global;
 use treefile::MemDevice;
 

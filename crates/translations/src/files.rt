@@ -1,7 +1,7 @@
 //! What is told of the file of a value, and of what is read of a file.
 
-use crate::rows::words::{Mistake, shown_bytes};
 use aggen::{bytes_of, show_value};
+use rows::words::{Mistake, shown_bytes};
 use std::alloc::{AllocError, Global};
 use treefile::MemDevice;
 

@@ -1,9 +1,9 @@
 //! Jobs of a reader that fails at one of its reads, each in turn, counted up until there are fewer.
 
-use crate::failures::endings::Ending;
-use crate::failures::fractions::FRACTIONS;
-use crate::rows::words::{Mistake, first_word, number};
+use crate::endings::Ending;
+use crate::fractions::FRACTIONS;
 use aggen::run_job;
+use rows::words::{Mistake, first_word, number};
 use std::alloc::Global;
 use std::io::{self, Read};
 use treefile::MemDevice;

@@ -5,14 +5,14 @@ use hex::{FromHexError, decode, encode};
 use std::alloc::{AllocError, Global};
 use std::fmt::Debug;
 
-/// Why a row asks for nothing that can be told.
+/// Why a row has no answer.
 #[derive(Clone, Copy, Debug)]
 pub enum Mistake {
-    /// A word of the row is none that may stand there, or one is missing.
+    /// A word of the row is unknown or missing.
     Misspelt,
     /// The row asks for more than its grammar, its expression or its value allows.
     Unfit,
-    /// A growth was refused.
+    /// A request for memory was refused.
     NoMemory,
 }
 
@@ -27,12 +27,12 @@ pub fn printed<T: Debug>(alloc: Global, value: &T) -> Result<String, Mistake> {
     Ok(format!(in alloc; "{value:?}")?)
 }
 
-/// The first word of a text, and what stands behind the space that ends it.
+/// The first word of a text, and the text after the space that ends it.
 pub fn first_word(text: &str) -> (&str, &str) {
     text.split_once(' ').unwrap_or((text, ""))
 }
 
-/// What stands on both sides of a mark.
+/// The texts before and after a mark.
 pub fn halves<'a>(text: &'a str, mark: &str) -> Result<(&'a str, &'a str), Mistake> {
     text.split_once(mark).ok_or(Mistake::Misspelt)
 }
@@ -74,8 +74,7 @@ pub fn short_numbers(alloc: Global, text: &str) -> Result<Vec<u16>, Mistake> {
     Ok(numbers)
 }
 
-/// The bytes that a text spells, two digits each. Of several words `00*1000` spells 1,000 times what
-/// stands in front of the `*`.
+/// The bytes that the words of a text spell, two digits each; the word `00*1000` spells 1,000 times the byte 0.
 pub fn bytes_of(alloc: Global, text: &str) -> Result<Vec<u8>, Mistake> {
     let mut bytes = Vec::new(alloc);
     for word in text.split_whitespace() {
@@ -104,4 +103,10 @@ pub fn shown_bytes(alloc: Global, bytes: &[u8]) -> Result<String, AllocError> {
         return format!(in alloc; "{} bytes", bytes.len());
     }
     encode(alloc, bytes)
+}
+
+/// The number of the nodes of a tree, and its file.
+pub fn shown_tree_file(alloc: Global, count: u32, file: &[u8]) -> Result<String, Mistake> {
+    let file = shown_bytes(alloc, file)?;
+    Ok(format!(in alloc; "{count} nodes, {file}")?)
 }

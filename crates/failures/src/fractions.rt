@@ -1,9 +1,8 @@
 //! Binary fractions: their grammar, a sentence with its tree, and translations over devices of any kind.
 
-use crate::failures::endings::Ending;
-use crate::rows::words::{Mistake, number, printed};
-use crate::translators::translator;
+use crate::endings::Ending;
 use aggen::Translator;
+use rows::words::{Mistake, number, printed};
 use std::alloc::Global;
 use treefile::{Device, FuseDevice, MemDevice};
 
@@ -82,4 +81,12 @@ pub fn parse_without_told(alloc: Global, call: &str) -> Result<String, Mistake> 
     let call = number(call)? as u64;
     let translator = translator(alloc, FRACTIONS)?;
     printed(alloc, &parsed_without(alloc, &translator, call))
+}
+
+/// The translator of a text's grammar.
+pub fn translator(alloc: Global, text: &str) -> Result<Translator, Mistake> {
+    match Translator::build(alloc, text.as_bytes()) {
+        Ok(translator) => Ok(translator),
+        Err(_) => Err(Mistake::Unfit),
+    }
 }

@@ -1,12 +1,12 @@
 //! What is told of the program's faults.
 
-use crate::rows::words::{Mistake, first_word, number};
 use ag_expr::ExprFault;
 use ag_text::TextFault;
 use ag_value::Value;
 use aggen::{Fault, status};
 use normalform::NormalFault;
 use passrun::RunFault;
+use rows::words::{Mistake, first_word, number};
 use std::alloc::Global;
 
 /// The fault that a text names.

@@ -1,9 +1,9 @@
 //! The text that rows ask about, and the lines that write it.
 
-use crate::rows::words::{Mistake, bytes_of, first_word, number};
+use crate::words::{Mistake, bytes_of, first_word, number};
 use std::alloc::{AllocError, Global};
 
-/// Writes on a text, where a line tells so, and tells whether it does.
+/// Writes on a text if a line says so, and returns whether it does.
 pub fn write_on(alloc: Global, text: &mut String, verb: &str, rest: &str) -> Result<bool, Mistake> {
     match verb {
         "text" => {

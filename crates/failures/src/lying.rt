@@ -2,13 +2,12 @@
 
 ghost use Rattle.std.specs.Prelude.{[], false, Some};
 
-use crate::failures::fractions::{FRACTIONS, SENTENCE, TREE, evaluated, old_tree, translated};
-use crate::rows::words::Mistake;
-use crate::translators::translator;
+use crate::fractions::{FRACTIONS, SENTENCE, TREE, evaluated, old_tree, translated, translator};
 use ag_eval::Meter;
 use aggen::Translator;
 use backreader::{Arity, Back, turn};
 use passrun::{run_all, run_pass};
+use rows::words::Mistake;
 use std::alloc::Global;
 use treefile::{Device, DeviceFault, Kind, MemDevice};
 

@@ -1,9 +1,9 @@
 //! What sentences, jobs, and the trees of files are translated to.
 
-use crate::rows::words::{Mistake, bytes_of, printed};
 use crate::translators::translator;
 use ag_value::{Value, show};
 use aggen::{Fault, Report, run_job};
+use rows::words::{Mistake, bytes_of, printed};
 use std::alloc::{AllocError, Global};
 use treefile::MemDevice;
 

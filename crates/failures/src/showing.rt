@@ -2,9 +2,9 @@
 
 ghost use Rattle.std.specs.Prelude.{false};
 
-use crate::failures::endings::Ending;
-use crate::rows::words::{Mistake, number};
+use crate::endings::Ending;
 use aggen::show_value;
+use rows::words::{Mistake, number};
 use std::alloc::Global;
 use treefile::{Device, DeviceFault, FuseDevice, MemDevice};
 

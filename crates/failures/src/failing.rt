@@ -1,11 +1,10 @@
 //! Devices of which one call fails: each call in turn, counted up until a run makes fewer. Nothing
 //! goes out where one fails, and the same translator and devices serve the next run.
 
-use crate::failures::endings::Ending;
-use crate::failures::fractions::{FRACTIONS, SENTENCE, TREE, evaluated, old_tree, translated};
-use crate::rows::words::{Mistake, first_word, number};
-use crate::translators::translator;
+use crate::endings::Ending;
+use crate::fractions::{FRACTIONS, SENTENCE, TREE, evaluated, old_tree, translated, translator};
 use aggen::Translator;
+use rows::words::{Mistake, first_word, number};
 use std::alloc::Global;
 use treefile::{FuseDevice, MemDevice};
 

@@ -1,9 +1,8 @@
 //! What is told of the text of a grammar, and of the trees of its sentences.
 
 use crate::faults::message;
-use crate::rows::words::{Mistake, printed};
-use crate::sentences::tree_file_told;
 use aggen::{Fault, Translator, grammar_of};
+use rows::words::{Mistake, printed, shown_tree_file};
 use std::alloc::Global;
 use treefile::MemDevice;
 
@@ -35,7 +34,7 @@ pub fn parse_tree_told(alloc: Global, text: &str, sentence: &str) -> Result<Stri
 fn parsed(alloc: Global, translator: &Translator, sentence: &str) -> Result<String, Mistake> {
     let mut device = MemDevice::new(alloc);
     match translator.parse_tree(sentence.as_bytes(), &mut device) {
-        Ok(count) => tree_file_told(alloc, count, device.bytes()),
+        Ok(count) => shown_tree_file(alloc, count, device.bytes()),
         Err(fault) => message(alloc, &fault),
     }
 }

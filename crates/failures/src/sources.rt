@@ -1,8 +1,8 @@
 //! What is read of files.
 
-use crate::failures::endings::Ending;
-use crate::rows::words::{Mistake, bytes_of, printed};
+use crate::endings::Ending;
 use aggen::source_of;
+use rows::words::{Mistake, bytes_of, printed};
 use std::alloc::Global;
 use std::rt::Files;
 

@@ -1,12 +1,11 @@
 //! Texts, listings, values and translations that a writer does not take whole: a beginning of them has gone out.
 
-use crate::failures::endings::Ending;
-use crate::failures::fractions::{FRACTIONS, SENTENCE};
-use crate::failures::narrow::{Narrow, with_room};
-use crate::rows::words::{Mistake, first_word, number};
-use crate::translators::translator;
+use crate::endings::Ending;
+use crate::fractions::{FRACTIONS, SENTENCE, translator};
+use crate::narrow::{Narrow, with_room};
 use aggen::{Translator, print_code, print_counts, print_plan, show_value};
 use agoutput::{TextOutFault, write_text};
+use rows::words::{Mistake, first_word, number};
 use std::alloc::Global;
 use treefile::MemDevice;
 

@@ -3,9 +3,8 @@
 ghost use Rattle.std.specs.Prelude.{◌≡◌, IfOk};
 ghost use Rattle.planchecker.specs.Plans.{IsPlan};
 
-use crate::failures::counting::CountingDevice;
-use crate::rows::words::Mistake;
-use crate::translators::translator;
+use crate::counting::CountingDevice;
+use crate::fractions::translator;
 use ag_eval::Meter;
 use ag_grammar::Grammar;
 use aggen::Translator;
@@ -13,6 +12,7 @@ use passassign::Assignment;
 use passcode::{Code, Instr};
 use passrun::run_all;
 use planchecker::{Plan, check_plan};
+use rows::words::Mistake;
 use std::alloc::{AllocError, Global};
 use std::cell::Cell;
 

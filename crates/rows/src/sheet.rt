@@ -1,0 +1,159 @@
+//! The rows one after the other: what was written so far, and the last answer, until it is compared.
+
+use crate::words::{Mistake, first_word};
+use crate::written::Written;
+use std::alloc::{AllocError, Global};
+use std::io;
+
+/// Answers the questions of rows.
+pub trait Questions {
+    /// Follows a line that writes something that only these questions know, and returns whether it does.
+    fn follow(&mut self, _alloc: Global, _verb: &str, _rest: &str) -> Result<bool, Mistake> {
+        Ok(false)
+    }
+
+    /// Answers the question that begins with a verb. Fails with `Misspelt` if no question does.
+    fn answer(
+        &self,
+        alloc: Global,
+        written: &Written,
+        verb: &str,
+        rest: &str,
+    ) -> Result<String, Mistake>;
+}
+
+/// Tries the rows on standard input. Prints each wrong line with its number, and then the number of right answers.
+pub fn try_rows<R: Input + Print, Q: Questions>(
+    rt: &R,
+    alloc: Global,
+    questions: &mut Q,
+) -> io::Result<()> {
+    let mut sheet = Sheet::new(alloc);
+    take_lines(rt, alloc, &mut sheet, questions)?;
+    println!(rt; "{} answers are right", sheet.right)
+}
+
+/// Takes the lines on standard input. Prints each wrong line with its number.
+fn take_lines<R: Input + Print, Q: Questions>(
+    rt: &R,
+    alloc: Global,
+    sheet: &mut Sheet,
+    questions: &mut Q,
+) -> io::Result<()> {
+    let mut number = 0u64;
+    for line in rt.lines(alloc) {
+        let line = line?;
+        number = number.wrapping_add(1);
+        print_wrong(rt, number, &sheet.take(alloc, questions, line.as_str())?)?;
+    }
+    print_wrong(rt, number, &sheet.left(alloc)?)
+}
+
+/// Prints what is wrong with a line, if something is.
+fn print_wrong<R: Print>(rt: &R, number: u64, wrong: &Option<String>) -> io::Result<()> {
+    match wrong {
+        Some(wrong) => println!(rt; "line {number}: {wrong}"),
+        None => Ok(()),
+    }
+}
+
+/// What was written, and the lines of the last answer that are not compared yet.
+#[derive(Drop)]
+struct Sheet {
+    written: Written,
+    answer: Option<String>,
+    right: u64,
+}
+
+impl Sheet {
+    /// A sheet without rows.
+    fn new(alloc: Global) -> Sheet {
+        Sheet {
+            written: Written::new(alloc),
+            answer: None,
+            right: 0,
+        }
+    }
+
+    /// What is wrong with a further line, if something is.
+    fn take<Q: Questions>(
+        &mut self,
+        alloc: Global,
+        questions: &mut Q,
+        line: &str,
+    ) -> Result<Option<String>, AllocError> {
+        if line.is_empty() || line.starts_with('#') {
+            return Ok(None);
+        }
+        match line.strip_prefix("= ") {
+            Some(wanted) => self.compare(alloc, wanted),
+            None => self.ask(alloc, questions, line),
+        }
+    }
+
+    /// What is left of the last answer, if no line was compared with it.
+    fn left(&mut self, alloc: Global) -> Result<Option<String>, AllocError> {
+        match self.answer.take() {
+            Some(answer) => Ok(Some(format!(in alloc; "no line has the answer {answer}")?)),
+            None => Ok(None),
+        }
+    }
+
+    /// Compares the next line of the last answer with the line that is wanted.
+    fn compare(&mut self, alloc: Global, wanted: &str) -> Result<Option<String>, AllocError> {
+        match self.answer.take() {
+            Some(answer) => self.compare_line(alloc, answer.as_str(), wanted),
+            None => Ok(Some(format!(in alloc; "expected {wanted}, found no answer")?)),
+        }
+    }
+
+    /// Compares the first line of an answer, and keeps the lines after it.
+    fn compare_line(
+        &mut self,
+        alloc: Global,
+        answer: &str,
+        wanted: &str,
+    ) -> Result<Option<String>, AllocError> {
+        let line = match answer.split_once('\n') {
+            Some((line, rest)) => {
+                self.answer = Some(String::from_str(alloc, rest)?);
+                line
+            }
+            None => answer,
+        };
+        if line != wanted {
+            return Ok(Some(format!(in alloc; "expected {wanted}, found {line}")?));
+        }
+        self.right = self.right.wrapping_add(1);
+        Ok(None)
+    }
+
+    /// Follows a line that writes or asks something. The last question must have its answer.
+    fn ask<Q: Questions>(
+        &mut self,
+        alloc: Global,
+        questions: &mut Q,
+        line: &str,
+    ) -> Result<Option<String>, AllocError> {
+        let left = self.left(alloc)?;
+        match self.follow(alloc, questions, line) {
+            Ok(()) => Ok(left),
+            Err(mistake) => Ok(Some(format!(in alloc; "{mistake:?}: {line}")?)),
+        }
+    }
+
+    /// Follows a line, and keeps the answer if it asks something.
+    fn follow<Q: Questions>(
+        &mut self,
+        alloc: Global,
+        questions: &mut Q,
+        line: &str,
+    ) -> Result<(), Mistake> {
+        let (verb, rest) = first_word(line);
+        if self.written.follow(alloc, verb, rest)? || questions.follow(alloc, verb, rest)? {
+            return Ok(());
+        }
+        self.answer = Some(questions.answer(alloc, &self.written, verb, rest)?);
+        Ok(())
+    }
+}
