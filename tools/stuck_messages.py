@@ -12,8 +12,9 @@ import tree_files
 
 DIRECTIONS = {"right to left": -1, "left to right": 1}
 MESSAGE = re.compile(
-    r"A1((?: \S+)+): no order of whole passes computes these attributes\. From (right to left|left to right) they all wait for "
-    r"(this rule|these rules): (.+), (change it|change them), or give each direction attributes of its own\n"
+    r"A1((?: \S+)+): no number of passes computes these attributes \(a value depends on itself, or an attribute needs different "
+    r"passes at different nodes\)\. From (right to left|left to right), all of them wait for (this rule|these rules): (.+), "
+    r"(change it|change one or more of them), or use a separate attribute for each pass\n"
 )
 REASON = re.compile(
     r"`\$(\d+)\.(\w+)` \((.+):(\d+):(\d+)\) uses `\$(\d+)\.(\w+)`, (?:and \$(\d+) is visited after \$(\d+)"
@@ -214,7 +215,7 @@ def faults_of(text, message):
         named.append(attribute)
     if len(set(named)) != len(named) or len(reasons) > MOST_NAMED or (others and len(reasons) < MOST_NAMED):
         faults.append("the rules are not named once each, or not eight at most")
-    if (found[3], found[5]) != (("this rule", "change it") if len(reasons) == 1 else ("these rules", "change them")):
+    if (found[3], found[5]) != (("this rule", "change it") if len(reasons) == 1 else ("these rules", "change one or more of them")):
         faults.append("the number of rules is another")
     if not faults and not others and struck_by(dependencies_of(grammar), set(stuck), named) != set(stuck):
         faults.append("some attribute waits for none of the rules")

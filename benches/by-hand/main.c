@@ -96,7 +96,7 @@ static void evaluate(const struct translator *translator, struct file *tree, str
     start_reading(&reader, from, translator->passes);
     translator->take_root(&reader, &out);
     if (fwrite(out.bytes, 1, out.length, stdout) != out.length || fflush(stdout) != 0) {
-        refuse(8, "O2 the text could not be written whole");
+        refuse(8, "O2 the output could not be written completely");
     }
 }
 

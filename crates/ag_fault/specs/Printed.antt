@@ -13,7 +13,7 @@ use Rattle.ag_fault.specs.declared.fault.Fault.{Fault}
 use Rattle.ag_fault.specs.declared.fault.Fault.TheVariants as fault
 use Rattle.ag_fault.specs.declared.stuck_grammar.StuckGrammar.{StuckGrammar}
 
--- the name of a symbol, a point and the name of its attribute, as in `L.p`; nothing where there is no such attribute
+-- the name of a symbol, a point and the name of its attribute, as in `L.p`; nothing if it does not exist
 abbrev pub name_of_attribute : Symbol → Option (List ℕ) → List ℕ
 name_of_attribute symbol None = []
 name_of_attribute symbol (Some name) = symbol.name ++ codes "." ++ name
@@ -35,8 +35,8 @@ printed_stuck s = codes "A1" ++ flat_map (attribute_text s.grammar) s.stuck.set
 
 -- the number first; a fault that contains one of another crate is printed as that one
 abbrev pub printed : Fault → List ℕ
-printed fault.Usage = codes "usage: the words of the command line can't be read"
-printed fault.File = codes "F1 the file can't be opened, read or made"
+printed fault.Usage = codes "usage: the arguments of the command line can't be read"
+printed fault.File = codes "F1 the file can't be opened, read or created"
 printed (fault.Expr e) = printed_expr e
 printed (fault.Text e) = printed_text e
 printed (fault.Normal e) = printed_normal e
@@ -46,9 +46,9 @@ printed (fault.Scan e) = printed_scan e
 printed (fault.Parse e) = printed_parse e
 printed (fault.Run e) = printed_run e
 printed (fault.Job e) = printed_job e
-printed (fault.NoText x) = codes "O1 the translation is no text"
-printed fault.NotATreeFile = codes "B1 the device holds no tree file"
+printed (fault.NoText x) = codes "O1 the translation is not a text"
+printed fault.NotATreeFile = codes "B1 the device does not contain a tree file"
 printed (fault.Damaged at) = codes "B2 at " ++ decimal at ++ codes ": the tree file is damaged here"
-printed fault.Device = codes "D1 the device failed"
-printed fault.Write = codes "O2 the text could not be written whole"
+printed fault.Device = codes "D1 reading or writing failed"
+printed fault.Write = codes "O2 the output could not be written completely"
 printed fault.NoMemory = codes "NoMemory a request for memory was refused"

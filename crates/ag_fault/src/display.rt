@@ -10,7 +10,7 @@ use ag_grammar::Grammar;
 use std::error::Error;
 use std::fmt;
 
-/// Prints the number of the fault first: `D1 the device failed`. A fault that contains the fault of
+/// Prints the number of the fault first: `D1 reading or writing failed`. A fault that contains the fault of
 /// another crate is printed as that one.
 impl fmt::Display for Fault {
     ghost use Rattle.std.specs.Prelude.{Some};
@@ -20,8 +20,8 @@ impl fmt::Display for Fault {
 
     fn fmt<W: fmt::Write>(&self, f: &mut fmt::Formatter<W>) -> fmt::Result {
         match self {
-            Fault::Usage => f.write_str("usage: the words of the command line can't be read"),
-            Fault::File => f.write_str("F1 the file can't be opened, read or made"),
+            Fault::Usage => f.write_str("usage: the arguments of the command line can't be read"),
+            Fault::File => f.write_str("F1 the file can't be opened, read or created"),
             Fault::Expr(fault) => write!(f, "{fault}"),
             Fault::Text(fault) => write!(f, "{fault}"),
             Fault::Normal(fault) => write!(f, "{fault}"),
@@ -31,11 +31,11 @@ impl fmt::Display for Fault {
             Fault::Parse(fault) => write!(f, "{fault}"),
             Fault::Run(fault) => write!(f, "{fault}"),
             Fault::Job(fault) => write!(f, "{fault}"),
-            Fault::NoText(_) => f.write_str("O1 the translation is no text"),
-            Fault::NotATreeFile => f.write_str("B1 the device holds no tree file"),
+            Fault::NoText(_) => f.write_str("O1 the translation is not a text"),
+            Fault::NotATreeFile => f.write_str("B1 the device does not contain a tree file"),
             Fault::Damaged(at) => write!(f, "B2 at {at}: the tree file is damaged here"),
-            Fault::Device => f.write_str("D1 the device failed"),
-            Fault::Write => f.write_str("O2 the text could not be written whole"),
+            Fault::Device => f.write_str("D1 reading or writing failed"),
+            Fault::Write => f.write_str("O2 the output could not be written completely"),
             Fault::NoMemory => f.write_str("NoMemory a request for memory was refused"),
         }
     }

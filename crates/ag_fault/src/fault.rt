@@ -28,32 +28,30 @@ use treefile::{DeviceFault, FileFault, FrameFault};
 pub enum Fault {
     /// The words of the command line are not as they should be.
     Usage,
-    /// F1: a file can't be opened, read or made.
+    /// F1: a file can't be opened, read or created.
     File,
-    /// X1 to X4: the text is no expression. Want of memory is never in it.
+    /// X1 to X4: the text is not an expression. It never contains NoMemory.
     Expr(ExprFault),
-    /// G1 to G4: the text reads as no grammar. Want of memory is never in it.
+    /// G1 to G4: the text reads as no grammar. It never contains NoMemory.
     Text(TextFault),
-    /// N1 to N10: the grammar is not accepted. Want of memory is never in it.
+    /// N1 to N10: the grammar is not accepted. It never contains NoMemory.
     Normal(NormalFault),
-    /// L1: one token of look-ahead doesn't tell which production comes next. Want of memory is
-    /// never in it.
+    /// L1: one token of look-ahead doesn't decide which production comes next. It never
+    /// contains NoMemory.
     Table(TableFault),
     /// A1: no assignment of passes to the grammar's attributes is legal.
     Assign(StuckGrammar),
-    /// S1 to S4: the sentence has no tokens. Want of memory is never in it.
+    /// S1 to S4: the sentence has no tokens. It never contains NoMemory.
     Scan(ScanFault),
-    /// P1 to P3: the sentence has no tree within the limits. A failed device and want of memory are
-    /// never in it.
+    /// P1 to P3: the sentence has no tree within the limits. It never contains D1 or NoMemory.
     Parse(ParseFault),
-    /// R1, P2 and P3 of a tree file that a pass read. A failed device and want of memory are never in
-    /// it.
+    /// R1, P2 and P3 of a tree file that a pass read. It never contains D1 or NoMemory.
     Run(RunFault),
-    /// J1 to J3: what a reader gives is no job. Want of memory is never in it.
+    /// J1 to J3: what a reader returns is not a job. It never contains NoMemory.
     Job(JobFault),
-    /// O1: the translation is this value, and no text.
+    /// O1: the translation is this value, which is not a text.
     NoText(Value),
-    /// B1: a device holds no tree file.
+    /// B1: a device does not contain a tree file.
     NotATreeFile,
     /// B2: no frame ends at this offset in bytes, where one should, or its body is not as it should
     /// be.
@@ -68,8 +66,8 @@ pub enum Fault {
 
 /// Returns the status that the program ends with after a fault: 2 for usage, J1 and J3; 3 for X, G,
 /// N, L and A; 4 for S and P of a sentence; 5 for B1, B2, R1, and P2 and P3 of a tree file; 6 for
-/// O1; 7 for want of memory; 8 for F1, J2, D1 and O2. Want of memory and a failed device count as
-/// such inside another fault too.
+/// O1; 7 for NoMemory; 8 for F1, J2, D1 and O2. NoMemory and D1 inside another fault have their own
+/// status too.
 pub fn status(fault: &Fault) -> u8
     ensures { result ≡ status_of fault.now }
 {

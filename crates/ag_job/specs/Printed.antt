@@ -5,7 +5,7 @@ use Rattle.ag_job.specs.declared.fault.JobFault.TheVariants as fault
 
 -- the number of a fault, then what is wrong and what to do
 abbrev pub printed : JobFault → List ℕ
-printed fault.NoSeparator = codes "J1 no line is exactly `%%`, write one between the grammar and its sentence"
-printed fault.Read = codes "J2 the job can't be read"
-printed fault.TooLong = codes "J3 the job has more than 2,097,156 bytes, give grammar and sentence in files of their own"
+printed fault.NoSeparator = codes "J1 no line is exactly `%%`, write one between the grammar and the sentence"
+printed fault.Read = codes "J2 standard input can't be read"
+printed fault.TooLong = codes "J3 the job has more than 2,097,156 bytes, put the grammar and the sentence into files and use `aggen run`"
 printed fault.NoMemory = codes "NoMemory a request for memory was refused"

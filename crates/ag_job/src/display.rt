@@ -4,7 +4,7 @@ use crate::fault::JobFault;
 use std::error::Error;
 use std::fmt;
 
-/// The number of the fault, then what is wrong and what to do: `J2 the job can't be read`.
+/// The number of the fault, then what is wrong and what to do: `J2 standard input can't be read`.
 impl fmt::Display for JobFault {
     ghost use Rattle.std.specs.Prelude.{Some};
     ghost use Rattle.ag_job.specs.Printed.{printed};
@@ -15,12 +15,12 @@ impl fmt::Display for JobFault {
         match self {
             JobFault::NoSeparator => write!(
                 f,
-                "J1 no line is exactly `%%`, write one between the grammar and its sentence"
+                "J1 no line is exactly `%%`, write one between the grammar and the sentence"
             ),
-            JobFault::Read => write!(f, "J2 the job can't be read"),
+            JobFault::Read => write!(f, "J2 standard input can't be read"),
             JobFault::TooLong => write!(
                 f,
-                "J3 the job has more than 2,097,156 bytes, give grammar and sentence in files of their own"
+                "J3 the job has more than 2,097,156 bytes, put the grammar and the sentence into files and use `aggen run`"
             ),
             JobFault::NoMemory => write!(f, "NoMemory a request for memory was refused"),
         }

@@ -2,7 +2,7 @@
 
 ghost use Rattle.std.specs.Prelude.{◌≡◌, IfOk, string_bytes};
 ghost use Rattle.agoutput.specs.Lines.{counts_line as counts_text, nodes_line as nodes_text};
-ghost use Rattle.agoutput.specs.Lines.{value_line as value_text};
+ghost use Rattle.agoutput.specs.Lines.{noun_for as noun_text, value_line as value_text};
 
 use ag_grammar::Grammar;
 use ag_value::{NoMemory, Value, show};
@@ -17,23 +17,32 @@ pub fn value_line(alloc: Global, value: &Value) -> Result<String, NoMemory>
     Ok(line)
 }
 
-/// The line that tells how many symbols and productions a grammar has.
+/// Returns the line with the numbers of a grammar's symbols and productions.
 pub fn counts_line(alloc: Global, grammar: &Grammar) -> Result<String, AllocError>
     ensures { IfOk result (λ line. string_bytes line ≡ counts_text grammar.now) }
 {
-    let mut line = grammar.symbols().len().to_string(alloc)?;
-    line.push_str(" symbols, ")?;
-    let productions = grammar.productions().len().to_string(alloc)?;
-    line.push_str(productions.as_str())?;
-    line.push_str(" productions\n")?;
+    let symbols = grammar.symbols().len();
+    let productions = grammar.productions().len();
+    let mut line = symbols.to_string(alloc)?;
+    line.push_str(noun_for(symbols, " symbol, ", " symbols, "))?;
+    let counted = productions.to_string(alloc)?;
+    line.push_str(counted.as_str())?;
+    line.push_str(noun_for(productions, " production\n", " productions\n"))?;
     Ok(line)
 }
 
-/// The line that tells how many nodes a tree has.
+/// Returns the line with the number of a tree's nodes.
 pub fn nodes_line(alloc: Global, count: u32) -> Result<String, AllocError>
     ensures { IfOk result (λ line. string_bytes line ≡ nodes_text count) }
 {
     let mut line = count.to_string(alloc)?;
-    line.push_str(" nodes\n")?;
+    line.push_str(noun_for(count as usize, " node\n", " nodes\n"))?;
     Ok(line)
+}
+
+/// Returns the noun after a number: that in the singular, or that in the plural.
+fn noun_for<'a>(count: usize, one: &'a str, many: &'a str) -> &'a str
+    ensures { result.now ≡ noun_text count one.now many.now }
+{
+    if count == 1 { one } else { many }
 }

@@ -25,43 +25,51 @@ pub const WORK: &str = "work";
 const COMMANDS: &[Entry] = &[
     Entry {
         name: "run",
-        about: "Translates a sentence by a grammar, and prints the translation and nothing else",
+        about: "Translates a sentence by a grammar, and prints the translation with no newline added",
         arguments: &[Argument::Grammar, Argument::Sentence, Argument::WorkFolder],
+        example: "Example:\n  $ aggen run examples/words.ag examples/words.txt\n  iffy",
     },
     Entry {
         name: "eval",
         about: "Translates the tree in a tree file that `parse` wrote, and prints the translation",
         arguments: &[Argument::Grammar, Argument::KeptTree],
+        example: "Example:\n  $ aggen eval examples/words.ag words.tree\n  iffy",
     },
     Entry {
         name: "value",
-        about: "Prints the value of an expression",
+        about: "Computes an expression, and prints its value",
         arguments: &[Argument::Expression],
+        example: "Example:\n  $ aggen value '2 + 3 * 4'\n  14",
     },
     Entry {
         name: "check",
-        about: "Reads and checks a grammar, and prints how many symbols and productions it has",
+        about: "Checks a grammar, and prints the number of its symbols and of its productions",
         arguments: &[Argument::Grammar],
+        example: "Example:\n  $ aggen check examples/percentages.ag\n  2 symbols, 3 productions",
     },
     Entry {
         name: "plan",
-        about: "Prints which attributes of a grammar each pass over a tree computes",
+        about: "Prints the passes that a grammar needs, and the attributes that each of them computes",
         arguments: &[Argument::Grammar],
+        example: "Example:\n  $ aggen plan examples/percentages.ag\n  pass 1 right-to-left: L.sum\n  pass 2 left-to-right: S.out L.out L.total",
     },
     Entry {
         name: "code",
-        about: "Prints what each pass does at a node of each production",
+        about: "Prints the instructions that each pass executes at a node of each production",
         arguments: &[Argument::Grammar],
+        example: "Example:\n  $ aggen code examples/words.ag\n  0 pass 1: get 1, put 1, def out rule 0, end",
     },
     Entry {
         name: "parse",
-        about: "Parses a sentence, writes the file of its tree, and prints how many nodes it has",
+        about: "Parses a sentence, writes its tree to a tree file, and prints the number of nodes",
         arguments: &[Argument::Grammar, Argument::Sentence, Argument::NewTree],
+        example: "Example:\n  $ aggen parse examples/words.ag examples/words.txt words.tree\n  2 nodes",
     },
     Entry {
         name: "upgrade",
-        about: "Brings a tree file of version 1 over to version 2, and prints how many nodes it has",
+        about: "Converts a tree file of version 1 to version 2, and prints the number of nodes",
         arguments: &[Argument::Grammar, Argument::OldTree, Argument::NewTree],
+        example: "Example:\n  $ aggen upgrade examples/words.ag old.tree new.tree\n  2 nodes",
     },
 ];
 
@@ -71,12 +79,15 @@ struct Entry {
     name: &'static str,
     about: &'static str,
     arguments: &'static [Argument],
+    example: &'static str,
 }
 
 impl Entry {
     /// Returns the command with its arguments.
     fn to_command<'a>(self, alloc: Global) -> Result<Command<'a>, AllocError> {
-        let mut command = Command::new(alloc, self.name).about(self.about);
+        let mut command = Command::new(alloc, self.name)
+            .about(self.about)
+            .after_help(self.example);
         for argument in self.arguments {
             command = command.arg(argument.to_arg(alloc))?;
         }
@@ -87,7 +98,7 @@ impl Entry {
 /// An argument of a command.
 #[derive(Clone, Copy)]
 enum Argument {
-    /// The name of the grammar's file.
+    /// The file with the grammar.
     Grammar,
     /// The name of the sentence's file.
     Sentence,
@@ -107,22 +118,18 @@ impl Argument {
     /// Returns the argument as clap takes it.
     fn to_arg<'a>(self, alloc: Global) -> Arg<'a> {
         match self {
-            Argument::Grammar => file(alloc, GRAMMAR, "The name of the grammar's file"),
-            Argument::Sentence => file(alloc, SENTENCE, "The name of the sentence's file"),
-            Argument::KeptTree => file(
-                alloc,
-                TREE,
-                "The name of the tree file, which stays as it is",
-            ),
+            Argument::Grammar => file(alloc, GRAMMAR, "The file with the grammar"),
+            Argument::Sentence => file(alloc, SENTENCE, "The file with the sentence"),
+            Argument::KeptTree => file(alloc, TREE, "The tree file, which is only read"),
             Argument::OldTree => file(
                 alloc,
                 OLD,
-                "The name of the tree file that an earlier `parse` wrote, which begins with `AGT1`",
+                "The tree file of version 1, which begins with `AGT1` and is only read",
             ),
             Argument::NewTree => file(
                 alloc,
                 TREE,
-                "The name of the tree file, which is made or made anew",
+                "The tree file to write; if it exists, its content is replaced",
             ),
             Argument::Expression => expression(alloc),
             Argument::WorkFolder => work_folder(alloc),
@@ -140,13 +147,13 @@ fn expression<'a>(alloc: Global) -> Arg<'a> {
     Arg::new(alloc, EXPRESSION)
         .required(true)
         .allow_hyphen_values(true)
-        .help("The expression, as one word, without occurrences such as $1.a")
+        .help("The expression, as one argument; attributes such as $1.s have no value here")
 }
 
 /// Returns the option that names the folder for the tree files.
 fn work_folder<'a>(alloc: Global) -> Arg<'a> {
     Arg::new(alloc, WORK).long(WORK).value_name("DIR").help(
-        "The name of a folder in which the tree files a.agt and b.agt are made, and stay",
+        "Writes the tree files a.agt and b.agt to the existing folder DIR, and keeps them",
     )
 }
 
@@ -177,7 +184,7 @@ fn root_command<'a>(alloc: Global) -> Result<Command<'a>, AllocError> {
         .version("0.1.0")
         .about("Makes translators from attribute grammars")
         .after_help(
-            "With no command it translates a job on standard input: a grammar, the line `%%`, and a sentence.",
+            "Without a command, aggen translates a job from standard input: a grammar, a line `%%`, and a sentence.\n\nExample:\n  $ aggen run examples/words.ag examples/words.txt\n  iffy",
         );
     program.bin_name("aggen")
 }

@@ -1,5 +1,6 @@
 //! How numbers and parts of texts are printed in a message, and which part of a text is at an offset.
 
+use crate::expected::END;
 use ag_expr::{Cursor, ExprFault, refusal};
 use std::fmt;
 
@@ -53,7 +54,7 @@ pub struct Found<'a>(pub Option<&'a str>);
 impl fmt::Display for Found<'_> {
     fn fmt<W: fmt::Write>(&self, f: &mut fmt::Formatter<W>) -> fmt::Result {
         let Some(found) = self.0 else {
-            return write!(f, "the end of the text");
+            return f.write_str(END);
         };
         write!(f, "`")?;
         let mut shown = 0usize;

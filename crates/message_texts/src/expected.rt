@@ -4,6 +4,9 @@ use ag_expr::Expected as Part;
 use ag_text::Expected;
 use std::alloc::AllocError;
 
+/// The end of a text or a sentence.
+pub const END: &str = "the end of the text";
+
 /// Returns the separator after an item of a list, by the number of items that follow.
 pub fn separator_before(left: usize) -> &'static str {
     match left {
@@ -18,13 +21,13 @@ pub fn write_expected(out: &mut String, expected: &[Expected]) -> Result<(), All
     if expected.is_empty() {
         return Ok(());
     }
-    out.push_str("where only ")?;
+    out.push_str("expected ")?;
     let mut left = expected.len();
     for one in expected {
         left = left.saturating_sub(1);
         write_one(out, *one, separator_before(left))?;
     }
-    out.push_str(" can stand")
+    Ok(())
 }
 
 /// Writes one thing that a text could go on with, and the separator after it.
@@ -45,7 +48,7 @@ fn name_of(expected: Expected) -> &'static str {
         Expected::Rule => "a rule",
         Expected::Part(part) => name_of_part(part),
         Expected::Sign(sign) => sign,
-        Expected::End => "the end",
+        Expected::End => END,
     }
 }
 
@@ -59,6 +62,6 @@ fn name_of_part(part: Part) -> &'static str {
         Part::Operator => "an operator",
         Part::TighterOperator => "an operator other than `==` and `<`",
         Part::Sign(sign) => sign,
-        Part::End => "the end",
+        Part::End => END,
     }
 }

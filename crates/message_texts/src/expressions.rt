@@ -11,6 +11,12 @@ use ag_text::Expected;
 use ag_value::NoMemory;
 use std::alloc::{AllocError, Global};
 
+/// What is wrong with a name where an operand is expected.
+const UNBOUND: &str = ", a name that no `let` binds here";
+
+/// What is wrong with an occurrence in an expression that is not in a grammar.
+const NO_VALUE: &str = ", but attributes have values only in a grammar";
+
 /// Returns the location of a fault of an expression: a line and a column too, if its text has several
 /// lines.
 pub fn locate_in_expression(fault: ExprFault, text: &str) -> Location {
@@ -80,25 +86,26 @@ fn describe_no_token(parts: &mut Parts, context: &Context<'_>) -> Result<(), All
 
 /// Describes a number that is too large.
 fn describe_number(parts: &mut Parts, context: &Context<'_>) -> Result<(), AllocError> {
-    write!(
-        parts.found,
-        "the number is too large in {}",
-        Found(context.found)
-    )?;
-    write!(
-        parts.expected,
-        "where {} is the greatest, and {MOST_PLACE} the greatest place behind $",
-        i64::MAX
-    )
+    write!(parts.found, "found {}", Found(context.found))?;
+    if begins_with(context.found, '$') {
+        write!(
+            parts.expected,
+            "expected a place of at most {MOST_PLACE} after `$`"
+        )
+    } else {
+        write!(parts.expected, "expected a number of at most {}", i64::MAX)
+    }
 }
 
 /// Describes an expression that nests too deep.
 fn describe_depth(parts: &mut Parts) -> Result<(), AllocError> {
     write!(
         parts.found,
-        "expressions nest more than {MOST_LEVELS} levels deep"
+        "the expression nests more than {MOST_LEVELS} levels deep"
     )?;
-    parts.help.push_str("write fewer")
+    parts
+        .help
+        .push_str("compute a part of it in another attribute")
 }
 
 /// Describes a token that an expression does not go on with, and what it could go on with, or what is
@@ -109,20 +116,21 @@ fn describe_unexpected(
     expected: &[Expected],
 ) -> Result<(), AllocError> {
     write!(parts.found, "found {}", Found(context.found))?;
-    write_expected_in(&mut parts.expected, context, expected)?;
+    describe_expected(parts, context, expected)?;
     parts.help.push_str(context.expression_hint(expected))
 }
 
-/// Writes what an expression could go on with, or what is wrong with the name or the occurrence there.
-fn write_expected_in(
-    out: &mut String,
+/// Describes what an expression could go on with, or what is wrong with the name or the occurrence that was
+/// found there.
+fn describe_expected(
+    parts: &mut Parts,
     context: &Context<'_>,
     expected: &[Expected],
 ) -> Result<(), AllocError> {
     match expected.first() {
-        Some(Expected::Part(Part::BoundName)) => out.push_str("a name that no `let` binds here"),
+        Some(Expected::Part(Part::BoundName)) => parts.found.push_str(UNBOUND),
         Some(Expected::Part(Part::Expression | Part::Operand)) if begins_with(context.found, '$') =>
-            out.push_str("which has a value in a grammar only"),
-        _ => write_expected(out, expected),
+            parts.found.push_str(NO_VALUE),
+        _ => write_expected(&mut parts.expected, expected),
     }
 }

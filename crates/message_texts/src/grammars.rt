@@ -1,6 +1,7 @@
 //! Faults of grammars.
 
 pub mod conflicts;
+pub mod endless;
 pub mod further;
 pub mod limits;
 pub mod lookup;

@@ -17,8 +17,14 @@ const COMMENT: &str = "grammars and expressions have no comments";
 const COMMENT_OR_SIGN: &str =
     "grammars and expressions have no comments, and `-a` is written `(0 - a)`";
 
-/// What helps at a reserved word where a name is expected.
+/// What helps at a reserved word where an operand is expected.
 const RESERVED: &str = "this word is reserved";
+
+/// What helps at a reserved word where a new name is expected.
+const RESERVED_NAME: &str = "this word is reserved, use another name";
+
+/// What helps at `if` or `let` where only an operand is expected.
+const PARENTHESES: &str = "put an `if` or a `let` in parentheses here";
 
 /// What helps at a sign before an operand.
 const SIGN: &str = "`-a` is written `(0 - a)`";
@@ -27,7 +33,8 @@ const SIGN: &str = "`-a` is written `(0 - a)`";
 const TEXT: &str = "a text ends with a quote and has only the escapes \\\" \\\\ \\n \\t \\r";
 
 /// What helps at a `$` that begins no occurrence.
-const OCCURRENCE: &str = "an occurrence is `$`, digits, `.` and a name with nothing between";
+const OCCURRENCE: &str =
+    "an attribute is written `$`, place, `.`, name, without spaces, as in `$1.s`";
 
 /// Hints at what begins no token, by its first characters: mostly signs of other languages. A sign comes
 /// after those that begin with it.
@@ -108,8 +115,10 @@ impl<'a> Context<'a> {
             Some("and") => "`a < b and c < d` is written `(a < b) * (c < d)`",
             Some("or") => "`a < b or c < d` is written `(a < b) + (c < d)`",
             Some("=") if self.before.ends_with('<') => "`a <= b` is written `(b < a) == 0`",
-            _ if is_operand || expected.contains(&Expected::Part(Part::NewName)) => {
-                self.reserved_hint()
+            Some("if" | "let") if is_operand => PARENTHESES,
+            _ if is_operand => self.reserved_hint(RESERVED),
+            _ if expected.contains(&Expected::Part(Part::NewName)) => {
+                self.reserved_hint(RESERVED_NAME)
             }
             _ => "",
         }
@@ -124,7 +133,7 @@ impl<'a> Context<'a> {
             return COMMENT;
         }
         if expected.contains(&Expected::Name) || expected.contains(&Expected::Item) {
-            return self.reserved_hint();
+            return self.reserved_hint(RESERVED_NAME);
         }
         ""
     }
@@ -136,13 +145,13 @@ impl<'a> Context<'a> {
         is_second || ["//", "#", "--", "/*"].iter().any(is_first)
     }
 
-    /// Returns the hint at a name where another name is expected: it is a reserved one then.
-    fn reserved_hint(&self) -> &'static str {
+    /// Returns a hint at a name where another name or an operand is expected: it is a reserved one then.
+    fn reserved_hint(&self, hint: &'static str) -> &'static str {
         let Some(found) = self.found else {
             return "";
         };
         match Cursor::new(found).peek() {
-            Some(Token::Name(_)) => RESERVED,
+            Some(Token::Name(_)) => hint,
             _ => "",
         }
     }

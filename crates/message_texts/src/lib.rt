@@ -1,4 +1,4 @@
-//! The texts of messages: where a fault is, what was found there, what was expected, and what to do, with
+//! The texts of messages: where a fault is, what was expected, what was found there, and what to do, with
 //! the names of the grammar. The crate `messages` makes reports of them.
 //!
 //! Each kind of fault has a function that locates it (`locate_..`) and one that writes the parts of its

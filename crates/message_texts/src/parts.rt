@@ -7,7 +7,7 @@ use std::alloc::{AllocError, Global};
 /// Where a fault is.
 #[derive(Clone, Copy)]
 pub enum Location {
-    /// In the whole of a text or a file: the fault's number stands alone.
+    /// In the whole of a text or a file: nothing follows the fault's number.
     Whole,
     /// Where the number is followed by it, as by an offset or by names.
     WithNumber,
@@ -18,10 +18,10 @@ pub enum Location {
 /// What a message says after the fault's number and its location. Empty parts are not printed.
 #[derive(Drop)]
 pub struct Parts {
-    /// What was found, or is wrong.
-    pub found: String,
     /// What was expected.
     pub expected: String,
+    /// What was found, or is wrong.
+    pub found: String,
     /// What to do.
     pub help: String,
 }
@@ -30,16 +30,16 @@ impl Parts {
     /// Returns empty parts. Takes no memory.
     pub fn new(alloc: Global) -> Parts {
         Parts {
-            found: String::new(alloc),
             expected: String::new(alloc),
+            found: String::new(alloc),
             help: String::new(alloc),
         }
     }
 
     /// Empties the parts.
     pub fn clear(&mut self) {
-        self.found.clear();
         self.expected.clear();
+        self.found.clear();
         self.help.clear();
     }
 
@@ -61,16 +61,16 @@ impl Parts {
         self.help.push_str(help)
     }
 
-    /// Appends that no tree within a limit has these tokens or this file, and what to do.
+    /// Appends that a sentence or a file has no tree within a limit, and what to do.
     pub fn add_tree_limit(
         &mut self,
         limit: usize,
         unit: &str,
-        of: &str,
+        subject: &str,
         help: &str,
     ) -> Result<(), AllocError> {
         let most = Grouped(limit);
-        write!(self.found, "no tree of at most {most} {unit} has {of}")?;
+        write!(self.found, "{subject} has no tree of at most {most} {unit}")?;
         self.help.push_str(help)
     }
 }

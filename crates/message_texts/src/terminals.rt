@@ -1,7 +1,7 @@
 //! The terminals of a grammar, by their names.
 
 use crate::display::{MAX_NAMED, Plain};
-use crate::expected::separator_before;
+use crate::expected::{END, separator_before};
 use ag_grammar::limits::{NAME, NUMBER};
 use ag_grammar::{Grammar, Terminal};
 use llparse::Ahead;
@@ -17,7 +17,7 @@ pub fn write_ahead(out: &mut String, grammar: &Grammar, ahead: Ahead) -> Result<
             }
         }
         Ahead::Terminal(Terminal::Class(number)) => write!(out, "a {}", class_name(number)),
-        Ahead::End => out.push_str("the end"),
+        Ahead::End => out.push_str(END),
     }
 }
 
@@ -30,7 +30,7 @@ pub fn class_name(number: u16) -> &'static str {
     }
 }
 
-/// Writes a list of look-aheads, at most the first twelve: `0`, `1` or the end.
+/// Writes a list of look-aheads, at most the first twelve: `0`, `1` or the end of the text.
 pub fn write_aheads(
     out: &mut String,
     grammar: &Grammar,
@@ -54,20 +54,17 @@ fn write_rest(out: &mut String, left: usize) -> Result<(), AllocError> {
     }
 }
 
-/// Writes what a token of the grammar can be, its literals and the classes that it uses, or that it has
-/// none.
-pub fn write_terminals(out: &mut String, grammar: &Grammar) -> Result<(), AllocError> {
-    let literals = grammar.literals().len();
-    let count = literals.saturating_add(grammar.classes().len());
-    if count == 0 {
-        return out.push_str("the grammar has no literal and no class");
-    }
-    out.push_str("a token is ")?;
-    write_first(out, grammar, count)
+/// Returns the number of terminals of a grammar: of its literals and of the classes that it uses.
+pub fn terminal_count(grammar: &Grammar) -> usize {
+    grammar
+        .literals()
+        .len()
+        .saturating_add(grammar.classes().len())
 }
 
-/// Writes the first of a number of terminals of a grammar, and the number of the rest.
-fn write_first(out: &mut String, grammar: &Grammar, count: usize) -> Result<(), AllocError> {
+/// Writes the terminals of a grammar, at most the first twelve, and the number of the rest.
+pub fn write_terminals(out: &mut String, grammar: &Grammar) -> Result<(), AllocError> {
+    let count = terminal_count(grammar);
     let mut left = count;
     for index in 0..count.min(MAX_NAMED) {
         if let Some(terminal) = terminal_at(grammar, index) {

@@ -1,4 +1,4 @@
-//! Translations that are no text.
+//! Translations that are not texts.
 
 use crate::display::{Found, Grouped};
 use crate::parts::Parts;
@@ -9,12 +9,11 @@ use std::alloc::{AllocError, Global};
 const MAX_TEXT_BYTES: usize = MAX_WEIGHT as usize - 5;
 
 /// What to do about a value that is an error.
-const MEND_RULE: &str =
-    "which a rule in the tree gave and others carried on, mend that rule, or write `orelse(v, w)` where v may be an error";
+const CORRECT_RULE: &str =
+    "correct the rule that computes the error, or replace an error by another value with `orelse(v, w)`";
 
 /// What to do about a value that is neither a text nor an error.
-const GIVE_TEXT: &str =
-    "let the rule of the root's `out` give a text, as `text(..)` makes one of a number";
+const MAKE_TEXT: &str = "make it a text, as `text(..)` does with a number";
 
 /// Describes O1: the value of the root's `out`, and what to do. Nothing if memory for showing it is
 /// refused.
@@ -27,19 +26,22 @@ pub fn describe_value(alloc: Global, parts: &mut Parts, value: &Value) -> Result
 
 /// Describes a value that is shown like this.
 fn describe_shown(parts: &mut Parts, value: &Value, shown: &str) -> Result<(), AllocError> {
-    write!(parts.found, "found {}", Found(Some(shown)))?;
+    write!(parts.found, "the root's `out` is {}", Found(Some(shown)))?;
     match value {
-        Value::Fault(ErrorCode::Big) => write_size(&mut parts.help),
-        Value::Fault(_) => parts.help.push_str(MEND_RULE),
-        _ => parts.help.push_str(GIVE_TEXT),
+        Value::Fault(ErrorCode::Big) => {
+            write_size(&mut parts.found)?;
+            parts.help.push_str("split the sentence")
+        }
+        Value::Fault(_) => parts.help.push_str(CORRECT_RULE),
+        _ => parts.help.push_str(MAKE_TEXT),
     }
 }
 
-/// Writes which limit a value exceeded, and what to do.
+/// Writes which limit a value exceeded.
 fn write_size(out: &mut String) -> Result<(), AllocError> {
     let (most, most_of_text) = (Grouped(MAX_WEIGHT as usize), Grouped(MAX_TEXT_BYTES));
     write!(
         out,
-        "a value's spelling has at most {most} bytes, so a text at most {most_of_text}, and the translation or a value that it was computed from is larger, cut the sentence into smaller ones"
+        ", since the translation or a value that it is computed from has more than {most} bytes (a text: {most_of_text})"
     )
 }

@@ -42,10 +42,10 @@ three_parts separator first second third =
     ++ part_text (next_separator separator first) second
     ++ part_text (next_separator (next_separator separator first) second) third
 
--- what was found, what was expected, and what to do
+-- what was expected, what was found, and what to do
 abbrev pub parts_text : List ℕ → Parts → List ℕ
 parts_text separator parts =
-    three_parts separator (string_bytes parts.found) (string_bytes parts.expected) (string_bytes parts.help)
+    three_parts separator (string_bytes parts.expected) (string_bytes parts.found) (string_bytes parts.help)
 
 -- the file at the end of a line that has no position
 abbrev pub file_text : Location → Option (String Global) → List ℕ

@@ -9,8 +9,8 @@ use crate::report::Report;
 use message_texts::{Location, Parts, Position};
 use std::fmt;
 
-/// Prints `N8 at 95 (grammar.ag:4:47): ..`: the number, the position, and after a colon what was found,
-/// what was expected and what to do, with commas between. A report without a position ends with its file,
+/// Prints `N8 at 95 (grammar.ag:4:47): ..`: the number, the position, and after a colon what was expected,
+/// what was found and what to do, with commas between. A report without a position ends with its file,
 /// if it has one. For a fault in the whole of its input the colon is left out.
 impl fmt::Display for Report {
     ghost use Rattle.std.specs.Prelude.{Some};
@@ -81,11 +81,11 @@ fn write_place<W: fmt::Write>(
 fn write_parts<W: fmt::Write>(f: &mut fmt::Formatter<W>, first: &str, parts: &Parts) -> fmt::Result
     ensures { WritesOnOk W.write_str_gives f.old result (parts_text first.now parts.now) f.new }
 {
-    let (found, expected) = (parts.found.as_str(), parts.expected.as_str());
-    let second = next_separator(first, found);
-    let third = next_separator(second, expected);
-    write_part(f, first, found)?;
-    write_part(f, second, expected)?;
+    let (expected, found) = (parts.expected.as_str(), parts.found.as_str());
+    let second = next_separator(first, expected);
+    let third = next_separator(second, found);
+    write_part(f, first, expected)?;
+    write_part(f, second, found)?;
     write_part(f, third, parts.help.as_str())
 }
 

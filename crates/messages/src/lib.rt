@@ -1,5 +1,5 @@
 //! Messages about faults: `Report` has a fault with its number, its location by file, line and column,
-//! what was found, what was expected, and what to do, with the names of the grammar. It prints as one line.
+//! what was expected, what was found, and what to do, with the names of the grammar. It prints as one line.
 //!
 //! Each kind of input has a call that makes the report of a fault: `of_expression`, `of_grammar`,
 //! `of_sentence`, `of_tree`, `of_old_tree`; `of_file` and `new` are for faults of no text. They take memory,

@@ -75,10 +75,7 @@ fn describe(
 ) -> Result<(), AllocError> {
     write_productions(&mut parts.found, conflict, text)?;
     write_ahead(&mut parts.found, grammar, conflict.ahead)?;
-    parts.add(
-        " comes next",
-        "write them so that one token tells which it is",
-    )
+    write_help(&mut parts.help, conflict, grammar)
 }
 
 /// Writes the two productions that conflict.
@@ -88,26 +85,122 @@ fn write_productions(
     text: &GrammarText<'_>,
 ) -> Result<(), AllocError> {
     let place = text.source.place(conflict.second.left.at);
+    out.push_str("can't choose between ")?;
     write_production(out, conflict.first)?;
     out.push_str(" and ")?;
     write_production(out, conflict.second)?;
-    write!(out, " {place} both fit where ")
+    write!(out, " {place} if the next token is ")
+}
+
+/// Writes what to do about a conflict. The usual causes are left recursion, a production that can be empty,
+/// and a common beginning.
+fn write_help(
+    out: &mut String,
+    conflict: &Conflict<'_>,
+    grammar: &Grammar,
+) -> Result<(), AllocError> {
+    let left = conflict.first.left.name.as_str();
+    let first = conflict.first.items.as_slice();
+    let second = conflict.second.items.as_slice();
+    if begins_with_symbol(first, left) || begins_with_symbol(second, left) {
+        return write_repetition(out, left);
+    }
+    let common = common_length(first, second);
+    if common == first.len() && common == second.len() {
+        return out.push_str("remove one of the two: they are the same");
+    }
+    if matches!(conflict.ahead, Ahead::End) {
+        return out.push_str("let only one of the two be empty");
+    }
+    if first.is_empty() || second.is_empty() {
+        return write_separation(out, left, grammar, conflict.ahead);
+    }
+    match first.get(..common) {
+        Some(items) if common > 0 => write_factored(out, items),
+        _ => out.push_str("make them begin with different tokens"),
+    }
+}
+
+/// Writes how a list that is repeated on the left is repeated on the right.
+fn write_repetition(out: &mut String, left: &str) -> Result<(), AllocError> {
+    let rest = if left == "Rest" { "More" } else { "Rest" };
+    write!(
+        out,
+        "write `{left} = {left} b` and `{left} = a` as `{left} = a {rest}`, `{rest} = b {rest}` and `{rest} =`"
+    )
+}
+
+/// Writes that a symbol that can be empty has to be separated from a token that can follow it.
+fn write_separation(
+    out: &mut String,
+    left: &str,
+    grammar: &Grammar,
+    ahead: Ahead,
+) -> Result<(), AllocError> {
+    write_ahead(out, grammar, ahead)?;
+    write!(
+        out,
+        " can also follow `{left}`, put a token of its own after `{left}`, such as `;` or `end`"
+    )
+}
+
+/// Writes how the common beginning of two productions is factored out.
+fn write_factored(out: &mut String, common: &[RawItem]) -> Result<(), AllocError> {
+    out.push_str("write the common beginning `")?;
+    let mut separator = "";
+    for item in common {
+        out.push_str(separator)?;
+        write_item(out, item)?;
+        separator = " ";
+    }
+    out.push_str("` once, followed by a new symbol with a production for each ending")
+}
+
+/// Returns whether a right side begins with the symbol of a name.
+fn begins_with_symbol(items: &[RawItem], name: &str) -> bool {
+    match items.first() {
+        Some(RawItem::Name(first)) => first.name.as_str() == name,
+        _ => false,
+    }
+}
+
+/// Returns the number of items with which two right sides both begin.
+fn common_length(first: &[RawItem], second: &[RawItem]) -> usize {
+    let mut length = 0usize;
+    for (one, other) in first.iter().zip(second.iter()) {
+        if !is_same(one, other) {
+            break;
+        }
+        length = length.saturating_add(1);
+    }
+    length
+}
+
+/// Returns whether two items are the same symbol, literal or class.
+fn is_same(one: &RawItem, other: &RawItem) -> bool {
+    match (one, other) {
+        (RawItem::Name(one), RawItem::Name(other)) => one.name.as_str() == other.name.as_str(),
+        (RawItem::Literal(one), RawItem::Literal(other)) => one.as_str() == other.as_str(),
+        (RawItem::Class(one), RawItem::Class(other)) => one == other,
+        _ => false,
+    }
 }
 
 /// Writes a production as it is written in a grammar, in backquotes and without its rules.
 fn write_production(out: &mut String, production: &RawProduction) -> Result<(), AllocError> {
     write!(out, "`{} =", production.left.name.as_str())?;
     for item in production.items.as_slice() {
+        out.push_str(" ")?;
         write_item(out, item)?;
     }
     out.push_str("`")
 }
 
-/// Writes an item of a right side, after a space.
+/// Writes an item of a right side.
 fn write_item(out: &mut String, item: &RawItem) -> Result<(), AllocError> {
     match item {
-        RawItem::Name(name) => write!(out, " {}", name.name.as_str()),
-        RawItem::Literal(text) => write!(out, " \"{}\"", Plain(text.as_str())),
-        RawItem::Class(number) => write!(out, " {}", class_name(*number)),
+        RawItem::Name(name) => out.push_str(name.name.as_str()),
+        RawItem::Literal(text) => write!(out, "\"{}\"", Plain(text.as_str())),
+        RawItem::Class(number) => out.push_str(class_name(*number)),
     }
 }

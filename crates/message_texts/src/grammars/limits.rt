@@ -72,9 +72,10 @@ fn write_excess(out: &mut String, kind: LimitKind) -> Result<(), AllocError> {
 /// Returns what to do.
 fn hint_of(kind: LimitKind) -> &'static str {
     match kind {
-        LimitKind::Items | LimitKind::Stored => "give a part of it a symbol of its own",
-        LimitKind::LiteralLength => "write a shorter one",
-        _ => "write fewer",
+        LimitKind::Items | LimitKind::Stored => "move a part of it to a new symbol",
+        LimitKind::LiteralLength => "use a shorter one",
+        LimitKind::Attributes => "keep several values in one list or table",
+        _ => "use fewer",
     }
 }
 

@@ -2,6 +2,7 @@
 
 use crate::display::MAX_NAMED;
 use crate::grammar_text::GrammarText;
+use crate::grammars::endless::endless_symbols;
 use crate::grammars::further::{Declarations, Missing, count_further};
 use crate::grammars::limits::{describe_limit, offset_of_limit};
 use crate::grammars::lookup::{
@@ -55,38 +56,34 @@ pub fn describe_normal(
         return Ok(());
     };
     describe_first(parts, fault, text.alloc, raw)?;
-    let Some(number) = number_of(fault) else {
+    if !is_of_one_place(fault) {
         return Ok(());
-    };
+    }
     match count_further(text.alloc, fault, raw) {
-        Ok(further) => write_further(&mut parts.help, number, further),
+        Ok(further) => write_further(&mut parts.help, further),
         Err(_) => Ok(()),
     }
 }
 
-/// Returns the number of a fault that is of one place among others.
-fn number_of(fault: &NormalFault) -> Option<&'static str> {
-    match fault {
-        NormalFault::UnknownName(_) => Some("N1"),
-        NormalFault::RuleDoubled(_) => Some("N7"),
-        NormalFault::NotDefinedHere(_) => Some("N8"),
-        NormalFault::NotNormal(_) => Some("N9"),
-        _ => None,
-    }
+/// Returns whether a fault is of one place, so that other places can have it too.
+fn is_of_one_place(fault: &NormalFault) -> bool {
+    matches!(
+        fault,
+        NormalFault::UnknownName(_)
+            | NormalFault::RuleDoubled(_)
+            | NormalFault::NotDefinedHere(_)
+            | NormalFault::NotNormal(_)
+    )
 }
 
-/// Writes the number of further places that would be refused by the same number.
-fn write_further(help: &mut String, number: &str, further: usize) -> Result<(), AllocError> {
+/// Writes the number of further places with the same fault.
+fn write_further(help: &mut String, further: usize) -> Result<(), AllocError> {
     let separator = if help.is_empty() { "" } else { ", " };
-    let noun = match further {
-        0 => return Ok(()),
-        1 => "place",
-        _ => "places",
-    };
-    write!(
-        help,
-        "{separator}{further} more {noun} would be refused {number}"
-    )
+    match further {
+        0 => Ok(()),
+        1 => write!(help, "{separator}1 more place has the same fault"),
+        _ => write!(help, "{separator}{further} more places have the same fault"),
+    }
 }
 
 /// Describes N1 to N10 at the first place.
@@ -101,7 +98,7 @@ fn describe_first(
         NormalFault::DoubledName(at) => describe_doubled(parts, raw, *at),
         NormalFault::BadStart => describe_start(parts, raw),
         NormalFault::Unproductive(symbol) => {
-            describe_unproductive(parts, raw, symbol.name.as_str())
+            describe_unproductive(parts, alloc, raw, symbol.name.as_str())
         }
         NormalFault::Unreachable(symbol) => {
             describe_unreachable(parts, raw, symbol.name.as_str())
@@ -128,10 +125,10 @@ fn describe_unknown(parts: &mut Parts, raw: &RawGrammar, at: usize) -> Result<()
     if let Some(placed) = placed_at(raw, at) {
         write!(
             parts.found,
-            "`{}` is not there",
+            "`{}` does not exist",
             AsWritten(placed.occurrence)
         )?;
-        return write_existing(&mut parts.expected, raw, &placed);
+        return write_existing(&mut parts.help, raw, &placed);
     }
     match name_at(raw, at) {
         Some(name) => describe_undeclared(parts, name.name.as_str()),
@@ -141,8 +138,11 @@ fn describe_unknown(parts: &mut Parts, raw: &RawGrammar, at: usize) -> Result<()
 
 /// Describes N1: a symbol that is not declared.
 fn describe_undeclared(parts: &mut Parts, name: &str) -> Result<(), AllocError> {
-    write!(parts.found, "no symbol `{name}` is declared")?;
-    write!(parts.help, "write `symbol {name} ..;` or another name")
+    write!(parts.found, "symbol `{name}` is not declared")?;
+    write!(
+        parts.help,
+        "declare it with `symbol {name} ..;`, or correct the name"
+    )
 }
 
 /// Writes what exists at the place of an occurrence, or the last place.
@@ -157,7 +157,7 @@ fn write_existing(
         Some(AtPlace::Class) => out.push_str("a token has only `lex`"),
         None => write!(
             out,
-            "the last place of this production of `{}` is {}",
+            "the last place of this production of `{}` is {} (literals have no place)",
             production.left.name.as_str(),
             production.last_place()
         ),
@@ -200,7 +200,7 @@ fn describe_doubled(parts: &mut Parts, raw: &RawGrammar, at: usize) -> Result<()
         return Ok(());
     };
     write_doubled(&mut parts.found, symbol, at)?;
-    parts.help.push_str("take one out or give it another name")
+    parts.help.push_str("remove or rename one of the two")
 }
 
 /// Writes the symbol that is declared again, or the attribute that is named again.
@@ -209,10 +209,10 @@ fn write_doubled(out: &mut String, symbol: &RawSymbol, at: usize) -> Result<(), 
     match attribute_at(symbol, at) {
         Some(attribute) => write!(
             out,
-            "`{name}` has an attribute `{}` before",
+            "symbol `{name}` already has an attribute `{}`",
             attribute.name.as_str()
         ),
-        None => write!(out, "a symbol `{name}` is declared before"),
+        None => write!(out, "symbol `{name}` is already declared"),
     }
 }
 
@@ -229,41 +229,91 @@ fn describe_start(parts: &mut Parts, raw: &RawGrammar) -> Result<(), AllocError>
 /// Describes N3 of a start symbol that is not declared.
 fn describe_no_start(parts: &mut Parts, name: &str) -> Result<(), AllocError> {
     parts.found.push_str("is not declared")?;
-    write!(parts.help, "write `symbol {name} syn out;`")
+    write!(parts.help, "declare it with `symbol {name} syn out;`")
 }
 
 /// Describes N3 of a start symbol with the wrong attributes.
 fn describe_bad_start(parts: &mut Parts, symbol: &RawSymbol) -> Result<(), AllocError> {
     let Some(attribute) = symbol.inh.as_slice().first() else {
-        return parts.found.push_str("has no synthesized attribute `out`, which is the translation");
+        return parts.add(
+            "has no synthesized attribute `out`",
+            "declare it after `syn`: its value is the translation",
+        );
     };
-    parts.found.push_str("may have no inherited attribute")?;
-    write!(parts.help, "take `{}` out", attribute.name.as_str())
+    write!(
+        parts.found,
+        "has an inherited attribute `{}`",
+        attribute.name.as_str()
+    )?;
+    parts
+        .help
+        .push_str("remove it, or add a new start symbol that defines it")
 }
 
-/// Describes N4: why a symbol derives no list of tokens.
+/// Describes N4: why no sentence can be built from a symbol.
 fn describe_unproductive(
     parts: &mut Parts,
+    alloc: Global,
     raw: &RawGrammar,
     name: &str,
 ) -> Result<(), AllocError> {
-    let (found, help) = if has_production(raw, name) {
-        (
-            "derives no list of tokens, since each of its productions has a symbol that derives none",
-            "give one of these a production that ends",
-        )
-    } else {
-        ("has no production", "write one")
-    };
-    write!(parts.found, "`{name}` {found}")?;
-    parts.help.push_str(help)
+    if !has_production(raw, name) {
+        write!(parts.found, "`{name}` has no production")?;
+        return parts.help.push_str("add one");
+    }
+    match endless_symbols(alloc, raw) {
+        Ok(Some(names)) => describe_endless(parts, names.as_slice()),
+        Ok(None) | Err(_) => {
+            write!(parts.found, "`{name}`")?;
+            parts.add(
+                " never ends, since each of its productions contains a symbol that never ends",
+                "add a production without such a symbol",
+            )
+        }
+    }
+}
+
+/// Describes N4 by all symbols that never end.
+fn describe_endless(parts: &mut Parts, names: &[&str]) -> Result<(), AllocError> {
+    write_symbols(&mut parts.found, names)?;
+    if names.len() == 1 {
+        return parts.add(
+            " never ends, since each of its productions contains it again",
+            "add a production without it",
+        );
+    }
+    parts.add(
+        " never end, since each of their productions contains one of them",
+        "add a production without them",
+    )
+}
+
+/// Writes the names of symbols, at most the first twelve, and the number of the rest.
+fn write_symbols(out: &mut String, names: &[&str]) -> Result<(), AllocError> {
+    let mut left = names.len();
+    for name in names.iter().take(MAX_NAMED) {
+        left = left.saturating_sub(1);
+        let separator = match left {
+            0 => "",
+            1 => " and ",
+            _ => ", ",
+        };
+        write!(out, "`{}`{separator}", *name)?;
+    }
+    match left {
+        0 => Ok(()),
+        _ => write!(out, "{left} more"),
+    }
 }
 
 /// Describes N5: that the start symbol does not reach a symbol.
 fn describe_unreachable(parts: &mut Parts, raw: &RawGrammar, name: &str) -> Result<(), AllocError> {
     let start = raw.start.name.as_str();
-    write!(parts.found, "`{start}` does not reach `{name}`")?;
-    parts.help.push_str("use it in a production or take it out")
+    write!(
+        parts.found,
+        "`{name}` can't be reached from the start symbol `{start}`"
+    )?;
+    parts.help.push_str("use it in a production, or remove it")
 }
 
 /// Describes N6: the rules that a production lacks. Nothing if memory for finding them is refused.
@@ -304,8 +354,8 @@ fn describe_rules(
 ) -> Result<(), AllocError> {
     let left = production.left.name.as_str();
     let (noun, help) = match missing.len() {
-        1 => ("rule", "write it"),
-        _ => ("rules", "write them"),
+        1 => ("rule", "add it"),
+        _ => ("rules", "add them"),
     };
     write!(parts.found, "this production of `{left}` lacks the {noun} ")?;
     write_rules(&mut parts.found, missing)?;
@@ -331,47 +381,83 @@ fn write_others(out: &mut String, others: usize) -> Result<(), AllocError> {
     }
 }
 
-/// Describes N7 to N9: why an occurrence may not be where it is, and which may.
+/// Describes N7 to N9: why an occurrence can't be where it is, and which can.
 fn describe_misplaced(
     parts: &mut Parts,
     fault: &NormalFault,
     raw: &RawGrammar,
     placed: &PlacedOccurrence<'_>,
 ) -> Result<(), AllocError> {
-    let found = match fault {
-        NormalFault::RuleDoubled(_) => "has a rule before in this production",
-        NormalFault::NotDefinedHere(_) => "gets its value elsewhere",
-        _ => "may not stand here, since it gets its value here",
-    };
-    write!(parts.found, "`{}` {found}", AsWritten(placed.occurrence))?;
     match fault {
-        NormalFault::RuleDoubled(_) => parts.help.push_str("take one of the two out"),
-        NormalFault::NotDefinedHere(_) => {
-            parts.expected.push_str("the rules here are for ")?;
-            write_occurrences(&mut parts.expected, raw, placed.production, true)
+        NormalFault::RuleDoubled(_) => {
+            write!(
+                parts.found,
+                "this production already has a rule for `{}`",
+                AsWritten(placed.occurrence)
+            )?;
+            parts.help.push_str("remove one of the two")
         }
-        _ => write_usable(&mut parts.expected, raw, placed.production),
+        NormalFault::NotDefinedHere(_) => describe_elsewhere(parts, raw, placed),
+        _ => describe_unusable(parts, raw, placed),
     }
 }
 
-/// Writes the occurrences that the rules of a production may use.
-fn write_usable(
-    out: &mut String,
+/// Describes N8: what defines an attribute, and what the rules of the production define.
+fn describe_elsewhere(
+    parts: &mut Parts,
     raw: &RawGrammar,
-    production: &RawProduction,
+    placed: &PlacedOccurrence<'_>,
 ) -> Result<(), AllocError> {
-    out.push_str("where ")?;
-    write_occurrences(out, raw, production, false)?;
-    out.push_str(" may")
+    write!(parts.found, "`{}` ", AsWritten(placed.occurrence))?;
+    let production = placed.production;
+    let place = usize::from(placed.occurrence.place);
+    match at_place(raw, production, place) {
+        Some(AtPlace::Symbol(symbol)) if place == 0 => write!(
+            parts.found,
+            "is defined by the productions with `{}` on the right side",
+            symbol.name.name.as_str()
+        )?,
+        Some(AtPlace::Symbol(symbol)) => write!(
+            parts.found,
+            "is defined by the productions of `{}`",
+            symbol.name.name.as_str()
+        )?,
+        _ => parts.found.push_str("is the text of the token")?,
+    }
+    parts.help.push_str("the rules here define ")?;
+    match write_occurrences(&mut parts.help, raw, production, true)? {
+        0 => parts.help.push_str("no attribute"),
+        _ => Ok(()),
+    }
 }
 
-/// Writes the occurrences that the rules of a production define, or those that they may use.
+/// Describes N9: that a production defines what a rule of it uses, and what the rule can use.
+fn describe_unusable(
+    parts: &mut Parts,
+    raw: &RawGrammar,
+    placed: &PlacedOccurrence<'_>,
+) -> Result<(), AllocError> {
+    write!(
+        parts.found,
+        "this production defines `{}`, so its rules can't use it",
+        AsWritten(placed.occurrence)
+    )?;
+    parts.help.push_str("use ")?;
+    let shown = write_occurrences(&mut parts.help, raw, placed.production, false)?;
+    if shown > 0 {
+        parts.help.push_str(", or ")?;
+    }
+    parts.help.push_str("the expression that defines it")
+}
+
+/// Writes the occurrences that the rules of a production define, or those that they can use. Returns their
+/// number.
 fn write_occurrences(
     out: &mut String,
     raw: &RawGrammar,
     production: &RawProduction,
     is_defined: bool,
-) -> Result<(), AllocError> {
+) -> Result<usize, AllocError> {
     let mut shown = 0usize;
     for place in 0..=production.last_place() {
         shown = match at_place(raw, production, place) {
@@ -387,10 +473,7 @@ fn write_occurrences(
             _ => shown,
         };
     }
-    match shown {
-        0 => out.push_str("no attribute"),
-        _ => Ok(()),
-    }
+    Ok(shown)
 }
 
 /// Writes occurrences of attributes at a place after a number of others. Returns the number of all.

@@ -47,9 +47,9 @@ fn describe_fewest(
     } else {
         first
     };
-    parts
-        .found
-        .push_str("no order of whole passes computes these attributes")?;
+    parts.found.push_str(
+        "no number of passes computes these attributes (a value depends on itself, or an attribute needs different passes at different nodes)",
+    )?;
     fewest.describe(parts, source)
 }
 
@@ -135,18 +135,18 @@ impl<'a> Struck<'a> {
         let (noun, help) = match count {
             0 => return Ok(()),
             1 => ("this rule", "change it"),
-            _ => ("these rules", "change them"),
+            _ => ("these rules", "change one or more of them"),
         };
         let direction = match self.direction {
             Direction::RightToLeft => "From right to left",
             Direction::LeftToRight => "From left to right",
         };
-        write!(parts.found, ". {direction} they all wait for {noun}: ")?;
+        write!(parts.found, ". {direction}, all of them wait for {noun}: ")?;
         self.write_named(&mut parts.found, source)?;
         write_others(&mut parts.found, count.saturating_sub(MAX_NAMED_RULES))?;
         write!(
             parts.help,
-            "{help}, or give each direction attributes of its own"
+            "{help}, or use a separate attribute for each pass"
         )
     }
 

@@ -6,14 +6,17 @@ use crate::expressions::{describe_fault, offset_in};
 use crate::grammar_text::GrammarText;
 use crate::hints::Context;
 use crate::parts::{Location, Parts};
-use ag_expr::ExprFault;
+use ag_expr::{Expected as Part, ExprFault};
 use ag_grammar::limits::MOST_TEXT_BYTES;
 use ag_text::{Expected, TextFault, expected_at};
 use std::alloc::AllocError;
 
 /// What a literal needs.
 const LITERAL_NEEDS: &str =
-    "where a literal has a character at least and no space, tab or line break";
+    "expected a literal of at least one character, without spaces, tabs and line breaks";
+
+/// What a writer may have meant by a name that no `let` binds.
+const ATTRIBUTE: &str = "an attribute is written with its place, as in `$1.s`";
 
 /// Returns the location at which a text reads as no grammar.
 pub fn locate_in_text(fault: TextFault, text: &GrammarText<'_>) -> Location {
@@ -56,14 +59,31 @@ fn describe_in(
         return describe_fault(parts, fault, context, &[]);
     }
     match fault {
-        TextFault::BadUtf8(_) => parts.add("the bytes here are no UTF-8", "save the file as UTF-8"),
+        TextFault::BadUtf8(_) => parts.add(
+            "the bytes here are not UTF-8",
+            "save the file as UTF-8",
+        ),
         TextFault::Unexpected(_, _) => describe_unexpected(parts, context, expected),
-        TextFault::Expr(fault) => describe_fault(parts, fault, context, expected),
+        TextFault::Expr(fault) => describe_rule(parts, fault, context, expected),
         TextFault::TooLong => {
-            parts.add_size_limit("the file", MOST_TEXT_BYTES, "write the grammar shorter")
+            parts.add_size_limit("the file", MOST_TEXT_BYTES, "shorten the grammar")
         }
         TextFault::NoMemory => Ok(()),
     }
+}
+
+/// Describes a fault of the expression of a rule.
+fn describe_rule(
+    parts: &mut Parts,
+    fault: ExprFault,
+    context: &Context<'_>,
+    expected: &[Expected],
+) -> Result<(), AllocError> {
+    describe_fault(parts, fault, context, expected)?;
+    if parts.help.is_empty() && expected.contains(&Expected::Part(Part::BoundName)) {
+        return parts.help.push_str(ATTRIBUTE);
+    }
+    Ok(())
 }
 
 /// Returns why what was found is not a literal or an occurrence, if it begins as one and one could come.

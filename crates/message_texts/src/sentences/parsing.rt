@@ -10,11 +10,8 @@ use ag_scan::{Sentence, Token, scan};
 use llparse::{ParseFault, Stuck, Tables, expected_at};
 use std::alloc::{AllocError, Global};
 
-/// What no tree within the limits has.
-const TOKENS: &str = "these tokens";
-
-/// What to do about a sentence whose tree has too many nodes.
-const CUT_SENTENCE: &str = "cut the sentence into smaller ones";
+/// What has no tree within the limits.
+const SENTENCE: &str = "the sentence";
 
 /// Returns the location at which a sentence has no tree.
 pub fn locate_in_sentence(fault: ParseFault, sentence: &Source<'_>) -> Location {
@@ -47,10 +44,10 @@ pub fn describe_parse(
             }
         }
         ParseFault::TooDeep => {
-            parts.add_tree_limit(MOST_DEPTH, "levels", TOKENS, "nest them less")
+            parts.add_tree_limit(MOST_DEPTH, "levels", SENTENCE, "nest it less")
         }
         ParseFault::TooManyNodes => {
-            parts.add_tree_limit(MOST_NODES as usize, "nodes", TOKENS, CUT_SENTENCE)
+            parts.add_tree_limit(MOST_NODES as usize, "nodes", SENTENCE, "split it")
         }
         ParseFault::Device | ParseFault::NoMemory => Ok(()),
     }
@@ -84,13 +81,12 @@ fn describe_stuck(
         None => None,
     };
     write!(parts.found, "found {}", Found(found))?;
-    parts.expected.push_str("where only ")?;
+    parts.expected.push_str("expected ")?;
     write_aheads(
         &mut parts.expected,
         sentence.grammar,
         stuck.expected.as_slice(),
-    )?;
-    parts.expected.push_str(" can stand")
+    )
 }
 
 /// Returns a token as it is written in the text of a sentence, a TEXT with its quotes.

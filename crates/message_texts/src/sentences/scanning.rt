@@ -4,17 +4,23 @@ use crate::display::{Found, begins_with};
 use crate::hints::{BYTE_ORDER_MARK, MARK};
 use crate::parts::{Location, Parts};
 use crate::position::{Place, Source};
-use crate::terminals::write_terminals;
+use crate::terminals::{terminal_count, write_terminals};
 use ag_grammar::Grammar;
 use ag_grammar::limits::{MOST_TEXT_BYTES, MOST_TOKEN_BYTES, TEXT};
 use ag_scan::ScanFault;
 use std::alloc::AllocError;
 
 /// What to do about a token or a sentence that is too large.
-const CUT: &str = "cut it into smaller ones";
+const SPLIT: &str = "split it";
 
-/// What a TEXT needs.
-const TEXT_NEEDS: &str = "a TEXT needs a second quote in the same line, and has no escapes";
+/// What is wrong with a TEXT.
+const NO_SECOND_QUOTE: &str = "this TEXT has no second quote in the same line";
+
+/// What to do about it.
+const ADD_QUOTE: &str = "add the quote (a TEXT has no escapes)";
+
+/// What is wrong with any sentence but the empty one of a grammar without terminals.
+const NO_TERMINALS: &str = ", but the grammar has no literal and no class";
 
 /// Returns the location at which a sentence has no token.
 pub fn locate_token(fault: ScanFault, sentence: &Source<'_>) -> Location {
@@ -34,40 +40,54 @@ pub fn describe_scan(
     sentence: &Source<'_>,
 ) -> Result<(), AllocError> {
     match fault {
-        ScanFault::BadUtf8(_) => parts.add("the bytes here are no UTF-8", "save the file as UTF-8"),
+        ScanFault::BadUtf8(_) => parts.add(
+            "the bytes here are not UTF-8",
+            "save the file as UTF-8",
+        ),
         ScanFault::NoToken(at) => {
             let found = first_character(sentence.text(), at);
-            write!(parts.found, "no token begins with {} here", Found(found))?;
-            describe_tokens(parts, grammar, found, quote_before(sentence, at))
+            if begins_with(found, '"') && grammar.classes().contains(&TEXT) {
+                describe_quote(parts, quote_before(sentence, at))
+            } else {
+                describe_no_token(parts, grammar, found)
+            }
         }
-        ScanFault::LongToken(_) => { parts.add_size_limit("the token here", MOST_TOKEN_BYTES, CUT) }
-        ScanFault::TooLong => parts.add_size_limit("the sentence", MOST_TEXT_BYTES, CUT),
+        ScanFault::LongToken(_) => {
+            parts.add_size_limit("the token here", MOST_TOKEN_BYTES, SPLIT)
+        }
+        ScanFault::TooLong => parts.add_size_limit("the sentence", MOST_TEXT_BYTES, SPLIT),
         ScanFault::NoMemory => Ok(()),
     }
 }
 
-/// Describes S2 after what was found: the tokens of the grammar, or at a quote what a TEXT needs, with the
-/// quote before it in another line.
-fn describe_tokens(
+/// Describes S2 at a quote that begins no TEXT, with the quote before it if that is in another line.
+fn describe_quote(parts: &mut Parts, before: Option<Place<'_>>) -> Result<(), AllocError> {
+    parts.add(NO_SECOND_QUOTE, ADD_QUOTE)?;
+    match before {
+        Some(place) => write!(
+            parts.help,
+            ", or see the quote before it, in another line {place}"
+        ),
+        None => Ok(()),
+    }
+}
+
+/// Describes S2 at a character that begins no token: the tokens of the grammar.
+fn describe_no_token(
     parts: &mut Parts,
     grammar: &Grammar,
     found: Option<&str>,
-    quote: Option<Place<'_>>,
 ) -> Result<(), AllocError> {
-    if begins_with(found, '"') && grammar.classes().contains(&TEXT) {
-        parts.expected.push_str(TEXT_NEEDS)?;
-        return match quote {
-            Some(place) => write!(
-                parts.help,
-                "the quote before this one is in another line {place}"
-            ),
-            None => Ok(()),
-        };
+    write!(parts.found, "found {}", Found(found))?;
+    if terminal_count(grammar) == 0 {
+        return parts.found.push_str(NO_TERMINALS);
     }
     if begins_with(found, BYTE_ORDER_MARK) {
         parts.help.push_str(MARK)?;
     }
-    write_terminals(&mut parts.expected, grammar)
+    parts.expected.push_str("expected a token (")?;
+    write_terminals(&mut parts.expected, grammar)?;
+    parts.expected.push_str(")")
 }
 
 /// Returns the place of the last quote before an offset, if that is in another line.

@@ -11,29 +11,35 @@ use ag_grammar::{Grammar, Item, Terminal};
 use std::alloc::{AllocError, Global};
 use treefile::{Device, FileVersion, HEADER_BYTES};
 
-/// What is wrong at the front of a file that begins as no tree file.
-const NO_TREE_FILE: &str =
-    "a tree file begins with `AGT2` and the number of a pass, and this one doesn't";
+/// What is expected of a tree file.
+const TREE_FILE: &str = "expected a tree file, which begins with `AGT2` and the number of a pass";
 
 /// The same if a file of version 1 is converted.
-const NO_OLD_FILE: &str =
-    "a tree file of version 1 begins with `AGT1` and the number of a pass, and this one doesn't";
+const OLD_FILE: &str =
+    "expected a tree file of version 1, which begins with `AGT1` and the number of a pass";
 
-/// What is wrong at the number of a pass that is not 0.
-const ANOTHER_PASS: &str = "the number of the pass should be 0 here, and it is another";
+/// What is expected of the number of the pass.
+const PASS: &str = "expected a tree file of pass 0";
+
+/// What is wrong with a file that begins otherwise.
+const ANOTHER_FILE: &str = "found another file";
+
+/// What is wrong with a file of another pass.
+const ANOTHER_PASS: &str = "found one of another pass";
 
 /// What to do about a file that is not a tree's.
-const ANEW: &str = "make the file anew with `aggen parse`";
+const AGAIN: &str = "make the file again by `aggen parse` with this grammar";
 
 /// What to do if it may be a file of version 1.
-const ANEW_OR_UPGRADE: &str =
-    "make the file anew with `aggen parse`, or bring one that begins with `AGT1` over with `aggen upgrade`";
+const AGAIN_OR_UPGRADE: &str =
+    "make the file again by `aggen parse` with this grammar, or convert one that begins with `AGT1` by `aggen upgrade`";
 
-/// What no tree within the limits has.
-const THIS_FILE: &str = "this file";
+/// What to do about a file that is not of version 1.
+const NO_UPGRADE: &str =
+    "a file that begins with `AGT2` needs no upgrade, make any other again by `aggen parse` with this grammar";
 
-/// What to do about a tree file with too many nodes.
-const CUT_SENTENCE: &str = "cut the sentence into smaller ones";
+/// What has no tree within the limits.
+const FILE: &str = "the file";
 
 /// A file of pass 0 that is read: of this version, with a tree of this grammar.
 #[derive(Clone, Copy)]
@@ -71,12 +77,16 @@ pub fn describe_damage<D: Device>(
 impl TreeFormat<'_> {
     /// Describes how a tree file begins, and that this one doesn't.
     fn describe_header(&self, parts: &mut Parts, at: u64) -> Result<(), AllocError> {
-        let (found, help) = match self.version {
-            _ if at != 0 => (ANOTHER_PASS, ANEW),
-            FileVersion::One => (NO_OLD_FILE, ANEW),
-            FileVersion::Two => (NO_TREE_FILE, ANEW_OR_UPGRADE),
+        if at != 0 {
+            parts.expected.push_str(PASS)?;
+            return parts.add(ANOTHER_PASS, AGAIN);
+        }
+        let (expected, help) = match self.version {
+            FileVersion::One => (OLD_FILE, NO_UPGRADE),
+            FileVersion::Two => (TREE_FILE, AGAIN_OR_UPGRADE),
         };
-        parts.add(found, help)
+        parts.expected.push_str(expected)?;
+        parts.add(ANOTHER_FILE, help)
     }
 
     /// Describes what ends at an offset, and what should.
@@ -92,7 +102,7 @@ impl TreeFormat<'_> {
         if let Some(expected) = expected {
             self.write_expected(&mut parts.expected, expected)?;
         }
-        parts.help.push_str(ANEW)
+        parts.help.push_str(AGAIN)
     }
 
     /// Writes what ends at an offset.
@@ -105,28 +115,26 @@ impl TreeFormat<'_> {
         match found {
             Some(frame) => {
                 self.write_frame(out, frame)?;
-                write!(
-                    out,
-                    " with {} bytes of values",
-                    frame.bytes.saturating_sub(3)
-                )
+                match frame.bytes.saturating_sub(3) {
+                    1 => out.push_str(" with 1 byte of values"),
+                    bytes => write!(out, " with {bytes} bytes of values"),
+                }
             }
-            None if at == HEADER_BYTES => out.push_str("the end of the header"),
-            None => out.push_str("no frame that ends here"),
+            None if at == HEADER_BYTES => out.push_str("no more records"),
+            None => out.push_str("no record that ends here"),
         }
     }
 
     /// Writes what should end at the offset, by the records that the tree still needs.
     fn write_expected(&self, out: &mut String, expected: &[Item]) -> Result<(), AllocError> {
-        out.push_str("where only ")?;
+        out.push_str("expected ")?;
         match expected.last() {
             Some(item) => {
                 self.write_item(out, *item)?;
-                out.push_str(self.content_of(*item))?;
+                out.push_str(self.content_of(*item))
             }
-            None => out.push_str("the header")?,
+            None => out.push_str("no more records"),
         }
-        out.push_str(" can end")
     }
 
     /// Writes the kind of a frame.
@@ -135,8 +143,8 @@ impl TreeFormat<'_> {
         match frame.kind {
             0 => self.write_node(out, number),
             1 if number <= TEXT => write!(out, "a {}", class_name(number)),
-            1 => write!(out, "a token of no class (number {number})"),
-            kind => write!(out, "a record of no kind (number {kind})"),
+            1 => write!(out, "a token of the unknown class {number}"),
+            kind => write!(out, "a record of the unknown kind {kind}"),
         }
     }
 
@@ -147,7 +155,7 @@ impl TreeFormat<'_> {
                 self.write_item(out, Item::Symbol(production.left))?;
                 write!(out, " by production {number}")
             }
-            None => write!(out, "a node by no production (number {number})"),
+            None => write!(out, "a node by the unknown production {number}"),
         }
     }
 
@@ -158,7 +166,7 @@ impl TreeFormat<'_> {
                 " with the texts of its tokens"
             }
             Item::Symbol(_) => " without values",
-            Item::Terminal(_) => " with the text that its node has",
+            Item::Terminal(_) => " with the text that its parent's record has",
         }
     }
 
@@ -168,7 +176,7 @@ impl TreeFormat<'_> {
             FileVersion::One => MOST_TURNED_DEPTH,
             FileVersion::Two => MOST_DEPTH,
         };
-        parts.add_tree_limit(most, "levels", THIS_FILE, "nest the sentence less")
+        parts.add_tree_limit(most, "levels", FILE, "nest the sentence less")
     }
 
     /// Describes P3 of a tree file, and what to do.
@@ -177,7 +185,7 @@ impl TreeFormat<'_> {
             FileVersion::One => MOST_TURNED_NODES,
             FileVersion::Two => MOST_NODES,
         };
-        parts.add_tree_limit(most as usize, "nodes", THIS_FILE, CUT_SENTENCE)
+        parts.add_tree_limit(most as usize, "nodes", FILE, "split the sentence")
     }
 
     /// Returns whether some node of a symbol has tokens below it, so that its record has their texts.
