@@ -14,6 +14,6 @@ mod meter;
 mod operand;
 
 pub use at_hand::eval_number;
-pub use environment::Environment;
-pub use evaluation::eval;
+pub use environment::{CarriedEnvironment, Environment};
+pub use evaluation::{eval, eval_carried};
 pub use meter::Meter;

@@ -69,7 +69,10 @@ fn out_value(
         body,
         &mut values,
     )?;
-    Ok(values.swap_remove(out))
+    let Ok(value) = values[out].to_value(alloc) else {
+        return Err(RecordFault::NoMemory);
+    };
+    Ok(value)
 }
 
 /// The value of the root's `out`, by its number, in the last file.
