@@ -3,6 +3,6 @@ use Rattle.ag_value.specs.declared.value.Value.{Value}
 use Rattle.ag_carried.specs.declared.carried.Form.{Form}
 
 -- the value
-abbrev pub value_of : Form → Value
-value_of (Form.Inline value) = value
-value_of (Form.Shared shared) = shared.value
+abbrev pub form_value : Form → Value
+form_value (Form.Inline value) = value
+form_value (Form.Shared shared) = shared.value

@@ -42,9 +42,9 @@ impl Model for Carried {
 
     ghost coded = { Prim.hlevel (codes, value_row.the_row.coded) };
 
-    ghost use Rattle.ag_carried.specs.Carried.{value_of};
+    ghost use Rattle.ag_carried.specs.Carried.{form_value};
 
-    ghost view = { λ c. value_of c.form };
+    ghost view = { λ c. form_value c.form };
 }
 
 /// Returns whether a value is stored inline whatever it weighs: a number, an error, a short text, an
@@ -62,7 +62,7 @@ fn is_light(value: &Value) -> bool {
 
 /// Stores a value inline.
 #[inline(always)]
-fn inline(value: Value) -> Carried
+fn inline_value(value: Value) -> Carried
     ensures { result ≡ value }
 {
     Carried {
@@ -71,7 +71,7 @@ fn inline(value: Value) -> Carried
 }
 
 /// Shares a value.
-fn shared(alloc: Global, spelled: Spelled) -> Result<Carried, NoMemory>
+fn shared_value(alloc: Global, spelled: Spelled) -> Result<Carried, NoMemory>
     ensures { IfOk result (λ c. c ≡ spelled) }
 {
     let shared = Rc::new(alloc, spelled)?;
@@ -82,23 +82,23 @@ fn shared(alloc: Global, spelled: Spelled) -> Result<Carried, NoMemory>
 
 /// Returns a value that is not light as a carried one.
 #[inline(never)]
-fn weighed(alloc: Global, value: Value) -> Result<Carried, NoMemory>
+fn weigh_and_store(alloc: Global, value: Value) -> Result<Carried, NoMemory>
     requires { IsWell value }
     ensures { IfOk result (λ c. c ≡ value) }
 {
     let weight = weight(&value);
-    heavy(alloc, value, weight)
+    store_by_weight(alloc, value, weight)
 }
 
 /// Returns a value of a weight as a carried one. The weight decides alone how it is stored.
-fn heavy(alloc: Global, value: Value, weight: u64) -> Result<Carried, NoMemory>
+fn store_by_weight(alloc: Global, value: Value, weight: u64) -> Result<Carried, NoMemory>
     requires { IsWell value }
     ensures { IfOk result (λ c. c ≡ value) }
 {
     if weight <= MAX_INLINE_WEIGHT {
-        return Ok(inline(value));
+        return Ok(inline_value(value));
     }
-    shared(alloc, Spelled::new(alloc, value, weight)?)
+    shared_value(alloc, Spelled::new(alloc, value, weight)?)
 }
 
 impl Carried {
@@ -107,7 +107,7 @@ impl Carried {
     pub fn number(number: i64) -> Carried
         ensures { result ≡ Num number }
     {
-        inline(Value::Num(number))
+        inline_value(Value::Num(number))
     }
 
     /// Returns a well value, to be handed on. Takes memory for a large one, and encodes it.
@@ -117,9 +117,9 @@ impl Carried {
         ensures { IfOk result (λ c. c ≡ value) }
     {
         if is_light(&value) {
-            return Ok(inline(value));
+            return Ok(inline_value(value));
         }
-        weighed(alloc, value)
+        weigh_and_store(alloc, value)
     }
 
     /// Returns a well value whose weight is known, as `new` does.
@@ -130,9 +130,9 @@ impl Carried {
         ensures { IfOk result (λ c. c ≡ value) }
     {
         if is_light(&value) {
-            return Ok(inline(value));
+            return Ok(inline_value(value));
         }
-        heavy(alloc, value, weight)
+        store_by_weight(alloc, value, weight)
     }
 
     /// Lends the value, if it is stored as one. Whoever needs the value otherwise takes `to_value`.
@@ -190,7 +190,7 @@ impl Carried {
     {
         match &self.form {
             Form::Inline(Value::Num(number)) => Ok(Carried::number(*number)),
-            Form::Inline(value) => Ok(inline(copy(alloc, value)?)),
+            Form::Inline(value) => Ok(inline_value(copy(alloc, value)?)),
             Form::Shared(shared) => Ok(Carried {
                 form: Form::Shared(shared.clone()?),
             }),
@@ -204,6 +204,20 @@ impl Carried {
         match &self.form {
             Form::Inline(value) => copy(alloc, value),
             Form::Shared(shared) => copy(alloc, shared.value()),
+        }
+    }
+
+    /// Returns the value. Takes memory, for a copy, only where the value has other owners.
+    pub fn into_value(self, alloc: Global) -> Result<Value, NoMemory>
+        ensures { IfOk result (λ v. v ≡ self) }
+    {
+        let Carried { form } = self;
+        match form {
+            Form::Inline(value) => Ok(value),
+            Form::Shared(shared) => match Rc::try_unwrap(shared) {
+                Ok(spelled) => Ok(spelled.into_value()),
+                Err(shared) => copy(alloc, shared.value()),
+            },
         }
     }
 
@@ -283,7 +297,7 @@ fn with_encoding(alloc: Global, value: Value, encoding: &[u8]) -> Result<Carried
     ensures { IfOk result (λ c. c ≡ value) }
 {
     if is_light(&value) || encoding.len() as u64 <= MAX_INLINE_WEIGHT {
-        return Ok(inline(value));
+        return Ok(inline_value(value));
     }
-    shared(alloc, Spelled::from_encoding(alloc, value, encoding)?)
+    shared_value(alloc, Spelled::from_encoding(alloc, value, encoding)?)
 }

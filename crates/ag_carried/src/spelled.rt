@@ -43,11 +43,7 @@ impl Spelled {
     }
 
     /// Copies the bytes that a value was decoded from.
-    pub fn from_encoding(
-        alloc: Global,
-        value: Value,
-        encoding: &[u8],
-    ) -> Result<Spelled, NoMemory>
+    pub fn from_encoding(alloc: Global, value: Value, encoding: &[u8]) -> Result<Spelled, NoMemory>
         requires well { IsWell value }
         requires encoding { encoding.now ≡ spelling_of value }
         ensures { IfOk result (λ s. s ≡ value) }

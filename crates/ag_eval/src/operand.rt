@@ -242,11 +242,7 @@ impl<'e> Operand<'e> {
     }
 
     /// Returns the value as a carried one, which is shared where a carried one lends it.
-    pub fn into_carried(
-        self,
-        alloc: Global,
-        bindings: &Bindings<'e>,
-    ) -> Result<Carried, NoMemory>
+    pub fn into_carried(self, alloc: Global, bindings: &Bindings<'e>) -> Result<Carried, NoMemory>
         requires { IsIn bindings.now self }
         ensures value { IfOk result (λ c. c ≡ operand_value bindings.now self.entry) }
         ensures well { IfOk result (λ c. IsWell c) }

@@ -69,7 +69,7 @@ fn out_value(
         body,
         &mut values,
     )?;
-    let Ok(value) = values[out].to_value(alloc) else {
+    let Ok(value) = values.swap_remove(out).into_value(alloc) else {
         return Err(RecordFault::NoMemory);
     };
     Ok(value)
