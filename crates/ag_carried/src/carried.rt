@@ -1,4 +1,4 @@
-//! Values that are handed on.
+//! Values that are passed from node to node.
 
 ghost use Rattle.std.specs.Prelude.{◌≡◌, ◌++◌, ◌↔◌, ◌≤◌, ℤ, length, take, IfOk, IfSome, IsTrue, List};
 ghost use Rattle.std.specs.Prelude.{MatchOption, MatchResult, OnErr, OnOk, ℕ};
@@ -26,7 +26,7 @@ enum Form {
     Shared(Rc<Spelled>),
 }
 
-/// A value that is handed on from node to node. Contracts see the value. `share` and `encode` of a
+/// A value that is passed from node to node. Contracts see the value. `share` and `encode` of a
 /// large value neither copy nor walk it: owners share one value, which is stored beside its encoding.
 #[derive(Debug, Drop)]
 pub struct Carried {
@@ -110,7 +110,7 @@ impl Carried {
         inline_value(Value::Num(number))
     }
 
-    /// Returns a well value, to be handed on. Takes memory for a large one, and encodes it.
+    /// Returns a well value as a carried one. Takes memory for a large one, and encodes it.
     #[inline(always)]
     pub fn new(alloc: Global, value: Value) -> Result<Carried, NoMemory>
         requires { IsWell value }
@@ -146,7 +146,7 @@ impl Carried {
         }
     }
 
-    /// Returns the number that it is, or `None` if it is no number.
+    /// Returns the number, or `None` for a value of another kind.
     #[inline(always)]
     pub fn as_number(&self) -> Option<i64>
         ensures { MatchOption result ((n : ℤ) → self.now ≡ Num n → ⊥) (λ n. self.now ≡ Num n) }

@@ -1,4 +1,4 @@
-//! Attribute values that are handed on: copies of a large value share it, and its encoding is kept.
+//! Attribute values that are passed from node to node: owners share a large value and its encoding.
 #![tactic(auto)]
 
 mod carried;

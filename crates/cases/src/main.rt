@@ -3,6 +3,7 @@
 //! right answers. `tests/README.md` lists the verbs.
 #![tactic(auto)]
 
+mod carried;
 mod contents;
 mod expressions;
 mod failures;

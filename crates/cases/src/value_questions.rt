@@ -1,5 +1,6 @@
 //! Which verb asks for what of expressions, values and contents.
 
+use crate::carried::carried_told;
 use crate::contents::{back_told, last_told, split_told, turn_told, write_told};
 use crate::expressions::{
     alike_told, count_told, expected_told, meter_told, occurrences_told, tree_told, until_told,
@@ -39,6 +40,7 @@ fn answer_of_values(
         "spell" => spell_told(alloc, &written.value),
         "weight" | "depth" | "well" | "copy" => told_of_value(alloc, verb, &written.value),
         "same" => same_told(alloc, written.text_or(rest), &written.value),
+        "carried" => carried_told(alloc, rest, &written.value),
         "decode" => decode_told(alloc, bytes_of(alloc, written.text_or(rest))?.as_slice()),
         _ => answer_of_contents(alloc, written, verb, rest),
     }

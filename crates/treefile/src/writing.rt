@@ -409,7 +409,7 @@ fn append_value(buffer: &mut Vec<u8>, value: &Value) -> Result<(), NoMemory>
     Ok(())
 }
 
-/// The frame of a record whose one value is a number, none where others stand there.
+/// Returns the frame of a record whose one value is a number, or `None` for other values.
 #[inline(always)]
 fn carried_number(kind: Kind, number: u16, values: &[Carried]) -> Option<[u8; 16]>
     ensures { IfSome result (λ it. it ≡ frame (body_of kind number values.now)) }
@@ -421,7 +421,7 @@ fn carried_number(kind: Kind, number: u16, values: &[Carried]) -> Option<[u8; 16
     Some(number_frame(kind, number, only))
 }
 
-/// The frame of a record whose two values are numbers, none where others stand there.
+/// Returns the frame of a record whose two values are numbers, or `None` for other values.
 #[inline(always)]
 fn carried_pair(kind: Kind, number: u16, values: &[Carried]) -> Option<[u8; 25]>
     ensures { IfSome result (λ it. it ≡ frame (body_of kind number values.now)) }
@@ -434,7 +434,7 @@ fn carried_pair(kind: Kind, number: u16, values: &[Carried]) -> Option<[u8; 25]>
     Some(frame_of_pair(kind, number, first, second))
 }
 
-/// The frame of a record whose three values are numbers, none where others stand there.
+/// Returns the frame of a record whose three values are numbers, or `None` for other values.
 #[inline(always)]
 fn carried_triple(kind: Kind, number: u16, values: &[Carried]) -> Option<[u8; 34]>
     ensures { IfSome result (λ it. it ≡ frame (body_of kind number values.now)) }
