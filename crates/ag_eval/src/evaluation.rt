@@ -19,7 +19,7 @@ use crate::at_hand::{copied, literal_value};
 use crate::bindings::Bindings;
 use crate::builtins::faults::fault_of;
 use crate::calls::{apply, call_binary, call_put, call_unary, fault};
-use crate::environment::{ByCarried, ByValue, CarriedEnvironment, Environment, Lender, Loan};
+use crate::environment::{ByValue, Environment, Lender, Loan};
 use crate::gathering::Gathering;
 use crate::measured::Measured;
 use crate::meter::Meter;
@@ -51,7 +51,7 @@ impl<'e, V: Lender> Drop for Evaluation<'e, V> {
 
 impl<'e, V: Lender> Evaluation<'e, V> {
     /// Of the expression, in the environment.
-    fn new(alloc: Global, expr: &'e Expr, env: &'e V) -> Evaluation<'e, V>
+    pub fn new(alloc: Global, expr: &'e Expr, env: &'e V) -> Evaluation<'e, V>
         requires lends { length expr.now.1 ≤ V.count env.now }
         requires well { AreWell (length expr.now.1) (V.lent env.now) }
         ensures expr { result.expr ≡ expr.entry }
@@ -288,7 +288,7 @@ impl<'e, V: Lender> Evaluation<'e, V> {
 
     /// Returns the value of the expression as a carried one: that of an occurrence is shared.
     #[inline(never)]
-    fn carried(&self) -> Result<Carried, NoMemory>
+    pub fn carried(&self) -> Result<Carried, NoMemory>
         ensures value { IfOk result (λ v. v
             ≡ value_of self.now.expr.now.0 (V.lent self.now.env.now)) }
         ensures well { IfOk result (λ v. IsWell v) }
@@ -343,8 +343,9 @@ fn decided(condition: &Value) -> Result<bool, ErrorCode>
 }
 
 /// Computes the value of an expression where `env` lends the values of its occurrences, and raises
-/// the meter by one evaluation, also where memory is refused. The other public call that takes a
-/// meter is `eval_number`; it too computes the expression's value and counts one evaluation.
+/// the meter by one evaluation, also where memory is refused. The other public calls that take a meter
+/// are `eval_carried` and `eval_number`; they too compute the expression's value and count one
+/// evaluation.
 ///
 /// Takes memory for what is made, and for copies: of a value that is lent or bound, where it leaves
 /// the expression, goes into a list or table, or grows; of the part that `nth` or `get` takes of what
@@ -370,32 +371,4 @@ pub fn eval<V: Environment>(
         return Ok(Value::Num(number));
     }
     evaluation.value()
-}
-
-/// Computes the value of an expression as `eval` does, where `env` lends carried values, and raises
-/// the meter by one evaluation, also where memory is refused. If the value is that of an occurrence
-/// (`$0.env`, also as what `if`, `let` or `orelse` chooses), it is shared and not copied.
-///
-/// Takes memory as `eval` does, and for the encoding of a large value that was made.
-#[inline(always)]
-pub fn eval_carried<C: CarriedEnvironment>(
-    alloc: Global,
-    expr: &Expr,
-    env: &C,
-    meter: &mut Meter,
-) -> Result<Carried, NoMemory>
-    requires lends { length expr.now.1 ≤ C.count env.now }
-    requires well { AreWell (length expr.now.1) (C.lent env.now) }
-    requires not_full { meter.old < 2 ^ 64 - 1 }
-    ensures value { IfOk result (λ v. v ≡ value_of expr.now.0 (C.lent env.now)) }
-    ensures well { IfOk result (λ v. IsWell v) }
-    ensures counted { meter.new ≡ meter.old + 1 }
-{
-    meter.count_one();
-    let lender = ByCarried { env };
-    let evaluation = Evaluation::new(alloc, expr, &lender);
-    if let Some(number) = evaluation.number() {
-        return Ok(Carried::number(number));
-    }
-    evaluation.carried()
 }

@@ -171,7 +171,7 @@ impl Writer {
             (D.failures device.old) (D.failures device.new)
             (IsErrOf result DeviceFault.Failed × (self.old.is_broken ≡ false)) }
     {
-        // A broken writer doesn't touch the device.
+        // The device of a broken writer stays as it is.
         if self.is_broken {
             return Err(DeviceFault::Failed);
         }
