@@ -4,7 +4,7 @@ use Rattle.passassign.specs.Rows.{IsGreatest}
 use Rattle.planchecker.specs.courses.Settings.{setting_of}
 use Rattle.passrun.specs.reading.Reading.{IsNoNode}
 use Rattle.roottext.proofs.Roots.{no_root, out_well, out_within, root_read, same_fault, started}
-use Rattle.roottext.proofs.root.out_value.Goals as goal
+use Rattle.roottext.proofs.root.read_out.Goals as goal
 
 pub returns-in_err-read_node-clause-none : goal.returns-in_err-read_node-clause-none
 returns-in_err-read_node-clause-none c =
