@@ -15,7 +15,7 @@ ghost use Rattle.ag_eval.specs.Operands.{IsIn, held_value, operand_value};
 
 use crate::bindings::Bindings;
 use crate::calls::reckoned;
-use crate::environment::Environment;
+use crate::environment::Lender;
 use crate::evaluation::Evaluation;
 use crate::measured::Measured;
 use crate::meter::Meter;
@@ -24,7 +24,7 @@ use ag_grammar::{Expr, Literal, Node, Operator};
 use ag_value::{ErrorCode, MAX_DEPTH, MAX_WEIGHT, NoMemory, Value, copy, depth, weight};
 use std::alloc::Global;
 
-impl<'e, V: Environment> Evaluation<'e, V> {
+impl<'e, V: Lender> Evaluation<'e, V> {
     /// The number that an operator gives for the value so far and the operand behind it, where it
     /// gives one and the operand is at hand: no operand is made of that one.
     #[inline(always)]
@@ -85,7 +85,7 @@ impl<'e, V: Environment> Evaluation<'e, V> {
     {
         match node {
             Node::Literal(literal) => within_limits(literal.value()),
-            Node::Occurrence(k) => Some(self.occurrence(*k)),
+            Node::Occurrence(k) => self.occurrence(*k),
             Node::Bound(k) => Some(bindings.get(*k).get()),
             _ => None,
         }
@@ -99,7 +99,7 @@ impl<'e, V: Environment> Evaluation<'e, V> {
     {
         let value = match self.tree() {
             Node::Literal(literal) => literal.value(),
-            Node::Occurrence(k) => self.occurrence(*k),
+            Node::Occurrence(k) => self.occurrence(*k)?,
             _ => return None,
         };
         let Value::Num(number) = value else {
@@ -117,7 +117,7 @@ impl<'e, V: Environment> Evaluation<'e, V> {
     {
         match self.tree() {
             Node::Literal(literal) => literal_value(literal).lent(),
-            Node::Occurrence(k) => Some(self.occurrence(*k)),
+            Node::Occurrence(k) => self.occurrence(*k),
             _ => None,
         }
     }

@@ -1,7 +1,9 @@
 //! What lends an evaluation the values of its occurrences.
 
 ghost use Rattle.std.specs.Prelude.{◌≡◌, ◌<◌, ℕ};
+ghost use Rattle.ag_eval.specs.Operands.{loan_value};
 
+use ag_carried::Carried;
 use ag_value::Value;
 
 /// The values of an expression's occurrences.
@@ -18,4 +20,77 @@ pub trait Environment {
     fn lend(&self, k: usize) -> &Value
         requires { k < count self.now }
         ensures { result.now ≡ lent self.now k };
+}
+
+/// The values of an expression's occurrences, as carried ones.
+pub trait CarriedEnvironment {
+    ghost use Rattle.ag_value.specs.declared.value.Value.{Value as AttributeValue};
+
+    /// The number of values that are lent.
+    ghost count: { Self → ℕ };
+
+    /// The value of the occurrence with this number.
+    ghost lent: { Self → ℕ → AttributeValue };
+
+    /// Lends the value of the occurrence with this number. Takes no memory.
+    fn lend(&self, k: usize) -> &Carried
+        requires { k < count self.now }
+        ensures { result.now ≡ lent self.now k };
+}
+
+/// A value that an environment lends: alone, or as a carried one.
+#[derive(Drop)]
+pub enum Loan<'e> {
+    Value(&'e Value),
+    Carried(&'e Carried),
+}
+
+/// An environment of either kind.
+pub trait Lender {
+    ghost use Rattle.ag_value.specs.declared.value.Value.{Value as AttributeValue};
+
+    /// The number of values that are lent.
+    ghost count: { Self → ℕ };
+
+    /// The value of the occurrence with this number.
+    ghost lent: { Self → ℕ → AttributeValue };
+
+    /// Lends the value of the occurrence with this number. Takes no memory.
+    fn loan(&self, k: usize) -> Loan<'_>
+        requires { k < count self.now }
+        ensures { loan_value result ≡ lent self.now k };
+}
+
+/// An environment that lends values.
+#[derive(Drop)]
+pub struct ByValue<'e, V: Environment> {
+    pub env: &'e V,
+}
+
+impl<'e, V: Environment> Lender for ByValue<'e, V> {
+    ghost count = { λ lender. V.count lender.env.now };
+
+    ghost lent = { λ lender. V.lent lender.env.now };
+
+    #[inline(always)]
+    fn loan(&self, k: usize) -> Loan<'_> {
+        Loan::Value(self.env.lend(k))
+    }
+}
+
+/// An environment that lends carried values.
+#[derive(Drop)]
+pub struct ByCarried<'e, C: CarriedEnvironment> {
+    pub env: &'e C,
+}
+
+impl<'e, C: CarriedEnvironment> Lender for ByCarried<'e, C> {
+    ghost count = { λ lender. C.count lender.env.now };
+
+    ghost lent = { λ lender. C.lent lender.env.now };
+
+    #[inline(always)]
+    fn loan(&self, k: usize) -> Loan<'_> {
+        Loan::Carried(self.env.lend(k))
+    }
 }

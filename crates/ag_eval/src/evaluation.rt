@@ -1,7 +1,7 @@
 //! The value of an expression.
 
 ghost use Rattle.std.specs.Prelude.{◌≡◌, ◌+◌, ◌-◌, ◌^◌, ◌<◌, ◌≤◌, length, map, suc, true, IfOk};
-ghost use Rattle.std.specs.Prelude.{IsTrue, MatchResult, OnOk, List, [], ◌∷◌, ◌++◌};
+ghost use Rattle.std.specs.Prelude.{IfSome, IsTrue, MatchResult, OnOk, List, [], ◌∷◌, ◌++◌};
 ghost use Rattle.std.specs.Prelude.{cond};
 ghost use Rattle.ag_value.specs.Well.{IsWell};
 ghost use Rattle.ag_value.specs.declared.value.Value.{Value as AttributeValue};
@@ -9,8 +9,8 @@ ghost use Rattle.ag_value.specs.declared.value.Value.TheVariants as value;
 ghost use Rattle.ag_grammar.specs.expressions.Evaluation.{AreWell, chain_value, item_values, value_in};
 ghost use Rattle.ag_grammar.specs.expressions.Evaluation.{value_of};
 ghost use Rattle.ag_eval.specs.Conditions.{decision};
-ghost use Rattle.ag_eval.specs.declared.operand.Held.{Held};
-ghost use Rattle.ag_eval.specs.Operands.{IsIn, each_within, operand_value};
+ghost use Rattle.ag_eval.specs.declared.operand.Held.{Held as HeldValue};
+ghost use Rattle.ag_eval.specs.Operands.{IsIn, each_within, held_value, operand_value};
 ghost use Rattle.ag_grammar.specs.expressions.Trees.{all_below, is_within};
 ghost use Rattle.ag_grammar.specs.values.Calls.{called_with, chosen, put};
 ghost use Rattle.ag_grammar.specs.values.Lists.{listed};
@@ -19,18 +19,19 @@ use crate::at_hand::{copied, literal_value};
 use crate::bindings::Bindings;
 use crate::builtins::faults::fault_of;
 use crate::calls::{apply, call_binary, call_put, call_unary, fault};
-use crate::environment::Environment;
+use crate::environment::{ByValue, Environment, Lender, Loan};
 use crate::gathering::Gathering;
 use crate::measured::Measured;
 use crate::meter::Meter;
-use crate::operand::Operand;
+use crate::operand::{Held, Operand};
+use ag_carried::Carried;
 use ag_grammar::{BinaryCall, Expr, Node, Operator};
 use ag_value::{ErrorCode, Items, NoMemory, Value};
 use std::alloc::Global;
 
 /// The evaluation of an expression, in an environment that lends a well value for each of its
 /// occurrences.
-pub struct Evaluation<'e, V: Environment> {
+pub struct Evaluation<'e, V: Lender> {
     alloc: Global,
     expr: &'e Expr,
     env: &'e V,
@@ -38,7 +39,7 @@ pub struct Evaluation<'e, V: Environment> {
     ghost well: { ∥ AreWell (length expr.now.1) (V.lent env.now) ∥₁ },
 }
 
-impl<'e, V: Environment> Drop for Evaluation<'e, V> {
+impl<'e, V: Lender> Drop for Evaluation<'e, V> {
     fn drop(self) {
         let Self {
             alloc: _,
@@ -48,9 +49,9 @@ impl<'e, V: Environment> Drop for Evaluation<'e, V> {
     }
 }
 
-impl<'e, V: Environment> Evaluation<'e, V> {
+impl<'e, V: Lender> Evaluation<'e, V> {
     /// Of the expression, in the environment.
-    fn new(alloc: Global, expr: &'e Expr, env: &'e V) -> Evaluation<'e, V>
+    pub fn new(alloc: Global, expr: &'e Expr, env: &'e V) -> Evaluation<'e, V>
         requires lends { length expr.now.1 ≤ V.count env.now }
         requires well { AreWell (length expr.now.1) (V.lent env.now) }
         ensures expr { result.expr ≡ expr.entry }
@@ -67,14 +68,30 @@ impl<'e, V: Environment> Evaluation<'e, V> {
         self.expr.tree()
     }
 
-    /// Lends the value of the occurrence with this number.
+    /// Lends the value of the occurrence with this number, if it is stored as a value.
     #[inline(always)]
-    pub fn occurrence(&self, k: usize) -> &'e Value
+    pub fn occurrence(&self, k: usize) -> Option<&'e Value>
         requires { k < length self.now.expr.now.1 }
-        ensures value { result.now ≡ V.lent self.now.env.now k }
-        ensures well { IsWell result.now }
+        ensures value { IfSome result (λ v. v.now ≡ V.lent self.now.env.now k) }
+        ensures well { IfSome result (λ v. IsWell v.now) }
     {
-        self.env.lend(k)
+        match self.env.loan(k) {
+            Loan::Value(value) => Some(value),
+            Loan::Carried(carried) => Some(carried.as_value()?),
+        }
+    }
+
+    /// Returns the value of the occurrence with this number: lent, or a copy where it is not stored
+    /// as a value.
+    #[inline(always)]
+    fn held_occurrence(&self, k: usize) -> Result<Held<'e>, NoMemory>
+        requires { k < length self.now.expr.now.1 }
+        ensures { IfOk result (λ h. held_value h ≡ V.lent self.now.env.now k) }
+    {
+        match self.env.loan(k) {
+            Loan::Value(value) => Ok(Held::part(value)),
+            Loan::Carried(carried) => Held::from_carried(self.alloc, carried),
+        }
     }
 
     /// What a part of the expression gives. The bindings stay as they are.
@@ -93,7 +110,7 @@ impl<'e, V: Environment> Evaluation<'e, V> {
     {
         match node {
             Node::Literal(literal) => Ok(Operand::Held(literal_value(literal))),
-            Node::Occurrence(k) => Ok(Operand::lent(self.occurrence(*k))),
+            Node::Occurrence(k) => Ok(Operand::Held(self.held_occurrence(*k)?)),
             Node::Bound(k) => Ok(Operand::Bound(*k)),
             Node::Chain(first, others) => {
                 let value = self.operand_of(first.get(), bindings)?;
@@ -268,6 +285,21 @@ impl<'e, V: Environment> Evaluation<'e, V> {
         let operand = self.operand_of(self.tree(), &mut bindings)?;
         Ok(operand.into_owned(self.alloc, &bindings)?.into_value())
     }
+
+    /// Returns the value of the expression as a carried one: that of an occurrence is shared.
+    #[inline(never)]
+    pub fn carried(&self) -> Result<Carried, NoMemory>
+        ensures value { IfOk result (λ v. v
+            ≡ value_of self.now.expr.now.0 (V.lent self.now.env.now)) }
+        ensures well { IfOk result (λ v. IsWell v) }
+    {
+        let mut bindings = Bindings::new(self.alloc);
+        if let Some(value) = self.reckoned_value(&bindings) {
+            return Carried::new(self.alloc, value);
+        }
+        let operand = self.operand_of(self.tree(), &mut bindings)?;
+        operand.into_carried(self.alloc, &bindings)
+    }
 }
 
 /// Whether a call has its first argument's value, whatever the second is.
@@ -283,7 +315,7 @@ fn settles(call: BinaryCall, first: &Value) -> bool
 
 /// The empty table. Takes no memory.
 fn empty_table<'e>(alloc: Global) -> Operand<'e>
-    ensures { result ≡ Operand.Held (Held.Owned (value.Table [])) }
+    ensures { result ≡ Operand.Held (HeldValue.Owned (value.Table [])) }
 {
     Operand::owned(Measured::new(Value::Table(Items::from_vec(Vec::new(alloc)))))
 }
@@ -311,8 +343,9 @@ fn decided(condition: &Value) -> Result<bool, ErrorCode>
 }
 
 /// Computes the value of an expression where `env` lends the values of its occurrences, and raises
-/// the meter by one evaluation, also where memory is refused. The other public call that takes a
-/// meter is `eval_number`; it too computes the expression's value and counts one evaluation.
+/// the meter by one evaluation, also where memory is refused. The other public calls that take a meter
+/// are `eval_carried` and `eval_number`; they too compute the expression's value and count one
+/// evaluation.
 ///
 /// Takes memory for what is made, and for copies: of a value that is lent or bound, where it leaves
 /// the expression, goes into a list or table, or grows; of the part that `nth` or `get` takes of what
@@ -332,7 +365,8 @@ pub fn eval<V: Environment>(
     ensures counted { meter.new ≡ meter.old + 1 }
 {
     meter.count_one();
-    let evaluation = Evaluation::new(alloc, expr, env);
+    let lender = ByValue { env };
+    let evaluation = Evaluation::new(alloc, expr, &lender);
     if let Some(number) = evaluation.number() {
         return Ok(Value::Num(number));
     }

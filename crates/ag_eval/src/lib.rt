@@ -6,6 +6,7 @@ mod at_hand;
 mod bindings;
 mod builtins;
 mod calls;
+mod carried;
 mod environment;
 mod evaluation;
 mod gathering;
@@ -14,6 +15,7 @@ mod meter;
 mod operand;
 
 pub use at_hand::eval_number;
-pub use environment::Environment;
+pub use carried::eval_carried;
+pub use environment::{CarriedEnvironment, Environment};
 pub use evaluation::eval;
 pub use meter::Meter;

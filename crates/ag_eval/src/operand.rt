@@ -8,20 +8,24 @@ ghost use Rattle.ag_eval.specs.Operands.{IsIn, held_value, is_lent, operand_valu
 
 use crate::bindings::Bindings;
 use crate::measured::Measured;
+use ag_carried::Carried;
 use ag_value::{ErrorCode, NoMemory, Value, copy};
 use std::alloc::Global;
 use std::marker::Model;
 
-/// A well value that is lent by the environment or by the expression.
+/// A well value that is lent by the environment or by the expression, with the carried value that
+/// stores it, if there is one.
 #[derive(Debug, Drop)]
 pub struct Lent<'e> {
     value: &'e Value,
+    carried: Option<&'e Carried>,
 }
 
 impl<'e> Model for Lent<'e> {
     ghost use Rattle.std.specs.Coded.{codes};
     ghost use Rattle.ag_value.specs.declared.value.Value.{Value as AttributeValue};
     ghost use Rattle.ag_value.specs.contracts.value.Value as value_row;
+    ghost use Rattle.std.specs.Prelude.{◌≡◌, IfSome};
     ghost use Rattle.ag_value.specs.Well.{IsWell};
 
     ghost Value = { AttributeValue };
@@ -30,7 +34,7 @@ impl<'e> Model for Lent<'e> {
 
     ghost view = { λ l. l.value.now };
 
-    ghost invariant = { λ l. IsWell l.value.now };
+    ghost invariant = { λ l. IsWell l.value.now × IfSome l.carried (λ c. c.now ≡ l.value.now) };
 }
 
 impl<'e> Lent<'e> {
@@ -39,7 +43,31 @@ impl<'e> Lent<'e> {
         requires { IsWell value.now }
         ensures { result ≡ value.entry.now }
     {
-        Lent { value }
+        Lent {
+            value,
+            carried: None,
+        }
+    }
+
+    /// Lends the same value once more.
+    pub fn again(&self) -> Lent<'e>
+        ensures { result ≡ self.now }
+    {
+        Lent {
+            value: self.value,
+            carried: self.carried,
+        }
+    }
+
+    /// Returns the value as a carried one: shared if a carried one stores it, else a copy.
+    pub fn into_carried(self, alloc: Global) -> Result<Carried, NoMemory>
+        ensures value { IfOk result (λ c. c ≡ self.entry) }
+        ensures well { IfOk result (λ c. IsWell c) }
+    {
+        match self.carried {
+            Some(carried) => carried.share(alloc),
+            None => Carried::new(alloc, copy(alloc, self.value)?),
+        }
     }
 
     /// Lends the value, for as long as it is lent.
@@ -74,6 +102,21 @@ impl<'e> Held<'e> {
         Held::Lent(Lent::new(value))
     }
 
+    /// Lends a carried value, or copies it if it is not stored as a value.
+    #[inline(always)]
+    pub fn from_carried(alloc: Global, carried: &'e Carried) -> Result<Held<'e>, NoMemory>
+        requires { IsWell carried.now }
+        ensures { IfOk result (λ h. held_value h ≡ carried.entry.now) }
+    {
+        match carried.as_value() {
+            Some(value) => Ok(Held::Lent(Lent {
+                value,
+                carried: Some(carried),
+            })),
+            None => Ok(Held::Owned(Measured::new(carried.to_value(alloc)?))),
+        }
+    }
+
     /// Lends the value.
     pub fn get(&self) -> &Value
         ensures value { result.now ≡ held_value self.now }
@@ -102,7 +145,7 @@ impl<'e> Held<'e> {
         ensures { IfOk result (λ h. held_value h ≡ held_value self.now) }
     {
         match self {
-            Held::Lent(lent) => Ok(Held::Lent(Lent::new(lent.get()))),
+            Held::Lent(lent) => Ok(Held::Lent(lent.again())),
             Held::Owned(owned) => Ok(Held::Owned(Measured::new(copy(alloc, owned.get())?))),
         }
     }
@@ -114,6 +157,20 @@ impl<'e> Held<'e> {
         match self {
             Held::Lent(lent) => Ok(Measured::new(copy(alloc, lent.get())?)),
             Held::Owned(owned) => Ok(owned),
+        }
+    }
+
+    /// Returns the value as a carried one, which is shared where a carried one lends it.
+    pub fn into_carried(self, alloc: Global) -> Result<Carried, NoMemory>
+        ensures value { IfOk result (λ c. c ≡ held_value self.entry) }
+        ensures well { IfOk result (λ c. IsWell c) }
+    {
+        match self {
+            Held::Lent(lent) => lent.into_carried(alloc),
+            Held::Owned(owned) => {
+                let weight = owned.weight();
+                Carried::with_weight(alloc, owned.into_value(), weight)
+            }
         }
     }
 }
@@ -138,14 +195,6 @@ impl<'e> Operand<'e> {
         ensures { result ≡ other.entry }
     {
         other
-    }
-
-    /// An operand that is lent.
-    pub fn lent(value: &'e Value) -> Operand<'e>
-        requires { IsWell value.now }
-        ensures { result ≡ Operand.Held (Held.Lent value.entry.now) }
-    {
-        Operand::Held(Held::part(value))
     }
 
     /// Lends the value, where a bound one is among `bindings`.
@@ -190,5 +239,14 @@ impl<'e> Operand<'e> {
         ensures { IfOk result (λ m. m ≡ operand_value bindings.now self.entry) }
     {
         self.kept(alloc, bindings)?.into_owned(alloc)
+    }
+
+    /// Returns the value as a carried one, which is shared where a carried one lends it.
+    pub fn into_carried(self, alloc: Global, bindings: &Bindings<'e>) -> Result<Carried, NoMemory>
+        requires { IsIn bindings.now self }
+        ensures value { IfOk result (λ c. c ≡ operand_value bindings.now self.entry) }
+        ensures well { IfOk result (λ c. IsWell c) }
+    {
+        self.kept(alloc, bindings)?.into_carried(alloc)
     }
 }

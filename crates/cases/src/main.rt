@@ -1,6 +1,7 @@
 //! Tries rows about public calls of the libraries, from values to the text of the root. `tests/README.md` lists the verbs.
 #![tactic(auto)]
 
+mod carried;
 mod contents;
 mod expressions;
 mod grammars;

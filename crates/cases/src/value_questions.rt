@@ -1,5 +1,6 @@
 //! Which verb asks which question about expressions, values and contents of devices.
 
+use crate::carried::carried_told;
 use crate::contents::{back_told, last_told, split_told, turn_told, write_told};
 use crate::expressions::{
     alike_told, count_told, expected_told, meter_told, occurrences_told, tree_told, until_told,
@@ -46,6 +47,7 @@ fn answer_of_values(
         "spell" => spell_told(alloc, given),
         "weight" | "depth" | "well" | "copy" => told_of_value(alloc, verb, given),
         "same" => same_told(alloc, written.text_or(rest), given),
+        "carried" => carried_told(alloc, rest, given),
         "decode" => decode_told(alloc, bytes_of(alloc, written.text_or(rest))?.as_slice()),
         _ => answer_of_contents(alloc, written, verb, rest),
     }

@@ -1,20 +1,21 @@
 //! Bringing a tree file of version 1 over to version 2.
 
-ghost use Rattle.std.specs.Prelude.{◌≡◌, ◌+◌, ◌<◌, ◌^◌, length, Bool, IfErr, IfOk, IfSome, IsErrOf, List};
+ghost use Rattle.std.specs.Prelude.{◌≡◌, ◌+◌, ◌-◌, ◌<◌, ◌≤◌, ◌^◌, All, false, length, Bool, IfErr, IfOk, IfSome, IsErrOf, List};
 ghost use Rattle.std.specs.Prelude.{OnErr, OnOk, [], ◌∷◌, ◌++◌, ℕ};
 ghost use Rattle.ag_value.specs.Well.{IsWell};
 ghost use Rattle.ag_grammar.specs.grammars.Accepted.{IsAccepted};
 ghost use Rattle.ag_grammar.specs.grammars.AttributeGrammar.{stored_items};
 ghost use Rattle.backreader.specs.Turning.{most_records};
 ghost use Rattle.passrun.specs.Faults.{run_fault_of_turn};
-ghost use Rattle.passrun.specs.passing.Putting.{AddsFrames, LeavesFrames};
+ghost use Rattle.passrun.specs.passing.Ahead.{IsWant};
+ghost use Rattle.passrun.specs.passing.Putting.{AddsFrames, HasPut, LeavesFrames};
 ghost use Rattle.passrun.specs.Upgrading.{Brought, HasTaken, IsBrought, IsReady, IsUnbrought};
 ghost use Rattle.passrun.specs.Upgrading.{IsUpgradeFault, IsUpgraded, stored_count, text_list};
+ghost use Rattle.treefile.specs.records.TreeFile.{version_two};
 ghost use Rattle.treefile.specs.ways.Beginning.{LeavesBeginning};
 ghost use Rattle.treefile.specs.devices.Device.{LeavesContent, Persists, WhenHonest};
 ghost use Rattle.treefile.specs.devices.Several.{BothLast, ThreeLast};
 
-use crate::passing::putting::put_record;
 use crate::reading::old_record::{OldRecord, old_record};
 use crate::reading::record::RecordFault;
 use crate::run_fault::RunFault;
@@ -278,4 +279,31 @@ pub fn upgrade<D: Device, E: Device, F: Device>(
     bring(alloc, grammar, old, mid)?;
     let count = turn(alloc, mid, to, 0, &Stored { grammar })?;
     Ok(count)
+}
+
+/// Puts the record of a node or token that was read from a file of version 1.
+#[inline(always)]
+fn put_record<E: Device>(
+    kind: Kind,
+    number: u16,
+    values: &[Value],
+    writer: &mut Writer,
+    to: &mut E,
+) -> Result<(), RunFault>
+    requires few { length values.now ≤ version_two.most_values }
+    requires well { All IsWell values.now }
+    requires room { writer.old.written < 2 ^ 64 - 1 }
+    requires whole { writer.old.is_broken ≡ false }
+    ensures put { OnOk result (HasPut kind number values.now
+        (E.is_honest to.new) (E.content to.old) (E.content to.new) writer.old writer.new) }
+    ensures added { OnOk result (AddsFrames (E.is_honest to.new)
+        (E.content to.old) (E.content to.new)) }
+    ensures left { IfErr result (LeavesFrames (E.is_honest to.new)
+        (E.content to.old) (E.content to.new)) }
+    ensures want { IfErr result IsWant }
+    ensures persists { Persists (E.is_honest to.old) (E.is_honest to.new)
+        (E.failures to.old) (E.failures to.new) (IsErrOf result RunFault.Device) }
+{
+    writer.put(to, kind, number, values)?;
+    Ok(())
 }

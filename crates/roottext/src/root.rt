@@ -11,6 +11,7 @@ ghost use Rattle.roottext.specs.Roots.{FindsText, FindsValue, IsRootRecord, IsWe
 ghost use Rattle.roottext.specs.Roots.{TellsRoot};
 
 use crate::fault::OutFault;
+use ag_carried::Carried;
 use ag_grammar::Grammar;
 use ag_value::{Text, Value};
 use passrun::{RecordFault, read_node};
@@ -43,7 +44,37 @@ fn out_number(grammar: &Grammar) -> usize
     }
 }
 
-/// The value of `out`, by its number, in the body of the root's record in a file of the last pass.
+/// Reads the value of `out`, by its number, in the body of the root's record in a file of the last
+/// pass.
+fn read_out(
+    alloc: Global,
+    grammar: &Grammar,
+    plan: &Plan,
+    out: usize,
+    body: &[u8],
+) -> Result<Carried, RecordFault>
+    requires plan { IsPlan grammar.now plan.now.0 plan.now.1 }
+    requires out { IsOut grammar.now out }
+    ensures read { IfOk result (λ v. IsRootRecord grammar.now plan.now.0 body.now v) }
+    ensures none { IsErrOf result RecordFault.Damaged →
+        (x : TheValue) → IsRootRecord grammar.now plan.now.0 body.now x → ⊥ }
+    ensures well { IfOk result (λ v. IsWell v) }
+{
+    let behind = plan.assignment().passes() + 1;
+    let mut values = Vec::new(alloc);
+    read_node(
+        alloc,
+        grammar,
+        plan,
+        behind,
+        grammar.start(),
+        body,
+        &mut values,
+    )?;
+    Ok(values.swap_remove(out))
+}
+
+/// Returns the value that `read_out` reads.
 fn out_value(
     alloc: Global,
     grammar: &Grammar,
@@ -58,18 +89,12 @@ fn out_value(
         (x : TheValue) → IsRootRecord grammar.now plan.now.0 body.now x → ⊥ }
     ensures well { IfOk result IsWell }
 {
-    let behind = plan.assignment().passes() + 1;
-    let mut values = Vec::new(alloc);
-    read_node(
-        alloc,
-        grammar,
-        plan,
-        behind,
-        grammar.start(),
-        body,
-        &mut values,
-    )?;
-    Ok(values.swap_remove(out))
+    let carried = read_out(alloc, grammar, plan, out, body)?;
+    // the only owner, so this takes no memory
+    let Ok(value) = carried.into_value(alloc) else {
+        return Err(RecordFault::NoMemory);
+    };
+    Ok(value)
 }
 
 /// The value of the root's `out`, by its number, in the last file.

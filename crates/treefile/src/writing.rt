@@ -13,6 +13,7 @@ ghost use Rattle.treefile.specs.records.TreeFile.{body_of, frame, header, versio
 use crate::body::Kind;
 use crate::device::{Device, DeviceFault};
 use crate::layout::header_of;
+use ag_carried::Carried;
 use ag_value::{NoMemory, Value, encode};
 use std::alloc::{AllocError, Global};
 use std::marker::Model;
@@ -129,6 +130,68 @@ impl Writer {
             return self.settle(answer);
         }
         fill_frame(&mut self.buffer, kind, number, values)?;
+        let answer = device.append(self.buffer.as_slice());
+        self.settle(answer)
+    }
+
+    /// Appends the frame of a record of carried values, as `put` does with values.
+    #[inline(always)]
+    pub fn put_carried<D: Device>(
+        &mut self,
+        device: &mut D,
+        kind: Kind,
+        number: u16,
+        values: &[Carried],
+    ) -> Result<(), DeviceFault>
+        requires few { length values.now ≤ version_two.most_values }
+        requires well { All IsWell values.now }
+        requires room { self.old.written < 2 ^ 64 - 1 }
+        ensures frame { OnOk result
+            (WhenHonest (D.is_honest device.new)
+            (D.content device.new
+            ≡ D.content device.old ++ frame (body_of kind number values.now))) }
+        ensures counted { OnOk result
+            (self.new ≡ record self.old { written = self.old.written + 1 }) }
+
+        // D1: a beginning of the frame, and a broken writer
+        ensures device { IsErrOf result DeviceFault.Failed → WhenHonest (D.is_honest device.new)
+            (AppendsFront (frame (body_of kind number values.now))
+            (D.content device.old) (D.content device.new)) }
+        ensures breaks { IsErrOf result DeviceFault.Failed →
+            self.new ≡ record self.old { is_broken = true } }
+        ensures broken { self.old.is_broken ≡ true →
+            IsErrOf result DeviceFault.Failed × (device.new ≡ device.old) }
+
+        // no memory: nothing changes
+        ensures memory { IsErrOf result DeviceFault.NoMemory →
+            LeavesContent (D.is_honest device.new) (D.content device.old) (D.content device.new) }
+        ensures unchanged { IsErrOf result DeviceFault.NoMemory → self.new ≡ self.old }
+
+        ensures persists { Persists (D.is_honest device.old) (D.is_honest device.new)
+            (D.failures device.old) (D.failures device.new)
+            (IsErrOf result DeviceFault.Failed × (self.old.is_broken ≡ false)) }
+    {
+        // The device of a broken writer stays as it is.
+        if self.is_broken {
+            return Err(DeviceFault::Failed);
+        }
+        if values.is_empty() {
+            let answer = device.append(&bare_frame(kind, number));
+            return self.settle(answer);
+        }
+        if let Some(frame) = carried_number(kind, number, values) {
+            let answer = device.append(&frame);
+            return self.settle(answer);
+        }
+        if let Some(frame) = carried_pair(kind, number, values) {
+            let answer = device.append(&frame);
+            return self.settle(answer);
+        }
+        if let Some(frame) = carried_triple(kind, number, values) {
+            let answer = device.append(&frame);
+            return self.settle(answer);
+        }
+        fill_carried(&mut self.buffer, kind, number, values)?;
         let answer = device.append(self.buffer.as_slice());
         self.settle(answer)
     }
@@ -343,5 +406,99 @@ fn append_value(buffer: &mut Vec<u8>, value: &Value) -> Result<(), NoMemory>
         return encode(value, buffer);
     };
     buffer.extend_from_slice(&number_spelling(*n))?;
+    Ok(())
+}
+
+/// Returns the frame of a record whose one value is a number, or `None` for other values.
+#[inline(always)]
+fn carried_number(kind: Kind, number: u16, values: &[Carried]) -> Option<[u8; 16]>
+    ensures { IfSome result (λ it. it ≡ frame (body_of kind number values.now)) }
+{
+    let [only] = values else {
+        return None;
+    };
+    let only = only.as_number()?;
+    Some(number_frame(kind, number, only))
+}
+
+/// Returns the frame of a record whose two values are numbers, or `None` for other values.
+#[inline(always)]
+fn carried_pair(kind: Kind, number: u16, values: &[Carried]) -> Option<[u8; 25]>
+    ensures { IfSome result (λ it. it ≡ frame (body_of kind number values.now)) }
+{
+    let [first, second] = values else {
+        return None;
+    };
+    let first = first.as_number()?;
+    let second = second.as_number()?;
+    Some(frame_of_pair(kind, number, first, second))
+}
+
+/// Returns the frame of a record whose three values are numbers, or `None` for other values.
+#[inline(always)]
+fn carried_triple(kind: Kind, number: u16, values: &[Carried]) -> Option<[u8; 34]>
+    ensures { IfSome result (λ it. it ≡ frame (body_of kind number values.now)) }
+{
+    let [first, second, third] = values else {
+        return None;
+    };
+    let first = first.as_number()?;
+    let second = second.as_number()?;
+    let third = third.as_number()?;
+    Some(frame_of_triple(kind, number, first, second, third))
+}
+
+/// Fills the buffer with the frame of a record of carried values.
+fn fill_carried(
+    buffer: &mut Vec<u8>,
+    kind: Kind,
+    number: u16,
+    values: &[Carried],
+) -> Result<(), NoMemory>
+    requires few { length values.now ≤ version_two.most_values }
+    requires well { All IsWell values.now }
+    ensures { OnOk result (buffer.new.items ≡ frame (body_of kind number values.now)) }
+{
+    fill_carried_body(buffer, kind, number, values)?;
+    close_frame(buffer)?;
+    Ok(())
+}
+
+/// Fills the buffer with the body of such a record.
+fn fill_carried_body(
+    buffer: &mut Vec<u8>,
+    kind: Kind,
+    number: u16,
+    values: &[Carried],
+) -> Result<(), NoMemory>
+    requires { All IsWell values.now }
+    ensures { OnOk result (buffer.new.items ≡ body_of kind number values.now) }
+{
+    let [high, low] = number.to_be_bytes();
+    buffer.clear();
+    buffer.extend_from_slice(&[kind.byte(), high, low])?;
+    append_carried_values(buffer, values)
+}
+
+/// Appends the encodings of carried values.
+fn append_carried_values(buffer: &mut Vec<u8>, values: &[Carried]) -> Result<(), NoMemory>
+    requires { All IsWell values.now }
+    ensures { OnOk result (buffer.new.items ≡ buffer.old.items ++ flat_map spelling_of values.now) }
+{
+    for value in values {
+        append_carried(buffer, value)?;
+    }
+    Ok(())
+}
+
+/// Appends the encoding of a carried value: a number's in one step.
+fn append_carried(buffer: &mut Vec<u8>, value: &Carried) -> Result<(), NoMemory>
+    requires { IsWell value.now }
+    ensures { OnOk result (buffer.new.items ≡ buffer.old.items ++ spelling_of value.now) }
+{
+    let Some(n) = value.as_number() else {
+        return value.encode(buffer);
+    };
+    buffer.extend_from_slice(&number_spelling(n))?;
     Ok(())
 }

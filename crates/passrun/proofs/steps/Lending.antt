@@ -5,7 +5,7 @@ use Rattle.ag_value.specs.declared.value.Value.{Value}
 use Rattle.ag_value.specs.Well.{IsWell}
 use Rattle.ag_grammar.specs.expressions.Evaluation.{AreWell}
 
-one_well : (xs : List Value) (i : ℕ) (d : Value) → All IsWell xs → IsWell d → IsWell (get_or xs i d)
+pub one_well : (xs : List Value) (i : ℕ) (d : Value) → All IsWell xs → IsWell d → IsWell (get_or xs i d)
 one_well [] i d h w = w
 one_well (x ∷ xs) zero d h w = All-head IsWell x xs h
 one_well (x ∷ xs) (suc i) d h w = one_well xs i d (All-tail IsWell x xs h) w

@@ -10,13 +10,13 @@ ghost use Rattle.treefile.specs.records.Records.{values_up_to};
 
 use crate::laid::job::Job;
 use crate::laid::laying::PlaceRow;
+use ag_carried::Carried;
 use ag_grammar::Item;
-use ag_value::{Value, same};
 
 /// Whether two rows begin with the same values of passes before k, where both have those of
 /// attributes with these passes up to k in front.
 #[tactic(auto)]
-pub(crate) fn agree(passes: &[u16], k: u16, ours: &[Value], theirs: &[Value]) -> bool
+pub(crate) fn agree(passes: &[u16], k: u16, ours: &[Carried], theirs: &[Carried]) -> bool
     requires { 1 ≤ k }
     ensures { (f h : ℕ → AttributeValue) (rest others : List AttributeValue)
         → ours.now ≡ values_up_to k passes.now f ++ rest
@@ -32,7 +32,7 @@ pub(crate) fn agree(passes: &[u16], k: u16, ours: &[Value], theirs: &[Value]) ->
             }
             match (ours, theirs) {
                 ([ours, our_others @ ..], [theirs, their_others @ ..]) => {
-                    (*pass == k || same(ours, theirs)) && agree(more, k, our_others, their_others)
+                    (*pass == k || ours.same(theirs)) && agree(more, k, our_others, their_others)
                 }
                 _ => false,
             }
@@ -46,7 +46,7 @@ pub(crate) fn agree(passes: &[u16], k: u16, ours: &[Value], theirs: &[Value]) ->
 pub(crate) fn is_as_told(
     job: &Job<'_>,
     row: PlaceRow,
-    values: &[Value],
+    values: &[Carried],
     copied: usize,
     start: usize,
 ) -> bool
@@ -66,7 +66,7 @@ pub(crate) fn is_as_told(
 
 /// The values from an index on.
 #[inline(always)]
-pub(crate) fn behind(values: &[Value], start: usize) -> &[Value]
+pub(crate) fn behind(values: &[Carried], start: usize) -> &[Carried]
     requires { start ≤ length values.now }
     ensures { result.now ≡ drop start values.now }
 {
@@ -75,7 +75,7 @@ pub(crate) fn behind(values: &[Value], start: usize) -> &[Value]
 
 /// The value at an index, alone.
 #[inline(always)]
-pub(crate) fn alone(values: &[Value], index: usize) -> &[Value]
+pub(crate) fn alone(values: &[Carried], index: usize) -> &[Carried]
     requires { index + 1 ≤ length values.now }
     ensures { result.now ≡ take 1 (drop index values.now) }
 {
@@ -84,7 +84,7 @@ pub(crate) fn alone(values: &[Value], index: usize) -> &[Value]
 
 /// Cuts off what was read of a token, whose text stands among the copies: the row of a node stays.
 #[inline(always)]
-pub(crate) fn keep_row(item: Item, values: &mut Vec<Value>, start: usize)
+pub(crate) fn keep_row(item: Item, values: &mut Vec<Carried>, start: usize)
     ensures { values.new.items ≡ kept_values item (take start values.old.items) values.old.items }
 {
     if let Item::Terminal(_) = item {
@@ -94,37 +94,34 @@ pub(crate) fn keep_row(item: Item, values: &mut Vec<Value>, start: usize)
 
 /// Puts a number in the place of a value, and of a number in one step.
 #[inline(always)]
-fn put_number(place: &mut Value, number: i64)
+fn put_number(place: &mut Carried, number: i64)
     ensures { place.new ≡ Num number }
 {
-    match place {
-        Value::Num(old) => *old = number,
-        other => *other = Value::Num(number),
-    }
+    place.set_number(number);
 }
 
 /// Puts a value at an index.
 #[inline(always)]
-pub(crate) fn put_value(values: &mut Vec<Value>, index: usize, value: Value)
+pub(crate) fn put_value(values: &mut Vec<Carried>, index: usize, value: Carried)
     requires { index < length values.old.items }
     ensures { values.new.items ≡ set values.old.items index value }
 {
-    if let Value::Num(number) = &value {
-        return put_number(&mut values[index], *number);
+    if let Some(number) = value.as_number() {
+        return put_number(&mut values[index], number);
     }
     values[index] = value;
 }
 
 /// Puts values in the place of as many others, one that is a number in one step.
 #[inline(always)]
-fn take_over(ours: &mut [Value], theirs: &mut [Value])
+fn take_over(ours: &mut [Carried], theirs: &mut [Carried])
     requires { length ours.old ≡ length theirs.old }
     ensures ours { ours.new ≡ theirs.old }
     ensures theirs { length theirs.new ≡ length theirs.old }
 {
     if ours.len() == 1 {
-        if let Value::Num(number) = &theirs[0] {
-            put_number(&mut ours[0], *number);
+        if let Some(number) = theirs[0].as_number() {
+            put_number(&mut ours[0], number);
             return;
         }
     }
@@ -133,22 +130,18 @@ fn take_over(ours: &mut [Value], theirs: &mut [Value])
 
 /// Cuts off the last value, a number in one step.
 #[inline(always)]
-fn cut_last(values: &mut Vec<Value>)
+fn cut_last(values: &mut Vec<Carried>)
     ensures { values.new.items ≡ take (length values.old.items - 1) values.old.items }
 {
     let Some(last) = values.pop() else {
         return;
     };
-    // a number has no memory to give back
-    let Value::Num(_) = last else {
-        drop(last);
-        return;
-    };
+    last.release();
 }
 
 /// Cuts off the values from an index on, each number in one step.
 #[inline(always)]
-fn cut(values: &mut Vec<Value>, from: usize)
+fn cut(values: &mut Vec<Carried>, from: usize)
     ensures { values.new.items ≡ take from values.old.items }
 {
     while from < values.len() {
@@ -159,7 +152,7 @@ fn cut(values: &mut Vec<Value>, from: usize)
 /// Puts the first values of the last row, which begins at an index, in the place of others, and cuts
 /// the row off.
 #[inline(always)]
-pub(crate) fn hand_over(values: &mut Vec<Value>, from: usize, to: usize, count: usize)
+pub(crate) fn hand_over(values: &mut Vec<Carried>, from: usize, to: usize, count: usize)
     requires front { to + count ≤ from }
     requires row { from + count ≤ length values.old.items }
     ensures { values.new.items ≡ take to values.old.items

@@ -7,27 +7,28 @@ ghost use Rattle.ag_value.specs.Well.{IsWell};
 ghost use Rattle.ag_value.specs.declared.value.Value.{Num};
 
 use crate::laid::laying::RuleSlots;
-use ag_eval::{Environment, Meter, eval, eval_number};
+use ag_carried::Carried;
+use ag_eval::{CarriedEnvironment, Meter, eval_carried, eval_number};
 use ag_grammar::{Expr, Rule};
-use ag_value::{NoMemory, Value};
+use ag_value::NoMemory;
 use std::alloc::Global;
 
 /// Lends the values of a rule's arguments: those in these slots of a node's values.
 #[derive(Drop)]
 struct Lender<'a> {
-    values: &'a [Value],
+    values: &'a [Carried],
     slots: &'a [u16],
-    spare: &'a Value,
+    spare: &'a Carried,
 }
 
-impl<'a> Environment for Lender<'a> {
+impl<'a> CarriedEnvironment for Lender<'a> {
     ghost use Rattle.std.specs.Prelude.{get_or, length, slice_index};
 
     ghost count = { λ l. length l.slots.now };
 
     ghost lent = { λ l k. get_or l.values.now (slice_index l.slots.now k) l.spare.now };
 
-    fn lend(&self, k: usize) -> &Value {
+    fn lend(&self, k: usize) -> &Carried {
         match self.values.get(self.slots[k] as usize) {
             Some(value) => value,
             None => self.spare,
@@ -41,9 +42,9 @@ pub(crate) fn evaluate(
     alloc: Global,
     rule: &Rule,
     slots: &RuleSlots,
-    values: &[Value],
+    values: &[Carried],
     meter: &mut Meter,
-) -> Result<Value, NoMemory>
+) -> Result<Carried, NoMemory>
     requires slots { length slots.now.args ≡ length rule.now.expr.1 }
     requires well { All IsWell values.now }
     requires not_full { meter.old < 2 ^ 64 - 1 }
@@ -54,7 +55,7 @@ pub(crate) fn evaluate(
 {
     // a literal number asks for no values
     if let Some(number) = eval_number(&rule.expr, meter) {
-        return Ok(Value::Num(number));
+        return Ok(Carried::number(number));
     }
     evaluate_over(alloc, &rule.expr, slots.args.as_slice(), values, meter)
 }
@@ -66,9 +67,9 @@ fn evaluate_over(
     alloc: Global,
     expr: &Expr,
     slots: &[u16],
-    values: &[Value],
+    values: &[Carried],
     meter: &mut Meter,
-) -> Result<Value, NoMemory>
+) -> Result<Carried, NoMemory>
     requires slots { length slots.now ≡ length expr.now.1 }
     requires well { All IsWell values.now }
     requires not_full { meter.old < 2 ^ 64 - 1 }
@@ -77,11 +78,11 @@ fn evaluate_over(
     ensures well { IfOk result (λ v. IsWell v) }
     ensures counted { meter.new ≡ meter.old + 1 }
 {
-    let spare = Value::Num(0);
+    let spare = Carried::number(0);
     let env = Lender {
         values,
         slots,
         spare: &spare,
     };
-    eval(alloc, expr, &env, meter)
+    eval_carried(alloc, expr, &env, meter)
 }

@@ -24,9 +24,10 @@ use crate::passing::open_node::OpenNode;
 use crate::passing::putting::put_record;
 use crate::reading::fetching::fetch;
 use crate::run_fault::RunFault;
+use ag_carried::Carried;
 use ag_eval::Meter;
 use ag_grammar::Item;
-use ag_value::{NoMemory, Value};
+use ag_value::NoMemory;
 use backreader::Back;
 use passcode::Instr;
 use std::alloc::Global;
@@ -39,7 +40,7 @@ use treefile::{Device, Kind, Writer};
 pub(crate) struct Machine {
     pub(crate) back: Back,
     pub(crate) writer: Writer,
-    pub(crate) values: Vec<Value>,
+    pub(crate) values: Vec<Carried>,
     pub(crate) waiting: Vec<OpenNode>,
     pub(crate) root: u16,
     pub(crate) begun: u64,
@@ -51,7 +52,7 @@ pub(crate) fn go(
     job: &Job<'_>,
     node: OpenNode,
     place: u16,
-    values: &[Value],
+    values: &[Carried],
     waiting: &mut Vec<OpenNode>,
 ) -> Result<OpenNode, NoMemory>
     requires job { CanRun job.now }

@@ -9,7 +9,7 @@ ghost use Rattle.treefile.specs.devices.Device.{Persists};
 ghost use Rattle.treefile.specs.records.TreeFile.{version_two};
 
 use crate::run_fault::RunFault;
-use ag_value::Value;
+use ag_carried::Carried;
 use treefile::{Device, Kind, Writer};
 
 /// Puts a record with these values.
@@ -17,7 +17,7 @@ use treefile::{Device, Kind, Writer};
 pub(crate) fn put_record<E: Device>(
     kind: Kind,
     number: u16,
-    values: &[Value],
+    values: &[Carried],
     writer: &mut Writer,
     to: &mut E,
 ) -> Result<(), RunFault>
@@ -35,6 +35,6 @@ pub(crate) fn put_record<E: Device>(
     ensures persists { Persists (E.is_honest to.old) (E.is_honest to.new)
         (E.failures to.old) (E.failures to.new) (IsErrOf result RunFault.Device) }
 {
-    writer.put(to, kind, number, values)?;
+    writer.put_carried(to, kind, number, values)?;
     Ok(())
 }

@@ -10,9 +10,9 @@ ghost use Rattle.treefile.specs.records.TreeFile.{version_two};
 use crate::laid::job::Job;
 use crate::reading::record::{RecordFault, read_record};
 use crate::run_fault::RunFault;
+use ag_carried::Carried;
 use ag_grammar::Item;
 use ag_grammar::limits::{MOST_DEPTH, MOST_NODES};
-use ag_value::Value;
 use backreader::Back;
 use std::alloc::Global;
 use treefile::Device;
@@ -26,7 +26,7 @@ pub(crate) fn fetch<D: Device>(
     item: Item,
     open_count: usize,
     back: &mut Back,
-    values: &mut Vec<Value>,
+    values: &mut Vec<Carried>,
     from: &mut D,
 ) -> Result<u16, RunFault>
     requires job { CanRun job.now }

@@ -13,6 +13,7 @@ ghost use Rattle.planchecker.specs.courses.Settings.{setting_of};
 
 use crate::laid::job::Job;
 use crate::laid::rows::row_passes;
+use ag_carried::Carried;
 use ag_grammar::limits::MOST_TOKEN_BYTES;
 use ag_grammar::{Grammar, Item, Terminal};
 use ag_value::{Value, ValueFault, decode};
@@ -67,7 +68,7 @@ fn read_value<'b>(
     pass: u16,
     k: u16,
     bytes: &'b [u8],
-    values: &mut Vec<Value>,
+    values: &mut Vec<Carried>,
 ) -> Result<&'b [u8], RecordFault>
     requires known { pass < k }
     ensures taken { IfOk result (λ rest. IsTaken (k - 1) k pass bytes.now rest.now
@@ -75,7 +76,7 @@ fn read_value<'b>(
     ensures untaken { IsErrOf result RecordFault.Damaged → IsUntaken (k - 1) pass bytes.now }
     ensures front { StandInFront values.old.items values.new.items }
 {
-    let (value, length) = decode(alloc, bytes)?;
+    let (value, length) = Carried::read(alloc, bytes)?;
     let Ok(()) = values.push(value) else {
         return Err(RecordFault::NoMemory);
     };
@@ -89,7 +90,7 @@ fn take_known<'b>(
     pass: u16,
     k: u16,
     bytes: &'b [u8],
-    values: &mut Vec<Value>,
+    values: &mut Vec<Carried>,
 ) -> Result<&'b [u8], RecordFault>
     requires { pass < k }
     ensures taken { IfOk result (λ rest. IsTaken (k - 1) k pass bytes.now rest.now
@@ -100,7 +101,7 @@ fn take_known<'b>(
     let Some((number, rest)) = number_in(bytes) else {
         return read_value(alloc, pass, k, bytes, values);
     };
-    let Ok(()) = values.push(Value::Num(number)) else {
+    let Ok(()) = values.push(Carried::number(number)) else {
         return Err(RecordFault::NoMemory);
     };
     Ok(rest)
@@ -114,7 +115,7 @@ fn take_value<'b>(
     pass: u16,
     k: u16,
     bytes: &'b [u8],
-    values: &mut Vec<Value>,
+    values: &mut Vec<Carried>,
 ) -> Result<&'b [u8], RecordFault>
     requires { 1 ≤ k }
     ensures taken { IfOk result (λ rest. IsTaken (k - 1) k pass bytes.now rest.now
@@ -126,7 +127,7 @@ fn take_value<'b>(
         return take_known(alloc, pass, k, bytes, values);
     }
     if pass == k {
-        let Ok(()) = values.push(Value::Num(0)) else {
+        let Ok(()) = values.push(Carried::number(0)) else {
             return Err(RecordFault::NoMemory);
         };
         return Ok(bytes);
@@ -142,7 +143,7 @@ fn take_values<'b>(
     passes: &[u16],
     k: u16,
     bytes: &'b [u8],
-    values: &mut Vec<Value>,
+    values: &mut Vec<Carried>,
 ) -> Result<&'b [u8], RecordFault>
     requires { 1 ≤ k }
     ensures taken { IfOk result (λ rest. AreTaken (k - 1) k passes.now bytes.now rest.now
@@ -165,7 +166,7 @@ fn take_row(
     passes: &[u16],
     k: u16,
     bytes: &[u8],
-    values: &mut Vec<Value>,
+    values: &mut Vec<Carried>,
 ) -> Result<(), RecordFault>
     requires { 1 ≤ k }
     ensures taken { OnOk result (AreTaken (k - 1) k passes.now bytes.now []
@@ -216,7 +217,7 @@ pub fn read_node(
     k: u16,
     symbol: u16,
     body: &[u8],
-    values: &mut Vec<Value>,
+    values: &mut Vec<Carried>,
 ) -> Result<u16, RecordFault>
     requires { 1 ≤ k }
     ensures read { IfOk result (λ p. IsNodeRead (setting_of grammar.now plan.now k) symbol p
@@ -243,7 +244,7 @@ fn read_laid_node(
     job: &Job<'_>,
     symbol: u16,
     body: &[u8],
-    values: &mut Vec<Value>,
+    values: &mut Vec<Carried>,
 ) -> Result<u16, RecordFault>
     requires { CanRun job.now }
     ensures read { IfOk result (λ p. IsNodeRead (setting job.now) symbol p
@@ -286,12 +287,15 @@ fn read_token(
     alloc: Global,
     class: u16,
     body: &[u8],
-    values: &mut Vec<Value>,
+    values: &mut Vec<Carried>,
 ) -> Result<(), RecordFault>
     ensures read { OnOk result (IsTokenRead class body.now values.old.items values.new.items) }
     ensures none { IsErrOf result RecordFault.Damaged → IsNoToken class body.now }
 {
     let text = text_in(alloc, class, body)?;
+    let Ok(text) = Carried::new(alloc, text) else {
+        return Err(RecordFault::NoMemory);
+    };
     let Ok(()) = values.push(text) else {
         return Err(RecordFault::NoMemory);
     };
@@ -305,7 +309,7 @@ pub(crate) fn read_record(
     job: &Job<'_>,
     item: Item,
     body: &[u8],
-    values: &mut Vec<Value>,
+    values: &mut Vec<Carried>,
 ) -> Result<u16, RecordFault>
     requires { CanRun job.now }
     ensures read { IfOk result (λ p. IsRead (setting job.now) item p

@@ -27,7 +27,7 @@ operand_of-chain_of-requires g t c = λ κs le.
 
 pub operand_of-returns-in_ok-value-in-Chain-clause-value : goal.operand_of-returns-in_ok-value-in-Chain-clause-value
 operand_of-returns-in_ok-value-in-Chain-clause-value g t c =
-    let env = g.V.Environment.lent c.args.self.now.env.now in
+    let env = g.V.Lender.lent c.args.self.now.env.now in
     let s = c.args.bindings.now in
     let f : Operator × Node → Operator × Meaning = λ p. (p.0, value_in p.1) in
     let first = c.in_ok-value-in-Chain.ensures.value in

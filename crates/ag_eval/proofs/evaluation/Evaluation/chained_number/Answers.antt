@@ -10,7 +10,7 @@ loop-other-preserved g c =
     let x = c.other-item.result in
     let lt = c.loop-other-test.true in
     record {
-      same = chained_more others i x lt (g.V.Environment.lent c.args.self.now.env.now) c.args.bindings.now c.loop-other.so_far c.replaced-so_far.result c.in_ok-right.right.now _ c.other-item.is c.in_ok-right.ensures.value (c.replaced-so_far.ensures ∙ c.in_ok-next.ensures.value) c.loop-other.invariant.same;
+      same = chained_more others i x lt (g.V.Lender.lent c.args.self.now.env.now) c.args.bindings.now c.loop-other.so_far c.replaced-so_far.result c.in_ok-right.right.now _ c.other-item.is c.in_ok-right.ensures.value (c.replaced-so_far.ensures ∙ c.in_ok-next.ensures.value) c.loop-other.invariant.same;
       below = below_more others i x lt (length c.args.self.now.expr.now.1) (length c.args.bindings.now) c.loop-other.invariant.below;
       well = subst IsWell (sym c.replaced-so_far.ensures) c.in_ok-next.ensures.well;
     }

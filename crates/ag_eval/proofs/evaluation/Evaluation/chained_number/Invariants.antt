@@ -6,7 +6,7 @@ use Rattle.ag_eval.proofs.evaluation.Evaluation.chained_number.Given as goal
 
 abbrev pub invariant-loop-other : goal.invariant-loop-other
 invariant-loop-other g l = record {
-  same : chain_value (g.V.Environment.lent l.self.env.now) l.bindings l.so_far (map (λ p. (p.0, value_in p.1)) (drop l.other-index l.others)) ≡ chain_value (g.V.Environment.lent l.self.env.now) l.bindings (value_in l.first (g.V.Environment.lent l.self.env.now) l.bindings) (map (λ p. (p.0, value_in p.1)) l.others);
+  same : chain_value (g.V.Lender.lent l.self.env.now) l.bindings l.so_far (map (λ p. (p.0, value_in p.1)) (drop l.other-index l.others)) ≡ chain_value (g.V.Lender.lent l.self.env.now) l.bindings (value_in l.first (g.V.Lender.lent l.self.env.now) l.bindings) (map (λ p. (p.0, value_in p.1)) l.others);
   below : all_below (length l.self.expr.now.1) (length l.bindings) (drop l.other-index l.others) ≡ true;
   well : IsWell l.so_far;
 }

@@ -9,7 +9,7 @@ use Rattle.ag_eval.proofs.evaluation.Evaluation.reckoned_value.Goals as goal
 
 pub returns-clause-value : goal.returns-clause-value
 returns-clause-value g c =
-    let env = g.V.Environment.lent c.args.self.now.env.now in
+    let env = g.V.Lender.lent c.args.self.now.env.now in
     let s = c.args.bindings.now in
     let f : Operator × Node → Operator × Meaning = λ p. (p.0, value_in p.1) in
     let is = ap (λ (os : List (Operator × Node)). chain_value env s (value_in c.get.result.now env s) (map f os)) c.as_slice.ensures

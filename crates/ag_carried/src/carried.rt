@@ -1,0 +1,303 @@
+//! Values that are passed from node to node.
+
+ghost use Rattle.std.specs.Prelude.{◌≡◌, ◌++◌, ◌↔◌, ◌≤◌, ℤ, length, take, IfOk, IfSome, IsTrue, List};
+ghost use Rattle.std.specs.Prelude.{MatchOption, MatchResult, OnErr, OnOk, ℕ};
+ghost use Rattle.ag_value.specs.Measure.{weight_of};
+ghost use Rattle.ag_value.specs.Spelling.{spelling_of};
+ghost use Rattle.ag_value.specs.Well.{IsWell};
+ghost use Rattle.ag_value.specs.declared.value.Value.{Value as AttributeValue, Num};
+
+use crate::spelled::Spelled;
+use ag_value::{NoMemory, Value, ValueFault, copy, decode, encode, same, weight};
+use std::alloc::Global;
+use std::marker::Model;
+use std::rc::Rc;
+
+/// The greatest weight of a value that is stored inline. A shared one costs two blocks of memory.
+const MAX_INLINE_WEIGHT: u64 = 24;
+
+/// The greatest length in bytes of a text that is stored inline without being weighed.
+const MAX_INLINE_TEXT: usize = 16;
+
+/// How a value is stored: inline, or shared beside its encoding.
+#[derive(Debug, Drop)]
+enum Form {
+    Inline(Value),
+    Shared(Rc<Spelled>),
+}
+
+/// A value that is passed from node to node. Contracts see the value. `share` and `encode` of a
+/// large value neither copy nor walk it: owners share one value, which is stored beside its encoding.
+#[derive(Debug, Drop)]
+pub struct Carried {
+    form: Form,
+}
+
+impl Model for Carried {
+    ghost use Rattle.std.specs.Coded.{codes};
+    ghost use Rattle.ag_value.specs.declared.value.Value.{Value as AttributeValue};
+    ghost use Rattle.ag_value.specs.contracts.value.Value as value_row;
+
+    ghost Value = { AttributeValue };
+
+    ghost coded = { Prim.hlevel (codes, value_row.the_row.coded) };
+
+    ghost use Rattle.ag_carried.specs.Carried.{form_value};
+
+    ghost view = { λ c. form_value c.form };
+}
+
+/// Returns whether a value is stored inline whatever it weighs: a number, an error, a short text, an
+/// empty list or table.
+#[inline(always)]
+fn is_light(value: &Value) -> bool {
+    match value {
+        Value::Num(_) => true,
+        Value::Fault(_) => true,
+        Value::Text(text) => text.as_str().len() <= MAX_INLINE_TEXT,
+        Value::List(items) => items.as_slice().is_empty(),
+        Value::Table(pairs) => pairs.as_slice().is_empty(),
+    }
+}
+
+/// Stores a value inline.
+#[inline(always)]
+fn inline_value(value: Value) -> Carried
+    ensures { result ≡ value }
+{
+    Carried {
+        form: Form::Inline(value),
+    }
+}
+
+/// Shares a value.
+fn shared_value(alloc: Global, spelled: Spelled) -> Result<Carried, NoMemory>
+    ensures { IfOk result (λ c. c ≡ spelled) }
+{
+    let shared = Rc::new(alloc, spelled)?;
+    Ok(Carried {
+        form: Form::Shared(shared),
+    })
+}
+
+/// Returns a value that is not light as a carried one.
+#[inline(never)]
+fn weigh_and_store(alloc: Global, value: Value) -> Result<Carried, NoMemory>
+    requires { IsWell value }
+    ensures { IfOk result (λ c. c ≡ value) }
+{
+    let weight = weight(&value);
+    store_by_weight(alloc, value, weight)
+}
+
+/// Returns a value of a weight as a carried one. The weight decides alone how it is stored.
+fn store_by_weight(alloc: Global, value: Value, weight: u64) -> Result<Carried, NoMemory>
+    requires { IsWell value }
+    ensures { IfOk result (λ c. c ≡ value) }
+{
+    if weight <= MAX_INLINE_WEIGHT {
+        return Ok(inline_value(value));
+    }
+    shared_value(alloc, Spelled::new(alloc, value, weight)?)
+}
+
+impl Carried {
+    /// Returns a number. Takes no memory.
+    #[inline(always)]
+    pub fn number(number: i64) -> Carried
+        ensures { result ≡ Num number }
+    {
+        inline_value(Value::Num(number))
+    }
+
+    /// Returns a well value as a carried one. Takes memory for a large one, and encodes it.
+    #[inline(always)]
+    pub fn new(alloc: Global, value: Value) -> Result<Carried, NoMemory>
+        requires { IsWell value }
+        ensures { IfOk result (λ c. c ≡ value) }
+    {
+        if is_light(&value) {
+            return Ok(inline_value(value));
+        }
+        weigh_and_store(alloc, value)
+    }
+
+    /// Returns a well value whose weight is known, as `new` does.
+    #[inline(always)]
+    pub fn with_weight(alloc: Global, value: Value, weight: u64) -> Result<Carried, NoMemory>
+        requires well { IsWell value }
+        requires weight { weight ≡ weight_of value }
+        ensures { IfOk result (λ c. c ≡ value) }
+    {
+        if is_light(&value) {
+            return Ok(inline_value(value));
+        }
+        store_by_weight(alloc, value, weight)
+    }
+
+    /// Lends the value, if it is stored as one. Whoever needs the value otherwise takes `to_value`.
+    #[inline(always)]
+    pub fn as_value(&self) -> Option<&Value>
+        ensures { IfSome result (λ v. v.now ≡ self.now) }
+    {
+        match &self.form {
+            Form::Inline(value) => Some(value),
+            Form::Shared(shared) => Some(shared.value()),
+        }
+    }
+
+    /// Returns the number, or `None` for a value of another kind.
+    #[inline(always)]
+    pub fn as_number(&self) -> Option<i64>
+        ensures { MatchOption result ((n : ℤ) → self.now ≡ Num n → ⊥) (λ n. self.now ≡ Num n) }
+    {
+        let value = match &self.form {
+            Form::Inline(value) => value,
+            Form::Shared(shared) => shared.value(),
+        };
+        match value {
+            Value::Num(number) => Some(*number),
+            _ => None,
+        }
+    }
+
+    /// Replaces the value by a number: a number is overwritten in one step.
+    #[inline(always)]
+    pub fn set_number(&mut self, number: i64)
+        ensures { self.new ≡ Num number }
+    {
+        match &mut self.form {
+            Form::Inline(Value::Num(old)) => *old = number,
+            other => *other = Form::Inline(Value::Num(number)),
+        }
+    }
+
+    /// Drops the value. A number, which owns no memory, is dropped in one step.
+    #[inline(always)]
+    pub fn release(self) {
+        let Carried { form } = self;
+        let Form::Inline(Value::Num(_)) = form else {
+            drop(form);
+            return;
+        };
+    }
+
+    /// Returns the same value once more: a large one is shared. Takes memory for a text, a list or a
+    /// table that is stored inline, and fails with NoMemory too where a value has 2^64 - 1 owners.
+    #[inline(always)]
+    pub fn share(&self, alloc: Global) -> Result<Carried, NoMemory>
+        ensures { IfOk result (λ c. c ≡ self.now) }
+    {
+        match &self.form {
+            Form::Inline(Value::Num(number)) => Ok(Carried::number(*number)),
+            Form::Inline(value) => Ok(inline_value(copy(alloc, value)?)),
+            Form::Shared(shared) => Ok(Carried {
+                form: Form::Shared(shared.clone()?),
+            }),
+        }
+    }
+
+    /// Returns a copy of the value.
+    pub fn to_value(&self, alloc: Global) -> Result<Value, NoMemory>
+        ensures { IfOk result (λ v. v ≡ self.now) }
+    {
+        match &self.form {
+            Form::Inline(value) => copy(alloc, value),
+            Form::Shared(shared) => copy(alloc, shared.value()),
+        }
+    }
+
+    /// Returns the value. Takes memory, for a copy, only where the value has other owners.
+    pub fn into_value(self, alloc: Global) -> Result<Value, NoMemory>
+        ensures { IfOk result (λ v. v ≡ self) }
+    {
+        let Carried { form } = self;
+        match form {
+            Form::Inline(value) => Ok(value),
+            Form::Shared(shared) => match Rc::try_unwrap(shared) {
+                Ok(spelled) => Ok(spelled.into_value()),
+                Err(shared) => copy(alloc, shared.value()),
+            },
+        }
+    }
+
+    /// Returns whether two values are equal. Takes no memory.
+    pub fn same(&self, other: &Carried) -> bool
+        ensures { IsTrue result ↔ (self.now ≡ other.now) }
+    {
+        match (&self.form, &other.form) {
+            (Form::Shared(one), Form::Shared(another)) => one.same(another),
+            (Form::Inline(one), Form::Inline(another)) => same(one, another),
+            (Form::Inline(one), Form::Shared(another)) => same(one, another.value()),
+            (Form::Shared(one), Form::Inline(another)) => same(one.value(), another),
+        }
+    }
+
+    /// Appends the encoding of a well value: the bytes that a large one is stored beside.
+    pub fn encode(&self, out: &mut Vec<u8>) -> Result<(), NoMemory>
+        requires { IsWell self.now }
+        ensures ok { OnOk result (out.new.items ≡ out.old.items ++ spelling_of self.now) }
+        ensures err { OnErr result (out.new.items ≡ out.old.items) }
+    {
+        match &self.form {
+            Form::Inline(value) => encode(value, out),
+            Form::Shared(shared) => {
+                out.extend_from_slice(shared.bytes())?;
+                Ok(())
+            }
+        }
+    }
+
+    /// Reads the value whose encoding is a prefix of the input, and returns it with the length of
+    /// that prefix in bytes, as `decode` does. A large value keeps a copy of these bytes.
+    #[inline(always)]
+    pub fn read(alloc: Global, input: &[u8]) -> Result<(Carried, usize), ValueFault>
+        ensures well { IfOk result (λ found. IsWell found.0) }
+        ensures within { IfOk result (λ found. found.1 ≤ length input.now) }
+        ensures spelled { IfOk result (λ found. take found.1 input.now ≡ spelling_of found.0) }
+        ensures read { (value : AttributeValue) (rest : List ℕ) → IsWell value
+            → input.now ≡ spelling_of value ++ rest
+            → MatchResult result
+            (λ found. found ≡ (value, length (spelling_of value)))
+            (λ e. e ≡ ValueFault.NoMemory) }
+    {
+        let (value, len) = decode(alloc, input)?;
+        Ok((with_encoding(alloc, value, &input[..len])?, len))
+    }
+
+    /// Reads a value as `read` does. Where the input begins with the encoding of `self`, the value
+    /// is `self` shared, and nothing is decoded.
+    pub fn read_beside(&self, alloc: Global, input: &[u8]) -> Result<(Carried, usize), ValueFault>
+        ensures well { IfOk result (λ found. IsWell found.0) }
+        ensures within { IfOk result (λ found. found.1 ≤ length input.now) }
+        ensures spelled { IfOk result (λ found. take found.1 input.now ≡ spelling_of found.0) }
+        ensures read { (value : AttributeValue) (rest : List ℕ) → IsWell value
+            → input.now ≡ spelling_of value ++ rest
+            → MatchResult result
+            (λ found. found ≡ (value, length (spelling_of value)))
+            (λ e. e ≡ ValueFault.NoMemory) }
+    {
+        if let Form::Shared(shared) = &self.form {
+            if let Some(len) = shared.prefix_of(input) {
+                let carried = Carried {
+                    form: Form::Shared(shared.clone()?),
+                };
+                return Ok((carried, len));
+            }
+        }
+        Carried::read(alloc, input)
+    }
+}
+
+/// Returns a value that was decoded from these bytes as a carried one.
+#[inline(always)]
+fn with_encoding(alloc: Global, value: Value, encoding: &[u8]) -> Result<Carried, NoMemory>
+    requires well { IsWell value }
+    requires encoding { encoding.now ≡ spelling_of value }
+    ensures { IfOk result (λ c. c ≡ value) }
+{
+    if is_light(&value) || encoding.len() as u64 <= MAX_INLINE_WEIGHT {
+        return Ok(inline_value(value));
+    }
+    shared_value(alloc, Spelled::from_encoding(alloc, value, encoding)?)
+}

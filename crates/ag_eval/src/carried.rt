@@ -1,0 +1,41 @@
+//! The value of an expression, as a carried one.
+
+ghost use Rattle.std.specs.Prelude.{◌≡◌, ◌+◌, ◌-◌, ◌^◌, ◌<◌, ◌≤◌, length, IfOk};
+ghost use Rattle.ag_value.specs.Well.{IsWell};
+ghost use Rattle.ag_grammar.specs.expressions.Evaluation.{AreWell, value_of};
+
+use crate::environment::{ByCarried, CarriedEnvironment};
+use crate::evaluation::Evaluation;
+use crate::meter::Meter;
+use ag_carried::Carried;
+use ag_grammar::Expr;
+use ag_value::NoMemory;
+use std::alloc::Global;
+
+/// Computes the value of an expression as `eval` does, where `env` lends carried values, and raises
+/// the meter by one evaluation, also where memory is refused. If the value is that of an occurrence
+/// (`$0.env`, also as what `if`, `let` or `orelse` chooses), it is shared and not copied.
+///
+/// Takes memory as `eval` does, and for the encoding of a large value that was made.
+#[inline(always)]
+pub fn eval_carried<C: CarriedEnvironment>(
+    alloc: Global,
+    expr: &Expr,
+    env: &C,
+    meter: &mut Meter,
+) -> Result<Carried, NoMemory>
+    requires lends { length expr.now.1 ≤ C.count env.now }
+    requires well { AreWell (length expr.now.1) (C.lent env.now) }
+    requires not_full { meter.old < 2 ^ 64 - 1 }
+    ensures value { IfOk result (λ v. v ≡ value_of expr.now.0 (C.lent env.now)) }
+    ensures well { IfOk result (λ v. IsWell v) }
+    ensures counted { meter.new ≡ meter.old + 1 }
+{
+    meter.count_one();
+    let lender = ByCarried { env };
+    let evaluation = Evaluation::new(alloc, expr, &lender);
+    if let Some(number) = evaluation.number() {
+        return Ok(Carried::number(number));
+    }
+    evaluation.carried()
+}
