@@ -5,8 +5,10 @@ pub mod Finally
 pub mod Legal
 pub mod Made
 pub mod Marked
+pub mod NoEarlier
 pub mod PassMade
 pub mod Refusing
 pub mod Rest
+pub mod SoFar
 pub mod Struck
 pub mod Whole

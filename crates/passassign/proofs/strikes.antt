@@ -1,8 +1,11 @@
 -- Lists of strikes: how they grow, and when they are good.
 pub mod Adding
 pub mod BothWays
+pub mod Chained
+pub mod Exactly
 pub mod Following
 pub mod Growing
 pub mod Reasons
 pub mod Sample
 pub mod Told
+pub mod Walked

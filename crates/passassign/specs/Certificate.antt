@@ -22,9 +22,9 @@ abbrev pub Members : List (ℕ × ℕ) → ℕ → ℕ → Type 0
 Members set s a = Has set (s, a)
 
 -- those that a list strikes
-abbrev pub Strikes : List Strike → ℕ → ℕ → Type 0
-Strikes [] s a = ⊥
-Strikes (x ∷ xs) s a = ((x.symbol ≡ s) × (x.attr ≡ a)) ⊎ Strikes xs s a
+abbrev pub IsStruckBy : List Strike → ℕ → ℕ → Type 0
+IsStruckBy [] s a = ⊥
+IsStruckBy (x ∷ xs) s a = ((x.symbol ≡ s) × (x.attr ≡ a)) ⊎ IsStruckBy xs s a
 
 -- an item's attribute is one of some
 abbrev pub IsOneOf : Attributes → Option Item → ℕ → Type 0
@@ -39,14 +39,18 @@ IsAhead d j i = (1 ≤ j) × (1 ≤ i) × ((i ≡ j) ⊎ IsBefore d j i)
 -- Why an argument keeps a rule's target at place j out of a pass of this direction, whose candidates have no earlier pass: it
 -- is struck itself; or it is a candidate at the target's child or at one that the pass visits later, so it is not there
 -- before the pass enters the target's child (after Jazayeri and Walter 1975, where all that is at a later child is a reason).
-abbrev pub IsReason : Direction → Attributes → List Strike → Production → ℕ → Target → Type 0
-IsReason d candidate struck q j o =
-    IsOneOf (Strikes struck) (item_at q o.place) o.attr
+abbrev pub IsReasonWhere : Direction → (candidate struck : Attributes) → Production → ℕ → Target → Type 0
+IsReasonWhere d candidate struck q j o =
+    IsOneOf struck (item_at q o.place) o.attr
     ⊎ (IsAhead d j o.place × IsOneOf candidate (item_at q o.place) o.attr)
 
--- A good strike: what it names is there, the target of its rule is its attribute, and the argument is a reason (this
--- project's).
-pub record IsGood (g : Grammar) (d : Direction) (candidate : Attributes) (struck : List Strike) (x : Strike) : Type 0 where
+-- the same after strikes
+abbrev pub IsReason : Direction → Attributes → List Strike → Production → ℕ → Target → Type 0
+IsReason d candidate struck q j o = IsReasonWhere d candidate (IsStruckBy struck) q j o
+
+-- A strike that is good if these attributes are struck: what it names is there, the target of its rule is its attribute, and
+-- the argument is a reason (this project's).
+pub record IsGoodWhere (g : Grammar) (d : Direction) (candidate struck : Attributes) (x : Strike) : Type 0 where
   pub production : Production
   pub rule : Rule
   pub argument : Target
@@ -55,18 +59,28 @@ pub record IsGood (g : Grammar) (d : Direction) (candidate : Attributes) (struck
   pub is_argument : slice_get rule.args x.arg ≡ Some argument
   pub symbol : item_at production rule.target.place ≡ Some (item.Symbol x.symbol)
   pub attr : rule.target.attr ≡ x.attr
-  pub reason : IsReason d candidate struck production rule.target.place argument
+  pub reason : IsReasonWhere d candidate struck production rule.target.place argument
+
+-- a strike that is good after others
+abbrev pub IsGood : Grammar → Direction → Attributes → List Strike → Strike → Type 0
+IsGood g d candidate struck x = IsGoodWhere g d candidate (IsStruckBy struck) x
 
 -- Strikes one after the other: each is of a candidate that is not struck before, and is good after those before it.
 abbrev pub AreGood : Grammar → Direction → Attributes → List Strike → List Strike → Type 0
 AreGood g d candidate struck [] = Unit {0}
 AreGood g d candidate struck (x ∷ xs) =
-    candidate x.symbol x.attr × (Strikes struck x.symbol x.attr → ⊥) × IsGood g d candidate struck x × AreGood g d candidate (x ∷ struck) xs
+    candidate x.symbol x.attr × (IsStruckBy struck x.symbol x.attr → ⊥) × IsGood g d candidate struck x × AreGood g d candidate (x ∷ struck) xs
 
--- Good strikes of each candidate, and of nothing else.
-pub record StrikesAll (g : Grammar) (d : Direction) (candidate : Attributes) (xs : List Strike) : Type 0 where
+-- One after the other, good strikes of each attribute of `later`, and of nothing else, in a pass of this direction with these
+-- candidates: what the candidates of `later` can't have (this project's).
+pub record StrikesExactly (g : Grammar) (d : Direction) (candidate later : Attributes) (xs : List Strike) : Type 0 where
   pub good : AreGood g d candidate [] xs
-  pub all : (s a : ℕ) → candidate s a → Strikes xs s a
+  pub all : (s a : ℕ) → later s a → IsStruckBy xs s a
+  pub only : (s a : ℕ) → IsStruckBy xs s a → later s a
+
+-- the same of all candidates: the pass gives none of them anything
+abbrev pub StrikesAll : Grammar → Direction → Attributes → List Strike → Type 0
+StrikesAll g d candidate xs = StrikesExactly g d candidate candidate xs
 
 -- A certificate: some attributes, none of them listed twice, all of which are struck in a pass of either direction (this
 -- project's).

@@ -1,5 +1,5 @@
 -- What the laws state.
-use Rattle.std.specs.Prelude.{ℕ, ◌≡◌, ◌≤◌, ◌↔◌, List, [], ◌∷◌, ◌++◌, Some, None, slice_get, length, Bool}
+use Rattle.std.specs.Prelude.{ℕ, suc, ◌≡◌, ◌<◌, ◌≤◌, ◌↔◌, List, [], ◌∷◌, ◌++◌, Some, None, slice_get, length, Bool}
 use Rattle.ag_grammar.specs.Lists.{Has, Differ, Each}
 use Rattle.ag_grammar.specs.grammars.AttributeGrammar.{Grammar, symbol_kinds}
 use Rattle.ag_grammar.specs.grammars.Accepted.{IsComplete, IsNormal}
@@ -7,9 +7,11 @@ use Rattle.ag_grammar.specs.declared.direction.Direction.{Direction}
 use Rattle.ag_grammar.specs.grammars.Passes.{Passes, IsLegal, direction_of}
 use Rattle.passassign.specs.declared.stuck.Strike.{Strike}
 use Rattle.passassign.specs.declared.stuck.Stuck.{Stuck}
-use Rattle.passassign.specs.Certificate.{Members, Strikes, IsGood, AreGood, IsCertificate, stuck_of}
+use Rattle.passassign.specs.Certificate.{Members, IsStruckBy, IsGood, AreGood, IsCertificate, stuck_of}
+use Rattle.passassign.specs.Chains.{IsChainOf}
 use Rattle.passassign.specs.Least.{Partial, partial_of, IsAttribute, IsOver, IsLegalPartial, IsStuck, IsLeast, IsAlternating}
 use Rattle.passassign.specs.Making.{IsOpen, AreFinished, IsPass, IsMade, AreIdle, AreMarks, given_by}
+use Rattle.passassign.specs.PassStrikes.{HasPassFrom, HasPassAfter, AreStrikesAt, AreStrikesOf, list_for}
 use Rattle.passassign.specs.Rows.{passes_of, IsGreatest}
 
 -- The members of a certificate's set are stuck.
@@ -58,8 +60,30 @@ RestIsCertified = (g : Grammar) (k : ℕ) (m : Partial) (first second : List Str
 
 -- A list of good strikes goes on by a good one of a candidate that it does not strike.
 abbrev pub StrikesGrow : Type 0
-StrikesGrow = (g : Grammar) (d : Direction) (m : Partial) (xs : List Strike) (x : Strike) → AreGood g d (IsOpen g m) [] xs → IsOpen g m x.symbol x.attr → (Strikes xs x.symbol x.attr → ⊥) → IsGood g d (IsOpen g m) xs x → AreGood g d (IsOpen g m) [] (xs ++ x ∷ [])
+StrikesGrow = (g : Grammar) (d : Direction) (m : Partial) (xs : List Strike) (x : Strike) → AreGood g d (IsOpen g m) [] xs → IsOpen g m x.symbol x.attr → (IsStruckBy xs x.symbol x.attr → ⊥) → IsGood g d (IsOpen g m) xs x → AreGood g d (IsOpen g m) [] (xs ++ x ∷ [])
 
 -- Good strikes to which no other can be added make a pass, where marks tell what they strike.
 abbrev pub MarksMakePass : Type 0
 MarksMakePass = (g : Grammar) (k : ℕ) (m after : Partial) (xs : List Strike) (hit : ℕ → ℕ → Bool) → IsOver g m → IsOver g after → AreGood g (direction_of k) (IsOpen g m) [] xs → AreFinished g (direction_of k) (IsOpen g m) xs → AreMarks hit xs → ((s a : ℕ) → IsAttribute g s a → after s a ≡ given_by k (m s a) (hit s a)) → IsPass g k m after xs
+
+-- If an assignment has strikes, no legal assignment gives any attribute an earlier pass;
+abbrev pub NoneIsEarlier : Type 0
+NoneIsEarlier = (g : Grammar) (rows : List (List ℕ)) (lists : List (List Strike)) (other : Passes) → AreStrikesOf g rows lists → IsLegal g other → (s a p q : ℕ) → partial_of (passes_of rows) s a ≡ Some p → partial_of other s a ≡ Some q → p ≤ q
+
+-- so if it is legal it is the least one.
+abbrev pub StrikesShowLeast : Type 0
+StrikesShowLeast = (g : Grammar) (rows : List (List ℕ)) (lists : List (List Strike)) → IsLegal g (passes_of rows) → AreStrikesOf g rows lists → IsLeast g (passes_of rows)
+
+-- A certificate meets the same definition: if just its members have pass k or a later one, and none has pass k, its list for
+-- that direction has the strikes of pass k.
+abbrev pub CertificatesAreStrikes : Type 0
+CertificatesAreStrikes = (g : Grammar) (c : Stuck) (m : Passes) (k : ℕ) → IsCertificate g c → ((s a : ℕ) → Members c.set s a ↔ HasPassFrom m k s a) → ((s a : ℕ) → Members c.set s a ↔ HasPassAfter m k s a) → AreStrikesAt g m k (list_for c (direction_of k))
+
+-- A chain shows that its attribute has a later pass in every legal assignment, if strikes show that its candidates have no
+-- earlier pass than this one.
+abbrev pub ChainsShowLater : Type 0
+ChainsShowLater = (g : Grammar) (rows : List (List ℕ)) (lists : List (List Strike)) (k s a : ℕ) (xs : List Strike) (other : Passes) → AreStrikesOf g rows lists → k ≤ length lists → IsChainOf g (direction_of (suc k)) (HasPassFrom (passes_of rows) (suc k)) s a xs → IsLegal g other → (p : ℕ) → partial_of other s a ≡ Some p → suc k < p
+
+-- Each attribute that has a later pass has a chain in the strikes of a pass.
+abbrev pub ChainsAreThere : Type 0
+ChainsAreThere = (g : Grammar) (m : Passes) (k : ℕ) (xs : List Strike) → AreStrikesAt g m k xs → (s a : ℕ) → HasPassAfter m k s a → (ys : List Strike) × IsChainOf g (direction_of k) (HasPassFrom m k) s a ys

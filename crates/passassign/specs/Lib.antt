@@ -1,9 +1,11 @@
 pub mod Answer
 pub mod Certificate
+pub mod Chains
 pub mod Dependencies
 pub mod Laws
 pub mod Least
 pub mod Making
+pub mod PassStrikes
 pub mod Progress
 pub mod Rows
 pub mod Sample

@@ -4,7 +4,7 @@ use Rattle.ag_grammar.specs.grammars.AttributeGrammar.{Grammar}
 use Rattle.ag_grammar.specs.declared.direction.Direction.{Direction}
 use Rattle.ag_grammar.specs.grammars.Passes.{direction_of}
 use Rattle.passassign.specs.declared.stuck.Strike.{Strike}
-use Rattle.passassign.specs.Certificate.{Attributes, Strikes, IsGood, AreGood}
+use Rattle.passassign.specs.Certificate.{Attributes, IsStruckBy, IsGood, AreGood}
 use Rattle.passassign.specs.Least.{Partial, IsAttribute}
 
 -- an attribute that has no pass yet
@@ -13,7 +13,7 @@ IsOpen g m s a = IsAttribute g s a × (m s a ≡ None)
 
 -- no other candidate can be struck
 abbrev pub AreFinished : Grammar → Direction → Attributes → List Strike → Type 0
-AreFinished g d candidate xs = (x : Strike) → candidate x.symbol x.attr → IsGood g d candidate xs x → Strikes xs x.symbol x.attr
+AreFinished g d candidate xs = (x : Strike) → candidate x.symbol x.attr → IsGood g d candidate xs x → IsStruckBy xs x.symbol x.attr
 
 -- Pass k makes one partial assignment of another: of the attributes without a pass some are struck, one by one, until no
 -- other can be, and the rest get pass k (after Jazayeri and Walter 1975).
@@ -21,8 +21,8 @@ pub record IsPass (g : Grammar) (k : ℕ) (before after : Partial) (strikes : Li
   pub good : AreGood g (direction_of k) (IsOpen g before) [] strikes
   pub finished : AreFinished g (direction_of k) (IsOpen g before) strikes
   pub kept : (s a p : ℕ) → before s a ≡ Some p → after s a ≡ Some p
-  pub given : (s a p : ℕ) → before s a ≡ None → after s a ≡ Some p → IsAttribute g s a × (p ≡ k) × (Strikes strikes s a → ⊥)
-  pub left : (s a : ℕ) → IsOpen g before s a → after s a ≡ None → Strikes strikes s a
+  pub given : (s a p : ℕ) → before s a ≡ None → after s a ≡ Some p → IsAttribute g s a × (p ≡ k) × (IsStruckBy strikes s a → ⊥)
+  pub left : (s a : ℕ) → IsOpen g before s a → after s a ≡ None → IsStruckBy strikes s a
 
 -- What the passes before pass k make, from the assignment that gives nothing on (after Jazayeri and Walter 1975).
 pub data IsMade (g : Grammar) : ℕ → Partial → Type 0 where
@@ -39,7 +39,7 @@ pub record AreIdle (g : Grammar) (k : ℕ) (m : Partial) (first second : List St
 
 -- marks tell which attributes a list strikes
 abbrev pub AreMarks : (ℕ → ℕ → Bool) → List Strike → Type 0
-AreMarks hit xs = (s a : ℕ) → (hit s a ≡ true) ↔ Strikes xs s a
+AreMarks hit xs = (s a : ℕ) → (hit s a ≡ true) ↔ IsStruckBy xs s a
 
 -- the pass of an attribute after pass k: the one that it had, else k where it is not marked as struck
 abbrev pub given_by : ℕ → Option ℕ → Bool → Option ℕ

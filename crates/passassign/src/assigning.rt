@@ -1,23 +1,25 @@
 //! The least assignment of passes, one pass after the other.
 
-ghost use Rattle.std.specs.Prelude.{ℕ, ◌≡◌, ◌+◌, ◌^◌, ◌<◌, ◌≤◌, ◌↔◌, IfErr, IfOk, OnOk, length};
+ghost use Rattle.std.specs.Prelude.{ℕ, ◌≡◌, ◌+◌, ◌^◌, ◌<◌, ◌≤◌, ◌↔◌, ◌++◌, [], ◌∷◌, true};
+ghost use Rattle.std.specs.Prelude.{IfErr, IfOk, OnOk, length};
 ghost use Rattle.ag_grammar.specs.Lists.{Each, Has};
 ghost use Rattle.ag_grammar.specs.grammars.Accepted.{most_attributes, most_symbols};
 ghost use Rattle.ag_grammar.specs.grammars.AttributeGrammar.{Grammar as Plain, attribute_names};
 ghost use Rattle.passassign.specs.Answer.{IsInDeclaredOrder, IsFault};
 ghost use Rattle.passassign.specs.Certificate.{stuck_of};
 ghost use Rattle.passassign.specs.Least.{IsLeast};
+ghost use Rattle.passassign.specs.PassStrikes.{AreStrikesOf, AreStrikesSoFar, IsLastInUse};
 ghost use Rattle.passassign.specs.Progress.{AreOpenIn, IsLeft, IsNext, IsProgress};
 ghost use Rattle.passassign.specs.Progress.{IsWith, open_count};
 ghost use Rattle.passassign.specs.Rows.{passes_of, AreFew};
 ghost use Rattle.passassign.specs.Searching.{AreReady};
-ghost use Rattle.passassign.specs.Tables.{most_slots, slot_of, state_at};
+ghost use Rattle.passassign.specs.Tables.{most_slots, slot_of, state_at, table_passes};
 ghost use Rattle.passassign.specs.declared.assigning.AssignFault.TheVariants as fault;
 ghost use Rattle.passassign.specs.declared.table.State.TheVariants.{Open};
 
 use crate::assignment::Assignment;
 use crate::search::{Dependencies, search};
-use crate::stuck::{Strike, Stuck};
+use crate::stuck::{Strike, Strikes, Stuck};
 use crate::table::{State, count_open, give, open_all, open_ones, rows};
 use ag_grammar::{Direction, Grammar, Production, Symbol};
 use ag_value::{Items, NoMemory};
@@ -47,6 +49,27 @@ pub(crate) struct Progress {
     pub states: Vec<State>,
     pub next: u16,
     pub direction: Direction,
+}
+
+/// The strikes of the passes made so far, if they are wanted.
+#[derive(Debug, Drop)]
+pub(crate) struct StrikeLog {
+    pub is_wanted: bool,
+    pub lists: Vec<Items<Strike>>,
+}
+
+impl StrikeLog {
+    /// Appends the strikes of a pass, if they are wanted.
+    fn keep(&mut self, strikes: Vec<Strike>) -> Result<(), NoMemory>
+        ensures wanted { OnOk result (self.new.is_wanted ≡ self.old.is_wanted) }
+        ensures kept { OnOk result (self.old.is_wanted ≡ true
+            → self.new.lists.items ≡ self.old.lists.items ++ strikes.items ∷ []) }
+    {
+        if self.is_wanted {
+            self.lists.push(Items::from_vec(strikes))?;
+        }
+        Ok(())
+    }
 }
 
 /// Makes the next pass, and tells its strikes.
@@ -110,11 +133,13 @@ fn left_of(
 }
 
 /// Makes the next pass, and where that leaves as many attributes open, the one after it. Tells how
-/// many are left open, or, where that is none the fewer, that they are stuck.
+/// many are left open, or, where that is none the fewer, that they are stuck. Appends the strikes of
+/// these passes, if they are wanted.
 fn advance(
     alloc: Global,
     dependencies: &Dependencies,
     progress: &mut Progress,
+    kept: &mut StrikeLog,
     open_before: usize,
 ) -> Result<usize, AssignFault>
     requires ready { AreReady dependencies.now (length progress.old.states.items) }
@@ -129,36 +154,51 @@ fn advance(
     ensures made { OnOk result ((g : Plain)
         → IsProgress g dependencies.now.all.items progress.old
         → IsProgress g dependencies.now.all.items progress.new) }
+    ensures last { OnOk result ((g : Plain)
+        → IsProgress g dependencies.now.all.items progress.old
+        → IsLastInUse progress.new.next (table_passes progress.new.states.items)) }
+    ensures wanted { OnOk result (kept.new.is_wanted ≡ kept.old.is_wanted) }
+    ensures kept { OnOk result ((g : Plain)
+        → IsProgress g dependencies.now.all.items progress.old → kept.old.is_wanted ≡ true
+        → AreStrikesSoFar g progress.old.next (table_passes progress.old.states.items) kept.old.lists.items
+        → AreStrikesSoFar g progress.new.next (table_passes progress.new.states.items) kept.new.lists.items) }
     ensures refused { IfErr result (λ e. (g : Plain)
         → IsProgress g dependencies.now.all.items progress.old → IsFault g e) }
 {
     let first = make_pass(alloc, dependencies, progress)?;
     let left = count_open(progress.states.as_slice());
     if left < open_before {
+        kept.keep(first)?;
         return Ok(left);
     }
     let second = make_pass(alloc, dependencies, progress)?;
     let left = count_open(progress.states.as_slice());
     if left < open_before {
+        kept.keep(first)?;
+        kept.keep(second)?;
         return Ok(left);
     }
     Err(AssignFault::Stuck(left_of(alloc, progress, first, second)?))
 }
 
-/// The least legal assignment for symbols and productions, which are those of an accepted grammar.
+/// The least legal assignment for symbols and productions, which are those of an accepted grammar,
+/// and its strikes, if they are wanted.
 pub(crate) fn assign_all(
     alloc: Global,
     symbols: &[Symbol],
     productions: &[Production],
-) -> Result<Assignment, AssignFault>
+    wants_strikes: bool,
+) -> Result<(Assignment, Strikes), AssignFault>
     requires accepted { (g : Plain) × IsWith symbols.now productions.now g }
     requires count { length symbols.now ≤ most_symbols }
     requires attributes { Each (λ s. length (attribute_names s) ≤ most_attributes) symbols.now }
-    ensures least { IfOk result (λ m. (g : Plain)
-        → IsWith symbols.now productions.now g → IsLeast g (passes_of m)) }
-    ensures few { IfOk result (λ m. (g : Plain)
-        → IsWith symbols.now productions.now g → AreFew m) }
-    ensures rows { IfOk result (λ m. length m ≡ length symbols.now) }
+    ensures least { IfOk result (λ x. (g : Plain)
+        → IsWith symbols.now productions.now g → IsLeast g (passes_of x.0)) }
+    ensures few { IfOk result (λ x. (g : Plain)
+        → IsWith symbols.now productions.now g → AreFew x.0) }
+    ensures rows { IfOk result (λ x. length x.0 ≡ length symbols.now) }
+    ensures strikes { IfOk result (λ x. (g : Plain)
+        → IsWith symbols.now productions.now g → wants_strikes ≡ true → AreStrikesOf g x.0 x.1.passes) }
     ensures refused { IfErr result (λ e. (g : Plain)
         → IsWith symbols.now productions.now g → IsFault g e) }
 {
@@ -170,11 +210,18 @@ pub(crate) fn assign_all(
         next: 1,
         direction: Direction::RightToLeft,
     };
+    let mut kept = StrikeLog {
+        is_wanted: wants_strikes,
+        lists: Vec::new(alloc),
+    };
     while open_now > 0 {
-        open_now = advance(alloc, &dependencies, &mut progress, open_now)?;
+        open_now = advance(alloc, &dependencies, &mut progress, &mut kept, open_now)?;
     }
     let rows = rows(alloc, symbols, progress.states.as_slice())?;
-    Ok(Assignment::of_rows(rows))
+    let strikes = Strikes {
+        passes: Items::from_vec(kept.lists),
+    };
+    Ok((Assignment::of_rows(rows), strikes))
 }
 
 /// The least legal assignment of passes to the attributes of a grammar: it gives no attribute a
@@ -192,5 +239,24 @@ pub fn assign(alloc: Global, grammar: &Grammar) -> Result<Assignment, AssignFaul
     ensures rows { IfOk result (λ m. length m ≡ length grammar.now.symbols) }
     ensures refused { IfErr result (IsFault grammar.now) }
 {
-    assign_all(alloc, grammar.symbols(), grammar.productions())
+    let (assignment, _) = assign_all(alloc, grammar.symbols(), grammar.productions(), false)?;
+    Ok(assignment)
+}
+
+/// Returns the assignment of `assign` and the strikes of each of its passes, which show that it is
+/// the least one. Fails as `assign` does.
+///
+/// Takes memory for all strikes besides: one of 10 bytes for each attribute and each pass before its
+/// own.
+pub fn assign_with_strikes(
+    alloc: Global,
+    grammar: &Grammar,
+) -> Result<(Assignment, Strikes), AssignFault>
+    ensures least { IfOk result (λ x. IsLeast grammar.now (passes_of x.0)) }
+    ensures few { IfOk result (λ x. AreFew x.0) }
+    ensures rows { IfOk result (λ x. length x.0 ≡ length grammar.now.symbols) }
+    ensures strikes { IfOk result (λ x. AreStrikesOf grammar.now x.0 x.1.passes) }
+    ensures refused { IfErr result (IsFault grammar.now) }
+{
+    assign_all(alloc, grammar.symbols(), grammar.productions(), true)
 }

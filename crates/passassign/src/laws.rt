@@ -4,6 +4,8 @@ ghost use Rattle.passassign.specs.Laws.{MembersAreStuck, StuckIsRefused, Certifi
 ghost use Rattle.passassign.specs.Laws.{MadeIsAtMost, LeftIsLater, MadeIsLegal, WholeIsLeast};
 ghost use Rattle.passassign.specs.Laws.{RestIsStuck, StuckIsLeft, RestIsCertified};
 ghost use Rattle.passassign.specs.Laws.{StrikesGrow, MarksMakePass, LeastHasFewest};
+ghost use Rattle.passassign.specs.Laws.{NoneIsEarlier, StrikesShowLeast, CertificatesAreStrikes};
+ghost use Rattle.passassign.specs.Laws.{ChainsShowLater, ChainsAreThere};
 
 /// The members of a certificate's set are stuck: no legal partial assignment gives them a pass.
 pub fn members_are_stuck()
@@ -75,4 +77,30 @@ pub fn strikes_grow()
 #[tactic(auto, using(crate::proofs::making::Marked::pass_by_marks))]
 pub fn marks_make_pass()
     ensures { MarksMakePass }
+{}
+
+/// If an assignment has strikes, one list for each pass, no legal assignment gives any attribute an
+/// earlier pass.
+pub fn none_is_earlier()
+    ensures { NoneIsEarlier }
+{}
+
+/// An assignment that is legal and has strikes is the least one.
+pub fn strikes_show_least()
+    ensures { StrikesShowLeast }
+{}
+
+/// The lists of a certificate meet the same definition as those of a pass.
+pub fn certificates_are_strikes()
+    ensures { CertificatesAreStrikes }
+{}
+
+/// A chain shows that its attribute has a later pass in every legal assignment.
+pub fn chains_show_later()
+    ensures { ChainsShowLater }
+{}
+
+/// Each attribute of a later pass has a chain.
+pub fn chains_are_there()
+    ensures { ChainsAreThere }
 {}

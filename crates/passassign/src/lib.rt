@@ -3,6 +3,7 @@
 
 mod assigning;
 mod assignment;
+mod chain;
 mod dependency;
 pub mod laws;
 pub mod samples;
@@ -10,7 +11,7 @@ mod search;
 mod stuck;
 mod table;
 
-pub use assigning::{AssignFault, assign};
+pub use assigning::{AssignFault, assign, assign_with_strikes};
 pub use assignment::Assignment;
 pub use search::is_ahead;
-pub use stuck::{Strike, Stuck};
+pub use stuck::{Strike, Strikes, Stuck};

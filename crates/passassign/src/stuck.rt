@@ -1,5 +1,5 @@
-//! What shows that a grammar has no legal assignment, as plain data. When it does is defined over
-//! these types.
+//! What shows that a grammar has no legal assignment, or that one is the least, as plain data. When
+//! it does is defined over these types.
 
 use ag_value::Items;
 
@@ -28,4 +28,12 @@ pub struct Stuck {
     pub odd: Items<Strike>,
     /// The strikes of a pass from left to right, as the even ones are.
     pub even: Items<Strike>,
+}
+
+/// The strikes of each pass of an assignment: the first list is that of pass 1. The list of a pass
+/// strikes each attribute that has a later pass.
+#[derive(Debug, Drop)]
+pub struct Strikes {
+    /// The strikes of each pass, in the order in which they are made.
+    pub passes: Items<Items<Strike>>,
 }

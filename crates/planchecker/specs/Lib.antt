@@ -3,6 +3,7 @@ pub mod courses
 pub mod First
 pub mod Laws
 pub mod Legality
+pub mod Marking
 pub mod Plans
 pub mod Sample
 pub mod Shapes

@@ -5,11 +5,15 @@
 mod certificate;
 mod following;
 pub mod laws;
+mod least;
 mod legality;
 mod listed;
+mod marks;
 mod plan;
 pub mod samples;
 mod shape;
+mod striking;
 
 pub use certificate::check_stuck;
+pub use least::check_least;
 pub use plan::{Plan, PlanFault, check_plan};

@@ -11,7 +11,7 @@ use Rattle.ag_grammar.specs.grammars.Passes.{Passes, IsBefore, direction_of}
 use Rattle.ag_grammar.specs.grammars.Sample.{attribute, grammar_of, sample, copy_rule, zero_rule, s_name, production_r, production_a, rule_out, rule_first, rule_second, rule_s, sample_passes, later_passes}
 use Rattle.ag_grammar.proofs.grammars.Members.{both, each_more, each_none, only}
 use Rattle.ag_grammar.proofs.grammars.samples.NumberSample.{accepted}
-use Rattle.passassign.specs.Certificate.{Attributes, Strikes, IsReason, AreGood}
+use Rattle.passassign.specs.Certificate.{Attributes, IsStruckBy, IsReason, AreGood}
 use Rattle.passassign.specs.Least.{partial_of, IsAttribute, IsLeast}
 use Rattle.passassign.specs.Making.{IsOpen, AreFinished, IsPass, IsMade, start, passed}
 use Rattle.passassign.specs.Sample.{strikes_by, rightward, nothing_yet, third_passes}
@@ -89,7 +89,7 @@ last_pass rules m k h quiet = record {
   finished = quiet;
   kept = λ s a p e. let bad : None ≡ Some p = e in let worse : ⊥ = cc in absurd worse;
   given = λ s a p e f. let is = all_given rules m k h s a p f in (is.0, is.1, λ i. i);
-  left = λ s a gap e. each_attribute rules (λ s a. partial_of m s a ≡ None → Strikes [] s a) (some_given (m 0) (k ∷ []) 0 k h.first refl) (some_given (m 1) (k ∷ k ∷ []) 0 k h.second refl) (some_given (m 1) (k ∷ k ∷ []) 1 k h.second refl) s a gap.0 e;
+  left = λ s a gap e. each_attribute rules (λ s a. partial_of m s a ≡ None → IsStruckBy [] s a) (some_given (m 0) (k ∷ []) 0 k h.first refl) (some_given (m 1) (k ∷ k ∷ []) 0 k h.second refl) (some_given (m 1) (k ∷ k ∷ []) 1 k h.second refl) s a gap.0 e;
 }
 
 pub sample_made : IsMade sample 2 (partial_of sample_passes)
@@ -122,8 +122,8 @@ right_good = (
   others_good rightward (zero_rule (attribute 1 1) ∷ copy_rule (attribute 2 1) 1 s_name 0 ∷ []) refl refl RightToLeft (IsOpen rightward nothing_yet) 0 2 ((Synthesized, refl), refl) ((Synthesized, refl), refl),
 )
 
-all_struck : (s a : ℕ) → IsAttribute rightward s a → Strikes (strikes_by 0 2) s a
-all_struck = each_attribute rules_right (Strikes (strikes_by 0 2)) (inr (inr (inl (refl, refl)))) (inr (inl (refl, refl))) (inl (refl, refl))
+all_struck : (s a : ℕ) → IsAttribute rightward s a → IsStruckBy (strikes_by 0 2) s a
+all_struck = each_attribute rules_right (IsStruckBy (strikes_by 0 2)) (inr (inr (inl (refl, refl)))) (inr (inl (refl, refl))) (inl (refl, refl))
 
 first_right : IsPass rightward 1 nothing_yet nothing_yet (strikes_by 0 2)
 first_right = record {

@@ -11,7 +11,7 @@ use Rattle.passassign.specs.Least.{IsLeast}
 use Rattle.passassign.specs.Rows.{passes_of, AreAtMost, IsGreatest}
 
 -- a pass that rows give is at most what all their numbers are
-given_at_most : (rows : List (List ℕ)) (k s a p : ℕ) → AreAtMost k rows → slice_get (passes_of rows s) a ≡ Some p → p ≤ k
+pub given_at_most : (rows : List (List ℕ)) (k s a p : ℕ) → AreAtMost k rows → slice_get (passes_of rows s) a ≡ Some p → p ≤ k
 given_at_most rows k s a p most e = elim (cases_lt s (length rows)) [
   | inl lt ↦ most s (passes_of rows s) (slice_get-get_or rows s [] lt) a p e
   | inr le ↦ absurd (let bad : slice_get {X = ℕ} [] a ≡ Some p = subst (λ row. slice_get row a ≡ Some p) (get_or_past rows s [] le) e in let worse : ⊥ = cc in worse)

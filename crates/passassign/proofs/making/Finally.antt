@@ -132,7 +132,7 @@ module _ (g : Grammar) (all : List Dependency) (p : Progress) (symbols : List Sy
       let is = (progress.of.table.there s a).0 (λ f. let bad : Given q ≡ Absent = sym e ∙ f in cc) in
       let l = declared_within g.symbols s a is in absurd (omega arith)
 
-  is_table : (s a : ℕ) → partial_of (passes_of rows) s a ≡ table_passes p.states.items s a
+  pub is_table : (s a : ℕ) → partial_of (passes_of rows) s a ≡ table_passes p.states.items s a
   is_table s a = elim (cases_lt a (attribute_count (slice_get g.symbols s))) [
     | inl lt ↦ (
         let d = declared_at g.symbols s a lt in

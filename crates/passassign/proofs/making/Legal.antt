@@ -15,7 +15,7 @@ use Rattle.ag_grammar.specs.declared.direction.Direction.{Direction}
 use Rattle.ag_grammar.specs.declared.direction.Direction.TheVariants.{LeftToRight, RightToLeft}
 use Rattle.ag_grammar.specs.grammars.Passes.{direction_of, IsBefore, MayUse, IsLegalFor}
 use Rattle.passassign.specs.declared.stuck.Strike.{Strike}
-use Rattle.passassign.specs.Certificate.{Strikes, IsOneOf, IsAhead, IsReason}
+use Rattle.passassign.specs.Certificate.{IsStruckBy, IsOneOf, IsAhead, IsReason}
 use Rattle.passassign.specs.Least.{Partial, pass_at, GivesPass, IsAttribute, IsLegalPartial}
 use Rattle.passassign.specs.Making.{IsOpen, IsPass, IsMade, start, passed}
 use Rattle.passassign.proofs.slots.Options.{some_none, one_pass, none_of}
@@ -75,7 +75,7 @@ module _ (g : Grammar) (complete : Each (IsComplete g) g.productions) (normal : 
 
   -- the argument of a rule of an attribute that gets pass k
   argument : (i : ℕ) (q : Production) → IsProduction g i q → (r : Rule) (o : Target) → IsRule q r → IsArgument r o → (s : ℕ) → item_at q r.target.place ≡ Some (item.Symbol s) → IsOpen g m s r.target.attr
-      → (Strikes strikes s r.target.attr → ⊥) → HasKind g q o (found_kind o.place) → (p : ℕ) × GivesPass after q o p × MayUse k r.target.place o.place p
+      → (IsStruckBy strikes s r.target.attr → ⊥) → HasKind g q o (found_kind o.place) → (p : ℕ) × GivesPass after q o p × MayUse k r.target.place o.place p
   argument i q get r o rule arg s target gap safe named = go (item_at q o.place) refl
     where
       free : IsReason (direction_of k) (IsOpen g m) strikes q r.target.place o → ⊥
@@ -94,7 +94,7 @@ module _ (g : Grammar) (complete : Each (IsComplete g) g.productions) (normal : 
             (λ ahead is. free (inr (ahead, subst (λ y. IsOneOf (IsOpen g m) y o.attr) (sym e) ((found_kind o.place, kind (Some (item.Symbol u)) e), new u o.attr (f ∙ ap Some is))))),
       )
       of_symbol u e None f =
-          absurd (free (inl (subst (λ y. IsOneOf (Strikes strikes) y o.attr) (sym e) (pass.left u o.attr ((found_kind o.place, kind (Some (item.Symbol u)) e), old_none u o.attr f) f))))
+          absurd (free (inl (subst (λ y. IsOneOf (IsStruckBy strikes) y o.attr) (sym e) (pass.left u o.attr ((found_kind o.place, kind (Some (item.Symbol u)) e), old_none u o.attr f) f))))
 
       go : (x : Option Item) → item_at q o.place ≡ x → (p : ℕ) × GivesPass after q o p × MayUse k r.target.place o.place p
       go None e = let bad = kind None e in cc

@@ -3,7 +3,7 @@ use Rattle.std.proofs.Common.{ℕ, ◌≡◌, List, [], Some, None, Bool, true, 
 use Rattle.ag_grammar.specs.grammars.AttributeGrammar.{Grammar}
 use Rattle.ag_grammar.specs.grammars.Passes.{direction_of}
 use Rattle.passassign.specs.declared.stuck.Strike.{Strike}
-use Rattle.passassign.specs.Certificate.{Strikes, AreGood}
+use Rattle.passassign.specs.Certificate.{IsStruckBy, AreGood}
 use Rattle.passassign.specs.Least.{Partial, IsAttribute, IsOver}
 use Rattle.passassign.specs.Making.{IsOpen, AreFinished, IsPass, AreMarks, given_by}
 
@@ -17,18 +17,18 @@ pass_by_marks g k m after xs hit known known_after good finished marks is = reco
     now : (s a : ℕ) → IsAttribute g s a → m s a ≡ None → (b : Bool) → hit s a ≡ b → after s a ≡ given_by k None b
     now s a i e b h = is s a i ∙ ap (λ x. given_by k x (hit s a)) e ∙ ap (given_by k None) h
 
-    given : (s a p : ℕ) → m s a ≡ None → after s a ≡ Some p → IsAttribute g s a × (p ≡ k) × (Strikes xs s a → ⊥)
+    given : (s a p : ℕ) → m s a ≡ None → after s a ≡ Some p → IsAttribute g s a × (p ≡ k) × (IsStruckBy xs s a → ⊥)
     given s a p e f = go (hit s a) refl
       where
-        go : (b : Bool) → hit s a ≡ b → IsAttribute g s a × (p ≡ k) × (Strikes xs s a → ⊥)
+        go : (b : Bool) → hit s a ≡ b → IsAttribute g s a × (p ≡ k) × (IsStruckBy xs s a → ⊥)
         go true h = let bad : Some p ≡ None = sym f ∙ now s a (known_after s a p f) e true h in cc
         go false h =
             let same : Some p ≡ Some k = sym f ∙ now s a (known_after s a p f) e false h in
             (known_after s a p f, cc, λ i. let bad : true ≡ false = sym ((marks s a).1 i) ∙ h in cc)
 
-    left : (s a : ℕ) → IsOpen g m s a → after s a ≡ None → Strikes xs s a
+    left : (s a : ℕ) → IsOpen g m s a → after s a ≡ None → IsStruckBy xs s a
     left s a i f = go (hit s a) refl
       where
-        go : (b : Bool) → hit s a ≡ b → Strikes xs s a
+        go : (b : Bool) → hit s a ≡ b → IsStruckBy xs s a
         go true h = (marks s a).0 h
         go false h = let bad : Some k ≡ None = sym (now s a i.0 i.1 false h) ∙ f in let worse : ⊥ = cc in absurd worse

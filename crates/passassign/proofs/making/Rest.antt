@@ -1,5 +1,5 @@
 -- What two passes leave that give nothing.
-use Rattle.std.proofs.Common.{ℕ, zero, suc, ◌≡◌, ◌≤◌, ◌↔◌, List, [], ◌∷◌, None, refl, sym, subst, arith}
+use Rattle.std.proofs.Common.{ℕ, zero, suc, ◌≡◌, ◌≤◌, ◌↔◌, List, [], None, refl, sym, subst, arith}
 use Rattle.ag_grammar.specs.Lists.{Has, Differ}
 use Rattle.ag_grammar.specs.grammars.AttributeGrammar.{Grammar}
 use Rattle.ag_grammar.specs.declared.direction.Direction.{Direction}
@@ -11,13 +11,8 @@ use Rattle.passassign.specs.Certificate.{Attributes, Members, AreGood, StrikesAl
 use Rattle.passassign.specs.Least.{Partial, IsLegalPartial, IsStuck}
 use Rattle.passassign.specs.Making.{IsOpen, AreIdle}
 use Rattle.passassign.proofs.slots.Options.{some_none, none_of}
-use Rattle.passassign.proofs.strikes.Reasons.{AreWithin, good_more}
+use Rattle.passassign.proofs.strikes.Exactly.{are_good_more, exactly_same, strikes_all}
 use Rattle.passassign.proofs.making.Struck.{AtLeast, struck_later}
-
-are_good_more : (g : Grammar) (d : Direction) (some more : Attributes) → AreWithin some more → (struck xs : List Strike) → AreGood g d some struck xs → AreGood g d more struck xs
-are_good_more g d some more h struck [] good = good
-are_good_more g d some more h struck (x ∷ xs) (is, new, one, others) =
-    (h x.symbol x.attr is, new, good_more g d some more h struck struck (λ s a i. i) x one, are_good_more g d some more h (x ∷ struck) xs others)
 
 -- candidates that are struck in both directions have no pass in a legal partial assignment
 module _ (g : Grammar) (candidate : Attributes) (odd even : List Strike) (rightward : StrikesAll g RightToLeft candidate odd) (leftward : StrikesAll g LeftToRight candidate even) where
@@ -44,13 +39,13 @@ module _ (g : Grammar) (k : ℕ) (m : Partial) (first second : List Strike) (h :
   before_none s a e = none_of (m s a) (λ p f. some_none (h.between s a) p (h.one.kept s a p f) e)
 
   first_all : StrikesAll g (direction_of k) (IsOpen g m) first
-  first_all = record { good = h.one.good; all = λ s a i. h.one.left s a i (between_none s a i.1) }
+  first_all = strikes_all g (direction_of k) (IsOpen g m) first h.one.good (λ s a i. h.one.left s a i (between_none s a i.1))
 
   second_all : StrikesAll g (other (direction_of k)) (IsOpen g m) second
-  second_all = record {
-    good = are_good_more g (other (direction_of k)) (IsOpen g h.between) (IsOpen g m) (λ s a i. (i.0, before_none s a i.1)) [] second h.other.good;
-    all = λ s a i. h.other.left s a (i.0, between_none s a i.1) (h.idle s a i.1);
-  }
+  second_all =
+      strikes_all g (other (direction_of k)) (IsOpen g m) second
+      (are_good_more g (other (direction_of k)) (IsOpen g h.between) (IsOpen g m) (λ s a i. (i.0, before_none s a i.1)) [] second h.other.good)
+      (λ s a i. h.other.left s a (i.0, between_none s a i.1) (h.idle s a i.1))
 
   pub rest_stuck : (s a : ℕ) → IsOpen g m s a → IsStuck g s a
   rest_stuck = go (direction_of k) first_all second_all
@@ -60,7 +55,8 @@ module _ (g : Grammar) (k : ℕ) (m : Partial) (first second : List Strike) (h :
       go LeftToRight x y = all_stuck g (IsOpen g m) second first y x
 
   of_members : (set : List (ℕ × ℕ)) → ((s a : ℕ) → Members set s a ↔ IsOpen g m s a) → (d : Direction) (xs : List Strike) → StrikesAll g d (IsOpen g m) xs → StrikesAll g d (Members set) xs
-  of_members set is d xs x = record { good = are_good_more g d (IsOpen g m) (Members set) (λ s a i. (is s a).1 i) [] xs x.good; all = λ s a i. x.all s a ((is s a).0 i) }
+  of_members set is d xs x =
+      exactly_same g d (IsOpen g m) (Members set) (IsOpen g m) (Members set) (λ s a i. (is s a).1 i) (λ s a i. (is s a).1 i) (λ s a i. (is s a).0 i) xs x
 
   pub rest_certified : (set : List (ℕ × ℕ)) → Differ set → ((x : ℕ × ℕ) × Has set x) → ((s a : ℕ) → Members set s a ↔ IsOpen g m s a) → IsCertificate g (stuck_of (direction_of k) set first second)
   rest_certified set single some is = go (direction_of k) first_all second_all

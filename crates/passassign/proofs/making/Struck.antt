@@ -11,7 +11,7 @@ use Rattle.ag_grammar.specs.declared.direction.Direction.TheVariants.{LeftToRigh
 use Rattle.ag_grammar.specs.grammars.Passes.{direction_of, IsBefore, MayUse}
 use Rattle.ag_grammar.proofs.grammars.OneSolution.{may_le}
 use Rattle.passassign.specs.declared.stuck.Strike.{Strike}
-use Rattle.passassign.specs.Certificate.{Attributes, Strikes, IsOneOf, IsReason, IsGood, AreGood}
+use Rattle.passassign.specs.Certificate.{Attributes, IsStruckBy, IsOneOf, IsReason, IsGood, AreGood}
 use Rattle.passassign.specs.Least.{Partial, pass_at, GivesPass, IsLegalPartial}
 
 -- of two places each is before the other in no direction
@@ -34,10 +34,10 @@ module _ (g : Grammar) (n : Partial) (legal : IsLegalPartial g n) where
   one_at k these h (Some (item.Symbol s)) a p i e = h s a p i e
 
   -- an argument that may be used is no reason
-  no_reason : (k : ℕ) (candidate : Attributes) (struck : List Strike) → AtLeast k candidate → AtLeast (suc k) (Strikes struck) → (q : Production) (j : ℕ) (o : Target) (p : ℕ)
+  no_reason : (k : ℕ) (candidate : Attributes) (struck : List Strike) → AtLeast k candidate → AtLeast (suc k) (IsStruckBy struck) → (q : Production) (j : ℕ) (o : Target) (p : ℕ)
       → GivesPass n q o p → MayUse k j o.place p → IsReason (direction_of k) candidate struck q j o → ⊥
   no_reason k candidate struck low high q j o p e may (inl i) =
-      let h = one_at (suc k) (Strikes struck) high (item_at q o.place) o.attr p i e in
+      let h = one_at (suc k) (IsStruckBy struck) high (item_at q o.place) o.attr p i e in
       let l = may_le k j o.place p may in omega arith
   no_reason k candidate struck low high q zero o p e may (inr ((pos, some, w), i)) = omega arith
   no_reason k candidate struck low high q (suc j) o p e (inl (z, le)) (inr ((pos, some, w), i)) = omega arith
@@ -45,7 +45,7 @@ module _ (g : Grammar) (n : Partial) (legal : IsLegalPartial g n) where
   no_reason k candidate struck low high q (suc j) o p e (inr (inr lt)) (inr (ahead, i)) = let h = one_at k candidate low (item_at q o.place) o.attr p i e in omega arith
 
   -- an attribute that is struck in pass k does not have it
-  not_here : (k : ℕ) (candidate : Attributes) (struck : List Strike) → AtLeast k candidate → AtLeast (suc k) (Strikes struck) → (x : Strike) → candidate x.symbol x.attr → IsGood g (direction_of k) candidate struck x
+  pub not_here : (k : ℕ) (candidate : Attributes) (struck : List Strike) → AtLeast k candidate → AtLeast (suc k) (IsStruckBy struck) → (x : Strike) → candidate x.symbol x.attr → IsGood g (direction_of k) candidate struck x
       → (p : ℕ) → n x.symbol x.attr ≡ Some p → suc k ≤ p
   not_here k candidate struck low high x is good p e = lt_of_le-ne (low x.symbol x.attr p is e) (λ same. here (sym same))
     where
@@ -57,18 +57,18 @@ module _ (g : Grammar) (n : Partial) (legal : IsLegalPartial g n) where
           let may = legal.allowed x.production good.production good.is_production good.rule good.argument k (x.rule, good.is_rule) (x.arg, good.is_argument) (gives ∙ ap Some same) in
           no_reason k candidate struck low high good.production good.rule.target.place good.argument may.0 may.1 may.2 good.reason
 
-  pub struck_later : (k : ℕ) (candidate : Attributes) (struck : List Strike) → AtLeast k candidate → AtLeast (suc k) (Strikes struck) → (xs : List Strike) → AreGood g (direction_of k) candidate struck xs
-      → AtLeast (suc k) (Strikes xs)
+  pub struck_later : (k : ℕ) (candidate : Attributes) (struck : List Strike) → AtLeast k candidate → AtLeast (suc k) (IsStruckBy struck) → (xs : List Strike) → AreGood g (direction_of k) candidate struck xs
+      → AtLeast (suc k) (IsStruckBy xs)
   struck_later k candidate struck low high [] good s a p hit e = absurd hit
   struck_later k candidate struck low high (x ∷ xs) (is, new, one, more) s a p hit e = go hit (λ u. struck_later k candidate (x ∷ struck) low both xs more s a p u e)
     where
       first : (s a p : ℕ) → (x.symbol ≡ s) × (x.attr ≡ a) → n s a ≡ Some p → suc k ≤ p
       first s a p (u, b) e = not_here k candidate struck low high x is one p (ap (λ z. n z x.attr) u ∙ ap (n s) b ∙ e)
 
-      both : AtLeast (suc k) (Strikes (x ∷ struck))
+      both : AtLeast (suc k) (IsStruckBy (x ∷ struck))
       both s a p (inl h) e = first s a p h e
       both s a p (inr h) e = high s a p h e
 
-      go : Strikes (x ∷ xs) s a → (Strikes xs s a → suc k ≤ p) → suc k ≤ p
+      go : IsStruckBy (x ∷ xs) s a → (IsStruckBy xs s a → suc k ≤ p) → suc k ≤ p
       go (inl h) later = first s a p h e
       go (inr h) later = later h

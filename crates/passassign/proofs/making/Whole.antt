@@ -13,7 +13,7 @@ use Rattle.ag_grammar.specs.grammars.Passes.{Passes, item_passes, HasPass, IsLeg
 use Rattle.ag_grammar.proofs.grammars.OneSolution.{counterpart}
 use Rattle.passassign.specs.declared.stuck.Strike.{Strike}
 use Rattle.passassign.specs.declared.stuck.Stuck.{Stuck}
-use Rattle.passassign.specs.Certificate.{Attributes, Members, Strikes, AreGood, IsCertificate}
+use Rattle.passassign.specs.Certificate.{Attributes, Members, IsStruckBy, AreGood, IsCertificate}
 use Rattle.passassign.specs.Least.{Partial, partial_of, pass_at, GivesPass, IsAttribute, IsLegalPartial, IsStuck, IsLeast, IsAlternating}
 use Rattle.passassign.specs.Making.{IsMade, AreIdle}
 use Rattle.passassign.proofs.slots.Options.{some_none}
@@ -29,7 +29,7 @@ same_pass n m h (Some (item.Terminal (Class c))) a = refl
 same_pass n m h (Some (item.Terminal (Literal l))) zero = refl
 same_pass n m h (Some (item.Terminal (Literal l))) (suc a) = refl
 
-partial_legal : (g : Grammar) (m : Passes) → IsLegal g m → IsLegalPartial g (partial_of m)
+pub partial_legal : (g : Grammar) (m : Passes) → IsLegal g m → IsLegalPartial g (partial_of m)
 partial_legal g m legal = record { known = known; positive = λ s a p e. legal.positive s a p e; allowed = allowed }
   where
     same : (x : Option Item) (a : ℕ) → pass_at (partial_of m) x a ≡ slice_get (item_passes m x) a
@@ -68,7 +68,7 @@ stuck_refused g s a is stuck (m, legal) =
     some_none (partial_of m s a) c.0 c.1 (stuck (partial_of m) (partial_legal g m legal))
 
 -- what good strikes strike are attributes, since a complete production has rules of such alone
-struck_known : (g : Grammar) → Each (IsComplete g) g.productions → (d : Direction) (candidate : Attributes) (struck xs : List Strike) → AreGood g d candidate struck xs → (s a : ℕ) → Strikes xs s a → IsAttribute g s a
+struck_known : (g : Grammar) → Each (IsComplete g) g.productions → (d : Direction) (candidate : Attributes) (struck xs : List Strike) → AreGood g d candidate struck xs → (s a : ℕ) → IsStruckBy xs s a → IsAttribute g s a
 struck_known g complete d candidate struck [] good s a hit = absurd hit
 struck_known g complete d candidate struck (x ∷ xs) (is, new, one, more) s a hit = go hit (struck_known g complete d candidate (x ∷ struck) xs more s a)
   where
@@ -80,7 +80,7 @@ struck_known g complete d candidate struck (x ∷ xs) (is, new, one, more) s a h
           (subst (λ a. slice_get (item_kinds g (item_at one.production one.rule.target.place)) a ≡ Some (given_kind one.rule.target.place)) (one.attr ∙ b) ((complete x.production one.production one.is_production).no_other x.rule one.rule one.is_rule))),
     )
 
-    go : Strikes (x ∷ xs) s a → (Strikes xs s a → IsAttribute g s a) → IsAttribute g s a
+    go : IsStruckBy (x ∷ xs) s a → (IsStruckBy xs s a → IsAttribute g s a) → IsAttribute g s a
     go (inl h) later = target s a h
     go (inr h) later = later h
 

@@ -9,20 +9,24 @@ use Rattle.ag_grammar.specs.declared.direction.Direction.{Direction}
 use Rattle.ag_grammar.specs.declared.direction.Direction.TheVariants.{LeftToRight, RightToLeft}
 use Rattle.ag_grammar.specs.grammars.Sample.{attribute, both_ways, copy_rule, s_name, production_r, production_back, rule_out, rule_first, rule_second}
 use Rattle.ag_grammar.proofs.grammars.Members.{both, pair, each_more, differ_more}
-use Rattle.passassign.specs.Certificate.{Members, Strikes, IsGood, StrikesAll, IsCertificate}
+use Rattle.passassign.specs.Certificate.{Members, IsStruckBy, IsGood, StrikesAll, IsCertificate}
 use Rattle.passassign.specs.Least.{IsAlternating}
 use Rattle.passassign.specs.Sample.{strike, strikes_by, both_ways_stuck, exchanged}
 use Rattle.passassign.proofs.making.Rest.{members_stuck}
+use Rattle.passassign.proofs.strikes.Exactly.{strikes_all}
 use Rattle.passassign.proofs.strikes.Sample.{no_reason, others_good}
 use Rattle.passassign.proofs.making.Whole.{stuck_refused}
 
-all_struck : (p r : ℕ) → Each (λ x. Strikes (strikes_by p r) x.0 x.1) both_ways_stuck.set
+all_struck : (p r : ℕ) → Each (λ x. IsStruckBy (strikes_by p r) x.0 x.1) both_ways_stuck.set
 all_struck p r =
-    each_more (λ x. Strikes (strikes_by p r) x.0 x.1) (0, 0) ((1, 0) ∷ (1, 1) ∷ []) (inr (inr (inl (refl, refl))))
-    (both (λ x. Strikes (strikes_by p r) x.0 x.1) (1, 0) (1, 1) (inr (inl (refl, refl))) (inl (refl, refl)))
+    each_more (λ x. IsStruckBy (strikes_by p r) x.0 x.1) (0, 0) ((1, 0) ∷ (1, 1) ∷ []) (inr (inr (inl (refl, refl))))
+    (both (λ x. IsStruckBy (strikes_by p r) x.0 x.1) (1, 0) (1, 1) (inr (inl (refl, refl))) (inl (refl, refl)))
 
-strikes_all : (d : Direction) (p r : ℕ) → IsGood both_ways d (Members both_ways_stuck.set) [] (strike 1 1 p r) → StrikesAll both_ways d (Members both_ways_stuck.set) (strikes_by p r)
-strikes_all d p r first = record { good = ((2, refl), (λ i. i), first, others_good both_ways (rule_first ∷ rule_second ∷ []) refl refl d (Members both_ways_stuck.set) p r (1, refl) (0, refl)); all = λ s a i. all_struck p r i.0 (s, a) i.1 }
+all_of : (d : Direction) (p r : ℕ) → IsGood both_ways d (Members both_ways_stuck.set) [] (strike 1 1 p r) → StrikesAll both_ways d (Members both_ways_stuck.set) (strikes_by p r)
+all_of d p r first =
+    strikes_all both_ways d (Members both_ways_stuck.set) (strikes_by p r)
+    ((2, refl), (λ i. i), first, others_good both_ways (rule_first ∷ rule_second ∷ []) refl refl d (Members both_ways_stuck.set) p r (1, refl) (0, refl))
+    (λ s a i. all_struck p r i.0 (s, a) i.1)
 
 apart : (x y : ℕ × ℕ) → (x.0 + x.1 ≡ y.0 + y.1 → ⊥) → x ≡ y → ⊥
 apart x y h e = h (ap (λ z. z.0 + z.1) e)
@@ -37,9 +41,9 @@ pub both_ways_certified : IsCertificate both_ways both_ways_stuck
 both_ways_certified = record {
   some = ((0, 0), (0, refl));
   single = single;
-  odd = strikes_all RightToLeft 2 2
+  odd = all_of RightToLeft 2 2
       (record { production = production_back; rule = copy_rule (attribute 2 1) 1 s_name 0; argument = attribute 1 0; is_production = refl; is_rule = refl; is_argument = refl; symbol = refl; attr = refl; reason = inr ((omega arith, omega arith, inr (omega arith)), (1, refl)) });
-  even = strikes_all LeftToRight 0 1
+  even = all_of LeftToRight 0 1
       (record { production = production_r (rule_out ∷ rule_first ∷ rule_second ∷ []); rule = rule_first; argument = attribute 2 0; is_production = refl; is_rule = refl; is_argument = refl; symbol = refl; attr = refl; reason = inr ((omega arith, omega arith, inr (omega arith)), (1, refl)) });
 }
 

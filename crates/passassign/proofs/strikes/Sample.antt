@@ -9,10 +9,10 @@ use Rattle.ag_grammar.specs.grammars.AttributeGrammar.{Grammar, IsProduction, it
 use Rattle.ag_grammar.specs.declared.direction.Direction.{Direction}
 use Rattle.ag_grammar.specs.grammars.Passes.{IsBefore}
 use Rattle.ag_grammar.specs.grammars.Sample.{attribute, production_r, production_a, rule_out, rule_s}
-use Rattle.passassign.specs.Certificate.{Attributes, Strikes, IsOneOf, IsReason, AreGood}
+use Rattle.passassign.specs.Certificate.{Attributes, IsStruckBy, IsOneOf, IsReason, AreGood}
 use Rattle.passassign.specs.Sample.{strike}
 
-none_struck : (x : Option Item) (a : ℕ) → IsOneOf (Strikes []) x a → ⊥
+none_struck : (x : Option Item) (a : ℕ) → IsOneOf (IsStruckBy []) x a → ⊥
 none_struck None a i = i
 none_struck (Some (item.Symbol s)) a i = i
 none_struck (Some (item.Terminal t)) a i = i

@@ -18,7 +18,7 @@ use Rattle.closure.specs.declared.addition.Reason.TheVariants as reason
 use Rattle.closure.specs.declared.clause.Clause.{Clause}
 use Rattle.closure.proofs.Positions.{at_mapped, element_at, mapped_at}
 use Rattle.closure.proofs.Reached.{step}
-use Rattle.passassign.specs.Certificate.{Strikes, IsAhead, IsOneOf, IsGood, AreGood}
+use Rattle.passassign.specs.Certificate.{IsStruckBy, IsAhead, IsOneOf, IsGood, AreGood}
 use Rattle.passassign.specs.Dependencies.{symbol_of, table_slot, dependency_of, head_of}
 use Rattle.passassign.specs.Making.{IsOpen}
 use Rattle.passassign.specs.Searching.{struck_slot, target_of, edge_of, dependency_by, IsBarred, AreBarred, IsStrikeOf, AreStrikesOf, IsStruckAt, AreOf, IsSearch}
@@ -33,7 +33,7 @@ use Rattle.passassign.proofs.strikes.Growing.{strikes_grow}
 use Rattle.passassign.proofs.slots.Linked.{parts, attribute_within, open_there, open_state, places_item, target_is}
 
 -- the members in front of an index are those of the list's front
-in_take : {A : Type 0} (n : ℕ) (xs : List A) (i : ℕ) (x : A) → slice_get (take n xs) i ≡ Some x → (i < n) × (slice_get xs i ≡ Some x)
+pub in_take : {A : Type 0} (n : ℕ) (xs : List A) (i : ℕ) (x : A) → slice_get (take n xs) i ≡ Some x → (i < n) × (slice_get xs i ≡ Some x)
 in_take zero xs i x e = absurd (let bad : ⊥ = cc in bad)
 in_take (suc n) [] i x e = absurd (let bad : ⊥ = cc in bad)
 in_take (suc n) (y ∷ xs) zero x e = (omega arith, e)
@@ -180,7 +180,7 @@ module _ (all barred : List Dependency) (d : Direction) (states : List State) (b
             (of.dependencies (dependency_of (head_of x.production x.rule good.rule x.symbol) good.rule.target.place x.arg (slot_of s good.argument.attr) good.argument.place)).1
             (x.production, good.production, good.is_production, (x.rule, good.rule, good.is_rule, (x.symbol, ap symbol_of (places_item good.production good.rule.target.place ∙ good.symbol), (x.arg, good.argument, good.is_argument, (slot_of s good.argument.attr, ap (λ y. table_slot (symbol_of y) good.argument.attr) (places_item good.production good.argument.place ∙ e), refl)))))
 
-        settled : (y : Option Item) → item_at good.production good.argument.place ≡ y → IsOneOf (Strikes xs) y good.argument.attr ⊎ (IsAhead d good.rule.target.place good.argument.place × IsOneOf (IsOpen g (table_passes states)) y good.argument.attr) → is_marked marks (slot_of x.symbol good.rule.target.attr) ≡ true
+        settled : (y : Option Item) → item_at good.production good.argument.place ≡ y → IsOneOf (IsStruckBy xs) y good.argument.attr ⊎ (IsAhead d good.rule.target.place good.argument.place × IsOneOf (IsOpen g (table_passes states)) y good.argument.attr) → is_marked marks (slot_of x.symbol good.rule.target.attr) ≡ true
         unfolding one
         settled None e why = elim why [ inl bad ↦ absurd bad | inr bad ↦ absurd bad.1 ]
         settled (Some (item.Terminal t)) e why = elim why [ inl bad ↦ absurd bad | inr bad ↦ absurd bad.1 ]
@@ -189,7 +189,7 @@ module _ (all barred : List Dependency) (d : Direction) (states : List State) (b
           | inr b ↦ kept_out (one s) (among s e) (b.0, (open_state g all states of s good.argument.attr b.1).1)
         ]
 
-        finished_at : Strikes xs x.symbol x.attr
+        finished_at : IsStruckBy xs x.symbol x.attr
         finished_at =
             let here = open_state g all states of x.symbol x.attr is in
             let m = settled (item_at good.production good.argument.place) refl good.reason in

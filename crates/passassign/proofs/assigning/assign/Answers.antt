@@ -1,13 +1,8 @@
 use Rattle.std.proofs.Common.{sym}
-use Rattle.std.proofs.lemmas.Result.{IfOk-weaker}
-use Rattle.ag_grammar.specs.grammars.AttributeGrammar.{Grammar}
-use Rattle.passassign.specs.Progress.{IsWith}
-use Rattle.passassign.specs.Rows.{AreFew}
 use Rattle.passassign.proofs.assigning.assign.Goals as goal
 
 pub assign_all-requires-clause-accepted : goal.assign_all-requires-clause-accepted
 assign_all-requires-clause-accepted c = (c.args.grammar.now, record { accepted = c.symbols.ensures.accepted; symbols_are = sym c.symbols.ensures.lent; productions_are = sym c.productions.ensures.lent })
 
 pub returns-clause-few : goal.returns-clause-few
-returns-clause-few c = IfOk-weaker c.assign_all.result (λ m. (g : Grammar) → IsWith c.symbols.result.now c.productions.result.now g → AreFew m) AreFew
-    (λ m few. few c.args.grammar.now (record { accepted = c.symbols.ensures.accepted; symbols_are = sym c.symbols.ensures.lent; productions_are = sym c.productions.ensures.lent })) c.assign_all.ensures.few
+returns-clause-few c = c.in_ok-assignment.ensures.few c.args.grammar.now (record { accepted = c.symbols.ensures.accepted; symbols_are = sym c.symbols.ensures.lent; productions_are = sym c.productions.ensures.lent })

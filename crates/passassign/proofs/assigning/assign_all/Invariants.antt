@@ -1,8 +1,10 @@
-use Rattle.std.proofs.Common.{◌≡◌, ◌+◌, ◌*◌, ◌≤◌, length}
+use Rattle.std.proofs.Common.{◌≡◌, ◌+◌, ◌*◌, ◌≤◌, ◌⊎◌, length, true}
 use Rattle.ag_grammar.specs.grammars.AttributeGrammar.{Grammar}
+use Rattle.passassign.specs.PassStrikes.{AreStrikesSoFar, IsLastInUse}
 use Rattle.passassign.specs.Progress.{IsProgress, IsWith, open_count}
 use Rattle.ag_grammar.specs.grammars.Accepted.{most_passes}
 use Rattle.passassign.specs.Searching.{AreReady}
+use Rattle.passassign.specs.Tables.{table_passes}
 use Rattle.passassign.proofs.assigning.assign_all.Given as goal
 
 abbrev pub invariant-loop-open_now : goal.invariant-loop-open_now
@@ -12,6 +14,9 @@ invariant-loop-open_now l = record {
   count : l.open_now ≡ open_count l.progress.states.items;
   next : l.progress.next + 2 * l.open_now ≤ most_passes + 1;
   made : (g : Grammar) → IsWith l.symbols l.productions g → IsProgress g l.dependencies.all.items l.progress;
+  last : (g : Grammar) → IsWith l.symbols l.productions g → (l.progress.next ≡ 1) ⊎ IsLastInUse l.progress.next (table_passes l.progress.states.items);
+  wanted : l.kept.is_wanted ≡ l.wants_strikes;
+  kept : (g : Grammar) → IsWith l.symbols l.productions g → l.kept.is_wanted ≡ true → AreStrikesSoFar g l.progress.next (table_passes l.progress.states.items) l.kept.lists.items;
 }
 
 abbrev pub decreases-loop-open_now : goal.decreases-loop-open_now

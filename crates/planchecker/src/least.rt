@@ -1,0 +1,134 @@
+//! Whether strikes show that an assignment is the least one.
+
+ghost use Rattle.std.specs.Prelude.{ℕ, ◌≡◌, ◌+◌, ◌^◌, ◌<◌, ◌≤◌, ◌↔◌, IsTrue, Some, length};
+ghost use Rattle.std.specs.Prelude.{slice_get};
+ghost use Rattle.ag_grammar.specs.grammars.Passes.{IsLegal, Passes};
+ghost use Rattle.passassign.proofs.making.NoEarlier.{later_from};
+ghost use Rattle.passassign.specs.Least.{partial_of};
+ghost use Rattle.passassign.specs.PassStrikes.{AreStrikesAt, AreStrikesOf, HasPassAfter};
+ghost use Rattle.passassign.specs.PassStrikes.{HasPassFrom};
+ghost use Rattle.passassign.specs.Rows.{numbers_of, passes_of};
+ghost use Rattle.planchecker.specs.First.{EachAt};
+ghost use Rattle.planchecker.specs.Marking.{IsMarked};
+
+use crate::legality::pass_at;
+use crate::marks::Marks;
+use crate::striking::{Candidates, marks_of};
+use ag_grammar::{Direction, Grammar};
+use ag_value::Items;
+use passassign::laws::none_is_earlier;
+use passassign::{Assignment, Strike, Strikes};
+
+/// The candidates of a pass of an assignment: the attributes of this pass and of later ones. Those of
+/// later ones are to be struck.
+#[derive(Clone, Copy)]
+struct PassCandidates<'a> {
+    assignment: &'a Assignment,
+    pass: u16,
+}
+
+impl Candidates for PassCandidates<'_> {
+    ghost candidates = { λ x. HasPassFrom (passes_of x.assignment.now) x.pass };
+
+    ghost later = { λ x. HasPassAfter (passes_of x.assignment.now) x.pass };
+
+    fn is_candidate(&self, symbol: u16, attr: u16) -> bool {
+        match pass_at(self.assignment.rows(), symbol, attr) {
+            Some(own) => self.pass <= own,
+            None => false,
+        }
+    }
+
+    fn is_later(&self, symbol: u16, attr: u16) -> bool {
+        match pass_at(self.assignment.rows(), symbol, attr) {
+            Some(own) => self.pass < own,
+            None => false,
+        }
+    }
+
+    ghost within = { λ x s a h. later_from (passes_of x.assignment.now) x.pass s a h };
+}
+
+/// Whether an attribute is struck, if its own pass is a later one.
+fn is_struck_if_later(struck: &Marks, pass: u16, own: u16, symbol: usize, attr: usize) -> bool
+    ensures { IsTrue result ↔ (pass < own → IsMarked struck.now symbol attr) }
+{
+    own <= pass || struck.has(symbol, attr)
+}
+
+/// Whether each attribute of a later pass is struck, of a symbol with these passes.
+fn is_row_struck(struck: &Marks, pass: u16, row: &[u16], symbol: usize) -> bool
+    ensures { IsTrue result ↔ EachAt (λ a p. pass < p → IsMarked struck.now symbol a) row.now }
+{
+    for (attr, own) in row.iter().enumerate() {
+        if !is_struck_if_later(struck, pass, *own, symbol, attr) {
+            return false;
+        }
+    }
+    true
+}
+
+/// Whether each attribute of a later pass is struck.
+fn are_later_struck(rows: &[Vec<u16>], pass: u16, struck: &Marks) -> bool
+    ensures { IsTrue result ↔ ((s a : ℕ) → HasPassAfter (passes_of (numbers_of rows.now)) pass s a
+        → IsMarked struck.now s a) }
+{
+    for (symbol, row) in rows.iter().enumerate() {
+        if !is_row_struck(struck, pass, row.as_slice(), symbol) {
+            return false;
+        }
+    }
+    true
+}
+
+/// Whether a list has the strikes of a pass of an assignment.
+fn are_strikes_at(grammar: &Grammar, assignment: &Assignment, pass: u16, strikes: &[Strike]) -> bool
+    ensures { IsTrue result
+        ↔ AreStrikesAt grammar.now (passes_of assignment.now) pass strikes.now }
+{
+    let candidates = PassCandidates { assignment, pass };
+    match marks_of(grammar, Direction::of_pass(pass), &candidates, strikes) {
+        Some(struck) => are_later_struck(assignment.rows(), pass, &struck),
+        None => false,
+    }
+}
+
+/// Whether lists have the strikes of the passes of an assignment, from pass 1 on.
+fn are_all_strikes(grammar: &Grammar, assignment: &Assignment, lists: &[Items<Strike>]) -> bool
+    requires { length lists.now < 2 ^ 16 }
+    ensures { IsTrue result
+        ↔ EachAt (λ i xs. AreStrikesAt grammar.now (passes_of assignment.now) (i + 1) xs) lists.now }
+{
+    for (index, list) in lists.iter().enumerate() {
+        if !are_strikes_at(grammar, assignment, index as u16 + 1, list.as_slice()) {
+            return false;
+        }
+    }
+    true
+}
+
+/// Checks that lists are the strikes of an assignment's passes, one list for each pass. The list of
+/// pass k strikes each attribute that has a later pass, once, and nothing else. Each strike names a
+/// rule for its attribute and an argument of this rule that the pass can't use: it is struck before,
+/// or has pass k or a later one at the same child as the rule's target or at one visited later.
+///
+/// If they are, no legal assignment gives any attribute an earlier pass than this one. So an
+/// assignment that `check_plan` takes too is the least one.
+///
+/// Takes no memory, whatever numbers the lists have. A good strike is of an attribute of the grammar
+/// that no earlier one strikes, so at most 4,097 strikes of each list are read. For each of them the
+/// items of a right side are read at most twice. Marks of what is struck take 4,096 bytes of stack.
+pub fn check_least(grammar: &Grammar, assignment: &Assignment, strikes: &Strikes) -> bool
+    ensures strikes { IsTrue result
+        ↔ AreStrikesOf grammar.now assignment.now strikes.now.passes }
+    ensures least { IsTrue result → (other : Passes) → IsLegal grammar.now other
+        → (s a p q : ℕ) → partial_of (passes_of assignment.now) s a ≡ Some p
+        → partial_of other s a ≡ Some q → p ≤ q }
+{
+    none_is_earlier();
+    let lists = strikes.passes.as_slice();
+    if lists.len() != assignment.passes() as usize {
+        return false;
+    }
+    are_all_strikes(grammar, assignment, lists)
+}

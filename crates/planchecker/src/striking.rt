@@ -1,0 +1,158 @@
+//! Whether strikes are good in a pass, one after the other: shared by both kinds of certificate.
+
+ghost use Rattle.std.specs.Prelude.{ℕ, ◌≡◌, ◌↔◌, IfSome, IsSome, IsTrue, Some, slice_get, take};
+ghost use Rattle.ag_grammar.specs.declared.grammar.Item.TheVariants as item;
+ghost use Rattle.ag_grammar.specs.grammars.AttributeGrammar.{item_at};
+ghost use Rattle.passassign.specs.Certificate.{IsGoodWhere, IsOneOf, IsReasonWhere, IsStruckBy};
+ghost use Rattle.passassign.specs.declared.stuck.Strike.{Strike as TheStrike};
+ghost use Rattle.planchecker.specs.Marking.{IsMarked};
+ghost use Rattle.planchecker.specs.Striking.{IsNext, IsNextWhere};
+
+use crate::marks::Marks;
+use ag_grammar::{Direction, Grammar, Item, Production, Target};
+use passassign::{Strike, is_ahead};
+
+/// The attributes that are candidates for a pass, and those of them that the pass has to strike.
+pub(crate) trait Candidates {
+    /// The candidates, by their symbols' numbers and their own.
+    ghost candidates: { Self → ℕ → ℕ → Type 0 };
+
+    /// Those of them that the pass has to strike.
+    ghost later: { Self → ℕ → ℕ → Type 0 };
+
+    /// Whether an attribute is a candidate.
+    fn is_candidate(&self, symbol: u16, attr: u16) -> bool
+        ensures { IsTrue result ↔ candidates self.now symbol attr };
+
+    /// Whether the pass has to strike an attribute.
+    fn is_later(&self, symbol: u16, attr: u16) -> bool
+        ensures { IsTrue result ↔ later self.now symbol attr };
+
+    ghost within: { (x : Self) (s a : ℕ) → later x s a → candidates x s a };
+}
+
+/// Whether an attribute of the item at a place is struck.
+fn is_item_struck(struck: &Marks, item: Option<Item>, attr: u16) -> bool
+    ensures { IsTrue result ↔ IsOneOf (IsMarked struck.now) item attr }
+{
+    match item {
+        Some(Item::Symbol(symbol)) => struck.has(symbol as usize, attr as usize),
+        Some(Item::Terminal(_)) => false,
+        None => false,
+    }
+}
+
+/// Whether an attribute of the item at a place is a candidate.
+fn is_item_candidate<C: Candidates>(candidates: &C, item: Option<Item>, attr: u16) -> bool
+    ensures { IsTrue result ↔ IsOneOf (C.candidates candidates.now) item attr }
+{
+    match item {
+        Some(Item::Symbol(symbol)) => candidates.is_candidate(symbol, attr),
+        Some(Item::Terminal(_)) => false,
+        None => false,
+    }
+}
+
+/// Whether a rule's argument strikes its target at a place from a pass.
+fn is_reason<C: Candidates>(
+    direction: Direction,
+    candidates: &C,
+    struck: &Marks,
+    production: &Production,
+    place: u16,
+    argument: Target,
+) -> bool
+    ensures { IsTrue result ↔ IsReasonWhere direction (C.candidates candidates.now)
+        (IsMarked struck.now) production.now place argument }
+{
+    let item = production.item_at(argument.place);
+    if is_item_struck(struck, item, argument.attr) {
+        return true;
+    }
+    is_ahead(direction, place, argument.place) && is_item_candidate(candidates, item, argument.attr)
+}
+
+/// Whether a declared symbol is at a place of a production.
+fn is_symbol(production: &Production, place: u16, symbol: u16) -> bool
+    ensures { IsTrue result ↔ (item_at production.now place ≡ Some (item.Symbol symbol)) }
+{
+    match production.item_at(place) {
+        Some(Item::Symbol(found)) => found == symbol,
+        Some(Item::Terminal(_)) => false,
+        None => false,
+    }
+}
+
+/// Whether a strike is good after others: what it names is there, and is a reason.
+fn is_good<C: Candidates>(
+    grammar: &Grammar,
+    direction: Direction,
+    candidates: &C,
+    struck: &Marks,
+    strike: Strike,
+) -> bool
+    ensures { IsTrue result ↔ IsGoodWhere grammar.now direction (C.candidates candidates.now)
+        (IsMarked struck.now) strike }
+{
+    let Some(production) = grammar.productions().get(strike.production as usize) else {
+        return false;
+    };
+    let Some(rule) = production.rules.as_slice().get(strike.rule as usize) else {
+        return false;
+    };
+    let Some(argument) = rule.args.as_slice().get(strike.arg as usize) else {
+        return false;
+    };
+    let target = rule.target;
+    if !is_symbol(production, target.place, strike.symbol) || target.attr != strike.attr {
+        return false;
+    }
+    is_reason(
+        direction,
+        candidates,
+        struck,
+        production,
+        target.place,
+        *argument,
+    )
+}
+
+/// Whether a strike may come next after others.
+fn is_next<C: Candidates>(
+    grammar: &Grammar,
+    direction: Direction,
+    candidates: &C,
+    struck: &Marks,
+    strike: Strike,
+) -> bool
+    ensures { IsTrue result ↔ IsNextWhere grammar.now direction (C.candidates candidates.now)
+        (C.later candidates.now) (IsMarked struck.now) strike }
+{
+    candidates.is_later(strike.symbol, strike.attr)
+        && !struck.has(strike.symbol as usize, strike.attr as usize)
+        && is_good(grammar, direction, candidates, struck, strike)
+}
+
+/// Returns marks of what a list strikes, or `None` if a strike may not come after those before it.
+pub(crate) fn marks_of<C: Candidates>(
+    grammar: &Grammar,
+    direction: Direction,
+    candidates: &C,
+    strikes: &[Strike],
+) -> Option<Marks>
+    ensures good { IsSome result ↔ ((i : ℕ) (x : TheStrike) → slice_get strikes.now i ≡ Some x
+        → IsNext grammar.now direction (C.candidates candidates.now) (C.later candidates.now)
+        (take i strikes.now) x) }
+    ensures marks { IfSome result
+        (λ m. (s a : ℕ) → IsMarked m s a ↔ IsStruckBy strikes.now s a) }
+{
+    let _productions = grammar.productions();
+    let mut struck = Marks::new();
+    for strike in strikes {
+        if !is_next(grammar, direction, candidates, &struck, *strike) {
+            return None;
+        }
+        struck.mark(strike.symbol as usize, strike.attr as usize);
+    }
+    Some(struck)
+}
