@@ -5,6 +5,7 @@ mod carried;
 mod contents;
 mod expressions;
 mod grammars;
+mod least;
 mod passes;
 mod plans;
 mod questions;

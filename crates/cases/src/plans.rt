@@ -78,7 +78,7 @@ fn rows_of_lists(alloc: Global, text: &str) -> Result<Vec<Vec<Vec<Instr>>>, Mist
 }
 
 /// The assignment of a text, with `/` between the symbols.
-fn assignment(alloc: Global, text: &str) -> Result<Assignment, Mistake> {
+pub fn assignment(alloc: Global, text: &str) -> Result<Assignment, Mistake> {
     let mut rows = Vec::new(alloc);
     for part in parts(alloc, text, " / ")?.as_slice() {
         rows.push(short_numbers(alloc, part)?)?;

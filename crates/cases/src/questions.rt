@@ -1,6 +1,7 @@
 //! Which verb asks which question about grammars, plans, sentences and passes.
 
 use crate::grammars::{check_told, could_told, grammar, parts_told, read_told};
+use crate::least::{least_told, strikes_told};
 use crate::passes::{pass_told, run_by_told, run_bytes_told, run_told, through_told};
 use crate::plans::{list_told, listing_told, passes_told, plan_told};
 use crate::raw_grammars::chain_told;
@@ -78,6 +79,7 @@ impl Question<'_> {
     fn is_of_grammar(&self) -> bool {
         match self.verb {
             "parts" | "listing" | "assign" | "plan" | "stuck" => true,
+            "strikes" | "least" => true,
             "pass" | "through" | "run" | "run-by" | "run-bytes" | "root" | "root-bytes" => true,
             "table" | "choice" | "scan" | "scan-bytes" => true,
             "parse" | "parse-failing" | "stand" => true,
@@ -94,6 +96,8 @@ impl Question<'_> {
             "assign" => assign_told(alloc, grammar),
             "plan" => plan_told(alloc, grammar, rest),
             "stuck" => stuck_told(alloc, grammar, rest),
+            "strikes" => strikes_told(alloc, grammar),
+            "least" => least_told(alloc, grammar, rest),
             _ => self.of_passes(grammar),
         }
     }

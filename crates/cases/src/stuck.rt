@@ -39,7 +39,8 @@ fn show_strikes(told: &mut String, strikes: &[Strike]) -> Result<(), AllocError>
     Ok(())
 }
 
-fn show_strike(told: &mut String, strike: &Strike) -> Result<(), AllocError> {
+/// Writes a strike as a row spells it.
+pub fn show_strike(told: &mut String, strike: &Strike) -> Result<(), AllocError> {
     write!(told, " {}.{}", strike.symbol, strike.attr)?;
     write!(
         told,
@@ -79,7 +80,8 @@ fn strike(word: &str) -> Result<Strike, Mistake> {
     })
 }
 
-fn strikes(alloc: Global, text: &str) -> Result<Items<Strike>, Mistake> {
+/// The strikes of a text, with spaces between them; `-` alone has none.
+pub fn strikes(alloc: Global, text: &str) -> Result<Items<Strike>, Mistake> {
     let mut strikes = Vec::new(alloc);
     for word in parts(alloc, text, " ")?.as_slice() {
         strikes.push(strike(word)?)?;
