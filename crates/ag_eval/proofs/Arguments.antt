@@ -1,8 +1,12 @@
--- What it means that no argument is an error.
-use Rattle.std.proofs.Common.{◌≡◌, [], ◌∷◌, Option, Some, None, refl}
+-- What it means that no argument is an error, and that one is.
+use Rattle.std.proofs.Common.{◌≡◌, ℤ, [], ◌∷◌, Option, Some, None, ap, refl, sym, ◌∙◌}
 use Rattle.ag_value.specs.declared.value.ErrorCode.{ErrorCode}
 use Rattle.ag_value.specs.declared.value.Value.{Value}
-use Rattle.ag_grammar.specs.values.Arguments.{fault_of, first_fault, leftmost}
+use Rattle.ag_value.specs.declared.value.Value.TheVariants as value
+use Rattle.ag_value.specs.declared.value.Value.TheVariants.{outs-Fault, outs-Num}
+use Rattle.ag_grammar.specs.declared.syntax.node.Operator.{Operator}
+use Rattle.ag_grammar.specs.values.Arguments.{fault_at, fault_of, fault_or, first_fault, leftmost}
+use Rattle.ag_grammar.specs.values.Operators.{applied, operated}
 
 parts : (f g : Option ErrorCode) → first_fault f g ≡ None → (f ≡ None) × (g ≡ None)
 parts None g h = (refl, h)
@@ -17,3 +21,25 @@ unfolding leftmost
 third_sound a b c h = (parts (fault_of c) None (parts (fault_of b) (first_fault (fault_of c) None) (parts (fault_of a) (first_fault (fault_of b) (first_fault (fault_of c) None)) h).1).1).0
 
 pub ruleset no_faults = (second_sound, third_sound)
+
+fault_is : (code : ErrorCode) → fault_of (value.Fault code) ≡ Some code
+fault_is code = ap fault_at (outs-Fault code)
+
+number_is_none : (n : ℤ) → fault_of (value.Num n) ≡ None
+number_is_none n = ap fault_at (outs-Num n)
+
+-- An operator gives its left argument's error,
+pub left_is_fault : (o : Operator) (left right : Value) (code : ErrorCode) → left ≡ value.Fault code → value.Fault code ≡ applied o left right
+unfolding leftmost
+left_is_fault o left right code h =
+    let f : fault_of left ≡ Some code = ap fault_of h ∙ fault_is code in
+    sym (ap (λ (x : Option ErrorCode). fault_or (first_fault x (first_fault (fault_of right) None)) (operated o left right)) f)
+
+-- and after a number its right argument's.
+pub right_is_fault : (o : Operator) (n : ℤ) (right : Value) (code : ErrorCode) → right ≡ value.Fault code → value.Fault code ≡ applied o (value.Num n) right
+unfolding leftmost
+right_is_fault o n right code h =
+    let f : fault_of right ≡ Some code = ap fault_of h ∙ fault_is code in
+    sym
+    (ap (λ (x : Option ErrorCode). fault_or (first_fault x (first_fault (fault_of right) None)) (operated o (value.Num n) right)) (number_is_none n)
+    ∙ ap (λ (x : Option ErrorCode). fault_or (first_fault x None) (operated o (value.Num n) right)) f)

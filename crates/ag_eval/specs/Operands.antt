@@ -1,15 +1,23 @@
 -- What stands for the values of operands while an expression is evaluated. All of this is this project's.
 use Rattle.std.specs.Prelude.{ℕ, ◌≡◌, ◌<◌, Bool, true, false, List, length, map, slice_get}
 use Rattle.ag_value.specs.declared.value.Value.{Value}
+use Rattle.ag_value.specs.declared.value.Value.TheVariants as value
 use Rattle.ag_eval.specs.declared.environment.Loan.{Loan}
 use Rattle.ag_eval.specs.declared.environment.Loan.TheVariants as loan
 use Rattle.ag_eval.specs.declared.operand.Held.{Held}
 use Rattle.ag_eval.specs.declared.operand.Held.TheVariants as held
 use Rattle.ag_eval.specs.declared.operand.Operand.{Operand}
 use Rattle.ag_eval.specs.declared.operand.Operand.TheVariants as operand
+use Rattle.ag_eval.specs.declared.scalar.Scalar.{Scalar}
+use Rattle.ag_eval.specs.declared.scalar.Scalar.TheVariants as scalar
 use Rattle.ag_grammar.specs.declared.syntax.node.Node.{Node}
 use Rattle.ag_grammar.specs.expressions.Evaluation.{bound_value}
 use Rattle.ag_grammar.specs.expressions.Trees.{each_passes, is_within}
+
+-- the scalar as a value
+abbrev pub scalar_value : Scalar → Value
+scalar_value (scalar.Number n) = value.Num n
+scalar_value (scalar.Fault code) = value.Fault code
 
 -- the value that an environment lends
 abbrev pub loan_value : Loan → Value

@@ -11,24 +11,25 @@ ghost use Rattle.ag_grammar.specs.declared.syntax.node.Node.TheVariants as node;
 ghost use Rattle.ag_grammar.specs.expressions.Trees.{all_below, is_within};
 ghost use Rattle.ag_grammar.specs.values.Fitting.{fit};
 ghost use Rattle.ag_grammar.specs.values.Operators.{applied};
-ghost use Rattle.ag_eval.specs.Operands.{IsIn, held_value, operand_value};
+ghost use Rattle.ag_eval.specs.Operands.{IsIn, held_value, operand_value, scalar_value};
 
 use crate::bindings::Bindings;
-use crate::calls::reckoned;
+use crate::calls::apply_to_scalars;
 use crate::environment::Lender;
 use crate::evaluation::Evaluation;
 use crate::measured::Measured;
 use crate::meter::Meter;
 use crate::operand::{Held, Operand};
+use crate::scalar::Scalar;
 use ag_grammar::{Expr, Literal, Node, Operator};
 use ag_value::{ErrorCode, MAX_DEPTH, MAX_WEIGHT, NoMemory, Value, copy, depth, weight};
 use std::alloc::Global;
 
 impl<'e, V: Lender> Evaluation<'e, V> {
-    /// The number that an operator gives for the value so far and the operand behind it, where it
-    /// gives one and the operand is at hand: no operand is made of that one.
+    /// Computes what an operator gives for the value so far and the next operand, if both are scalars
+    /// and the operand is at hand: no operand is made of that one.
     #[inline(always)]
-    pub fn number_behind(
+    pub fn next_scalar(
         &self,
         so_far: &Operand<'e>,
         other: &(Operator, Node),
@@ -41,36 +42,42 @@ impl<'e, V: Lender> Evaluation<'e, V> {
             (value_in other.now.1 (V.lent self.now.env.now) bindings.now)) }
         ensures within { IfSome result (λ o. IsIn bindings.now o) }
     {
-        let right = self.at_hand(&other.1, bindings)?;
-        let number = reckoned(other.0, so_far.get(bindings), right)?;
-        Some(Operand::owned(Measured::new(number)))
+        let right = Scalar::from_value(self.at_hand(&other.1, bindings)?)?;
+        let left = Scalar::from_value(so_far.get(bindings))?;
+        let scalar = apply_to_scalars(other.0, left, right)?;
+        Some(Operand::owned(Measured::new(scalar.into_value())))
     }
 
-    /// The value of a chain of numbers that are at hand, where each step gives a number: no operand
-    /// is made of any.
+    /// Computes the value of a literal, an occurrence, a bound name or a chain of such, if each of them
+    /// is a scalar: no operand is made of any. Takes no memory.
+    #[cycle(scalars)]
     #[inline(always)]
-    fn chained_number<'a>(
-        &'a self,
-        first: &'a Node,
-        others: &'a [(Operator, Node)],
-        bindings: &'a Bindings<'_>,
-    ) -> Option<Value>
-        requires first { is_within (length self.now.expr.now.1) first.now (length bindings.now) ≡ true }
-        requires below { all_below (length self.now.expr.now.1) (length bindings.now) others.now ≡ true }
-        ensures value { IfSome result (λ v. v
-            ≡ chain_value (V.lent self.now.env.now) bindings.now
-            (value_in first.now (V.lent self.now.env.now) bindings.now)
-            (map (λ p. (p.0, value_in p.1)) others.now)) }
-        ensures well { IfSome result (λ v. IsWell v) }
+    pub fn scalar(&self, node: &Node, bindings: &Bindings<'_>) -> Option<Scalar>
+        requires { is_within (length self.now.expr.now.1) node.now (length bindings.now) ≡ true }
+        ensures { IfSome result (λ s. scalar_value s
+            ≡ value_in node.now (V.lent self.now.env.now) bindings.now) }
     {
-        let Value::Num(number) = self.at_hand(first, bindings)? else {
+        if let Node::Chain(_, _) = node {
+            return self.scalar_of_chain(node, bindings);
+        }
+        Scalar::from_value(self.at_hand(node, bindings)?)
+    }
+
+    /// Computes the value of a chain of scalars. Returns `None` for another node.
+    #[cycle(scalars)]
+    #[tactic(auto, using(ag_grammar::proofs::expressions::Trees::parts))]
+    fn scalar_of_chain(&self, node: &Node, bindings: &Bindings<'_>) -> Option<Scalar>
+        requires { is_within (length self.now.expr.now.1) node.now (length bindings.now) ≡ true }
+        ensures { IfSome result (λ s. scalar_value s
+            ≡ value_in node.now (V.lent self.now.env.now) bindings.now) }
+    {
+        let Node::Chain(first, others) = node else {
             return None;
         };
-        let mut so_far = Value::Num(*number);
-        for other in others {
-            let right = self.at_hand(&other.1, bindings)?;
-            let next = reckoned(other.0, &so_far, right)?;
-            so_far = replaced(so_far, next);
+        let mut so_far = self.scalar(first.get(), bindings)?;
+        for other in others.as_slice() {
+            let right = self.scalar(&other.1, bindings)?;
+            so_far = apply_to_scalars(other.0, so_far, right)?;
         }
         Some(so_far)
     }
@@ -121,20 +128,6 @@ impl<'e, V: Lender> Evaluation<'e, V> {
             _ => None,
         }
     }
-
-    /// The value of an expression that is a chain of numbers at hand.
-    #[inline(always)]
-    pub fn reckoned_value(&self, bindings: &Bindings<'_>) -> Option<Value>
-        requires none { bindings.now ≡ [] }
-        ensures value { IfSome result (λ v. v
-            ≡ value_of self.now.expr.now.0 (V.lent self.now.env.now)) }
-        ensures well { IfSome result (λ v. IsWell v) }
-    {
-        let Node::Chain(first, others) = self.tree() else {
-            return None;
-        };
-        self.chained_number(first.get(), others.as_slice(), bindings)
-    }
 }
 
 /// Returns the value of an expression that is a number literal, and raises the meter by one
@@ -157,14 +150,6 @@ pub fn eval_number(expr: &Expr, meter: &mut Meter) -> Option<i64>
     };
     meter.count_one();
     Some(*value)
-}
-
-/// Another value in the place of one.
-#[inline(always)]
-fn replaced(_old: Value, next: Value) -> Value
-    ensures { result ≡ next }
-{
-    next
 }
 
 /// A value that is within the limits.

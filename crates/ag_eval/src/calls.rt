@@ -5,7 +5,7 @@ ghost use Rattle.ag_value.specs.Well.{IsWell};
 ghost use Rattle.ag_value.specs.declared.value.Value.TheVariants as value;
 ghost use Rattle.ag_eval.specs.declared.operand.Held.{Held as HeldValue};
 ghost use Rattle.ag_eval.specs.Growing.{grown};
-ghost use Rattle.ag_eval.specs.Operands.{Gives, IsIn, held_value, operand_value};
+ghost use Rattle.ag_eval.specs.Operands.{Gives, IsIn, held_value, operand_value, scalar_value};
 ghost use Rattle.ag_grammar.specs.values.Arguments.{fault_of};
 ghost use Rattle.ag_grammar.specs.values.Calls.{called, called_with, put};
 ghost use Rattle.ag_grammar.specs.values.Lists.{appended, concatenated};
@@ -15,12 +15,16 @@ use crate::bindings::Bindings;
 use crate::builtins::comparing::{equal, less, truth};
 use crate::builtins::faults::{fault_of, fault_of_three, fault_of_two};
 use crate::builtins::lists::{append, extend_list, length, nth};
-use crate::builtins::numbers::{decimal, difference, number, product, quotient, remainder, sum};
+use crate::builtins::numbers::{
+    decimal, difference, difference_of, number, product, product_of, quotient, quotient_of,
+    remainder, remainder_of, sum, sum_of,
+};
 use crate::builtins::tables;
 use crate::builtins::tables::{get, has, keys};
 use crate::builtins::texts::{extend_text, join};
 use crate::measured::Measured;
 use crate::operand::{Held, Operand};
+use crate::scalar::Scalar;
 use ag_grammar::{BinaryCall, Operator, UnaryCall};
 use ag_value::{ErrorCode, NoMemory, Value};
 use std::alloc::Global;
@@ -83,26 +87,46 @@ fn calculate(operator: Operator, left: &Value, right: &Value) -> Value
     }
 }
 
-/// The number that `+`, `-` or `*` gives for two numbers, as a value: None where it gives an error,
-/// for another operator, and for other values.
+/// Computes what an operator gives for two scalars: the leftmost error, if one is an error. Returns
+/// `None` for `++`, whose value is a text or a list.
+#[inline(always)]
+pub fn apply_to_scalars(operator: Operator, left: Scalar, right: Scalar) -> Option<Scalar>
+    ensures { IfSome result
+        (λ s. scalar_value s ≡ applied operator (scalar_value left) (scalar_value right)) }
+{
+    match left {
+        Scalar::Number(m) => apply_to_number(operator, m, right),
+        Scalar::Fault(code) => Some(Scalar::Fault(code)),
+    }
+}
+
+/// Computes what an operator gives for a number and a scalar, as `apply_to_scalars` does.
+#[inline(always)]
+fn apply_to_number(operator: Operator, m: i64, right: Scalar) -> Option<Scalar>
+    ensures { IfSome result
+        (λ s. scalar_value s ≡ applied operator (value.Num m) (scalar_value right)) }
+{
+    match right {
+        Scalar::Number(n) => apply_to_numbers(operator, m, n),
+        Scalar::Fault(code) => Some(Scalar::Fault(code)),
+    }
+}
+
+/// Computes what an operator gives for two numbers. Returns `None` for `++`.
 #[tactic(auto, unfolding(ag_grammar::specs::values::Arguments::leftmost))]
 #[inline(always)]
-pub fn reckoned(operator: Operator, left: &Value, right: &Value) -> Option<Value>
-    ensures value { IfSome result (λ v. v ≡ applied operator left.now right.now) }
-    ensures well { IfSome result (λ v. IsWell v) }
+fn apply_to_numbers(operator: Operator, m: i64, n: i64) -> Option<Scalar>
+    ensures { IfSome result (λ s. scalar_value s ≡ applied operator (value.Num m) (value.Num n)) }
 {
-    let (Value::Num(_), Value::Num(_)) = (left, right) else {
-        return None;
-    };
-    let value = match operator {
-        Operator::Add => sum(left, right),
-        Operator::Subtract => difference(left, right),
-        Operator::Multiply => product(left, right),
-        _ => return None,
-    };
-    match value {
-        Value::Num(_) => Some(value),
-        _ => None,
+    match operator {
+        Operator::Equal => Scalar::from_value(&equal(&Value::Num(m), &Value::Num(n))),
+        Operator::Less => Scalar::from_value(&truth(m < n)),
+        Operator::Join => None,
+        Operator::Add => Some(sum_of(m, n)),
+        Operator::Subtract => Some(difference_of(m, n)),
+        Operator::Multiply => Some(product_of(m, n)),
+        Operator::Divide => Some(quotient_of(m, n)),
+        Operator::Remainder => Some(remainder_of(m, n)),
     }
 }
 

@@ -233,7 +233,7 @@ impl<'e, V: Lender> Evaluation<'e, V> {
     {
         let mut value = so_far;
         for other in others {
-            if let Some(next) = self.number_behind(&value, other, &*bindings) {
+            if let Some(next) = self.next_scalar(&value, other, &*bindings) {
                 value = value.replaced(next);
             } else {
                 let right = self.operand_of(&other.1, bindings)?;
@@ -279,8 +279,8 @@ impl<'e, V: Lender> Evaluation<'e, V> {
             return copied(self.alloc, value);
         }
         let mut bindings = Bindings::new(self.alloc);
-        if let Some(value) = self.reckoned_value(&bindings) {
-            return Ok(value);
+        if let Some(scalar) = self.scalar(self.tree(), &bindings) {
+            return Ok(scalar.into_value());
         }
         let operand = self.operand_of(self.tree(), &mut bindings)?;
         Ok(operand.into_owned(self.alloc, &bindings)?.into_value())
@@ -294,8 +294,8 @@ impl<'e, V: Lender> Evaluation<'e, V> {
         ensures well { IfOk result (λ v. IsWell v) }
     {
         let mut bindings = Bindings::new(self.alloc);
-        if let Some(value) = self.reckoned_value(&bindings) {
-            return Carried::new(self.alloc, value);
+        if let Some(scalar) = self.scalar(self.tree(), &bindings) {
+            return Carried::new(self.alloc, scalar.into_value());
         }
         let operand = self.operand_of(self.tree(), &mut bindings)?;
         operand.into_carried(self.alloc, &bindings)

@@ -13,6 +13,7 @@ mod gathering;
 mod measured;
 mod meter;
 mod operand;
+mod scalar;
 
 pub use at_hand::eval_number;
 pub use carried::eval_carried;

@@ -4,9 +4,69 @@ ghost use Rattle.std.specs.Prelude.{◌≡◌, ◌+ℤ◌, ◌-ℤ◌, ◌*ℤ�
 ghost use Rattle.ag_value.specs.Well.{IsWell};
 ghost use Rattle.ag_grammar.specs.values.Numbers.{decimal_of, number_of, number_value, of_numbers};
 ghost use Rattle.ag_grammar.specs.values.Numbers.{quotient, remainder, spelled};
+ghost use Rattle.ag_eval.specs.Operands.{scalar_value};
 
+use crate::scalar::Scalar;
 use ag_value::{ErrorCode, NoMemory, Text, Value};
 use std::alloc::Global;
+
+/// Computes `a + b` of two numbers.
+#[inline(always)]
+pub fn sum_of(m: i64, n: i64) -> Scalar
+    ensures { scalar_value result ≡ number_value (m +ℤ n) }
+{
+    match m.checked_add(n) {
+        Some(number) => Scalar::Number(number),
+        None => Scalar::Fault(ErrorCode::Overflow),
+    }
+}
+
+/// Computes `a - b` of two numbers.
+#[inline(always)]
+pub fn difference_of(m: i64, n: i64) -> Scalar
+    ensures { scalar_value result ≡ number_value (m -ℤ n) }
+{
+    match m.checked_sub(n) {
+        Some(number) => Scalar::Number(number),
+        None => Scalar::Fault(ErrorCode::Overflow),
+    }
+}
+
+/// Computes `a * b` of two numbers.
+#[inline(always)]
+pub fn product_of(m: i64, n: i64) -> Scalar
+    ensures { scalar_value result ≡ number_value (m *ℤ n) }
+{
+    match m.checked_mul(n) {
+        Some(number) => Scalar::Number(number),
+        None => Scalar::Fault(ErrorCode::Overflow),
+    }
+}
+
+/// Computes `a div b` of two numbers.
+#[inline(always)]
+pub fn quotient_of(dividend: i64, divisor: i64) -> Scalar
+    ensures { scalar_value result ≡ quotient dividend divisor }
+{
+    if divisor == 0 {
+        return Scalar::Fault(ErrorCode::Divide);
+    }
+    match dividend.checked_div(divisor) {
+        Some(number) => Scalar::Number(number),
+        None => Scalar::Fault(ErrorCode::Overflow),
+    }
+}
+
+/// Computes `a mod b` of two numbers.
+#[inline(always)]
+pub fn remainder_of(dividend: i64, divisor: i64) -> Scalar
+    ensures { scalar_value result ≡ remainder dividend divisor }
+{
+    if divisor == 0 {
+        return Scalar::Fault(ErrorCode::Divide);
+    }
+    Scalar::Number(dividend.wrapping_rem(divisor))
+}
 
 /// `a + b`
 #[inline(always)]
@@ -17,10 +77,7 @@ pub fn sum(left: &Value, right: &Value) -> Value
     let (Value::Num(m), Value::Num(n)) = (left, right) else {
         return Value::Fault(ErrorCode::Kind);
     };
-    match m.checked_add(*n) {
-        Some(number) => Value::Num(number),
-        None => Value::Fault(ErrorCode::Overflow),
-    }
+    sum_of(*m, *n).into_value()
 }
 
 /// `a - b`
@@ -32,10 +89,7 @@ pub fn difference(left: &Value, right: &Value) -> Value
     let (Value::Num(m), Value::Num(n)) = (left, right) else {
         return Value::Fault(ErrorCode::Kind);
     };
-    match m.checked_sub(*n) {
-        Some(number) => Value::Num(number),
-        None => Value::Fault(ErrorCode::Overflow),
-    }
+    difference_of(*m, *n).into_value()
 }
 
 /// `a * b`
@@ -47,10 +101,7 @@ pub fn product(left: &Value, right: &Value) -> Value
     let (Value::Num(m), Value::Num(n)) = (left, right) else {
         return Value::Fault(ErrorCode::Kind);
     };
-    match m.checked_mul(*n) {
-        Some(number) => Value::Num(number),
-        None => Value::Fault(ErrorCode::Overflow),
-    }
+    product_of(*m, *n).into_value()
 }
 
 /// `a div b`
@@ -58,16 +109,10 @@ pub fn quotient(left: &Value, right: &Value) -> Value
     ensures value { result ≡ of_numbers quotient left.now right.now }
     ensures well { IsWell result }
 {
-    let (Value::Num(dividend), Value::Num(divisor)) = (left, right) else {
+    let (Value::Num(m), Value::Num(n)) = (left, right) else {
         return Value::Fault(ErrorCode::Kind);
     };
-    if *divisor == 0 {
-        return Value::Fault(ErrorCode::Divide);
-    }
-    match dividend.checked_div(*divisor) {
-        Some(number) => Value::Num(number),
-        None => Value::Fault(ErrorCode::Overflow),
-    }
+    quotient_of(*m, *n).into_value()
 }
 
 /// `a mod b`
@@ -75,13 +120,10 @@ pub fn remainder(left: &Value, right: &Value) -> Value
     ensures value { result ≡ of_numbers remainder left.now right.now }
     ensures well { IsWell result }
 {
-    let (Value::Num(dividend), Value::Num(divisor)) = (left, right) else {
+    let (Value::Num(m), Value::Num(n)) = (left, right) else {
         return Value::Fault(ErrorCode::Kind);
     };
-    if *divisor == 0 {
-        return Value::Fault(ErrorCode::Divide);
-    }
-    Value::Num(dividend.wrapping_rem(*divisor))
+    remainder_of(*m, *n).into_value()
 }
 
 /// `text(n)`. Takes memory for the text.

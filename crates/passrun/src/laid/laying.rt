@@ -16,6 +16,7 @@ ghost use Rattle.passrun.specs.laid.Starts.{AreLow, AreSmall, most_width};
 ghost use Rattle.planchecker.specs.Plans.{IsPlan};
 ghost use Rattle.planchecker.specs.courses.Settings.{list_at, setting_of};
 
+use crate::laid::hints::{RowHints, hints_of};
 use crate::laid::rows::{copied_width, known_width, passes_at, rank_of, row_length, row_passes};
 use ag_grammar::{Grammar, Item, Production, Rule, Target};
 use ag_value::{Items, NoMemory};
@@ -64,6 +65,8 @@ pub(crate) struct ProductionRow {
 #[derive(Debug, Drop)]
 pub(crate) struct Layout {
     pub(crate) productions: Items<ProductionRow>,
+    /// Hints for reading, by the production's number.
+    pub(crate) hints: Vec<RowHints>,
 }
 
 /// What stands at the places of a production, and how many values the row of a node has.
@@ -258,7 +261,9 @@ pub(crate) fn lay_out(
     for (number, production) in grammar.productions().iter().enumerate() {
         rows.push(row_of_production(alloc, grammar, plan, k, number, production)?)?;
     }
+    let hints = hints_of(alloc, grammar, plan, k, rows.as_slice())?;
     Ok(Layout {
         productions: Items::from_vec(rows),
+        hints,
     })
 }

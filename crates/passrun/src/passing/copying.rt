@@ -12,6 +12,7 @@ use crate::laid::job::Job;
 use crate::laid::laying::PlaceRow;
 use ag_carried::Carried;
 use ag_grammar::Item;
+use std::mem::{replace, swap};
 
 /// Whether two rows begin with the same values of passes before k, where both have those of
 /// attributes with these passes up to k in front.
@@ -109,10 +110,11 @@ pub(crate) fn put_value(values: &mut Vec<Carried>, index: usize, value: Carried)
     if let Some(number) = value.as_number() {
         return put_number(&mut values[index], number);
     }
-    values[index] = value;
+    let old = replace(&mut values[index], value);
+    old.release();
 }
 
-/// Puts values in the place of as many others, one that is a number in one step.
+/// Puts values in the place of as many others, a single one in one step.
 #[inline(always)]
 fn take_over(ours: &mut [Carried], theirs: &mut [Carried])
     requires { length ours.old ≡ length theirs.old }
@@ -124,6 +126,8 @@ fn take_over(ours: &mut [Carried], theirs: &mut [Carried])
             put_number(&mut ours[0], number);
             return;
         }
+        swap(&mut ours[0], &mut theirs[0]);
+        return;
     }
     ours.swap_with_slice(theirs);
 }

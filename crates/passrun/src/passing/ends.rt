@@ -75,7 +75,7 @@ pub(crate) fn begin<D: Device, E: Device>(
     let writer = Writer::begin(alloc, to, job.pass)?;
     let mut values = Vec::new(alloc);
     let start = Item::Symbol(job.grammar.start());
-    let root = fetch(alloc, job, start, 0, &mut back, &mut values, from)?;
+    let root = fetch(alloc, job, start, None, 0, &mut back, &mut values, from)?;
     Ok(Machine {
         back,
         writer,

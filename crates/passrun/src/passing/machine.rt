@@ -16,6 +16,7 @@ ghost use Rattle.planchecker.specs.courses.Settings.{list_at};
 ghost use Rattle.treefile.specs.devices.Device.{LeavesContent, Persists, WhenHonest};
 ghost use Rattle.treefile.specs.devices.Several.{BothLast};
 
+use crate::laid::hints::Site;
 use crate::laid::job::Job;
 use crate::laid::laying::ProductionRow;
 use crate::passing::copying::{alone, behind, hand_over, is_as_told, keep_row, put_value};
@@ -113,10 +114,16 @@ impl Machine {
         let open_count = self.waiting.len() + 1;
         let end = self.back.end();
         let start = self.values.len();
+        let site = Site {
+            production: node.production,
+            place,
+            base: node.base,
+        };
         let number = fetch(
             alloc,
             job,
             row.item,
+            Some(site),
             open_count,
             &mut self.back,
             &mut self.values,

@@ -7,6 +7,7 @@ ghost use Rattle.passrun.specs.laid.Jobs.{CanRun, setting};
 ghost use Rattle.treefile.specs.devices.Device.{LeavesContent, Persists, WhenHonest};
 ghost use Rattle.treefile.specs.records.TreeFile.{version_two};
 
+use crate::laid::hints::Site;
 use crate::laid::job::Job;
 use crate::reading::record::{RecordFault, read_record};
 use crate::run_fault::RunFault;
@@ -24,6 +25,7 @@ pub(crate) fn fetch<D: Device>(
     alloc: Global,
     job: &Job<'_>,
     item: Item,
+    site: Option<Site>,
     open_count: usize,
     back: &mut Back,
     values: &mut Vec<Carried>,
@@ -53,7 +55,7 @@ pub(crate) fn fetch<D: Device>(
     let Some(body) = back.back(from)? else {
         return Err(RunFault::Damaged(end));
     };
-    match read_record(alloc, job, item, body, values) {
+    match read_record(alloc, job, item, site, body, values) {
         Ok(number) => Ok(number),
         Err(RecordFault::Damaged) => Err(RunFault::Damaged(end)),
         Err(RecordFault::NoMemory) => Err(RunFault::NoMemory),

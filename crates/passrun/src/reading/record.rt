@@ -1,9 +1,10 @@
 //! Reading the body of a record: the values of a node, or the text of a token.
 
 ghost use Rattle.std.specs.Prelude.{◌≡◌, ◌<◌, ◌≤◌, ◌-◌, ◌++◌, [], IfOk, IfSome, IsErrOf, None, OnOk, length};
+ghost use Rattle.std.specs.Prelude.{List, MatchResult, take, ℕ};
 ghost use Rattle.ag_value.specs.Spelling.{spelling_of};
 ghost use Rattle.ag_value.specs.Well.{IsWell};
-ghost use Rattle.ag_value.specs.declared.value.Value.{Num};
+ghost use Rattle.ag_value.specs.declared.value.Value.{Value as AttributeValue, Num};
 ghost use Rattle.passrun.specs.laid.Jobs.{CanRun, setting};
 ghost use Rattle.passrun.specs.reading.Reading.{AreTaken, AreUntaken, IsNoNodeBody, IsNoRow, IsNodeBody};
 ghost use Rattle.passrun.specs.reading.Reading.{IsTaken, IsUntaken, IsNodeRead, IsNoNode, StandInFront};
@@ -11,6 +12,7 @@ ghost use Rattle.passrun.specs.reading.Reading.{IsTextOf, IsTokenRead, IsNoToken
 ghost use Rattle.passrun.specs.Faults.{record_fault_of};
 ghost use Rattle.planchecker.specs.courses.Settings.{setting_of};
 
+use crate::laid::hints::{RowContext, Site};
 use crate::laid::job::Job;
 use crate::laid::rows::row_passes;
 use ag_carried::Carried;
@@ -61,6 +63,27 @@ fn number_in(bytes: &[u8]) -> Option<(i64, &[u8])>
     Some((number.cast_signed(), rest))
 }
 
+/// Reads a value as `Carried::read` does, beside a stored value that may be equal.
+fn read_beside(
+    alloc: Global,
+    candidate: Option<&Carried>,
+    input: &[u8],
+) -> Result<(Carried, usize), ValueFault>
+    ensures well { IfOk result (λ found. IsWell found.0) }
+    ensures within { IfOk result (λ found. found.1 ≤ length input.now) }
+    ensures spelled { IfOk result (λ found. take found.1 input.now ≡ spelling_of found.0) }
+    ensures read { (value : AttributeValue) (rest : List ℕ) → IsWell value
+        → input.now ≡ spelling_of value ++ rest
+        → MatchResult result
+        (λ found. found ≡ (value, length (spelling_of value)))
+        (λ e. e ≡ ValueFault.NoMemory) }
+{
+    match candidate {
+        Some(candidate) => candidate.read_beside(alloc, input),
+        None => Carried::read(alloc, input),
+    }
+}
+
 /// Takes the value of an attribute of a pass from the bytes, where an earlier pass gave it.
 #[inline(never)]
 fn read_value<'b>(
@@ -69,6 +92,7 @@ fn read_value<'b>(
     k: u16,
     bytes: &'b [u8],
     values: &mut Vec<Carried>,
+    context: RowContext<'_>,
 ) -> Result<&'b [u8], RecordFault>
     requires known { pass < k }
     ensures taken { IfOk result (λ rest. IsTaken (k - 1) k pass bytes.now rest.now
@@ -76,7 +100,8 @@ fn read_value<'b>(
     ensures untaken { IsErrOf result RecordFault.Damaged → IsUntaken (k - 1) pass bytes.now }
     ensures front { StandInFront values.old.items values.new.items }
 {
-    let (value, length) = Carried::read(alloc, bytes)?;
+    let candidate = context.candidate(values.as_slice());
+    let (value, length) = read_beside(alloc, candidate, bytes)?;
     let Ok(()) = values.push(value) else {
         return Err(RecordFault::NoMemory);
     };
@@ -91,6 +116,7 @@ fn take_known<'b>(
     k: u16,
     bytes: &'b [u8],
     values: &mut Vec<Carried>,
+    context: RowContext<'_>,
 ) -> Result<&'b [u8], RecordFault>
     requires { pass < k }
     ensures taken { IfOk result (λ rest. IsTaken (k - 1) k pass bytes.now rest.now
@@ -99,7 +125,7 @@ fn take_known<'b>(
     ensures front { StandInFront values.old.items values.new.items }
 {
     let Some((number, rest)) = number_in(bytes) else {
-        return read_value(alloc, pass, k, bytes, values);
+        return read_value(alloc, pass, k, bytes, values, context);
     };
     let Ok(()) = values.push(Carried::number(number)) else {
         return Err(RecordFault::NoMemory);
@@ -116,6 +142,7 @@ fn take_value<'b>(
     k: u16,
     bytes: &'b [u8],
     values: &mut Vec<Carried>,
+    context: RowContext<'_>,
 ) -> Result<&'b [u8], RecordFault>
     requires { 1 ≤ k }
     ensures taken { IfOk result (λ rest. IsTaken (k - 1) k pass bytes.now rest.now
@@ -124,7 +151,7 @@ fn take_value<'b>(
     ensures front { StandInFront values.old.items values.new.items }
 {
     if pass < k {
-        return take_known(alloc, pass, k, bytes, values);
+        return take_known(alloc, pass, k, bytes, values, context);
     }
     if pass == k {
         let Ok(()) = values.push(Carried::number(0)) else {
@@ -144,6 +171,7 @@ fn take_values<'b>(
     k: u16,
     bytes: &'b [u8],
     values: &mut Vec<Carried>,
+    context: RowContext<'_>,
 ) -> Result<&'b [u8], RecordFault>
     requires { 1 ≤ k }
     ensures taken { IfOk result (λ rest. AreTaken (k - 1) k passes.now bytes.now rest.now
@@ -154,7 +182,7 @@ fn take_values<'b>(
 {
     let mut rest = bytes;
     for pass in passes {
-        rest = take_value(alloc, *pass, k, rest, values)?;
+        rest = take_value(alloc, *pass, k, rest, values, context)?;
     }
     Ok(rest)
 }
@@ -167,6 +195,7 @@ fn take_row(
     k: u16,
     bytes: &[u8],
     values: &mut Vec<Carried>,
+    context: RowContext<'_>,
 ) -> Result<(), RecordFault>
     requires { 1 ≤ k }
     ensures taken { OnOk result (AreTaken (k - 1) k passes.now bytes.now []
@@ -174,7 +203,7 @@ fn take_row(
     ensures none { IsErrOf result RecordFault.Damaged → IsNoRow (k - 1) passes.now bytes.now }
     ensures front { StandInFront values.old.items values.new.items }
 {
-    let rest = take_values(alloc, passes, k, bytes, values)?;
+    let rest = take_values(alloc, passes, k, bytes, values, context)?;
     if !rest.is_empty() {
         return Err(RecordFault::Damaged);
     }
@@ -233,7 +262,13 @@ pub fn read_node(
     let Ok(passes) = row_passes(alloc, grammar, plan, production) else {
         return Err(RecordFault::NoMemory);
     };
-    take_row(alloc, passes.as_slice(), k, spellings, values)?;
+    let context = RowContext {
+        layout: None,
+        production: number,
+        site: None,
+        start: values.len(),
+    };
+    take_row(alloc, passes.as_slice(), k, spellings, values, context)?;
     Ok(number)
 }
 
@@ -243,6 +278,7 @@ fn read_laid_node(
     alloc: Global,
     job: &Job<'_>,
     symbol: u16,
+    site: Option<Site>,
     body: &[u8],
     values: &mut Vec<Carried>,
 ) -> Result<u16, RecordFault>
@@ -255,7 +291,20 @@ fn read_laid_node(
         return Err(RecordFault::Damaged);
     };
     let row = job.row(number);
-    take_row(alloc, row.passes.as_slice(), job.pass, spellings, values)?;
+    let context = RowContext {
+        layout: Some(job.layout),
+        production: number,
+        site,
+        start: values.len(),
+    };
+    take_row(
+        alloc,
+        row.passes.as_slice(),
+        job.pass,
+        spellings,
+        values,
+        context,
+    )?;
     Ok(number)
 }
 
@@ -308,6 +357,7 @@ pub(crate) fn read_record(
     alloc: Global,
     job: &Job<'_>,
     item: Item,
+    site: Option<Site>,
     body: &[u8],
     values: &mut Vec<Carried>,
 ) -> Result<u16, RecordFault>
@@ -317,7 +367,7 @@ pub(crate) fn read_record(
     ensures none { IsErrOf result RecordFault.Damaged → IsNoRecord (setting job.now) item body.now }
 {
     match item {
-        Item::Symbol(symbol) => read_laid_node(alloc, job, symbol, body, values),
+        Item::Symbol(symbol) => read_laid_node(alloc, job, symbol, site, body, values),
         Item::Terminal(Terminal::Class(class)) => {
             read_token(alloc, class, body, values)?;
             Ok(class)
