@@ -34,6 +34,7 @@ fn show_parts(told: &mut String, stuck: &Stuck) -> Result<(), AllocError> {
 fn show_strikes(told: &mut String, strikes: &[Strike]) -> Result<(), AllocError> {
     told.push_str(" |")?;
     for strike in strikes {
+        told.push(' ')?;
         show_strike(told, strike)?;
     }
     Ok(())
@@ -41,7 +42,7 @@ fn show_strikes(told: &mut String, strikes: &[Strike]) -> Result<(), AllocError>
 
 /// Writes a strike as a row spells it.
 pub fn show_strike(told: &mut String, strike: &Strike) -> Result<(), AllocError> {
-    write!(told, " {}.{}", strike.symbol, strike.attr)?;
+    write!(told, "{}.{}", strike.symbol, strike.attr)?;
     write!(
         told,
         ".{}.{}.{}",
