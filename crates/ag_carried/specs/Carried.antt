@@ -1,8 +1,9 @@
 -- The value that a carried one stands for, however it is stored. All of this is this project's.
-use Rattle.ag_value.specs.declared.value.Value.{Value}
+use Rattle.ag_value.specs.declared.value.Value.{Value, Num}
 use Rattle.ag_carried.specs.declared.carried.Form.{Form}
 
 -- the value
 abbrev pub form_value : Form → Value
+form_value (Form.Number n) = Num n
 form_value (Form.Inline value) = value
 form_value (Form.Shared shared) = shared.value

@@ -5,10 +5,10 @@ ghost use Rattle.std.specs.Prelude.{MatchOption, MatchResult, OnErr, OnOk, ℕ};
 ghost use Rattle.ag_value.specs.Measure.{weight_of};
 ghost use Rattle.ag_value.specs.Spelling.{spelling_of};
 ghost use Rattle.ag_value.specs.Well.{IsWell};
-ghost use Rattle.ag_value.specs.declared.value.Value.{Value as AttributeValue, Num};
+ghost use Rattle.ag_value.specs.declared.value.Value.{Value as AttributeValue, Fault, Num};
 
 use crate::spelled::Spelled;
-use ag_value::{NoMemory, Value, ValueFault, copy, decode, encode, same, weight};
+use ag_value::{ErrorCode, NoMemory, Value, ValueFault, copy, decode, encode, same, weight};
 use std::alloc::Global;
 use std::marker::Model;
 use std::rc::Rc;
@@ -19,10 +19,14 @@ const MAX_INLINE_WEIGHT: u64 = 24;
 /// The greatest length in bytes of a text that is stored inline without being weighed.
 const MAX_INLINE_TEXT: usize = 16;
 
-/// How a value is stored: inline, or shared beside its encoding.
+/// How a value is stored.
 #[derive(Debug, Drop)]
 enum Form {
+    /// A number.
+    Number(i64),
+    /// Another small value.
     Inline(Value),
+    /// A large value, shared beside its encoding.
     Shared(Rc<Spelled>),
 }
 
@@ -60,14 +64,26 @@ fn is_light(value: &Value) -> bool {
     }
 }
 
+/// Returns the number that a value is, or `None` for a value of another kind.
+fn number_in(value: &Value) -> Option<i64>
+    ensures { MatchOption result ((n : ℤ) → value.now ≡ Num n → ⊥) (λ n. value.now ≡ Num n) }
+{
+    match value {
+        Value::Num(number) => Some(*number),
+        _ => None,
+    }
+}
+
 /// Stores a value inline.
 #[inline(always)]
 fn inline_value(value: Value) -> Carried
     ensures { result ≡ value }
 {
-    Carried {
-        form: Form::Inline(value),
-    }
+    let form = match value {
+        Value::Num(number) => Form::Number(number),
+        other => Form::Inline(other),
+    };
+    Carried { form }
 }
 
 /// Shares a value.
@@ -107,7 +123,17 @@ impl Carried {
     pub fn number(number: i64) -> Carried
         ensures { result ≡ Num number }
     {
-        inline_value(Value::Num(number))
+        Carried {
+            form: Form::Number(number),
+        }
+    }
+
+    /// Returns an error. Takes no memory.
+    #[inline(always)]
+    pub fn fault(code: ErrorCode) -> Carried
+        ensures { result ≡ Fault code }
+    {
+        inline_value(Value::Fault(code))
     }
 
     /// Returns a well value as a carried one. Takes memory for a large one, and encodes it.
@@ -135,12 +161,14 @@ impl Carried {
         store_by_weight(alloc, value, weight)
     }
 
-    /// Lends the value, if it is stored as one. Whoever needs the value otherwise takes `to_value`.
+    /// Lends the value, if it is stored as one: a number isn't. Whoever needs the value otherwise takes
+    /// `to_value`.
     #[inline(always)]
     pub fn as_value(&self) -> Option<&Value>
         ensures { IfSome result (λ v. v.now ≡ self.now) }
     {
         match &self.form {
+            Form::Number(_) => None,
             Form::Inline(value) => Some(value),
             Form::Shared(shared) => Some(shared.value()),
         }
@@ -151,13 +179,10 @@ impl Carried {
     pub fn as_number(&self) -> Option<i64>
         ensures { MatchOption result ((n : ℤ) → self.now ≡ Num n → ⊥) (λ n. self.now ≡ Num n) }
     {
-        let value = match &self.form {
-            Form::Inline(value) => value,
-            Form::Shared(shared) => shared.value(),
-        };
-        match value {
-            Value::Num(number) => Some(*number),
-            _ => None,
+        match &self.form {
+            Form::Number(number) => Some(*number),
+            Form::Inline(value) => number_in(value),
+            Form::Shared(shared) => number_in(shared.value()),
         }
     }
 
@@ -167,8 +192,8 @@ impl Carried {
         ensures { self.new ≡ Num number }
     {
         match &mut self.form {
-            Form::Inline(Value::Num(old)) => *old = number,
-            other => *other = Form::Inline(Value::Num(number)),
+            Form::Number(old) => *old = number,
+            other => *other = Form::Number(number),
         }
     }
 
@@ -176,7 +201,7 @@ impl Carried {
     #[inline(always)]
     pub fn release(self) {
         let Carried { form } = self;
-        let Form::Inline(Value::Num(_)) = form else {
+        let Form::Number(_) = form else {
             drop(form);
             return;
         };
@@ -189,7 +214,7 @@ impl Carried {
         ensures { IfOk result (λ c. c ≡ self.now) }
     {
         match &self.form {
-            Form::Inline(Value::Num(number)) => Ok(Carried::number(*number)),
+            Form::Number(number) => Ok(Carried::number(*number)),
             Form::Inline(value) => Ok(inline_value(copy(alloc, value)?)),
             Form::Shared(shared) => Ok(Carried {
                 form: Form::Shared(shared.clone()?),
@@ -202,6 +227,7 @@ impl Carried {
         ensures { IfOk result (λ v. v ≡ self.now) }
     {
         match &self.form {
+            Form::Number(number) => Ok(Value::Num(*number)),
             Form::Inline(value) => copy(alloc, value),
             Form::Shared(shared) => copy(alloc, shared.value()),
         }
@@ -213,6 +239,7 @@ impl Carried {
     {
         let Carried { form } = self;
         match form {
+            Form::Number(number) => Ok(Value::Num(number)),
             Form::Inline(value) => Ok(value),
             Form::Shared(shared) => match Rc::try_unwrap(shared) {
                 Ok(spelled) => Ok(spelled.into_value()),
@@ -222,14 +249,38 @@ impl Carried {
     }
 
     /// Returns whether two values are equal. Takes no memory.
+    #[inline(always)]
     pub fn same(&self, other: &Carried) -> bool
+        ensures { IsTrue result ↔ (self.now ≡ other.now) }
+    {
+        if let (Form::Number(one), Form::Number(another)) = (&self.form, &other.form) {
+            return *one == *another;
+        }
+        self.same_of_any_kind(other)
+    }
+
+    /// Returns whether two values are equal, as `same` does.
+    #[inline(never)]
+    fn same_of_any_kind(&self, other: &Carried) -> bool
         ensures { IsTrue result ↔ (self.now ≡ other.now) }
     {
         match (&self.form, &other.form) {
             (Form::Shared(one), Form::Shared(another)) => one.same(another),
+            (Form::Number(number), _) => other.is_number(*number),
+            (_, Form::Number(number)) => self.is_number(*number),
             (Form::Inline(one), Form::Inline(another)) => same(one, another),
             (Form::Inline(one), Form::Shared(another)) => same(one, another.value()),
             (Form::Shared(one), Form::Inline(another)) => same(one.value(), another),
+        }
+    }
+
+    /// Returns whether the value is a number that equals another.
+    fn is_number(&self, number: i64) -> bool
+        ensures { IsTrue result ↔ (self.now ≡ Num number) }
+    {
+        match self.as_number() {
+            Some(own) => own == number,
+            None => false,
         }
     }
 
@@ -240,6 +291,7 @@ impl Carried {
         ensures err { OnErr result (out.new.items ≡ out.old.items) }
     {
         match &self.form {
+            Form::Number(number) => encode(&Value::Num(*number), out),
             Form::Inline(value) => encode(value, out),
             Form::Shared(shared) => {
                 out.extend_from_slice(shared.bytes())?;

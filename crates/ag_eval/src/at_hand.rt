@@ -42,7 +42,7 @@ impl<'e, V: Lender> Evaluation<'e, V> {
             (value_in other.now.1 (V.lent self.now.env.now) bindings.now)) }
         ensures within { IfSome result (λ o. IsIn bindings.now o) }
     {
-        let right = Scalar::from_value(self.at_hand(&other.1, bindings)?)?;
+        let right = self.scalar_at_hand(&other.1, bindings)?;
         let left = Scalar::from_value(so_far.get(bindings))?;
         let scalar = apply_to_scalars(other.0, left, right)?;
         Some(Operand::owned(Measured::new(scalar.into_value())))
@@ -60,7 +60,7 @@ impl<'e, V: Lender> Evaluation<'e, V> {
         if let Node::Chain(_, _) = node {
             return self.scalar_of_chain(node, bindings);
         }
-        Scalar::from_value(self.at_hand(node, bindings)?)
+        self.scalar_at_hand(node, bindings)
     }
 
     /// Computes the value of a chain of scalars. Returns `None` for another node.
@@ -82,37 +82,19 @@ impl<'e, V: Lender> Evaluation<'e, V> {
         Some(so_far)
     }
 
-    /// The value of an operand that is a literal, an occurrence or a bound name: lent as it is.
+    /// Returns the value of a literal, an occurrence or a bound name, if it is a scalar.
     #[inline(always)]
-    fn at_hand<'a>(&'a self, node: &'a Node, bindings: &'a Bindings<'_>) -> Option<&'a Value>
+    fn scalar_at_hand(&self, node: &Node, bindings: &Bindings<'_>) -> Option<Scalar>
         requires below { is_within (length self.now.expr.now.1) node.now (length bindings.now) ≡ true }
-        ensures value { IfSome result (λ v. v.now
+        ensures { IfSome result (λ s. scalar_value s
             ≡ value_in node.now (V.lent self.now.env.now) bindings.now) }
-        ensures well { IfSome result (λ v. IsWell v.now) }
     {
         match node {
-            Node::Literal(literal) => within_limits(literal.value()),
-            Node::Occurrence(k) => self.occurrence(*k),
-            Node::Bound(k) => Some(bindings.get(*k).get()),
+            Node::Literal(literal) => Scalar::from_value(within_limits(literal.value())?),
+            Node::Occurrence(k) => self.scalar_occurrence(*k),
+            Node::Bound(k) => Scalar::from_value(bindings.get(*k).get()),
             _ => None,
         }
-    }
-
-    /// The number that an expression is, where it is one that is an occurrence or a literal.
-    #[inline(always)]
-    pub fn number(&self) -> Option<i64>
-        ensures { IfSome result (λ n. value.Num n
-            ≡ value_of self.now.expr.now.0 (V.lent self.now.env.now)) }
-    {
-        let value = match self.tree() {
-            Node::Literal(literal) => literal.value(),
-            Node::Occurrence(k) => self.occurrence(*k)?,
-            _ => return None,
-        };
-        let Value::Num(number) = value else {
-            return None;
-        };
-        Some(*number)
     }
 
     /// The value of an expression that is an occurrence, or a literal within the limits, lent.

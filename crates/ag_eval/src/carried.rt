@@ -1,12 +1,14 @@
-//! The value of an expression, as a carried one.
+//! The value of an expression whose environment lends carried values.
 
-ghost use Rattle.std.specs.Prelude.{◌≡◌, ◌+◌, ◌-◌, ◌^◌, ◌<◌, ◌≤◌, length, IfOk};
+ghost use Rattle.std.specs.Prelude.{◌≡◌, ◌+◌, ◌-◌, ◌^◌, ◌<◌, ◌≤◌, length, IfOk, IfSome, None};
 ghost use Rattle.ag_value.specs.Well.{IsWell};
+ghost use Rattle.ag_eval.specs.Operands.{scalar_value};
 ghost use Rattle.ag_grammar.specs.expressions.Evaluation.{AreWell, value_of};
 
 use crate::environment::{ByCarried, CarriedEnvironment};
 use crate::evaluation::Evaluation;
 use crate::meter::Meter;
+use crate::scalar::Scalar;
 use ag_carried::Carried;
 use ag_grammar::Expr;
 use ag_value::NoMemory;
@@ -33,9 +35,29 @@ pub fn eval_carried<C: CarriedEnvironment>(
 {
     meter.count_one();
     let lender = ByCarried { env };
-    let evaluation = Evaluation::new(alloc, expr, &lender);
-    if let Some(number) = evaluation.number() {
-        return Ok(Carried::number(number));
-    }
-    evaluation.carried()
+    Evaluation::new(alloc, expr, &lender).carried()
+}
+
+/// Returns the value of an expression that is a literal, an occurrence or a chain of these, if each of
+/// them is a number or an error, and raises the meter by one evaluation, as `eval_carried` does.
+/// Returns `None` for any other expression, and for literals and occurrences of another kind: nothing
+/// is evaluated then, and the meter stays as it was. Takes no memory.
+#[inline(always)]
+pub fn eval_scalar<C: CarriedEnvironment>(
+    alloc: Global,
+    expr: &Expr,
+    env: &C,
+    meter: &mut Meter,
+) -> Option<Scalar>
+    requires lends { length expr.now.1 ≤ C.count env.now }
+    requires well { AreWell (length expr.now.1) (C.lent env.now) }
+    requires not_full { meter.old < 2 ^ 64 - 1 }
+    ensures value { IfSome result (λ s. scalar_value s ≡ value_of expr.now.0 (C.lent env.now)) }
+    ensures counted { IfSome result (λ _. meter.new ≡ meter.old + 1) }
+    ensures kept { result ≡ None → meter.new ≡ meter.old }
+{
+    let lender = ByCarried { env };
+    let scalar = Evaluation::new(alloc, expr, &lender).flat_scalar()?;
+    meter.count_one();
+    Some(scalar)
 }

@@ -1,8 +1,9 @@
 //! What lends an evaluation the values of its occurrences.
 
-ghost use Rattle.std.specs.Prelude.{◌≡◌, ◌<◌, ℕ};
-ghost use Rattle.ag_eval.specs.Operands.{loan_value};
+ghost use Rattle.std.specs.Prelude.{◌≡◌, ◌<◌, ℕ, IfSome};
+ghost use Rattle.ag_eval.specs.Operands.{loan_value, scalar_value};
 
+use crate::scalar::Scalar;
 use ag_carried::Carried;
 use ag_value::Value;
 
@@ -43,6 +44,30 @@ pub trait CarriedEnvironment {
 pub enum Loan<'e> {
     Value(&'e Value),
     Carried(&'e Carried),
+}
+
+impl<'e> Loan<'e> {
+    /// Returns the value as a scalar, or `None` if it is a text, a list or a table.
+    #[inline(always)]
+    pub fn scalar(&self) -> Option<Scalar>
+        ensures { IfSome result (λ s. scalar_value s ≡ loan_value self.now) }
+    {
+        match self {
+            Loan::Value(value) => Scalar::from_value(*value),
+            Loan::Carried(carried) => scalar_of(*carried),
+        }
+    }
+}
+
+/// Returns a carried value as a scalar, if it is one.
+#[inline(always)]
+fn scalar_of(carried: &Carried) -> Option<Scalar>
+    ensures { IfSome result (λ s. scalar_value s ≡ carried.now) }
+{
+    match carried.as_number() {
+        Some(number) => Some(Scalar::Number(number)),
+        None => Scalar::from_value(carried.as_value()?),
+    }
 }
 
 /// An environment of either kind.

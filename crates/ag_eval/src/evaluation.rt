@@ -10,7 +10,7 @@ ghost use Rattle.ag_grammar.specs.expressions.Evaluation.{AreWell, chain_value, 
 ghost use Rattle.ag_grammar.specs.expressions.Evaluation.{value_of};
 ghost use Rattle.ag_eval.specs.Conditions.{decision};
 ghost use Rattle.ag_eval.specs.declared.operand.Held.{Held as HeldValue};
-ghost use Rattle.ag_eval.specs.Operands.{IsIn, each_within, held_value, operand_value};
+ghost use Rattle.ag_eval.specs.Operands.{IsIn, each_within, held_value, operand_value, scalar_value};
 ghost use Rattle.ag_grammar.specs.expressions.Trees.{all_below, is_within};
 ghost use Rattle.ag_grammar.specs.values.Calls.{called_with, chosen, put};
 ghost use Rattle.ag_grammar.specs.values.Lists.{listed};
@@ -24,6 +24,7 @@ use crate::gathering::Gathering;
 use crate::measured::Measured;
 use crate::meter::Meter;
 use crate::operand::{Held, Operand};
+use crate::scalar::Scalar;
 use ag_carried::Carried;
 use ag_grammar::{BinaryCall, Expr, Node, Operator};
 use ag_value::{ErrorCode, Items, NoMemory, Value};
@@ -79,6 +80,15 @@ impl<'e, V: Lender> Evaluation<'e, V> {
             Loan::Value(value) => Some(value),
             Loan::Carried(carried) => Some(carried.as_value()?),
         }
+    }
+
+    /// Returns the value of the occurrence with this number as a scalar, if it is one.
+    #[inline(always)]
+    pub fn scalar_occurrence(&self, k: usize) -> Option<Scalar>
+        requires { k < length self.now.expr.now.1 }
+        ensures { IfSome result (λ s. scalar_value s ≡ V.lent self.now.env.now k) }
+    {
+        self.env.loan(k).scalar()
     }
 
     /// Returns the value of the occurrence with this number: lent, or a copy where it is not stored
@@ -344,8 +354,8 @@ fn decided(condition: &Value) -> Result<bool, ErrorCode>
 
 /// Computes the value of an expression where `env` lends the values of its occurrences, and raises
 /// the meter by one evaluation, also where memory is refused. The other public calls that take a meter
-/// are `eval_carried` and `eval_number`; they too compute the expression's value and count one
-/// evaluation.
+/// are `eval_carried`, `eval_scalar` and `eval_number`; they too count one evaluation for each value
+/// that they compute.
 ///
 /// Takes memory for what is made, and for copies: of a value that is lent or bound, where it leaves
 /// the expression, goes into a list or table, or grows; of the part that `nth` or `get` takes of what
@@ -367,8 +377,8 @@ pub fn eval<V: Environment>(
     meter.count_one();
     let lender = ByValue { env };
     let evaluation = Evaluation::new(alloc, expr, &lender);
-    if let Some(number) = evaluation.number() {
-        return Ok(Value::Num(number));
+    if let Some(scalar) = evaluation.flat_scalar() {
+        return Ok(scalar.into_value());
     }
     evaluation.value()
 }

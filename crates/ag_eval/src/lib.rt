@@ -9,6 +9,7 @@ mod calls;
 mod carried;
 mod environment;
 mod evaluation;
+mod flat;
 mod gathering;
 mod measured;
 mod meter;
@@ -16,7 +17,8 @@ mod operand;
 mod scalar;
 
 pub use at_hand::eval_number;
-pub use carried::eval_carried;
+pub use carried::{eval_carried, eval_scalar};
 pub use environment::{CarriedEnvironment, Environment};
 pub use evaluation::eval;
 pub use meter::Meter;
+pub use scalar::Scalar;

@@ -9,7 +9,9 @@ use ag_value::{ErrorCode, Value};
 /// A value that owns no memory.
 #[derive(Clone, Copy, Debug)]
 pub enum Scalar {
+    /// A number.
     Number(i64),
+    /// An error.
     Fault(ErrorCode),
 }
 

@@ -85,7 +85,7 @@ number_again w limit wide n rest lt =
 
 -- ---- texts
 
-pub text_takes : (bytes text rest : List ℕ) → IsBytes bytes → text_at bytes ≡ Some (text, rest) → Takes bytes (counted text) rest
+pub text_takes : (bytes text rest : List ℕ) → IsBytes bytes → text_at bytes ≡ Some (text, rest) → Takes bytes (counted text) rest × (is_utf8 text ≡ true)
 unfolding text_at
 text_takes bytes text rest is e = option_and_then_some (λ n. cond (ltb (length n.1) n.0) None (cond (is_utf8 (take n.0 n.1)) (Some (take n.0 n.1, drop n.0 n.1)) None)) (number_at w32 bytes) (text, rest) e (λ n read some.
     let t = number_takes w32 (2 ^ 32) wide32 bytes n.0 n.1 is read in
@@ -96,7 +96,7 @@ text_takes bytes text rest is e = option_and_then_some (λ n. cond (ltb (length 
     let second : Takes n.1 (take n.0 n.1) (drop n.0 n.1) = record { parts = sym (take-append-drop n.0 n.1); are_bytes = IsBytes-drop n.0 n.1 t.0.are_bytes } in
     let both = Takes-then bytes (to_be_bytes w32 n.0) n.1 (take n.0 n.1) (drop n.0 n.1) t.0 second in
     let whole : Takes bytes (counted (take n.0 n.1)) (drop n.0 n.1) = subst (λ (k : ℕ). Takes bytes (to_be_bytes w32 k ++ take n.0 n.1) (drop n.0 n.1)) (sym len) both in
-    subst (λ (p : List ℕ × List ℕ). Takes bytes (counted p.0) p.1) h.1 whole)
+    subst (λ (p : List ℕ × List ℕ). Takes bytes (counted p.0) p.1 × (is_utf8 p.0 ≡ true)) h.1 (whole, h.0))
 
 pub text_again : (text rest : List ℕ) → length text < 2 ^ 32 → is_utf8 text ≡ true → text_at (counted text ++ rest) ≡ Some (text, rest)
 unfolding text_at

@@ -1,6 +1,6 @@
 -- The equations of the definitions by recursion on a value, a variant at a time.
 use mathlib.Core.List.{map-map}
-use Rattle.std.proofs.Common.{◌≡◌, ℕ, ◌+◌, ℤ, Bool, false, ◌&&◌, List, [], ◌∷◌, ◌++◌, length, map, sum, sym, ap, ◌∙◌}
+use Rattle.std.proofs.Common.{◌≡◌, ℕ, ◌+◌, ℤ, Bool, true, false, ◌&&◌, List, [], ◌∷◌, ◌++◌, length, map, sum, sym, ap, ◌∙◌}
 use Rattle.std.proofs.lemmas.List.{length-map}
 use Rattle.std.specs.Int.{w32, w64, to_be_bytes, cast_unsigned}
 use Rattle.ag_value.specs.declared.value.ErrorCode.{ErrorCode}
@@ -44,6 +44,9 @@ depth-List vs = ap depth_of (sym (rolls-List vs)) ∙ fold-roll-Value ℕ depth_
 pub depth-Table : (ps : List (List ℕ × Value)) → depth_of (v.Table ps) ≡ 1 + greatest (map (λ p. depth_of p.1) ps)
 depth-Table ps = ap depth_of (sym (rolls-Table ps)) ∙ fold-roll-Value ℕ depth_step (Value-F.Table ps) ∙ ap (λ ns. 1 + greatest ns) (map-map _ _ ps)
 
+pub depth-Fault : (c : ErrorCode) → depth_of (v.Fault c) ≡ 0
+depth-Fault c = ap depth_of (sym (rolls-Fault c)) ∙ fold-roll-Value ℕ depth_step (Value-F.Fault c)
+
 pub spelling-Num : (n : ℤ) → spelling_of (v.Num n) ≡ 0 ∷ to_be_bytes w64 (cast_unsigned w64 n)
 spelling-Num n = ap spelling_of (sym (rolls-Num n)) ∙ fold-roll-Value (List ℕ) spelling_step (Value-F.Num n)
 
@@ -74,6 +77,9 @@ fault-List vs = ap is_fault (sym (rolls-List vs)) ∙ fold-roll-Value Bool fault
 pub fault-Table : (ps : List (List ℕ × Value)) → is_fault (v.Table ps) ≡ false
 fault-Table ps = ap is_fault (sym (rolls-Table ps)) ∙ fold-roll-Value Bool fault_step (Value-F.Table ps)
 
+pub fault-Fault : (c : ErrorCode) → is_fault (v.Fault c) ≡ true
+fault-Fault c = ap is_fault (sym (rolls-Fault c)) ∙ fold-roll-Value Bool fault_step (Value-F.Fault c)
+
 pub item-Num : (n : ℤ) → is_item (v.Num n) ≡ is_i64 n
 item-Num n = ap is_item (sym (rolls-Num n)) ∙ fold-roll-Value Bool item_step (Value-F.Num n)
 
@@ -88,6 +94,9 @@ item-Table ps =
     ap is_item (sym (rolls-Table ps)) ∙ fold-roll-Value Bool item_step (Value-F.Table ps)
     ∙ ap (λ ks. are_keys ks && all_true (map (λ (p : List ℕ × Bool). p.1) (map (λ (p : List ℕ × Value). (p.0, is_item p.1)) ps))) (map-map _ _ ps)
     ∙ ap (λ bs. are_keys (map key_of ps) && all_true bs) (map-map _ _ ps)
+
+pub item-Fault : (c : ErrorCode) → is_item (v.Fault c) ≡ false
+item-Fault c = ap is_item (sym (rolls-Fault c)) ∙ fold-roll-Value Bool item_step (Value-F.Fault c)
 
 pub shown-Num : (n : ℤ) → shown_of (v.Num n) ≡ signed_decimal n
 shown-Num n = ap shown_of (sym (rolls-Num n)) ∙ fold-roll-Value (List ℕ) shown_step (Value-F.Num n)

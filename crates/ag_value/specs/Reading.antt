@@ -1,6 +1,6 @@
--- Reading a value from the front of some bytes, as a plain function on lists. It reads whatever has the form of a
--- spelling; whether the value is well is asked afterwards. Laws tie it to the spelling.
-use Rattle.std.specs.Prelude.{◌≡◌, ℕ, zero, suc, List, [], ◌∷◌, ◌++◌, length, take, drop, Option, Some, None, Result, Ok, Err, nat_lt, if◌then◌else◌}
+-- Reading a value from the front of some bytes, as a plain function on lists. It reads exactly the spellings of values
+-- that are well but for their weight. Laws tie it to the spelling.
+use Rattle.std.specs.Prelude.{◌≡◌, ℕ, zero, suc, List, [], ◌∷◌, ◌++◌, length, take, drop, map, Option, Some, None, Result, Ok, Err, nat_lt, if◌then◌else◌}
 use Rattle.std.specs.Option.{option_and_then}
 use Rattle.std.specs.Int.{Width, w32, w64, byte_len, from_be_bytes, cast_signed}
 use Rattle.std.specs.Str.{is_utf8}
@@ -10,6 +10,7 @@ use Rattle.ag_value.specs.declared.value.Value.{Value}
 use Rattle.ag_value.specs.declared.value.Value.TheVariants as v
 use Rattle.ag_value.specs.declared.value.ErrorCode.{ErrorCode}
 use Rattle.ag_value.specs.declared.value.ErrorCode.TheVariants as code
+use Rattle.ag_value.specs.Well.{are_keys, key_of}
 
 -- what is read, and the bytes behind it
 abbrev pub Read : Type 0 → Type 0
@@ -65,14 +66,24 @@ all_at item (suc n) front bytes = item bytes >>= λ first. all_at item n (front 
 unfoldable pub pair_at : (List ℕ → Read Value) → List ℕ → Read (List ℕ × Value)
 pair_at item bytes = text_at bytes >>= λ key. item key.1 >>= λ value. Some ((key.0, value.0), value.1)
 
--- a value of at most so many levels
+-- A value that a list or table may contain, of at most `levels` levels. The keys of a table rise.
+unfoldable pub item_at : ℕ → List ℕ → Read Value
+item_at levels [] = None
+item_at levels (zero ∷ rest) = number_at w64 rest >>= λ n. Some (v.Num (cast_signed w64 n.0), n.1)
+item_at levels (suc zero ∷ rest) = text_at rest >>= λ text. Some (v.Text text.0, text.1)
+item_at zero (suc (suc zero) ∷ rest) = None
+item_at (suc levels) (suc (suc zero) ∷ rest) = number_at w32 rest >>= λ n. all_at (item_at levels) n.0 [] n.1 >>= λ items. Some (v.List items.0, items.1)
+item_at zero (suc (suc (suc zero)) ∷ rest) = None
+item_at (suc levels) (suc (suc (suc zero)) ∷ rest) =
+    number_at w32 rest >>= λ n. all_at (pair_at (item_at levels)) n.0 [] n.1 >>= λ pairs. if are_keys (map key_of pairs.0) then Some (v.Table pairs.0, pairs.1) else None
+item_at levels (suc (suc (suc (suc b))) ∷ rest) = None
+
+-- an error, or a value that a list or table may contain, of at most `levels` levels
 unfoldable pub value_at : ℕ → List ℕ → Read Value
 value_at levels [] = None
-value_at levels (zero ∷ rest) = number_at w64 rest >>= λ n. Some (v.Num (cast_signed w64 n.0), n.1)
-value_at levels (suc zero ∷ rest) = text_at rest >>= λ text. Some (v.Text text.0, text.1)
-value_at zero (suc (suc zero) ∷ rest) = None
-value_at (suc levels) (suc (suc zero) ∷ rest) = number_at w32 rest >>= λ n. all_at (value_at levels) n.0 [] n.1 >>= λ items. Some (v.List items.0, items.1)
-value_at zero (suc (suc (suc zero)) ∷ rest) = None
-value_at (suc levels) (suc (suc (suc zero)) ∷ rest) = number_at w32 rest >>= λ n. all_at (pair_at (value_at levels)) n.0 [] n.1 >>= λ pairs. Some (v.Table pairs.0, pairs.1)
+value_at levels (zero ∷ rest) = item_at levels (zero ∷ rest)
+value_at levels (suc zero ∷ rest) = item_at levels (suc zero ∷ rest)
+value_at levels (suc (suc zero) ∷ rest) = item_at levels (suc (suc zero) ∷ rest)
+value_at levels (suc (suc (suc zero)) ∷ rest) = item_at levels (suc (suc (suc zero)) ∷ rest)
 value_at levels (suc (suc (suc (suc zero))) ∷ rest) = fault_at rest
 value_at levels (suc (suc (suc (suc (suc b)))) ∷ rest) = None

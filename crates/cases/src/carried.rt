@@ -46,11 +46,12 @@ fn weighed_told(alloc: Global, value: &Value) -> Result<String, Mistake> {
     lent_told(alloc, &Carried::with_weight(alloc, copied, weight)?)
 }
 
-/// The value that is lent.
+/// The number, or the value that is lent.
 fn lent_told(alloc: Global, carried: &Carried) -> Result<String, Mistake> {
-    match carried.as_value() {
-        Some(value) => Ok(show(alloc, value)?),
-        None => Err(Mistake::Unfit),
+    match (carried.as_number(), carried.as_value()) {
+        (Some(number), None) => Ok(show(alloc, &Value::Num(number))?),
+        (None, Some(value)) => Ok(show(alloc, value)?),
+        _ => Err(Mistake::Unfit),
     }
 }
 

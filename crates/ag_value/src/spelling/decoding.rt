@@ -3,20 +3,26 @@ ghost use Rattle.std.specs.Prelude.{◌≡◌, ◌++◌, ◌≤◌, ℕ, List, [
 ghost use Rattle.std.specs.Prelude.{IfOk, IfSome, IfNone, MatchResult};
 ghost use Rattle.std.specs.Int.{w32, w64};
 ghost use Rattle.std.specs.Str.{is_utf8};
-ghost use Rattle.ag_value.specs.Reading.{Gives, all_at, code_at, fault_at, number_at, pair_at};
-ghost use Rattle.ag_value.specs.Reading.{text_at, value_at};
+ghost use Rattle.ag_value.specs.Reading.{Gives, all_at, code_at, fault_at, item_at, number_at};
+ghost use Rattle.ag_value.specs.Reading.{pair_at, text_at, value_at};
 ghost use Rattle.ag_value.specs.Spelling.{spelling_of};
 ghost use Rattle.ag_value.specs.Well.{IsWell};
 ghost use Rattle.ag_value.specs.declared.value.Value.{Value};
 
 use crate::fault::ValueFault;
 use crate::items::Items;
-use crate::limits::MAX_DEPTH;
+use crate::limits::{MAX_DEPTH, MAX_WEIGHT};
 use crate::text::Text;
 use crate::value::{ErrorCode, Value};
-use crate::walks::wellness::is_well;
+use crate::walks::wellness::is_keyed;
 use std::alloc::Global;
 use std::str::from_utf8;
+
+/// The length of the shortest spelling of an item, in bytes.
+const MIN_ITEM: usize = 5;
+
+/// The greatest number of items for which room is reserved before the first of them is read.
+const MAX_RESERVED: usize = 1024;
 
 /// The value whose spelling is a front of the input, and that front's length in bytes. Bytes may
 /// follow it.
@@ -36,15 +42,18 @@ pub fn decode(alloc: Global, input: &[u8]) -> Result<(Value, usize), ValueFault>
         (λ e. e ≡ ValueFault.NoMemory) }
 {
     let (value, rest) = front_of(alloc, MAX_DEPTH as usize, input)?;
-    if !is_well(&value) {
+    // the spelling is as long as the value is heavy
+    let len = input.len() - rest.len();
+    if len as u64 > MAX_WEIGHT {
         return Err(ValueFault::Malformed);
     }
-    Ok((value, input.len() - rest.len()))
+    Ok((value, len))
 }
 
-/// The value at the front, of at most so many levels of lists and tables: a number at once.
+/// Reads the value of at most `levels` levels with which the bytes begin: a number or an error at
+/// once.
 #[inline(always)]
-#[tactic(auto, unfolding(crate::specs::Reading::value_at))]
+#[tactic(auto, unfolding(crate::specs::Reading::value_at, crate::specs::Reading::item_at))]
 fn front_of(alloc: Global, levels: usize, bytes: &[u8]) -> Result<(Value, &[u8]), ValueFault>
     ensures { Gives (λ x. (x.0, x.1.now)) result (value_at levels bytes.now) }
 {
@@ -53,15 +62,17 @@ fn front_of(alloc: Global, levels: usize, bytes: &[u8]) -> Result<(Value, &[u8])
             let (n, rest) = u64_of(rest)?;
             Ok((Value::Num(n.cast_signed()), rest))
         }
-        _ => value_of(alloc, levels, bytes),
+        [4, rest @ ..] => fault_of(rest),
+        _ => item_of(alloc, levels, bytes),
     }
 }
 
-/// The value at the front, of at most so many levels of lists and tables.
+/// Reads the value of at most `levels` levels with which the bytes begin. Fails with V1 if it is
+/// an error, or if the keys of a table do not rise.
 #[cycle(reading)]
-#[tactic(auto, unfolding(crate::specs::Reading::value_at))]
-fn value_of(alloc: Global, levels: usize, bytes: &[u8]) -> Result<(Value, &[u8]), ValueFault>
-    ensures { Gives (λ x. (x.0, x.1.now)) result (value_at levels bytes.now) }
+#[tactic(auto, unfolding(crate::specs::Reading::item_at))]
+fn item_of(alloc: Global, levels: usize, bytes: &[u8]) -> Result<(Value, &[u8]), ValueFault>
+    ensures { Gives (λ x. (x.0, x.1.now)) result (item_at levels bytes.now) }
 {
     match bytes {
         [] => Err(ValueFault::Malformed),
@@ -87,9 +98,11 @@ fn value_of(alloc: Global, levels: usize, bytes: &[u8]) -> Result<(Value, &[u8])
             }
             let (count, rest) = u32_of(rest)?;
             let (pairs, rest) = pairs_of(alloc, levels - 1, count, rest)?;
+            if !is_keyed(pairs.as_slice()) {
+                return Err(ValueFault::Malformed);
+            }
             Ok((Value::Table(pairs), rest))
         }
-        [4, rest @ ..] => fault_of(rest),
         [_, ..] => Err(ValueFault::Malformed),
     }
 }
@@ -102,12 +115,12 @@ fn items_of(
     count: u32,
     bytes: &[u8],
 ) -> Result<(Items<Value>, &[u8]), ValueFault>
-    ensures { Gives (λ x. (x.0, x.1.now)) result (all_at (value_at levels) count [] bytes.now) }
+    ensures { Gives (λ x. (x.0, x.1.now)) result (all_at (item_at levels) count [] bytes.now) }
 {
-    let mut items = Vec::new(alloc);
+    let mut items = Vec::with_capacity(alloc, room_for(count, bytes))?;
     let mut rest = bytes;
     for _ in 0..count {
-        let (item, after) = value_of(alloc, levels, rest)?;
+        let (item, after) = item_of(alloc, levels, rest)?;
         items.push(item)?;
         rest = after;
     }
@@ -123,9 +136,9 @@ fn pairs_of(
     bytes: &[u8],
 ) -> Result<(Items<(Text, Value)>, &[u8]), ValueFault>
     ensures { Gives (λ x. (x.0, x.1.now)) result
-        (all_at (pair_at (value_at levels)) count [] bytes.now) }
+        (all_at (pair_at (item_at levels)) count [] bytes.now) }
 {
-    let mut pairs = Vec::new(alloc);
+    let mut pairs = Vec::with_capacity(alloc, room_for(count, bytes))?;
     let mut rest = bytes;
     for _ in 0..count {
         let (pair, after) = pair_of(alloc, levels, rest)?;
@@ -138,11 +151,19 @@ fn pairs_of(
 #[cycle(reading)]
 #[tactic(auto, unfolding(crate::specs::Reading::pair_at))]
 fn pair_of(alloc: Global, levels: usize, bytes: &[u8]) -> Result<((Text, Value), &[u8]), ValueFault>
-    ensures { Gives (λ x. (x.0, x.1.now)) result (pair_at (value_at levels) bytes.now) }
+    ensures { Gives (λ x. (x.0, x.1.now)) result (pair_at (item_at levels) bytes.now) }
 {
     let (key, rest) = text_of(alloc, bytes)?;
-    let (value, rest) = value_of(alloc, levels, rest)?;
+    let (value, rest) = item_of(alloc, levels, rest)?;
     Ok(((key, value), rest))
+}
+
+/// Returns the number of items or pairs to reserve room for: at most as many as the bytes can hold,
+/// and at most [`MAX_RESERVED`], so that a wrong count takes little memory.
+fn room_for(count: u32, bytes: &[u8]) -> usize {
+    (count as usize)
+        .min(bytes.len() / MIN_ITEM)
+        .min(MAX_RESERVED)
 }
 
 #[tactic(auto, unfolding(crate::specs::Reading::fault_at))]

@@ -14,13 +14,15 @@ use crate::walks::measuring::{depth, weight};
 pub fn is_well(value: &Value) -> bool
     ensures { IsTrue result ↔ IsWell value.now }
 {
-    // a number is, and most values are numbers; a read of it tells the prover that it is in range
-    if let Value::Num(n) = value {
-        let _in_range = *n;
-        return true;
+    match value {
+        // most values are numbers; a read of one tells the prover that it is in range
+        Value::Num(n) => {
+            let _in_range = *n;
+            true
+        }
+        Value::Fault(_) => true,
+        _ => is_item(value) && depth(value) <= MAX_DEPTH && weight(value) <= MAX_WEIGHT,
     }
-    let is_formed = matches!(value, Value::Fault(_)) || is_item(value);
-    is_formed && depth(value) <= MAX_DEPTH && weight(value) <= MAX_WEIGHT
 }
 
 /// Whether a value may stand in a list or table.
@@ -72,7 +74,7 @@ fn are_item_pairs(pairs: &[(Text, Value)]) -> bool
 
 /// Whether each key comes before the next by its bytes.
 #[tactic(auto, using(crate::proofs::Keys::keys))]
-fn is_keyed(pairs: &[(Text, Value)]) -> bool
+pub fn is_keyed(pairs: &[(Text, Value)]) -> bool
     ensures { result ≡ are_keys (map key_of pairs.now) }
 {
     if pairs.is_empty() {

@@ -1,6 +1,7 @@
 //! The copies of children's values in the row of a node.
 
 ghost use Rattle.std.specs.Prelude.{ℕ, ◌≡◌, ◌+◌, ◌-◌, ◌<◌, ◌≤◌, ◌++◌, ◌↔◌, IsTrue, List, drop, length, set, take};
+ghost use Rattle.ag_eval.specs.Operands.{scalar_value};
 ghost use Rattle.ag_value.specs.declared.value.Value.{Value as AttributeValue, Num};
 ghost use Rattle.passrun.specs.laid.Jobs.{setting};
 ghost use Rattle.passrun.specs.passing.Places.{kept_values};
@@ -11,6 +12,7 @@ ghost use Rattle.treefile.specs.records.Records.{values_up_to};
 use crate::laid::job::Job;
 use crate::laid::laying::PlaceRow;
 use ag_carried::Carried;
+use ag_eval::Scalar;
 use ag_grammar::Item;
 use std::mem::{replace, swap};
 
@@ -112,6 +114,18 @@ pub(crate) fn put_value(values: &mut Vec<Carried>, index: usize, value: Carried)
     }
     let old = replace(&mut values[index], value);
     old.release();
+}
+
+/// Puts a number or an error at an index.
+#[inline(always)]
+pub(crate) fn put_scalar(values: &mut Vec<Carried>, index: usize, scalar: Scalar)
+    requires { index < length values.old.items }
+    ensures { values.new.items ≡ set values.old.items index (scalar_value scalar) }
+{
+    match scalar {
+        Scalar::Number(number) => put_number(&mut values[index], number),
+        Scalar::Fault(code) => put_value(values, index, Carried::fault(code)),
+    }
 }
 
 /// Puts values in the place of as many others, a single one in one step.

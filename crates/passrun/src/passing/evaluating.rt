@@ -1,14 +1,16 @@
 //! The value of a rule at a node.
 
-ghost use Rattle.std.specs.Prelude.{◌≡◌, ◌+◌, ◌-◌, ◌^◌, ◌<◌, All, IfOk, get_or, length};
-ghost use Rattle.std.specs.Prelude.{pos, slice_index};
+ghost use Rattle.std.specs.Prelude.{◌≡◌, ◌+◌, ◌-◌, ◌^◌, ◌<◌, All, IfOk, IfSome, None, OnOk, drop};
+ghost use Rattle.std.specs.Prelude.{get_or, length, pos, set, slice_index};
+ghost use Rattle.ag_eval.specs.Operands.{scalar_value};
 ghost use Rattle.ag_grammar.specs.expressions.Evaluation.{value_of};
 ghost use Rattle.ag_value.specs.Well.{IsWell};
 ghost use Rattle.ag_value.specs.declared.value.Value.{Num};
 
 use crate::laid::laying::RuleSlots;
+use crate::passing::copying::{behind, put_scalar, put_value};
 use ag_carried::Carried;
-use ag_eval::{CarriedEnvironment, Meter, eval_carried, eval_number};
+use ag_eval::{CarriedEnvironment, Meter, Scalar, eval_carried, eval_scalar};
 use ag_grammar::{Expr, Rule};
 use ag_value::NoMemory;
 use std::alloc::Global;
@@ -36,28 +38,65 @@ impl<'a> CarriedEnvironment for Lender<'a> {
     }
 }
 
-/// The value of a rule, where its arguments stand in its slots of a node's values.
+/// Computes the value of a rule, whose arguments are in its slots of the row that begins at an index, and
+/// puts it into the slot of its target.
 #[inline(always)]
-pub(crate) fn evaluate(
+pub(crate) fn put_rule_value(
     alloc: Global,
     rule: &Rule,
     slots: &RuleSlots,
-    values: &[Carried],
+    base: usize,
+    values: &mut Vec<Carried>,
     meter: &mut Meter,
-) -> Result<Carried, NoMemory>
+) -> Result<(), NoMemory>
     requires slots { length slots.now.args ≡ length rule.now.expr.1 }
-    requires well { All IsWell values.now }
+    requires well { All IsWell values.old.items }
+    requires target { base + slots.now.target < length values.old.items }
     requires not_full { meter.old < 2 ^ 64 - 1 }
-    ensures value { IfOk result (λ v. v ≡ value_of rule.now.expr.0
-        (λ k. get_or values.now (slice_index slots.now.args k) (Num (pos 0)))) }
-    ensures well { IfOk result (λ v. IsWell v) }
+    ensures value { OnOk result (values.new.items
+        ≡ set values.old.items (base + slots.now.target) (value_of rule.now.expr.0
+        (λ k. get_or (drop base values.old.items) (slice_index slots.now.args k) (Num (pos 0))))) }
+    ensures well { OnOk result (IsWell (value_of rule.now.expr.0
+        (λ k. get_or (drop base values.old.items) (slice_index slots.now.args k) (Num (pos 0))))) }
     ensures counted { meter.new ≡ meter.old + 1 }
 {
-    // a literal number asks for no values
-    if let Some(number) = eval_number(&rule.expr, meter) {
-        return Ok(Carried::number(number));
+    let target = base + slots.target as usize;
+    let row = behind(values.as_slice(), base);
+    if let Some(scalar) = evaluate_scalar(alloc, &rule.expr, slots.args.as_slice(), row, meter) {
+        put_scalar(values, target, scalar);
+        return Ok(());
     }
-    evaluate_over(alloc, &rule.expr, slots.args.as_slice(), values, meter)
+    let value = evaluate_over(alloc, &rule.expr, slots.args.as_slice(), row, meter)?;
+    put_value(values, target, value);
+    Ok(())
+}
+
+/// Computes the value of an expression that `eval_scalar` computes, where that of each occurrence is in
+/// its slot among the values.
+#[tactic(auto, using(crate::proofs::steps::Lending::are_well))]
+#[inline(always)]
+fn evaluate_scalar(
+    alloc: Global,
+    expr: &Expr,
+    slots: &[u16],
+    values: &[Carried],
+    meter: &mut Meter,
+) -> Option<Scalar>
+    requires slots { length slots.now ≡ length expr.now.1 }
+    requires well { All IsWell values.now }
+    requires not_full { meter.old < 2 ^ 64 - 1 }
+    ensures value { IfSome result (λ s. scalar_value s ≡ value_of expr.now.0
+        (λ k. get_or values.now (slice_index slots.now k) (Num (pos 0)))) }
+    ensures counted { IfSome result (λ _. meter.new ≡ meter.old + 1) }
+    ensures kept { result ≡ None → meter.new ≡ meter.old }
+{
+    let spare = Carried::number(0);
+    let env = Lender {
+        values,
+        slots,
+        spare: &spare,
+    };
+    eval_scalar(alloc, expr, &env, meter)
 }
 
 /// The value of an expression, where that of each occurrence stands in its slot among these.

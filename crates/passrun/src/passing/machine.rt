@@ -19,8 +19,8 @@ ghost use Rattle.treefile.specs.devices.Several.{BothLast};
 use crate::laid::hints::Site;
 use crate::laid::job::Job;
 use crate::laid::laying::ProductionRow;
-use crate::passing::copying::{alone, behind, hand_over, is_as_told, keep_row, put_value};
-use crate::passing::evaluating::evaluate;
+use crate::passing::copying::{alone, behind, hand_over, is_as_told, keep_row};
+use crate::passing::evaluating::put_rule_value;
 use crate::passing::open_node::OpenNode;
 use crate::passing::putting::put_record;
 use crate::reading::fetching::fetch;
@@ -209,9 +209,7 @@ impl Machine {
         let production = &job.grammar.productions()[node.production as usize];
         let semantic = &production.rules.as_slice()[rule as usize];
         let slots = &asked.rules.as_slice()[rule as usize];
-        let value = evaluate(alloc, semantic, slots, &self.values[node.base..], meter)?;
-        let target = node.base + slots.target as usize;
-        put_value(&mut self.values, target, value);
+        put_rule_value(alloc, semantic, slots, node.base, &mut self.values, meter)?;
         Ok(node.stepped(node.child))
     }
 

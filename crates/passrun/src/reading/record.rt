@@ -1,6 +1,6 @@
 //! Reading the body of a record: the values of a node, or the text of a token.
 
-ghost use Rattle.std.specs.Prelude.{◌≡◌, ◌<◌, ◌≤◌, ◌-◌, ◌++◌, [], IfOk, IfSome, IsErrOf, None, OnOk, length};
+ghost use Rattle.std.specs.Prelude.{◌≡◌, ◌<◌, ◌≤◌, ◌-◌, ◌++◌, [], IfOk, IfSome, IsErrOf, None, Ok, OnOk, length};
 ghost use Rattle.std.specs.Prelude.{List, MatchResult, take, ℕ};
 ghost use Rattle.ag_value.specs.Spelling.{spelling_of};
 ghost use Rattle.ag_value.specs.Well.{IsWell};
@@ -20,7 +20,7 @@ use ag_grammar::limits::MOST_TOKEN_BYTES;
 use ag_grammar::{Grammar, Item, Terminal};
 use ag_value::{Value, ValueFault, decode};
 use planchecker::Plan;
-use std::alloc::Global;
+use std::alloc::{AllocError, Global};
 use treefile::{Kind, split_body};
 
 /// Why no record was read.
@@ -84,15 +84,43 @@ fn read_beside(
     }
 }
 
-/// Takes the value of an attribute of a pass from the bytes, where an earlier pass gave it.
-#[inline(never)]
+/// Takes the value of an attribute of a pass as `take_value` does, if it is a number. Returns `None`
+/// for a value of another kind, or for bytes that are no value: the values are then as they were.
+#[inline(always)]
+fn take_number<'b>(
+    pass: u16,
+    k: u16,
+    bytes: &'b [u8],
+    values: &mut Vec<Carried>,
+) -> Result<Option<&'b [u8]>, AllocError>
+    requires { 1 ≤ k }
+    ensures taken { IfOk result (λ found. IfSome found (λ rest.
+        IsTaken (k - 1) k pass bytes.now rest.now values.old.items values.new.items)) }
+    ensures none { result ≡ Ok None → (pass < k) × (values.new.items ≡ values.old.items) }
+    ensures front { StandInFront values.old.items values.new.items }
+{
+    if pass < k {
+        let Some((number, rest)) = number_in(bytes) else {
+            return Ok(None);
+        };
+        values.push(Carried::number(number))?;
+        return Ok(Some(rest));
+    }
+    if pass == k {
+        values.push(Carried::number(0))?;
+        return Ok(Some(bytes));
+    }
+    Ok(Some(bytes))
+}
+
+/// Takes the value of an attribute of an earlier pass from the bytes.
 fn read_value<'b>(
     alloc: Global,
     pass: u16,
     k: u16,
     bytes: &'b [u8],
     values: &mut Vec<Carried>,
-    context: RowContext<'_>,
+    context: &RowContext<'_>,
 ) -> Result<&'b [u8], RecordFault>
     requires known { pass < k }
     ensures taken { IfOk result (λ rest. IsTaken (k - 1) k pass bytes.now rest.now
@@ -108,41 +136,15 @@ fn read_value<'b>(
     Ok(&bytes[length..])
 }
 
-/// The same, a number in one step.
-#[inline(always)]
-fn take_known<'b>(
-    alloc: Global,
-    pass: u16,
-    k: u16,
-    bytes: &'b [u8],
-    values: &mut Vec<Carried>,
-    context: RowContext<'_>,
-) -> Result<&'b [u8], RecordFault>
-    requires { pass < k }
-    ensures taken { IfOk result (λ rest. IsTaken (k - 1) k pass bytes.now rest.now
-        values.old.items values.new.items) }
-    ensures untaken { IsErrOf result RecordFault.Damaged → IsUntaken (k - 1) pass bytes.now }
-    ensures front { StandInFront values.old.items values.new.items }
-{
-    let Some((number, rest)) = number_in(bytes) else {
-        return read_value(alloc, pass, k, bytes, values, context);
-    };
-    let Ok(()) = values.push(Carried::number(number)) else {
-        return Err(RecordFault::NoMemory);
-    };
-    Ok(rest)
-}
-
-/// Takes the value of an attribute of a pass: from the bytes where an earlier pass gave it, and a
-/// number in its place where pass k is to give it.
-#[inline(always)]
+/// Takes the value of an attribute of a pass: from the bytes if an earlier pass computed it, and a
+/// number in its place if pass k is to compute it.
 fn take_value<'b>(
     alloc: Global,
     pass: u16,
     k: u16,
     bytes: &'b [u8],
     values: &mut Vec<Carried>,
-    context: RowContext<'_>,
+    context: &RowContext<'_>,
 ) -> Result<&'b [u8], RecordFault>
     requires { 1 ≤ k }
     ensures taken { IfOk result (λ rest. IsTaken (k - 1) k pass bytes.now rest.now
@@ -150,22 +152,42 @@ fn take_value<'b>(
     ensures untaken { IsErrOf result RecordFault.Damaged → IsUntaken (k - 1) pass bytes.now }
     ensures front { StandInFront values.old.items values.new.items }
 {
-    if pass < k {
-        return take_known(alloc, pass, k, bytes, values, context);
+    match take_number(pass, k, bytes, values) {
+        Ok(Some(rest)) => Ok(rest),
+        Ok(None) => read_value(alloc, pass, k, bytes, values, context),
+        Err(_) => Err(RecordFault::NoMemory),
     }
-    if pass == k {
-        let Ok(()) = values.push(Carried::number(0)) else {
-            return Err(RecordFault::NoMemory);
-        };
-        return Ok(bytes);
-    }
-    Ok(bytes)
 }
 
-/// Takes the values of attributes with these passes from the front of the bytes: numbers stand in the
-/// places of those that pass k is to give. The bytes behind them.
-#[inline(always)]
+/// Takes the values of attributes with these passes from the front of the bytes, and returns the bytes
+/// after them.
+#[inline(never)]
 fn take_values<'b>(
+    alloc: Global,
+    passes: &[u16],
+    k: u16,
+    bytes: &'b [u8],
+    values: &mut Vec<Carried>,
+    context: &RowContext<'_>,
+) -> Result<&'b [u8], RecordFault>
+    requires { 1 ≤ k }
+    ensures taken { IfOk result (λ rest. AreTaken (k - 1) k passes.now bytes.now rest.now
+        values.old.items values.new.items) }
+    ensures untaken { IsErrOf result RecordFault.Damaged
+        → AreUntaken (k - 1) passes.now bytes.now }
+    ensures front { StandInFront values.old.items values.new.items }
+{
+    let mut rest = bytes;
+    for pass in passes {
+        rest = take_value(alloc, *pass, k, rest, values, context)?;
+    }
+    Ok(rest)
+}
+
+/// Takes values as `take_values` does: numbers in one step each, until there is a value of another
+/// kind.
+#[inline(always)]
+fn take_numbers<'b>(
     alloc: Global,
     passes: &[u16],
     k: u16,
@@ -181,8 +203,14 @@ fn take_values<'b>(
     ensures front { StandInFront values.old.items values.new.items }
 {
     let mut rest = bytes;
-    for pass in passes {
-        rest = take_value(alloc, *pass, k, rest, values, context)?;
+    for (index, pass) in passes.iter().enumerate() {
+        match take_number(*pass, k, rest, values) {
+            Ok(Some(after)) => rest = after,
+            Ok(None) => {
+                return take_values(alloc, &passes[index..], k, rest, values, &context);
+            }
+            Err(_) => return Err(RecordFault::NoMemory),
+        }
     }
     Ok(rest)
 }
@@ -203,7 +231,7 @@ fn take_row(
     ensures none { IsErrOf result RecordFault.Damaged → IsNoRow (k - 1) passes.now bytes.now }
     ensures front { StandInFront values.old.items values.new.items }
 {
-    let rest = take_values(alloc, passes, k, bytes, values, context)?;
+    let rest = take_numbers(alloc, passes, k, bytes, values, context)?;
     if !rest.is_empty() {
         return Err(RecordFault::Damaged);
     }
