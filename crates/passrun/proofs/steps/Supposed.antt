@@ -1,13 +1,9 @@
 -- A pass that runs between two devices runs there too where less is supposed of them.
 use Rattle.std.proofs.Common.{◌≡◌, ℕ, Bool, true, List}
-use Rattle.ag_value.specs.declared.value.Value.{Value}
-use Rattle.backreader.specs.BackState.{BackState}
 use Rattle.planchecker.specs.courses.Settings.{Setting}
-use Rattle.treefile.specs.ways.Writing as writing
 use Rattle.passrun.specs.declared.passing.machine.Machine.{Machine}
 use Rattle.passrun.specs.declared.passing.open_node.OpenNode.{OpenNode}
 use Rattle.passrun.specs.passing.Running.{Runs, RunsFrom, TurnsFrom, TurnsTo}
-use Rattle.passrun.specs.Passed.{IsRunning}
 use Rattle.std.specs.Prelude.{Option}
 
 pub runs_supposed : (c : Setting) (honest honest' to_honest to_honest' : Bool) (content to : List ℕ) (meter : ℕ) (m : Machine) (next : Option OpenNode) → (honest' ≡ true → honest ≡ true) → (to_honest' ≡ true → to_honest ≡ true)

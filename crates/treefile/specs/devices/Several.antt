@@ -1,5 +1,5 @@
 -- What a call leaves of the devices that it uses together, besides their contents. All of this is this project's.
-use Rattle.std.specs.Prelude.{ℕ, ◌⊎◌, Bool, true, refl}
+use Rattle.std.specs.Prelude.{ℕ, ◌⊎◌, Bool, true}
 use Rattle.std.proofs.Common.{inl, inr, lit<, lit≤}
 use Rattle.treefile.specs.devices.Device.{HasRisen, Persists}
 

@@ -1,4 +1,4 @@
-use Rattle.std.proofs.Common.{Bool, List, ℕ, subst, sym, ◌∙◌}
+use Rattle.std.proofs.Common.{Bool, List, ℕ, subst, sym}
 use Rattle.std.proofs.lemmas.Result.{err_from_is_err_and}
 use Rattle.treefile.specs.ways.Beginning.{LeavesBeginning}
 use Rattle.passrun.specs.Upgrading.{IsBrought, IsUpgraded}

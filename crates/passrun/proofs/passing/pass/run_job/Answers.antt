@@ -1,7 +1,7 @@
 use Rattle.std.proofs.Common.{arith}
 use Rattle.passrun.specs.laid.Jobs.{setting}
 use Rattle.passrun.proofs.course.Metered.{meter_few, on_err, on_ok, on_ok_more}
-use Rattle.std.proofs.Common.{Err, Ok, inr, ◌∙◌}
+use Rattle.std.proofs.Common.{Err, Ok, inr}
 use Rattle.std.proofs.lemmas.Result.{err_from_is_err_and}
 use Rattle.treefile.proofs.ways.Beginning.{added, frames_begin}
 use Rattle.passrun.specs.declared.run_fault.RunFault.{RunFault}

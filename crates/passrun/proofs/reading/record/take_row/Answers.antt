@@ -13,10 +13,10 @@ returns-in_err-rest-clause-none c =
 
 pub returns-then-not-is_empty-clause-none : goal.returns-then-not-is_empty-clause-none
 returns-then-not-is_empty-clause-none c = λ damaged.
-    no_row_left (c.args.k - 1) c.args.k c.args.passes.now c.args.bytes.now c.in_ok-rest.rest.now c.args.values.now.items c.take_values.new.values.items c.in_ok-rest.ensures.taken
+    no_row_left (c.args.k - 1) c.args.k c.args.passes.now c.args.bytes.now c.in_ok-rest.rest.now c.args.values.now.items c.take_numbers.new.values.items c.in_ok-rest.ensures.taken
     (λ none. let z = sym c.if-not-is_empty.true ∙ c.is_empty.ensures ∙ ap (λ (n : ℕ). n == 0) none in cc)
 
 pub returns-clause-taken : goal.returns-clause-taken
 returns-clause-taken c =
     let none = eqb-true (length c.in_ok-rest.rest.now) 0 (sym c.is_empty.ensures ∙ c.if-not-is_empty.false) in
-    subst (λ (rest : List ℕ). AreTaken (c.args.k - 1) c.args.k c.args.passes.now c.args.bytes.now rest c.args.values.now.items c.take_values.new.values.items) (empty_is c.in_ok-rest.rest.now (omega arith)) c.in_ok-rest.ensures.taken
+    subst (λ (rest : List ℕ). AreTaken (c.args.k - 1) c.args.k c.args.passes.now c.args.bytes.now rest c.args.values.now.items c.take_numbers.new.values.items) (empty_is c.in_ok-rest.rest.now (omega arith)) c.in_ok-rest.ensures.taken
