@@ -22,12 +22,13 @@ MARGIN, PATCH = 12, 12
 @dataclass
 class Box:
     """What a picture shows of a node or a token, as a reader is to see it: its symbol or class, and its production or text;
-    for each attribute a colour and the cells of a row, as many in all rows. Then the number of its parent's box (None of the
-    root's) and its level, from 1."""
+    for each attribute a colour and the cells of a row, as many in all rows; and the text of its tooltip. Then the number of its
+    parent's box (None of the root's) and its level, from 1."""
 
     name: str
     says: str
     rows: list
+    tooltip: str
     is_token: bool
     parent: object
     level: int
@@ -97,15 +98,21 @@ def placed(boxes, top):
 # What is written
 
 
+def title_of(text):
+    """The title of the whole picture, or of a box. Browsers show that of a box as its tooltip."""
+    return f"<title>{html.escape(text, quote=False)}</title>"
+
+
 def text_at(x, y, text, more=""):
     """A text that begins at x, or has its middle there, in the line whose upper side is at y."""
     return f'<text x="{x}" y="{y + FOOT}"{more}>{html.escape(text, quote=False)}</text>'
 
 
 def box_lines(box, place):
-    """A box with what is in it: rounded that of a node, plain that of a token."""
+    """A box with its texts and its tooltip: rounded that of a node, plain that of a token."""
     kind = 'class="token"' if box.is_token else 'class="node" rx="8"'
     x, y = place.middle - place.width // 2, place.top
+    yield f"<g>{title_of(box.tooltip)}"
     yield f'<rect {kind} x="{x}" y="{y}" width="{place.width}" height="{place.height}" fill="#ffffff" stroke="#606060"/>'
     yield text_at(place.middle, y + PADDING, box.name, ' text-anchor="middle" font-weight="bold"')
     yield text_at(place.middle, y + PADDING + LINE, box.says, ' text-anchor="middle"')
@@ -113,6 +120,7 @@ def box_lines(box, place):
         line = y + PADDING + count * LINE
         yield f'<rect x="{x + PADDING // 2}" y="{line}" width="{place.width - PADDING}" height="{LINE}" fill="{hue}"/>'
         yield from (text_at(x + PADDING + at, line, text) for at, text in zip(place.columns, cells))
+    yield "</g>"
 
 
 def edge_line(above, below):
@@ -138,7 +146,7 @@ def drawing(boxes, legend, title):
     edges = (edge_line(places[box.parent], place) for box, place in zip(boxes, places) if box.parent is not None)
     lines = [
         f'<svg xmlns="http://www.w3.org/2000/svg" width="{width}" height="{height}" viewBox="0 0 {width} {height}">',
-        f"<title>{html.escape(title, quote=False)}</title>",
+        title_of(title),
         '<rect width="100%" height="100%" fill="#ffffff"/>',
         f'<g font-family="monospace" font-size="{LETTERS}" xml:space="preserve">',
         text_at(MARGIN, MARGIN, title, ' font-weight="bold"'),
