@@ -12,7 +12,7 @@ syntax match aggenSymbol "\%(\<\%(start\|symbol\)\_s\+\)\@<=\K\k*"
 syntax match aggenSymbol "\<\K\k*\%(\_s*=\)\@="
 syntax match aggenOperator "="
 syntax match aggenDelimiter "[;,]"
-syntax region aggenText start=+"+ skip=+\\.+ end=+"+ contains=aggenEscape,aggenWrongEscape
+syntax region aggenText start=+"+ end=+"+ contains=aggenEscape,aggenWrongEscape
 syntax match aggenEscape +\\["\\ntr]+ contained
 syntax match aggenWrongEscape +\\[^"\\ntr]+ contained
 
