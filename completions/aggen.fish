@@ -1,0 +1,64 @@
+# Completions of aggen for fish. tools/completions makes this file from the program's help.
+
+# __aggen_is_at COMMAND [NUMBER]: whether the words before the cursor have this command, and this number of its arguments
+function __aggen_is_at
+    set -l words (commandline -opc)
+    set -e words[1]
+    set -l command ''
+    set -l place 0
+    set -l is_value no
+    for word in $words
+        if test $is_value = yes
+            set is_value no
+        else if string match -q -- '-*' $word
+            if contains -- "$command$word" run--work
+                set is_value yes
+            end
+        else if test -z "$command"
+            set command $word
+        else
+            set place (math $place + 1)
+        end
+    end
+    test "$command" = "$argv[1]"
+    and begin
+        test (count $argv) -lt 2
+        or test $place = $argv[2]
+    end
+end
+
+complete -c aggen -f
+complete -c aggen -n "__aggen_is_at ''" -a run -d 'Translates a sentence by a grammar, and prints the translation with no newline added'
+complete -c aggen -n "__aggen_is_at ''" -a eval -d 'Translates the tree in a tree file that `parse` wrote, and prints the translation'
+complete -c aggen -n "__aggen_is_at ''" -a value -d 'Computes an expression, and prints its value'
+complete -c aggen -n "__aggen_is_at ''" -a check -d 'Checks a grammar, and prints the number of its symbols and of its productions'
+complete -c aggen -n "__aggen_is_at ''" -a plan -d 'Prints the passes that a grammar needs, and the attributes that each of them computes'
+complete -c aggen -n "__aggen_is_at ''" -a code -d 'Prints the instructions that each pass executes at a node of each production'
+complete -c aggen -n "__aggen_is_at ''" -a parse -d 'Parses a sentence, writes its tree to a tree file, and prints the number of nodes'
+complete -c aggen -n "__aggen_is_at ''" -a upgrade -d 'Converts a tree file of version 1 to version 2, and prints the number of nodes'
+complete -c aggen -n "__aggen_is_at ''" -a help -d 'Print this message or the help of the given subcommand(s)'
+complete -c aggen -n "__aggen_is_at ''" -s h -l help -d 'Print help'
+complete -c aggen -n "__aggen_is_at ''" -s V -l version -d 'Print version'
+complete -c aggen -n "__aggen_is_at 'run'" -l work -x -a '(__fish_complete_directories)' -d 'Writes the tree files a.agt and b.agt to the existing folder DIR, and keeps them'
+complete -c aggen -n "__aggen_is_at 'run'" -s h -l help -d 'Print help'
+complete -c aggen -n '__aggen_is_at run 0' -k -a '(__fish_complete_suffix .ag)'
+complete -c aggen -n '__aggen_is_at run 1' -F
+complete -c aggen -n "__aggen_is_at 'eval'" -s h -l help -d 'Print help'
+complete -c aggen -n '__aggen_is_at eval 0' -k -a '(__fish_complete_suffix .ag)'
+complete -c aggen -n '__aggen_is_at eval 1' -F
+complete -c aggen -n "__aggen_is_at 'value'" -s h -l help -d 'Print help'
+complete -c aggen -n "__aggen_is_at 'check'" -s h -l help -d 'Print help'
+complete -c aggen -n '__aggen_is_at check 0' -k -a '(__fish_complete_suffix .ag)'
+complete -c aggen -n "__aggen_is_at 'plan'" -s h -l help -d 'Print help'
+complete -c aggen -n '__aggen_is_at plan 0' -k -a '(__fish_complete_suffix .ag)'
+complete -c aggen -n "__aggen_is_at 'code'" -s h -l help -d 'Print help'
+complete -c aggen -n '__aggen_is_at code 0' -k -a '(__fish_complete_suffix .ag)'
+complete -c aggen -n "__aggen_is_at 'parse'" -s h -l help -d 'Print help'
+complete -c aggen -n '__aggen_is_at parse 0' -k -a '(__fish_complete_suffix .ag)'
+complete -c aggen -n '__aggen_is_at parse 1' -F
+complete -c aggen -n '__aggen_is_at parse 2' -F
+complete -c aggen -n "__aggen_is_at 'upgrade'" -s h -l help -d 'Print help'
+complete -c aggen -n '__aggen_is_at upgrade 0' -k -a '(__fish_complete_suffix .ag)'
+complete -c aggen -n '__aggen_is_at upgrade 1' -F
+complete -c aggen -n '__aggen_is_at upgrade 2' -F
+complete -c aggen -n '__aggen_is_at help 0' -a 'run eval value check plan code parse upgrade help'
