@@ -1,5 +1,5 @@
 -- From the result of a call, and what was written of it, to the answer that C gets.
-use Rattle.std.proofs.Common.{◌≡◌, inl, inr, ℕ, List, Option, Some, None, Result, Ok, Err, sym, ◌∙◌, ap, subst}
+use Rattle.std.proofs.Common.{◌≡◌, inl, inr, ℕ, List, Option, Some, None, Result, Ok, Err, sym, ◌∙◌, subst}
 use Rattle.std.specs.Prelude.{IfErr, IfOk, IsSomeAnd, MatchOption, OnErr, OnOk}
 use Rattle.ag_grammar.specs.grammars.AttributeGrammar.{Grammar}
 use Rattle.ag_fault.specs.declared.fault.Fault.{Fault}
@@ -8,8 +8,8 @@ use Rattle.ag_fault.specs.declared.build_fault.BuildFault.{BuildFault}
 use Rattle.ag_fault.specs.declared.build_fault.BuildFault.TheVariants as build
 use Rattle.aggen.specs.Building.{IsBuildFault}
 use Rattle.aggen.specs.Listing.{IsTranslatorFault}
-use Rattle.aggen_c.specs.Answers.{Answers, IsBuilt, IsTranslatorOf, IsWritten}
-use Rattle.aggen_c.specs.Refusals.{HasReason, numbers}
+use Rattle.aggen_c.specs.Answers.{Answers, IsBuilt, IsTranslatorOf, IsUnwritten, IsWritten}
+use Rattle.aggen_c.specs.Refusals.{HasReason, no_fields, numbers}
 use Rattle.aggen_c.specs.declared.refusal.RefusalFields.{RefusalFields}
 
 -- a translator of a text, whose grammar the handle has
@@ -44,23 +44,24 @@ has_reason IsTrue status was fields were same it = record { reason = it.reason; 
 module _ (V E : Type 0) (bytes_of : V → List ℕ) (status_of : E → ℕ) (fields_of : E → RefusalFields) where
   pub answered : (Is : Grammar → List ℕ → Type 0) (IsTrue : Grammar → Fault → Type 0) (value : Option Grammar) (old new : List ℕ) (count status : ℕ) (fields : RefusalFields) (r : Result V E)
       → IfOk r (λ v. IsSomeAnd value (λ g. Is g (bytes_of v)))
-      → IfErr r (λ e. MatchOption value (status_of e ≡ 1) (λ g. HasReason (IsTrue g) (status_of e) (fields_of e)))
-      → IfOk r (λ v. IsWritten (bytes_of v) old new count status)
+      → IfErr r (λ e. MatchOption value (numbers (status_of e) (fields_of e) ≡ numbers 1 no_fields) (λ g. HasReason (IsTrue g) (status_of e) (fields_of e)))
+      → IfOk r (λ v. IsWritten (bytes_of v) old new count status fields)
       → IfErr r (λ e. numbers status fields ≡ numbers (status_of e) (fields_of e))
+      → IfErr r (λ e. IsUnwritten old new count)
       → Answers Is IsTrue value old new count status fields
-  answered Is IsTrue (Some g) old new count status fields (Ok v) is refused written same = inl (record { bytes = bytes_of v; is = is; written = written })
-  answered Is IsTrue (Some g) old new count status fields (Err e) is refused written same = inr (has_reason (IsTrue g) status (status_of e) fields (fields_of e) same refused)
-  answered Is IsTrue None old new count status fields (Ok v) is refused written same = absurd is
-  answered Is IsTrue None old new count status fields (Err e) is refused written same = ap (λ (n : ℕ × ℕ × ℕ × ℕ). n.0) same ∙ refused
+  answered Is IsTrue (Some g) old new count status fields (Ok v) is refused written same kept = inl (record { bytes = bytes_of v; is = is; written = written })
+  answered Is IsTrue (Some g) old new count status fields (Err e) is refused written same kept = inr (record { reason = has_reason (IsTrue g) status (status_of e) fields (fields_of e) same refused; unwritten = kept })
+  answered Is IsTrue None old new count status fields (Ok v) is refused written same kept = absurd is
+  answered Is IsTrue None old new count status fields (Err e) is refused written same kept = (same ∙ refused, kept)
 
 module _ (E : Type 0) (status_of : E → ℕ) (fields_of : E → RefusalFields) where
   pub built : (text : List ℕ) (value : Option Grammar) (status : ℕ) (fields : RefusalFields) (r : Result (Unit {0}) E)
       → OnOk r (IsSomeAnd value (IsTranslatorOf text)) → OnErr r (value ≡ None)
       → IfErr r (λ e. HasReason (IsTranslatorFault text) (status_of e) (fields_of e))
-      → OnOk r (status ≡ 0)
+      → OnOk r ((status ≡ 0) × (fields ≡ no_fields))
       → IfErr r (λ e. numbers status fields ≡ numbers (status_of e) (fields_of e))
       → IsBuilt text value status fields
-  built text (Some g) status fields (Ok u) is emptied refused zero same = (is, zero)
+  built text (Some g) status fields (Ok u) is emptied refused zero same = (is, zero.0, zero.1)
   built text None status fields (Ok u) is emptied refused zero same = absurd is
   built text value status fields (Err e) is emptied refused zero same =
       subst (λ (x : Option Grammar). IsBuilt text x status fields) (sym emptied) (has_reason (IsTranslatorFault text) status (status_of e) fields (fields_of e) same refused)

@@ -2,8 +2,12 @@
 use Rattle.std.specs.Prelude.{ℕ, ◌≡◌}
 use Rattle.ag_fault.specs.Status.{status_of}
 use Rattle.ag_fault.specs.declared.fault.Fault.{Fault}
-use Rattle.aggen_c.specs.Numbers.{number_of, offset_of}
+use Rattle.aggen_c.specs.Numbers.{no_offset, number_of, offset_of}
 use Rattle.aggen_c.specs.declared.refusal.RefusalFields.{RefusalFields}
+
+-- the fields of a call that was not refused
+abbrev pub no_fields : RefusalFields
+no_fields = record { letter = 0; index = 0; offset = no_offset; line = 0; column = 0; message_length = 0 }
 
 -- the status of a refusal, the letter of its number, the rest of the number, and the offset
 abbrev pub numbers : (status : ℕ) → RefusalFields → ℕ × ℕ × ℕ × ℕ

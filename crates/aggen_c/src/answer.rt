@@ -1,9 +1,9 @@
 //! What a call on a handle answers.
 
 ghost use Rattle.std.specs.Prelude.{◌≡◌, IfErr, IfOk, IsSomeAnd, MatchOption};
-ghost use Rattle.aggen_c.specs.Answers.{IsWritten};
+ghost use Rattle.aggen_c.specs.Answers.{HasMessage, IsUnwritten, IsWritten};
 ghost use Rattle.aggen_c.specs.Operations.{IsRefusalOf, IsResultOf};
-ghost use Rattle.aggen_c.specs.Refusals.{HasReason, numbers};
+ghost use Rattle.aggen_c.specs.Refusals.{HasReason, no_fields, numbers};
 
 use crate::buffers::copy_prefix;
 use crate::handle::Handle;
@@ -22,7 +22,8 @@ pub fn answer_by_handle(
     ensures kept { handle.new.value ≡ handle.old.value }
     ensures bytes { IfOk result (λ bytes. IsSomeAnd handle.old.value
         (λ g. IsResultOf operation g input.now bytes.items)) }
-    ensures refused { IfErr result (λ r. MatchOption handle.old.value (r.status ≡ 1)
+    ensures refused { IfErr result (λ r. MatchOption handle.old.value
+        (numbers r.status r.fields ≡ numbers 1 no_fields)
         (λ g. HasReason (IsRefusalOf operation g input.now) r.status r.fields)) }
 {
     match handle.take(alloc) {
@@ -66,9 +67,10 @@ pub fn write_answer(
     fields: &mut RefusalFields,
 ) -> u8
     ensures ok { IfOk answer (λ bytes.
-        IsWritten bytes.items out.old out.new length.new result) }
+        IsWritten bytes.items out.old out.new length.new result fields.new) }
     ensures err { IfErr answer (λ r. numbers result fields.new ≡ numbers r.status r.fields) }
-    ensures kept { IfErr answer (λ _. (out.new ≡ out.old) × (length.new ≡ 0)) }
+    ensures kept { IfErr answer (λ _. IsUnwritten out.old out.new length.new) }
+    ensures message { HasMessage message.old message.new fields.new.message_length }
 {
     match answer {
         Ok(bytes) => {

@@ -2,8 +2,8 @@
 
 ghost use Rattle.std.specs.Prelude.{◌≡◌, IfErr, IfOk, IsSomeAnd, None, OnErr, OnOk};
 ghost use Rattle.aggen.specs.Listing.{IsTranslatorFault};
-ghost use Rattle.aggen_c.specs.Answers.{IsTranslatorOf};
-ghost use Rattle.aggen_c.specs.Refusals.{HasReason, numbers, numbers_of};
+ghost use Rattle.aggen_c.specs.Answers.{HasMessage, IsTranslatorOf};
+ghost use Rattle.aggen_c.specs.Refusals.{HasReason, no_fields, numbers, numbers_of};
 
 use crate::handle::Handle;
 use crate::refusal::{Refusal, RefusalFields};
@@ -59,8 +59,9 @@ fn refusal_of(alloc: Global, fault: Fault, grammar: &[u8]) -> Refusal
 
 /// Writes whether a translator was made to the caller's memory, and returns the status.
 pub fn write_built(built: Result<(), Refusal>, message: &mut [u8], fields: &mut RefusalFields) -> u8
-    ensures ok { OnOk built (result ≡ 0) }
+    ensures ok { OnOk built ((result ≡ 0) × (fields.new ≡ no_fields)) }
     ensures err { IfErr built (λ r. numbers result fields.new ≡ numbers r.status r.fields) }
+    ensures message { HasMessage message.old message.new fields.new.message_length }
 {
     match built {
         Ok(()) => {

@@ -2,7 +2,7 @@
 //! no two of one call overlap. C fixes their signatures.
 
 ghost use Rattle.std.specs.Prelude.{◌≡◌, None};
-ghost use Rattle.aggen_c.specs.Answers.{Answers, IsBuilt};
+ghost use Rattle.aggen_c.specs.Answers.{Answers, HasMessage, IsBuilt};
 ghost use Rattle.aggen_c.specs.Results.{IsEvaluationOf, IsEvaluationRefusal, IsNoMemory};
 ghost use Rattle.aggen_c.specs.Results.{IsPlanTextOf, IsTranslationOf, IsTranslationRefusal};
 ghost use Rattle.aggen_c.specs.Results.{IsTreeFileOf, IsTreeRefusal};
@@ -23,7 +23,8 @@ pub extern "C" fn aggen_build_unchecked(
     message: &mut [u8],
     refusal: &mut RefusalFields,
 ) -> u8
-    ensures { IsBuilt grammar.now handle.new.value result refusal.new }
+    ensures built { IsBuilt grammar.now handle.new.value result refusal.new }
+    ensures message { HasMessage message.old message.new refusal.new.message_length }
 {
     let built = build_handle(alloc, grammar, handle);
     write_built(built, message, refusal)
@@ -44,6 +45,7 @@ pub extern "C" fn aggen_translate_unchecked(
     ensures answer { Answers (λ g. IsTranslationOf g sentence.now)
         (λ g. IsTranslationRefusal g sentence.now)
         handle.old.value out.old out.new length.new result refusal.new }
+    ensures message { HasMessage message.old message.new refusal.new.message_length }
 {
     let answer = answer_by_handle(alloc, handle, Operation::Translate, sentence);
     write_answer(answer, out, length, message, refusal)
@@ -64,6 +66,7 @@ pub extern "C" fn aggen_evaluate_unchecked(
     ensures answer { Answers (λ g. IsEvaluationOf g file.now)
         (λ g. IsEvaluationRefusal g file.now)
         handle.old.value out.old out.new length.new result refusal.new }
+    ensures message { HasMessage message.old message.new refusal.new.message_length }
 {
     let answer = answer_by_handle(alloc, handle, Operation::Evaluate, file);
     write_answer(answer, out, length, message, refusal)
@@ -84,6 +87,7 @@ pub extern "C" fn aggen_parse_unchecked(
     ensures answer { Answers (λ g. IsTreeFileOf g sentence.now)
         (λ g. IsTreeRefusal g sentence.now)
         handle.old.value out.old out.new length.new result refusal.new }
+    ensures message { HasMessage message.old message.new refusal.new.message_length }
 {
     let answer = answer_by_handle(alloc, handle, Operation::Parse, sentence);
     write_answer(answer, out, length, message, refusal)
@@ -102,6 +106,7 @@ pub extern "C" fn aggen_plan_unchecked(
     ensures kept { handle.new.value ≡ handle.old.value }
     ensures answer { Answers IsPlanTextOf (λ _. IsNoMemory)
         handle.old.value out.old out.new length.new result refusal.new }
+    ensures message { HasMessage message.old message.new refusal.new.message_length }
 {
     let answer = answer_by_handle(alloc, handle, Operation::Plan, &[]);
     write_answer(answer, out, length, message, refusal)

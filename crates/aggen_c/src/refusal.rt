@@ -1,7 +1,8 @@
 //! Refusals of calls, as C gets them.
 
 ghost use Rattle.std.specs.Prelude.{◌≡◌};
-ghost use Rattle.aggen_c.specs.Refusals.{numbers, numbers_of};
+ghost use Rattle.aggen_c.specs.Answers.{HasMessage};
+ghost use Rattle.aggen_c.specs.Refusals.{no_fields, numbers, numbers_of};
 
 use crate::buffers::copy_prefix;
 use crate::number::{NO_OFFSET, number_of, offset_of};
@@ -33,7 +34,9 @@ pub struct RefusalFields {
 
 impl RefusalFields {
     /// Returns the fields of a call that was not refused.
-    pub fn none() -> RefusalFields {
+    pub fn none() -> RefusalFields
+        ensures { result ≡ no_fields }
+    {
         RefusalFields {
             letter: 0,
             index: 0,
@@ -57,7 +60,7 @@ pub struct Refusal {
 impl Refusal {
     /// Returns the refusal by a handle that has no translator.
     pub fn without_translator() -> Refusal
-        ensures { result.status ≡ 1 }
+        ensures { numbers result.status result.fields ≡ numbers 1 no_fields }
     {
         Refusal {
             status: NO_TRANSLATOR,
@@ -102,7 +105,7 @@ impl Refusal {
             offset: self.fields.offset,
             line,
             column,
-            message_length: message_length(&message),
+            message_length: 0,
         };
         Refusal {
             status: self.status,
@@ -113,20 +116,28 @@ impl Refusal {
 
     /// Writes the message and the fields to the caller's memory, and returns the status.
     pub fn write(self, message: &mut [u8], fields: &mut RefusalFields) -> u8
-        ensures { numbers result fields.new ≡ numbers self.status self.fields }
+        ensures numbers { numbers result fields.new ≡ numbers self.status self.fields }
+        ensures message { HasMessage message.old message.new fields.new.message_length }
     {
-        if let Some(text) = &self.message {
-            copy_prefix(text.as_str().as_bytes(), message);
-        }
-        *fields = self.fields;
+        let length = copy_message(&self.message, message);
+        *fields = RefusalFields {
+            letter: self.fields.letter,
+            index: self.fields.index,
+            offset: self.fields.offset,
+            line: self.fields.line,
+            column: self.fields.column,
+            message_length: length,
+        };
         self.status
     }
 }
 
-/// Returns the number of bytes of a message.
-fn message_length(message: &Option<String>) -> usize {
+/// Copies as many of the first bytes of a message as a buffer has room for. Returns the number of all bytes.
+fn copy_message(message: &Option<String>, buffer: &mut [u8]) -> usize
+    ensures { HasMessage buffer.old buffer.new result }
+{
     match message {
-        Some(text) => text.len(),
-        None => 0,
+        Some(text) => copy_prefix(text.as_str().as_bytes(), buffer),
+        None => copy_prefix(&[], buffer),
     }
 }
