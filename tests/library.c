@@ -325,6 +325,10 @@ static void misuse(struct bytes grammar, struct bytes sentence) {
         REQUIRE(f(&handle, s, n, out, 64, NULL, message, 64, &refusal) == AGGEN_MISUSE);
         REQUIRE(f(&handle, s, n, out, 64, &needed, NULL, 1, &refusal) == AGGEN_MISUSE);
         REQUIRE(f(&handle, s, n, out, 64, &needed, message, SIZE_MAX, &refusal) == AGGEN_MISUSE);
+        /* ranges above all others: one that is too long, and one that ends after the last address */
+        char *high = (char *)(UINTPTR_MAX / 4), *last = (char *)(UINTPTR_MAX - 10);
+        REQUIRE(f(&handle, s, n, high, most, &needed, message, 64, &refusal) == AGGEN_MISUSE);
+        REQUIRE(f(&handle, s, n, last, 64, &needed, message, 64, &refusal) == AGGEN_MISUSE);
         /* overlapping arguments */
         REQUIRE(i == 3 || f(&handle, out, 1, out, 64, &needed, message, 64, &refusal) == AGGEN_MISUSE);
         REQUIRE(i == 3 || f(&handle, out + 63, 1, out, 64, &needed, message, 64, &refusal) == AGGEN_MISUSE);
