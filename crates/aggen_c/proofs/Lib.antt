@@ -1,0 +1,3 @@
+pub mod Answered
+pub mod Results
+pub mod Values

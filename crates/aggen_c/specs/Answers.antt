@@ -1,0 +1,60 @@
+-- What the calls of C answer. This project's.
+use Rattle.std.specs.Prelude.{ℕ, ◌≡◌, ◌⊎◌, List, ◌++◌, Option, Some, None, length, take, drop, min}
+use Rattle.ag_grammar.specs.grammars.AttributeGrammar.{Grammar}
+use Rattle.llparse.specs.Ahead.{HasNoConflict}
+use Rattle.passassign.specs.Least.{IsAlternating}
+use Rattle.aggen.specs.Checking.{IsGrammarOf}
+use Rattle.aggen.specs.Listing.{IsTranslatorFault}
+use Rattle.ag_fault.specs.declared.fault.Fault.{Fault}
+use Rattle.aggen_c.specs.Refusals.{HasReason, no_fields, numbers}
+use Rattle.aggen_c.specs.declared.refusal.RefusalFields.{RefusalFields}
+
+-- a buffer begins with as many of the first bytes as it has room for, and the rest of it is as before
+abbrev pub IsCopied : (bytes old new : List ℕ) → Type 0
+IsCopied bytes old new = new ≡ take (min (length bytes) (length old)) bytes ++ drop (min (length bytes) (length old)) old
+
+-- The buffer of a message has a message of this length, or as many of its first bytes as there is room for. The length of none is 0.
+pub record HasMessage (old new : List ℕ) (count : ℕ) : Type 0 where
+  pub message : List ℕ
+  pub copied : IsCopied message old new
+  pub counted : count ≡ length message
+
+-- Bytes were copied to a buffer, with status 0, and the count is that of all of them.
+pub record IsWritten (bytes old new : List ℕ) (count status : ℕ) (fields : RefusalFields) : Type 0 where
+  pub copied : IsCopied bytes old new
+  pub counted : count ≡ length bytes
+  pub zero : status ≡ 0
+  pub none : fields ≡ no_fields
+
+-- a buffer is as before, and the count is 0
+abbrev pub IsUnwritten : (old new : List ℕ) → (count : ℕ) → Type 0
+IsUnwritten old new count = (new ≡ old) × (count ≡ 0)
+
+-- The result of a call was copied to a buffer.
+pub record IsAnswered (Is : List ℕ → Type 0) (old new : List ℕ) (count status : ℕ) (fields : RefusalFields) : Type 0 where
+  pub bytes : List ℕ
+  pub is : Is bytes
+  pub written : IsWritten bytes old new count status fields
+
+-- A call was refused for a true reason, and its buffer is as before.
+pub record IsRefused (IsTrue : Fault → Type 0) (old new : List ℕ) (count status : ℕ) (fields : RefusalFields) : Type 0 where
+  pub reason : HasReason IsTrue status fields
+  pub unwritten : IsUnwritten old new count
+
+-- What a call on a handle answers by the grammar of its translator: a result with status 0, or a refusal with a true reason. The
+-- status is 1 if the handle has no translator.
+abbrev pub Answers : (Is : Grammar → List ℕ → Type 0) → (IsTrue : Grammar → Fault → Type 0) → Option Grammar → (old new : List ℕ) → (count status : ℕ) → RefusalFields → Type 0
+Answers Is IsTrue (Some g) old new count status fields = IsAnswered (Is g) old new count status fields ⊎ IsRefused (IsTrue g) old new count status fields
+Answers Is IsTrue None old new count status fields = (numbers status fields ≡ numbers 1 no_fields) × IsUnwritten old new count
+
+-- The grammar is that of a text, it has no conflict, and an assignment of passes to its attributes is legal.
+pub record IsTranslatorOf (text : List ℕ) (g : Grammar) : Type 0 where
+  pub is : IsGrammarOf text g
+  pub free : HasNoConflict g
+  pub alternating : IsAlternating g
+
+-- The text of a grammar was read: the handle has its translator, and the status is 0; or the handle has none, and the refusal has a
+-- true reason.
+abbrev pub IsBuilt : (text : List ℕ) → Option Grammar → (status : ℕ) → RefusalFields → Type 0
+IsBuilt text (Some g) status fields = IsTranslatorOf text g × (status ≡ 0) × (fields ≡ no_fields)
+IsBuilt text None status fields = HasReason (IsTranslatorFault text) status fields

@@ -1,0 +1,17 @@
+-- What a handle owns: a translator on the heap, and the right to free its memory; or nothing, if it is null. This project's.
+use Rattle.std.specs.Prelude.{Option, Some, None}
+use Rattle.std.specs.Coded.{Coded, coded_option}
+use base.Fml.{Fml, feq}
+use denote.RawPtr.{Ptr, null_ptr}
+use Rattle.std.specs.declared.alloc.Global.{Global}
+use Rattle.std.specs.contracts.impls.GlobalAllocator.TheImpl.{ghosts}
+use Rattle.std.specs.Box.Ownership.{box_owns}
+use Rattle.ag_grammar.specs.grammars.AttributeGrammar.{Grammar}
+use Rattle.aggen.specs.contracts.translator.Translator as translator
+
+abbrev pub holds : Global → Ptr → Option Grammar → Fml
+holds alloc at (Some g) = box_owns (ghosts.dealloc_token alloc) translator.the_row at g
+holds alloc at None = feq Ptr at null_ptr
+
+abbrev pub grammar_code : Coded (Option Grammar)
+grammar_code = coded_option translator.the_row.coded

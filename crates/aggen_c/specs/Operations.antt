@@ -1,0 +1,20 @@
+-- The operations of a translator: what each returns of an input, and why it fails. This project's.
+use Rattle.std.specs.Prelude.{ℕ, List}
+use Rattle.ag_grammar.specs.grammars.AttributeGrammar.{Grammar}
+use Rattle.ag_fault.specs.declared.fault.Fault.{Fault}
+use Rattle.aggen_c.specs.Results.{IsEvaluationOf, IsEvaluationRefusal, IsNoMemory, IsPlanTextOf, IsTranslationOf, IsTranslationRefusal}
+use Rattle.aggen_c.specs.Results.{IsTreeFileOf, IsTreeRefusal}
+use Rattle.aggen_c.specs.declared.operation.Operation.{Operation}
+use Rattle.aggen_c.specs.declared.operation.Operation.TheVariants as operation
+
+abbrev pub IsResultOf : Operation → Grammar → (input bytes : List ℕ) → Type 0
+IsResultOf operation.Translate g input = IsTranslationOf g input
+IsResultOf operation.Evaluate g input = IsEvaluationOf g input
+IsResultOf operation.Parse g input = IsTreeFileOf g input
+IsResultOf operation.Plan g input = IsPlanTextOf g
+
+abbrev pub IsRefusalOf : Operation → Grammar → (input : List ℕ) → Fault → Type 0
+IsRefusalOf operation.Translate g input = IsTranslationRefusal g input
+IsRefusalOf operation.Evaluate g input = IsEvaluationRefusal g input
+IsRefusalOf operation.Parse g input = IsTreeRefusal g input
+IsRefusalOf operation.Plan g input = IsNoMemory

@@ -1,0 +1,78 @@
+-- What the calls on a translator return, in the words of the translation theorem, and why they fail. All of this is this project's.
+use Rattle.std.specs.Prelude.{ℕ, ◌≡◌, List}
+use Rattle.ag_value.specs.declared.value.Value.{Text}
+use Rattle.ag_grammar.specs.grammars.AttributeGrammar.{Grammar}
+use Rattle.ag_grammar.specs.grammars.Passes.{Passes}
+use Rattle.ag_grammar.specs.grammars.Running.{IsTheSolution}
+use Rattle.ag_grammar.specs.grammars.Solution.{IsTranslation, Valuation}
+use Rattle.ag_grammar.specs.grammars.Tree.{Tree}
+use Rattle.agoutput.specs.Listings.{IsPlanListing}
+use Rattle.passcode.specs.Rows.{Lists}
+use Rattle.treefile.specs.records.FirstFile.{IsFirstFile}
+use Rattle.treefile.specs.records.TreeFile.{version_two}
+use Rattle.aggen.specs.Building.{IsLeastPlan}
+use Rattle.aggen.specs.Evaluating.{IsFileFault}
+use Rattle.aggen.specs.Sentences.{IsParseFaultOf, IsScanFaultOf, IsTreeOfSentence}
+use Rattle.aggen.specs.Translating.{ArePassesOf}
+use Rattle.aggen.specs.Translation.{HasNoText, IsOneTree, IsTreeInFile}
+use Rattle.ag_fault.specs.declared.fault.Fault.{Fault}
+use Rattle.ag_fault.specs.declared.fault.Fault.TheVariants as fault
+
+-- Of the trees of a kind there is exactly one, and it is within the limits. The values meet every equation of the grammar at every
+-- node of it, no other values do, and the text is the value of the root's `out`.
+pub record HasTranslation (IsTree : Tree → Type 0) (g : Grammar) (text : List ℕ) : Type 0 where
+  pub tree : Tree
+  pub one : IsOneTree IsTree tree
+  pub assignment : Passes
+  pub passes : ℕ
+  pub plan : ArePassesOf g assignment passes
+  pub values : Valuation
+  pub solution : IsTheSolution g assignment tree values
+  pub root : IsTranslation g values (Text text)
+
+-- the text is the translation of a sentence
+abbrev pub IsTranslationOf : Grammar → (sentence text : List ℕ) → Type 0
+IsTranslationOf g sentence = HasTranslation (IsTreeOfSentence g sentence) g
+
+-- it is the translation of the tree in a tree file of pass 0
+abbrev pub IsEvaluationOf : Grammar → (file text : List ℕ) → Type 0
+IsEvaluationOf g file = HasTranslation (IsTreeInFile g file) g
+
+-- The sentence has exactly one tree, it is within the limits, and the file is the tree file of pass 0 of this tree.
+pub record IsTreeFileOf (g : Grammar) (sentence file : List ℕ) : Type 0 where
+  pub tree : Tree
+  pub one : IsOneTree (IsTreeOfSentence g sentence) tree
+  pub is : IsFirstFile version_two g tree file
+
+-- The text is the listing of the grammar's least plan.
+pub record IsPlanTextOf (g : Grammar) (text : List ℕ) : Type 0 where
+  pub rows : List (List ℕ)
+  pub code : Lists
+  pub least : IsLeastPlan g rows code
+  pub listing : IsPlanListing g rows text
+
+-- Why a sentence has no translation: S, P and O1 are true of it. Want of memory says nothing, and no other fault comes.
+abbrev pub IsTranslationRefusal : Grammar → (sentence : List ℕ) → Fault → Type 0
+IsTranslationRefusal g sentence (fault.Scan f) = IsScanFaultOf g sentence f
+IsTranslationRefusal g sentence (fault.Parse f) = IsParseFaultOf g sentence f
+IsTranslationRefusal g sentence (fault.NoText x) = HasNoText (IsTreeOfSentence g sentence) g x
+IsTranslationRefusal g sentence fault.NoMemory = Unit {0}
+IsTranslationRefusal g sentence _ = ⊥
+
+-- Why the tree in a file has none: R1, P2, P3 and O1 are true of the file.
+abbrev pub IsEvaluationRefusal : Grammar → (file : List ℕ) → Fault → Type 0
+IsEvaluationRefusal g file (fault.Run f) = IsFileFault g file f
+IsEvaluationRefusal g file (fault.NoText x) = HasNoText (IsTreeInFile g file) g x
+IsEvaluationRefusal g file fault.NoMemory = Unit {0}
+IsEvaluationRefusal g file _ = ⊥
+
+-- Why a sentence has no tree file: S and P are true of it.
+abbrev pub IsTreeRefusal : Grammar → (sentence : List ℕ) → Fault → Type 0
+IsTreeRefusal g sentence (fault.Scan f) = IsScanFaultOf g sentence f
+IsTreeRefusal g sentence (fault.Parse f) = IsParseFaultOf g sentence f
+IsTreeRefusal g sentence fault.NoMemory = Unit {0}
+IsTreeRefusal g sentence _ = ⊥
+
+-- want of memory
+abbrev pub IsNoMemory : Fault → Type 0
+IsNoMemory e = e ≡ fault.NoMemory

@@ -1,0 +1,19 @@
+//! The calls of the C library: a handle owns the translator of a grammar's text, and each call on it
+//! fills a buffer of the caller: the translation of a sentence or of a tree file, the tree file of a
+//! sentence, or the listing of the passes.
+//!
+//! The exports of `exports` take for granted that no pointer is null and that no two of them overlap.
+//! C code calls the functions of `include/aggen.h`, which `bindings/c/aggen.c` defines: they check the
+//! pointers, and then call these.
+#![tactic(auto)]
+
+mod answer;
+mod buffers;
+mod building;
+mod exports;
+mod handle;
+mod memory;
+mod number;
+mod operation;
+mod raw_box;
+mod refusal;
