@@ -10,7 +10,7 @@ ghost use Rattle.ag_value.specs.declared.value.Value.{Num};
 use crate::laid::laying::RuleSlots;
 use crate::passing::copying::{behind, put_scalar, put_value};
 use ag_carried::Carried;
-use ag_eval::{CarriedEnvironment, Meter, Scalar, eval_carried, eval_scalar};
+use ag_eval::{CarriedEnvironment, Meter, Scalar, eval_carried, eval_number, eval_scalar};
 use ag_grammar::{Expr, Rule};
 use ag_value::NoMemory;
 use std::alloc::Global;
@@ -61,6 +61,10 @@ pub(crate) fn put_rule_value(
     ensures counted { meter.new ≡ meter.old + 1 }
 {
     let target = base + slots.target as usize;
+    if let Some(number) = eval_number(&rule.expr, meter) {
+        put_scalar(values, target, Scalar::Number(number));
+        return Ok(());
+    }
     let row = behind(values.as_slice(), base);
     if let Some(scalar) = evaluate_scalar(alloc, &rule.expr, slots.args.as_slice(), row, meter) {
         put_scalar(values, target, scalar);

@@ -1,7 +1,7 @@
 //! Reading the body of a record: the values of a node, or the text of a token.
 
-ghost use Rattle.std.specs.Prelude.{◌≡◌, ◌<◌, ◌≤◌, ◌-◌, ◌++◌, [], IfOk, IfSome, IsErrOf, None, Ok, OnOk, length};
-ghost use Rattle.std.specs.Prelude.{List, MatchResult, take, ℕ};
+ghost use Rattle.std.specs.Prelude.{◌≡◌, ◌<◌, ◌≤◌, ◌-◌, ◌++◌, [], IfOk, IfSome, IsErrOf, None, OnOk, length};
+ghost use Rattle.std.specs.Prelude.{List, MatchResult, ◌+◌, take, vec_capacity, vec_len, ℕ};
 ghost use Rattle.ag_value.specs.Spelling.{spelling_of};
 ghost use Rattle.ag_value.specs.Well.{IsWell};
 ghost use Rattle.ag_value.specs.declared.value.Value.{Value as AttributeValue, Num};
@@ -20,7 +20,7 @@ use ag_grammar::limits::MOST_TOKEN_BYTES;
 use ag_grammar::{Grammar, Item, Terminal};
 use ag_value::{Value, ValueFault, decode};
 use planchecker::Plan;
-use std::alloc::{AllocError, Global};
+use std::alloc::Global;
 use treefile::{Kind, split_body};
 
 /// Why no record was read.
@@ -92,25 +92,28 @@ fn take_number<'b>(
     k: u16,
     bytes: &'b [u8],
     values: &mut Vec<Carried>,
-) -> Result<Option<&'b [u8]>, AllocError>
-    requires { 1 ≤ k }
-    ensures taken { IfOk result (λ found. IfSome found (λ rest.
-        IsTaken (k - 1) k pass bytes.now rest.now values.old.items values.new.items)) }
-    ensures none { result ≡ Ok None → (pass < k) × (values.new.items ≡ values.old.items) }
+) -> Option<&'b [u8]>
+    requires writes { 1 ≤ k }
+    requires room { vec_len values.old < vec_capacity values.old }
+    ensures taken { IfSome result (λ rest. IsTaken (k - 1) k pass bytes.now rest.now
+        values.old.items values.new.items) }
+    ensures none { result ≡ None → (pass < k) × (values.new.items ≡ values.old.items) }
     ensures front { StandInFront values.old.items values.new.items }
+    ensures len { vec_len values.new ≤ vec_len values.old + 1 }
+    ensures capacity { vec_capacity values.new ≡ vec_capacity values.old }
 {
     if pass < k {
         let Some((number, rest)) = number_in(bytes) else {
-            return Ok(None);
+            return None;
         };
-        values.push(Carried::number(number))?;
-        return Ok(Some(rest));
+        values.push_reserved(Carried::number(number));
+        return Some(rest);
     }
     if pass == k {
-        values.push(Carried::number(0))?;
-        return Ok(Some(bytes));
+        values.push_reserved(Carried::number(0));
+        return Some(bytes);
     }
-    Ok(Some(bytes))
+    Some(bytes)
 }
 
 /// Takes the value of an attribute of an earlier pass from the bytes.
@@ -152,10 +155,12 @@ fn take_value<'b>(
     ensures untaken { IsErrOf result RecordFault.Damaged → IsUntaken (k - 1) pass bytes.now }
     ensures front { StandInFront values.old.items values.new.items }
 {
+    let Ok(()) = values.reserve(1) else {
+        return Err(RecordFault::NoMemory);
+    };
     match take_number(pass, k, bytes, values) {
-        Ok(Some(rest)) => Ok(rest),
-        Ok(None) => read_value(alloc, pass, k, bytes, values, context),
-        Err(_) => Err(RecordFault::NoMemory),
+        Some(rest) => Ok(rest),
+        None => read_value(alloc, pass, k, bytes, values, context),
     }
 }
 
@@ -202,15 +207,17 @@ fn take_numbers<'b>(
         → AreUntaken (k - 1) passes.now bytes.now }
     ensures front { StandInFront values.old.items values.new.items }
 {
+    let Ok(()) = values.reserve(passes.len()) else {
+        return Err(RecordFault::NoMemory);
+    };
     let mut rest = bytes;
     for (index, pass) in passes.iter().enumerate() {
-        match take_number(*pass, k, rest, values) {
-            Ok(Some(after)) => rest = after,
-            Ok(None) => {
-                return take_values(alloc, &passes[index..], k, rest, values, &context);
-            }
-            Err(_) => return Err(RecordFault::NoMemory),
-        }
+        let Some(after) = take_number(*pass, k, rest, values) else {
+            // a copy, so that a row of numbers needs no context in memory
+            let context = context;
+            return take_values(alloc, &passes[index..], k, rest, values, &context);
+        };
+        rest = after;
     }
     Ok(rest)
 }
