@@ -8,5 +8,6 @@ pub mod Jobs
 pub mod Joined
 pub mod Left
 pub mod Old
+pub mod OneLeast
 pub mod Reading
 pub mod Sentences

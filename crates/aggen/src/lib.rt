@@ -3,6 +3,7 @@
 //! sentence in one text. Beside it the value of an expression, by way of a tree file.
 #![tactic(auto)]
 
+mod certified;
 mod checking;
 pub mod laws;
 mod listing;
@@ -12,6 +13,7 @@ mod translator;
 mod values;
 
 pub use ag_fault::{BuildFault, Fault, StuckGrammar, status};
+pub use certified::{CertifiedPlan, certify_plan};
 pub use checking::{grammar_of, print_counts};
 pub use listing::{print_code, print_plan};
 pub use source::{bytes_of, source_of};

@@ -3,9 +3,10 @@
 //! `run G S` translates the sentence in a file by the grammar in a file, and prints the translation;
 //! `eval G TREE` does that with the tree in a tree file. With no word the program translates the job
 //! on standard input. `check G` reads and checks a grammar; `plan G` and `code G` print its passes
-//! and what they do; `parse G S TREE` parses a sentence, and writes its tree's file; `upgrade G OLD
-//! TREE` converts a tree file of version 1 to version 2; `value EXPR` evaluates an expression, takes
-//! its value through a tree file in memory, and prints what it reads back.
+//! and what they do, and `why G` or `why G SYMBOL.attribute` why they are needed; `parse G S TREE`
+//! parses a sentence, and writes its tree's file; `upgrade G OLD TREE` converts a tree file of
+//! version 1 to version 2; `value EXPR` evaluates an expression, takes its value through a tree file
+//! in memory, and prints what it reads back.
 #![tactic(auto)]
 
 ghost use Rattle.aggen.specs.Status.{IsCommandFault};
@@ -14,6 +15,7 @@ mod files;
 mod listings;
 mod translations;
 mod trees;
+mod why;
 
 use aggen::{Fault, status};
 use command_line::{CommandLineFault, Request};
@@ -25,6 +27,7 @@ use std::rt::{Env, Files};
 use std::{fs, io};
 use translations::{evaluate_file, run_files, run_input};
 use trees::{convert_file, parse_file};
+use why::explain_plan;
 
 /// A file that can be opened, and neither read nor written.
 const FOLDER: &str = "/";
@@ -105,6 +108,7 @@ fn perform<R: Files + Input + Print>(
         Request::Value(text) => print_value(rt, alloc, text),
         Request::Check(path) => print_part(rt, alloc, path, Part::Counts),
         Request::Plan(path) => print_part(rt, alloc, path, Part::Plan),
+        Request::Why(words) => explain_plan(rt, alloc, words),
         Request::Code(path) => print_part(rt, alloc, path, Part::Code),
         Request::Parse(paths) => parse_file(rt, alloc, &paths),
         Request::Upgrade(paths) => convert_file(rt, alloc, &paths),

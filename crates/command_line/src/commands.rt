@@ -18,6 +18,9 @@ pub const OLD: &str = "OLD";
 /// The argument that is an expression.
 pub const EXPRESSION: &str = "EXPR";
 
+/// The argument that names an attribute.
+pub const ATTRIBUTE: &str = "SYMBOL.attribute";
+
 /// The option that names the folder for the tree files.
 pub const WORK: &str = "work";
 
@@ -52,6 +55,12 @@ const COMMANDS: &[Entry] = &[
         about: "Prints the passes that a grammar needs, and the attributes that each of them computes",
         arguments: &[Argument::Grammar],
         example: "Example:\n  $ aggen plan examples/percentages.ag\n  pass 1 right-to-left: L.sum\n  pass 2 left-to-right: S.out L.out L.total",
+    },
+    Entry {
+        name: "why",
+        about: "Prints why a grammar needs each of its passes, rule by rule",
+        arguments: &[Argument::Grammar, Argument::Attribute],
+        example: "Example:\n  $ aggen why examples/percentages.ag L.total\n  pass 2 computes L.total\n\n  pass 1 (right-to-left) can't compute L.total:\n    L.total: `$1.total` (examples/percentages.ag:4:26) uses `$1.sum` (L.sum), which pass 1 computes only during its visit of $1",
     },
     Entry {
         name: "code",
@@ -110,6 +119,8 @@ enum Argument {
     NewTree,
     /// The text of an expression.
     Expression,
+    /// The name of an attribute, which may be left out.
+    Attribute,
     /// The option that names the folder for the tree files.
     WorkFolder,
 }
@@ -132,6 +143,7 @@ impl Argument {
                 "The tree file to write; if it exists, its content is replaced",
             ),
             Argument::Expression => expression(alloc),
+            Argument::Attribute => attribute(alloc),
             Argument::WorkFolder => work_folder(alloc),
         }
     }
@@ -148,6 +160,11 @@ fn expression<'a>(alloc: Global) -> Arg<'a> {
         .required(true)
         .allow_hyphen_values(true)
         .help("The expression, as one argument; attributes such as $1.s have no value here")
+}
+
+/// Returns the argument that names an attribute.
+fn attribute<'a>(alloc: Global) -> Arg<'a> {
+    Arg::new(alloc, ATTRIBUTE).help("Explains the pass of this attribute alone, such as L.total")
 }
 
 /// Returns the option that names the folder for the tree files.

@@ -9,4 +9,4 @@ mod fault;
 mod request;
 
 pub use fault::CommandLineFault;
-pub use request::{EvalPaths, ParsePaths, Request, RunPaths, UpgradePaths};
+pub use request::{EvalPaths, ParsePaths, Request, RunPaths, UpgradePaths, WhyWords};

@@ -3,7 +3,7 @@
 ghost use Rattle.std.specs.Prelude.{◌≡◌, ◌≢◌, ◌⊎◌, IfErr, IsErrOf};
 ghost use Rattle.clap.specs.Values.{kind_of};
 
-use crate::commands::{EXPRESSION, GRAMMAR, OLD, SENTENCE, TREE, WORK, program};
+use crate::commands::{ATTRIBUTE, EXPRESSION, GRAMMAR, OLD, SENTENCE, TREE, WORK, program};
 use crate::fault::CommandLineFault;
 use clap::error::ErrorKind;
 use clap::{ArgMatches, Error};
@@ -25,6 +25,8 @@ pub enum Request<'a> {
     Check(&'a str),
     /// The passes of the grammar in the file at this path.
     Plan(&'a str),
+    /// Why the passes of a grammar, or of one of its attributes, are needed.
+    Why(WhyWords<'a>),
     /// The code of the passes of the grammar in the file at this path.
     Code(&'a str),
     /// The tree file of a sentence.
@@ -51,6 +53,15 @@ pub struct EvalPaths<'a> {
     pub grammar: &'a str,
     /// The tree file.
     pub tree: &'a str,
+}
+
+/// The words that `why` takes.
+#[derive(Clone, Copy)]
+pub struct WhyWords<'a> {
+    /// The grammar's file.
+    pub grammar: &'a str,
+    /// The name of an attribute. If there is none, the whole grammar is explained.
+    pub attribute: Option<&'a str>,
 }
 
 /// The paths that `parse` takes.
@@ -121,6 +132,10 @@ fn request_of<'a>(name: &str, matches: &ArgMatches<'a>) -> Request<'a> {
         "value" => Request::Value(value_of(matches, EXPRESSION)),
         "check" => Request::Check(grammar),
         "plan" => Request::Plan(grammar),
+        "why" => Request::Why(WhyWords {
+            grammar,
+            attribute: matches.get_str(ATTRIBUTE),
+        }),
         "code" => Request::Code(grammar),
         "parse" => Request::Parse(ParsePaths {
             grammar,

@@ -1,0 +1,130 @@
+//! The command that explains why a grammar needs its passes: `why`.
+
+ghost use Rattle.std.specs.Prelude.{◌≡◌, ◌≢◌, IfErr, IfOk, IsErr, IsErrOf, OnOk, string_bytes};
+ghost use Rattle.std.specs.Io.KnownBytes.{Appends};
+
+use crate::files::read_file;
+use ag_grammar::Grammar;
+use ag_value::NoMemory;
+use aggen::{BuildFault, CertifiedPlan, Fault, StuckGrammar, certify_plan};
+use agoutput::write_text;
+use command_line::WhyWords;
+use messages::{Report, Source};
+use plan_reasons::{Attribute, Explanation, LeastPlan, NameFault, attribute_named};
+use std::alloc::Global;
+use std::io::{self, Write};
+use std::rt::Files;
+
+/// Prints why the grammar in a file needs its passes, or why no pass before its own can compute an
+/// attribute. If no order of passes evaluates the grammar, prints why, and fails with A1.
+pub fn explain_plan<R: Files + Print>(
+    rt: &R,
+    alloc: Global,
+    words: WhyWords<'_>,
+) -> Result<(), Report> {
+    let bytes = read_file(rt, alloc, words.grammar)?;
+    let source = Source::new(words.grammar, bytes.as_slice());
+    match certify_plan(alloc, source.bytes) {
+        Ok(plan) => {
+            let attribute = find_attribute(alloc, &plan.grammar, words.attribute)?;
+            let text = text_of_plan(alloc, source, &plan, attribute);
+            print_text(rt, alloc, text)
+        }
+        Err(BuildFault::Assign(stuck)) => {
+            let attribute = find_attribute(alloc, &stuck.grammar, words.attribute)?;
+            let text = text_of_stuck(alloc, source, &stuck, attribute);
+            print_text(rt, alloc, text)?;
+            Err(Report::of_grammar(alloc, Fault::Assign(stuck), source))
+        }
+        Err(fault) => Err(Report::of_grammar(alloc, Fault::from(fault), source)),
+    }
+}
+
+/// Returns the attribute of a name, if there is a name. Fails if no attribute has it.
+fn find_attribute(
+    alloc: Global,
+    grammar: &Grammar,
+    name: Option<&str>,
+) -> Result<Option<Attribute>, Report> {
+    let Some(name) = name else {
+        return Ok(None);
+    };
+    match attribute_named(grammar, name) {
+        Ok(attribute) => Ok(Some(attribute)),
+        Err(fault) => Err(report_of_name(alloc, grammar, fault, name)),
+    }
+}
+
+/// Returns the report of a text that is not the name of an attribute.
+fn report_of_name(alloc: Global, grammar: &Grammar, fault: NameFault<'_>, name: &str) -> Report {
+    let mut report = Report::new(alloc, Fault::Usage);
+    let written = fault.describe(&mut report.parts, grammar, name);
+    report.or_bare(written)
+}
+
+/// Returns the explanation of a plan, or of the pass of an attribute.
+fn text_of_plan(
+    alloc: Global,
+    source: Source<'_>,
+    plan: &CertifiedPlan,
+    attribute: Option<Attribute>,
+) -> Result<String, NoMemory> {
+    let explanation = Explanation::new(alloc, source, &plan.grammar)?;
+    let least = LeastPlan {
+        assignment: &plan.assignment,
+        strikes: &plan.strikes,
+    };
+    let mut text = String::new(alloc);
+    match attribute {
+        Some(attribute) => explanation.write_attribute(&mut text, &least, attribute)?,
+        None => explanation.write_plan(&mut text, &least)?,
+    }
+    Ok(text)
+}
+
+/// Returns why no pass computes some attributes of a grammar, or one of them.
+fn text_of_stuck(
+    alloc: Global,
+    source: Source<'_>,
+    stuck: &StuckGrammar,
+    attribute: Option<Attribute>,
+) -> Result<String, NoMemory> {
+    let explanation = Explanation::new(alloc, source, &stuck.grammar)?;
+    let mut text = String::new(alloc);
+    match attribute {
+        Some(attribute) => explanation.write_stuck_attribute(&mut text, &stuck.stuck, attribute)?,
+        None => explanation.write_stuck(&mut text, &stuck.stuck)?,
+    }
+    Ok(text)
+}
+
+/// Prints a text. Fails if memory for it was refused, or it can't be written.
+fn print_text<R: Print>(
+    rt: &R,
+    alloc: Global,
+    text: Result<String, NoMemory>,
+) -> Result<(), Report> {
+    let mut out = io::writer(rt);
+    match write_explanation(&mut out, text) {
+        Ok(()) => Ok(()),
+        Err(fault) => Err(Report::new(alloc, fault)),
+    }
+}
+
+/// Writes a text. Fails with NoMemory, before anything is written, if memory for it was refused, and with
+/// O2 if a write fails or takes no byte.
+fn write_explanation<W: Write>(out: &mut W, text: Result<String, NoMemory>) -> Result<(), Fault>
+    ensures written { IfOk text (λ t. OnOk result
+        (Appends (W.contents out.old) (W.contents out.new) (string_bytes t))) }
+    ensures refused { IfErr result (λ e. e ≢ Fault.Write → (e ≡ Fault.NoMemory) × (out.new ≡ out.old)) }
+    ensures memory { IsErr text → IsErrOf result Fault.NoMemory }
+{
+    let written = match text {
+        Ok(text) => text,
+        Err(_) => return Err(Fault::NoMemory),
+    };
+    match write_text(out, written.as_str()) {
+        Ok(()) => Ok(()),
+        Err(_) => Err(Fault::Write),
+    }
+}

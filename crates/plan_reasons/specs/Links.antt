@@ -1,0 +1,70 @@
+-- Links of chains: a strike with the attribute that its argument is, and where a pass comes to both.
+use Rattle.std.specs.Prelude.{ℕ, ◌≡◌, List, [], ◌∷◌, ◌++◌, Option, Some, None}
+use Rattle.ag_grammar.specs.Lists.{AreRelated, Has}
+use Rattle.ag_grammar.specs.declared.direction.Direction.{Direction}
+use Rattle.ag_grammar.specs.declared.grammar.Item.TheVariants as item
+use Rattle.ag_grammar.specs.declared.grammar.Production.{Production}
+use Rattle.ag_grammar.specs.declared.grammar.Rule.{Rule}
+use Rattle.ag_grammar.specs.declared.grammar.Target.{Target}
+use Rattle.ag_grammar.specs.grammars.AttributeGrammar.{Grammar, item_at}
+use Rattle.ag_grammar.specs.grammars.Passes.{IsBefore}
+use Rattle.passassign.specs.Certificate.{Attributes, IsAhead}
+use Rattle.passassign.specs.Chains.{IsChainOf, Names}
+use Rattle.passassign.specs.declared.stuck.Strike.{Strike}
+use Rattle.plan_reasons.specs.declared.links.Geometry.{Geometry}
+use Rattle.plan_reasons.specs.declared.links.Geometry.TheVariants as geometry
+use Rattle.plan_reasons.specs.declared.links.Link.{Link}
+
+-- The link of a strike: the target of its rule, its argument, and the attribute of a symbol that the argument is.
+pub record IsLinkOf (g : Grammar) (x : Strike) (l : Link) : Type 0 where
+  pub production : Production
+  pub rule : Rule
+  pub named : Names g x production rule l.argument
+  pub strike : l.strike ≡ x
+  pub target : l.target ≡ rule.target
+  pub symbol : item_at production l.argument.place ≡ Some (item.Symbol l.used.0)
+  pub attr : l.argument.attr ≡ l.used.1
+
+-- a strike names an argument that is an attribute of a symbol
+pub record NamesAttribute (g : Grammar) (x : Strike) : Type 0 where
+  pub production : Production
+  pub rule : Rule
+  pub argument : Target
+  pub symbol : ℕ
+  pub named : Names g x production rule argument
+  pub item : item_at production argument.place ≡ Some (item.Symbol symbol)
+
+-- the link of a strike, none if it names no such argument
+abbrev pub IsLinkOrNone : Grammar → Strike → Option Link → Type 0
+IsLinkOrNone g x None = NamesAttribute g x → ⊥
+IsLinkOrNone g x (Some l) = IsLinkOf g x l
+
+-- the same of an argument of a rule that a strike names
+abbrev pub IsLinkAt : Production → Rule → Target → Strike → Option Link → Type 0
+IsLinkAt q u o x None = (s : ℕ) → item_at q o.place ≡ Some (item.Symbol s) → ⊥
+IsLinkAt q u o x (Some l) = (l.strike ≡ x) × (l.target ≡ u.target) × (l.argument ≡ o) × (item_at q o.place ≡ Some (item.Symbol l.used.0)) × (o.attr ≡ l.used.1)
+
+-- the link of a strike is appended, if the strike names such an argument
+abbrev pub AppendsLink : Grammar → Strike → (old new : List Link) → Type 0
+AppendsLink g x old new = NamesAttribute g x → (l : Link) × IsLinkOf g x l × (new ≡ old ++ l ∷ [])
+
+-- The links of a chain, in its order.
+pub record AreChainLinks (g : Grammar) (d : Direction) (candidate : Attributes) (s a : ℕ) (links : List Link) : Type 0 where
+  pub chain : List Strike
+  pub is_chain : IsChainOf g d candidate s a chain
+  pub are_links : AreRelated (IsLinkOf g) chain links
+
+-- The link of a strike that waits for no other in passes of a direction: its argument is at the target's child or at one that is
+-- visited later.
+abbrev pub IsObstacleOf : Grammar → Direction → Strike → Link → Type 0
+IsObstacleOf g d x l = IsLinkOf g x l × IsAhead d l.target.place l.argument.place
+
+-- the same of one of some strikes
+abbrev pub IsObstacle : Grammar → Direction → List Strike → Link → Type 0
+IsObstacle g d strikes l = (x : Strike) × Has strikes x × IsObstacleOf g d x l
+
+-- where the argument at place i of a rule for place j is, as a pass of a direction comes by
+abbrev pub IsGeometry : Direction → (j i : ℕ) → Geometry → Type 0
+IsGeometry d j i geometry.Within = IsAhead d j i × (i ≡ j)
+IsGeometry d j i geometry.Later = IsAhead d j i × IsBefore d j i
+IsGeometry d j i geometry.AtHand = IsAhead d j i → ⊥

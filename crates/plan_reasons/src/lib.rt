@@ -1,0 +1,25 @@
+//! Why a plan has its passes: the texts that `aggen why` prints. An attribute that pass 3 computes has a
+//! chain of rules that shows why pass 2 can't, and another for pass 1. The chains are those of the strikes
+//! of `passassign`.
+//!
+//! `links`, `chains` and `uses` find what is printed; the other modules print it. Each function that writes a
+//! text takes memory, and fails if it is refused. Characters that control a terminal are written by their
+//! numbers.
+#![tactic(auto)]
+
+mod attributes;
+mod chains;
+mod explanation;
+mod hints;
+mod lines;
+mod link_texts;
+mod links;
+mod plans;
+mod stuck;
+mod uses;
+
+pub use attributes::{Attribute, NameFault, attribute_named};
+pub use chains::{LeastPlan, stuck_links};
+pub use explanation::Explanation;
+pub use links::{Geometry, Link, links_of, obstacles_of};
+pub use uses::{is_copied, is_unused};

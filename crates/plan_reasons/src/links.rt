@@ -1,0 +1,160 @@
+//! Links of a chain: the rule and the argument that a strike names, and where a pass comes to both.
+
+ghost use Rattle.std.specs.Prelude.{◌≡◌, ◌⊎◌, IfOk, OnOk};
+ghost use Rattle.ag_grammar.specs.Lists.{AreRelated, Each, Has};
+ghost use Rattle.plan_reasons.specs.Links.{AppendsLink, IsGeometry, IsLinkAt, IsLinkOf};
+ghost use Rattle.plan_reasons.specs.Links.{IsLinkOrNone, IsObstacle, IsObstacleOf};
+ghost use Rattle.plan_reasons.specs.Links.{NamesAttribute};
+ghost use Rattle.plan_reasons.specs.declared.links.Link.{Link as TheLink};
+
+use crate::attributes::Attribute;
+use ag_grammar::{Direction, Grammar, Item, Production, Rule, Target};
+use ag_value::NoMemory;
+use passassign::{Strike, is_ahead};
+use std::alloc::Global;
+
+/// Where what a rule uses is, as a pass comes by.
+#[derive(Clone, Copy)]
+pub enum Geometry {
+    /// At the child that the rule's target is at.
+    Within,
+    /// At a child that the pass visits after the target's.
+    Later,
+    /// Where the rule can use it, once it is computed.
+    AtHand,
+}
+
+/// A rule that a pass can't evaluate, with one of its arguments that is an attribute of a symbol.
+#[derive(Clone, Copy)]
+pub struct Link {
+    /// The strike that names the rule and the argument.
+    pub strike: Strike,
+    /// What the rule computes.
+    pub target: Target,
+    /// What it uses.
+    pub argument: Target,
+    /// The attribute that the argument is.
+    pub used: Attribute,
+}
+
+impl Link {
+    /// Returns the attribute that the rule computes.
+    pub fn computed(&self) -> Attribute
+        ensures { result ≡ (self.now.strike.symbol, self.now.strike.attr) }
+    {
+        (self.strike.symbol, self.strike.attr)
+    }
+
+    /// Returns where the argument is, for a pass of a direction.
+    pub fn geometry(&self, direction: Direction) -> Geometry
+        ensures { IsGeometry direction self.now.target.place self.now.argument.place result }
+    {
+        geometry_of(direction, self.target.place, self.argument.place)
+    }
+}
+
+/// Returns where the argument at a second place of a rule for a first one is, for a pass of a direction.
+fn geometry_of(direction: Direction, first: u16, second: u16) -> Geometry
+    ensures { IsGeometry direction first second result }
+{
+    if !is_ahead(direction, first, second) {
+        return Geometry::AtHand;
+    }
+    if second == first {
+        return Geometry::Within;
+    }
+    Geometry::Later
+}
+
+/// Returns the link of a strike by the production, rule and argument that it names. None if the argument is
+/// no attribute of a symbol.
+fn link_at(production: &Production, rule: &Rule, argument: Target, strike: Strike) -> Option<Link>
+    ensures { IsLinkAt production.now rule.now argument strike result }
+{
+    match production.item_at(argument.place) {
+        Some(Item::Symbol(symbol)) => Some(Link {
+            strike,
+            target: rule.target,
+            argument,
+            used: (symbol, argument.attr),
+        }),
+        Some(Item::Terminal(_)) => None,
+        None => None,
+    }
+}
+
+/// Returns the link of a strike. None if the strike names no argument that is an attribute of a symbol.
+fn link_of(grammar: &Grammar, strike: Strike) -> Option<Link>
+    ensures { IsLinkOrNone grammar.now strike result }
+{
+    let Some(production) = grammar.productions().get(strike.production as usize) else {
+        return None;
+    };
+    let Some(rule) = production.rules.as_slice().get(strike.rule as usize) else {
+        return None;
+    };
+    let Some(argument) = rule.args.as_slice().get(strike.arg as usize) else {
+        return None;
+    };
+    link_at(production, rule, *argument, strike)
+}
+
+/// Appends the link of a strike, if it has one.
+fn put_link(links: &mut Vec<Link>, grammar: &Grammar, strike: Strike) -> Result<(), NoMemory>
+    ensures { OnOk result (AppendsLink grammar.now strike links.old.items links.new.items) }
+{
+    let Some(link) = link_of(grammar, strike) else {
+        return Ok(());
+    };
+    links.push(link)?;
+    Ok(())
+}
+
+/// Returns the links of strikes, in their order.
+pub fn links_of(alloc: Global, grammar: &Grammar, strikes: &[Strike]) -> Result<Vec<Link>, NoMemory>
+    ensures { IfOk result (λ links. Each (NamesAttribute grammar.now) strikes.now
+        → AreRelated (IsLinkOf grammar.now) strikes.now links.items) }
+{
+    let mut links = Vec::new(alloc);
+    for strike in strikes {
+        put_link(&mut links, grammar, *strike)?;
+    }
+    Ok(links)
+}
+
+/// Appends the link of a strike, if it waits for no other in passes of a direction.
+fn put_obstacle(
+    obstacles: &mut Vec<Link>,
+    grammar: &Grammar,
+    direction: Direction,
+    strike: Strike,
+) -> Result<(), NoMemory>
+    ensures { OnOk result ((l : TheLink) → Has obstacles.new.items l
+        → Has obstacles.old.items l ⊎ IsObstacleOf grammar.now direction strike l) }
+{
+    let Some(link) = link_of(grammar, strike) else {
+        return Ok(());
+    };
+    if !is_ahead(direction, link.target.place, link.argument.place) {
+        return Ok(());
+    }
+    obstacles.push(link)?;
+    Ok(())
+}
+
+/// Returns the links of the strikes that wait for no other in passes of a direction.
+pub fn obstacles_of(
+    alloc: Global,
+    grammar: &Grammar,
+    direction: Direction,
+    strikes: &[Strike],
+) -> Result<Vec<Link>, NoMemory>
+    ensures { IfOk result (λ links. (l : TheLink) → Has links.items l
+        → IsObstacle grammar.now direction strikes.now l) }
+{
+    let mut obstacles = Vec::new(alloc);
+    for strike in strikes {
+        put_obstacle(&mut obstacles, grammar, direction, *strike)?;
+    }
+    Ok(obstacles)
+}
