@@ -30,13 +30,14 @@ _aggen() {
             'value') kind='words -h --help' ;;
             'check') kind='words -h --help' ;;
             'plan') kind='words -h --help' ;;
+            'why') kind='words -h --help' ;;
             'code') kind='words -h --help' ;;
             'parse') kind='words -h --help' ;;
             'upgrade') kind='words -h --help' ;;
         esac
     else
         case $command/$place in
-            /*) kind='words run eval value check plan code parse upgrade help' ;;
+            /*) kind='words run eval value check plan why code parse upgrade help' ;;
             run/0) kind='grammar' ;;
             run/1) kind='file' ;;
             eval/0) kind='grammar' ;;
@@ -44,6 +45,8 @@ _aggen() {
             value/0) kind='none' ;;
             check/0) kind='grammar' ;;
             plan/0) kind='grammar' ;;
+            why/0) kind='grammar' ;;
+            why/1) kind='none' ;;
             code/0) kind='grammar' ;;
             parse/0) kind='grammar' ;;
             parse/1) kind='file' ;;
@@ -51,7 +54,7 @@ _aggen() {
             upgrade/0) kind='grammar' ;;
             upgrade/1) kind='file' ;;
             upgrade/2) kind='file' ;;
-            help/0) kind='words run eval value check plan code parse upgrade help' ;;
+            help/0) kind='words run eval value check plan why code parse upgrade help' ;;
         esac
     fi
     case $kind in
