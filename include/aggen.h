@@ -13,7 +13,8 @@
  * Texts and buffers are bytes with a length; no zero byte ends them. A null pointer with length 0 is
  * an empty text, or a buffer without room.
  *
- * Threads: a handle is used by one thread at a time. Calls on different handles are independent.
+ * Threads: a handle is used by one thread at a time, and handed to another by a lock, or when a thread
+ * is started or joined. Calls on different handles are independent.
  * Don't call the library from a signal handler, or in a child that a process with threads forked.
  */
 #ifndef AGGEN_H
@@ -33,7 +34,8 @@ enum aggen_status {
     AGGEN_OK = 0,
     /* the handle has no translator */
     AGGEN_NO_TRANSLATOR = 1,
-    /* a pointer is null, a length is above PTRDIFF_MAX, or two arguments overlap; nothing was written */
+    /* a pointer that is needed is null, a length is above PTRDIFF_MAX, or two arguments overlap; nothing was
+       written, neither to a buffer nor to *length or *refusal */
     AGGEN_MISUSE = 2,
     /* the grammar is rejected: G1 to G4, N1 to N10, L1, A1 */
     AGGEN_GRAMMAR = 3,
@@ -70,7 +72,8 @@ typedef struct aggen_refusal {
     size_t line;
     size_t column;
     /* the number of bytes of the message. If it is above the buffer's capacity, the buffer has the
-       first bytes. It is 0 if memory for the message was refused. */
+       first bytes. It is 0 if there is no message: after AGGEN_OK and AGGEN_NO_TRANSLATOR, and if memory
+       for the message was refused. */
     size_t message_length;
 } aggen_refusal;
 
@@ -82,10 +85,10 @@ typedef struct aggen_refusal {
  * rejected; AGGEN_NO_MEMORY; AGGEN_MISUSE. Unless it returns AGGEN_OK or AGGEN_MISUSE, the handle has no
  * translator afterwards.
  *
- * The message of a refusal is one line, which begins with the refusal's number. It is written to
- * `message`, as far as there is room, and `*refusal` says how long it is, and where the fault is.
- * After AGGEN_OK the buffer is as before, and `*refusal` has no number, no place and length 0.
- * `refusal` may be null. */
+ * The message of a refusal is one line, which begins with the refusal's number, or with NoMemory. It is
+ * written to `message`, as far as there is room, and `*refusal` says how long it is, and where the
+ * fault is. After AGGEN_OK the buffer is as before, and `*refusal` has no number, no place and length
+ * 0. `refusal` may be null. */
 int aggen_build(const void *grammar, size_t grammar_length, aggen_handle *handle,
                 char *message, size_t message_capacity, aggen_refusal *refusal);
 
@@ -95,7 +98,7 @@ int aggen_build(const void *grammar, size_t grammar_length, aggen_handle *handle
  * whole translation. If that is above `capacity`, call again with more room. Returns AGGEN_OK, also if
  * there is not enough room; AGGEN_SENTENCE or AGGEN_NO_TEXT if the sentence or its translation is
  * rejected; AGGEN_NO_MEMORY; AGGEN_NO_TRANSLATOR; AGGEN_MISUSE. After a refusal `out` is as before, and
- * `*length` is 0.
+ * `*length` is 0; after AGGEN_MISUSE it is as before too.
  *
  * `message` and `refusal` are as in aggen_build. */
 int aggen_translate(aggen_handle *handle, const void *sentence, size_t sentence_length,
@@ -104,8 +107,8 @@ int aggen_translate(aggen_handle *handle, const void *sentence, size_t sentence_
 
 /* Translates the tree in a tree file of pass 0, as aggen_parse or `aggen parse` makes one.
  *
- * Returns AGGEN_TREE_FILE if the file is not that of a tree of the grammar, and else what
- * aggen_translate returns. The translation and its length are as there. */
+ * Returns AGGEN_TREE_FILE if the file is rejected, and what aggen_translate returns, except
+ * AGGEN_SENTENCE. The translation and its length are as there. */
 int aggen_evaluate(aggen_handle *handle, const void *file, size_t file_length,
                    void *out, size_t capacity, size_t *length,
                    char *message, size_t message_capacity, aggen_refusal *refusal);

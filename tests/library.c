@@ -433,6 +433,7 @@ static void refuse_in_turn(call *function, aggen_handle *handle, struct bytes in
         status = function(handle, input.start, input.length, out, whole.length, &needed, message, sizeof message, &refusal);
         REQUIRE(status == right && needed == whole.length && memcmp(out, whole.start, needed) == 0);
         if (!was_refused) {
+            REQUIRE(number > 1);
             break;
         }
     }
@@ -451,6 +452,7 @@ static void refuse_build(struct bytes grammar) {
         REQUIRE(status == right || (was_refused && status == AGGEN_NO_MEMORY));
         REQUIRE((status == AGGEN_OK) == (handle.translator != NULL));
         if (!was_refused) {
+            REQUIRE(number > 1);
             break;
         }
     }

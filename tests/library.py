@@ -3,6 +3,7 @@
     library.py run GRAMMAR SENTENCE    prints what `aggen run` prints, and ends with its status; `plan` likewise
     library.py test GRAMMAR SENTENCE   what the binding does besides
 """
+import pickle
 import sys
 import threading
 from pathlib import Path
@@ -64,6 +65,13 @@ def test(grammar, sentence):
     text = "start S; symbol S syn out; " + "".join(f"symbol N{number}; " for number in range(200)) + f"S = {names} {{ }}"
     refusal = refusal_of(lambda: aggen.Translator(text))
     assert refusal.status == aggen.Status.GRAMMAR and refusal.message.startswith(refusal.number)
+    # the refusal can be pickled, and anything but text and bytes is no sentence
+    assert pickle.loads(pickle.dumps(refusal)).message == refusal.message
+    try:
+        translator.parse(5)
+        raise AssertionError("5 is taken for a sentence")
+    except TypeError:
+        pass
     letters = aggen.Translator('start S; symbol S syn out; S = NAME { $0.out = $1.lex ++ "!"; }')
     for length in (1, 4094, 4095, 4096, 60000):
         assert letters.translate("a" * length) == b"a" * length + b"!"

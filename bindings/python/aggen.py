@@ -4,13 +4,14 @@
         text = translator.translate("1101.01")
 
 The library is the file that the environment variable AGGEN_LIBRARY names, or libaggen.so where the system finds it.
-A translator is used by one thread at a time.
+A translator can be used by several threads: its calls wait for each other.
 """
 from __future__ import annotations
 
 import ctypes
 import enum
 import os
+import threading
 from types import TracebackType
 from typing import Callable
 
@@ -47,6 +48,9 @@ class Refusal(Exception):
         self.place = place
         # one line, which begins with the number
         self.message = message
+
+    def __reduce__(self) -> tuple:
+        return type(self), (self.status, self.number, self.offset, self.place, self.message)
 
 
 class _Handle(ctypes.Structure):
@@ -87,18 +91,21 @@ def version() -> str:
 
 
 def _bytes_of(text: str | bytes) -> bytes:
-    return text.encode() if isinstance(text, str) else bytes(text)
+    return text.encode() if isinstance(text, str) else bytes(memoryview(text))
 
 
 class Translator:
     """The translator of a grammar's text. It raises Refusal if the text is rejected."""
 
     def __init__(self, grammar: str | bytes):
+        # held during a call, and again by a call within it, as `__del__` may make one
+        self._lock = threading.RLock()
         self._handle = _Handle()
         self._refusal = _Refusal()
         self._message = ctypes.create_string_buffer(MESSAGE)
         text = _bytes_of(grammar)
-        self._check(lambda: _library.aggen_build(text, len(text), self._handle, *self._report()))
+        with self._lock:
+            self._check(lambda: _library.aggen_build(text, len(text), self._handle, *self._report()))
 
     def translate(self, sentence: str | bytes) -> bytes:
         """Returns the translation of a sentence."""
@@ -106,7 +113,7 @@ class Translator:
 
     def evaluate(self, file: bytes) -> bytes:
         """Returns the translation of the tree in a tree file of pass 0, as `parse` returns one."""
-        return self._result(_library.aggen_evaluate, bytes(file))
+        return self._result(_library.aggen_evaluate, bytes(memoryview(file)))
 
     def parse(self, sentence: str | bytes) -> bytes:
         """Returns the tree file of a sentence."""
@@ -118,7 +125,8 @@ class Translator:
 
     def close(self) -> None:
         """Frees the translator. After that each call raises Refusal with the status NO_TRANSLATOR."""
-        _library.aggen_free(self._handle)
+        with self._lock:
+            _library.aggen_free(self._handle)
 
     def __enter__(self) -> Translator:
         return self
@@ -137,12 +145,13 @@ class Translator:
         arguments = [it for text in inputs for it in (text, len(text))]
         length = ctypes.c_size_t()
         out = ctypes.create_string_buffer(4096)
-        while True:
-            room = len(out)
-            self._check(lambda: function(self._handle, *arguments, out, room, length, *self._report()))
-            if length.value <= room:
-                return out.raw[: length.value]
-            out = ctypes.create_string_buffer(length.value)
+        with self._lock:
+            while True:
+                room = len(out)
+                self._check(lambda: function(self._handle, *arguments, out, room, length, *self._report()))
+                if length.value <= room:
+                    return out.raw[: length.value]
+                out = ctypes.create_string_buffer(length.value)
 
     def _check(self, call: Callable[[], int]) -> None:
         """Makes a call, and raises its refusal. If the message has not enough room, makes the call again."""

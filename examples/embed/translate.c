@@ -1,13 +1,20 @@
 /* translate GRAMMAR SENTENCE: prints the translation of a sentence by a grammar. Both are files. */
 #include <aggen.h>
 #include <stdio.h>
+#include <stdlib.h>
 
+/* a translation has at most 1 MiB */
 static char grammar[1 << 20], sentence[1 << 20], text[1 << 20], message[4096];
 
+/* Reads a file of less than 1 MiB, or ends the program. */
 static size_t read_file(const char *path, char *bytes) {
     FILE *file = fopen(path, "rb");
     size_t length = file ? fread(bytes, 1, 1 << 20, file) : 0;
-    if (file) fclose(file);
+    if (!file || ferror(file) || length == 1 << 20) {
+        fprintf(stderr, "%s can't be read\n", path);
+        exit(8);
+    }
+    fclose(file);
     return length;
 }
 
