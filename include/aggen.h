@@ -13,7 +13,7 @@
  * Texts and buffers are bytes with a length; no zero byte ends them. A null pointer with length 0 is
  * an empty text, or a buffer without room.
  *
- * Threads: a handle is used by one thread at a time, and handed to another by a lock, or when a thread
+ * Threads: a handle is used by one thread at a time, and passed to another by a lock, or when a thread
  * is started or joined. Calls on different handles are independent.
  * Don't call the library from a signal handler, or in a child that a process with threads forked.
  */

@@ -61,10 +61,12 @@ def test(grammar, sentence):
     refusal = refusal_of(lambda: translator.translate(sentence))
     assert (refusal.status, refusal.number, str(refusal)) == (aggen.Status.NO_TRANSLATOR, None, "status 1")
     # a message that has more bytes than the first buffer, and a translation that has
-    names = " ".join(f"N{number}" for number in range(400))
-    text = "start S; symbol S syn out; " + "".join(f"symbol N{number}; " for number in range(200)) + f"S = {names} {{ }}"
+    names = "".join(f"symbol N{number}; " for number in range(200))
+    endless = " ".join(f"N{number} = N{(number + 1) % 200} {{ }}" for number in range(200))
+    text = f'start S; symbol S syn out; {names} S = N0 {{ $0.out = ""; }} {endless}'
     refusal = refusal_of(lambda: aggen.Translator(text))
     assert refusal.status == aggen.Status.GRAMMAR and refusal.message.startswith(refusal.number)
+    assert len(refusal.message) > aggen.MESSAGE
     # the refusal can be pickled, and anything but text and bytes is no sentence
     assert pickle.loads(pickle.dumps(refusal)).message == refusal.message
     try:
