@@ -61,9 +61,9 @@ def test(grammar, sentence):
     refusal = refusal_of(lambda: translator.translate(sentence))
     assert (refusal.status, refusal.number, str(refusal)) == (aggen.Status.NO_TRANSLATOR, None, "status 1")
     # a message that has more bytes than the first buffer, and a translation that has
-    names = "".join(f"symbol N{number}; " for number in range(200))
-    endless = " ".join(f"N{number} = N{(number + 1) % 200} {{ }}" for number in range(200))
-    text = f'start S; symbol S syn out; {names} S = N0 {{ $0.out = ""; }} {endless}'
+    names = ["N" * 200 + str(number) for number in range(10)]
+    endless = " ".join(f"symbol {it}; {it} = {names[0]} {{ }}" for it in names)
+    text = f'start S; symbol S syn out; S = {names[0]} {{ $0.out = ""; }} {endless}'
     refusal = refusal_of(lambda: aggen.Translator(text))
     assert refusal.status == aggen.Status.GRAMMAR and refusal.message.startswith(refusal.number)
     assert len(refusal.message) > aggen.MESSAGE
