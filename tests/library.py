@@ -62,8 +62,9 @@ def test(grammar, sentence):
     assert (refusal.status, refusal.number, str(refusal)) == (aggen.Status.NO_TRANSLATOR, None, "status 1")
     # a message that has more bytes than the first buffer, and a translation that has
     names = ["N" * 200 + str(number) for number in range(10)]
-    endless = " ".join(f"symbol {it}; {it} = {names[0]} {{ }}" for it in names)
-    text = f'start S; symbol S syn out; S = {names[0]} {{ $0.out = ""; }} {endless}'
+    symbols = " ".join(f"symbol {it};" for it in names)
+    endless = " ".join(f"{it} = {names[0]} {{ }}" for it in names)
+    text = f'start S; symbol S syn out; {symbols} S = {names[0]} {{ $0.out = ""; }} {endless}'
     refusal = refusal_of(lambda: aggen.Translator(text))
     assert refusal.status == aggen.Status.GRAMMAR and refusal.message.startswith(refusal.number)
     assert len(refusal.message) > aggen.MESSAGE
