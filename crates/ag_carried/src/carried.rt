@@ -7,6 +7,7 @@ ghost use Rattle.ag_value.specs.Spelling.{spelling_of};
 ghost use Rattle.ag_value.specs.Well.{IsWell};
 ghost use Rattle.ag_value.specs.declared.value.Value.{Value as AttributeValue, Fault, Num};
 
+use crate::encoded::Encoded;
 use crate::spelled::Spelled;
 use ag_value::{ErrorCode, NoMemory, Value, ValueFault, copy, decode, encode, same, weight};
 use std::alloc::Global;
@@ -219,6 +220,33 @@ impl Carried {
             Form::Shared(shared) => Ok(Carried {
                 form: Form::Shared(shared.clone()?),
             }),
+        }
+    }
+
+    /// Returns a shared value as a carried one.
+    pub(crate) fn of_shared(shared: Rc<Spelled>) -> Carried
+        ensures { result ≡ shared.value }
+    {
+        Carried {
+            form: Form::Shared(shared),
+        }
+    }
+
+    /// Returns whether the value is shared beside its encoding, as a large one is.
+    #[inline(always)]
+    pub fn is_shared(&self) -> bool {
+        matches!(&self.form, Form::Shared(_))
+    }
+
+    /// Returns the encoding of a shared value, as one more owner, or `None` if the value is stored
+    /// otherwise. Takes no memory, and fails with NoMemory if the value has 2^64 - 1 owners.
+    #[inline(always)]
+    pub fn encoded(&self) -> Result<Option<Encoded>, NoMemory>
+        ensures { IfOk result (λ found. IfSome found (λ e. e ≡ spelling_of self.now)) }
+    {
+        match &self.form {
+            Form::Shared(shared) => Ok(Some(Encoded::of(shared.clone()?))),
+            Form::Number(_) | Form::Inline(_) => Ok(None),
         }
     }
 

@@ -2,6 +2,8 @@
 #![tactic(auto)]
 
 mod carried;
+mod encoded;
 mod spelled;
 
 pub use carried::Carried;
+pub use encoded::Encoded;

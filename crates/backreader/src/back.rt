@@ -1,6 +1,6 @@
 //! A reader of tree files that goes from the end to the header.
 
-ghost use Rattle.std.specs.Prelude.{◌≡◌, ◌≢◌, ◌≤◌, ◌+◌, None, Err, IfOk};
+ghost use Rattle.std.specs.Prelude.{◌≡◌, ◌≢◌, ◌≤◌, ◌+◌, None, Some, Ok, Err, IfNone, IfOk};
 ghost use Rattle.std.specs.Prelude.{IfSome, IsErrOf, length};
 ghost use Rattle.std.specs.Option.{option_map};
 ghost use Rattle.backreader.specs.BackState.{HasRead, IsLarge, IsOver, IsStarted, Progress};
@@ -11,9 +11,10 @@ ghost use Rattle.treefile.specs.ways.Ending.{IsBody, Told, length_bytes};
 ghost use Rattle.treefile.specs.records.TreeFile.{version_of, version_one, version_two};
 
 use crate::window::Window;
+use shared_bytes::Body;
 use std::alloc::Global;
 use std::marker::Model;
-use treefile::{Device, FileVersion, FrameFault, pass_in};
+use treefile::{Device, FileVersion, FrameFault, fits_before, pass_in};
 
 /// Reads the bodies of a tree file from the last to the first. It holds no device: each call takes
 /// the one that it was started on. It is seen as how far it has come, and the bytes that it has
@@ -173,6 +174,40 @@ impl Back {
                 Err(fault)
             }
         }
+    }
+
+    /// Lends the body of the frame before the one that was lent last out of the device, if the device has
+    /// it in memory. Returns `None` if `back` has to read it, and then nothing has changed: at the header,
+    /// in a file of version 1, of a broken reader, and where no frame ends. Asks for the device of
+    /// `start`, with its content if it is honest. Takes no memory.
+    #[inline(always)]
+    pub fn lend_back<'d, D: Device>(&mut self, device: &'d D) -> Option<Body<'d>>
+        requires { WhenHonest (D.is_honest device.now) (IsOver (D.content device.now) self.old) }
+        // How far the reader has come, and that it is one of the same content
+        ensures after { IfSome result (λ body. HasRead (D.is_honest device.now)
+            (D.content device.now) self.old (Ok (Some body)) self.new) }
+        // The body exactly as the content has it
+        ensures exact { IfSome result (λ body. WhenHonest (D.is_honest device.now)
+            (next_before self.old.progress.version (D.content device.now) self.old.progress.at
+            ≡ Ok (Some body))) }
+        // Whatever the device is, a body is lent that may be in a frame and has room before the offset
+        ensures body { IfSome result (λ body. IsBody self.old.progress.version body) }
+        ensures room { IfSome result
+            (λ body. length body + length_bytes ≤ self.old.progress.at) }
+        ensures none { IfNone result (self.new ≡ self.old) }
+    {
+        if self.fault.is_some() || !self.window.is_second() {
+            return None;
+        }
+        let at = self.window.at();
+        let body = device.lend_before(at)?;
+        let length = body.len();
+        if length > u64::from(u32::MAX) || !fits_before(FileVersion::Two, at, length) {
+            return None;
+        }
+        self.window.pass_over(length as usize);
+        self.records += 1;
+        Some(body)
     }
 
     /// The number of the pass in the header.

@@ -1,14 +1,14 @@
 //! The bytes of a device that stand before an offset, read by blocks from its end on.
 
 ghost use Rattle.std.specs.Prelude.{◌≡◌, ◌≤◌, ◌<◌, ◌+◌, ◌-◌, ℕ, List, [], Ok, Err, length, min, vec_len};
-ghost use Rattle.std.specs.Prelude.{drop, slice_range, IfNone, IfOk, IfSome, IsErrOf, OnErr, OnOk};
+ghost use Rattle.std.specs.Prelude.{drop, slice_range, IfNone, IfOk, IfSome, IsErrOf, IsTrue, OnErr, OnOk};
 ghost use Rattle.std.specs.Option.{option_map};
 ghost use Rattle.backreader.specs.BackState.{IsLarge, StandBefore, buffer_bytes};
 ghost use Rattle.treefile.specs.ways.Backward.{next_before};
 ghost use Rattle.treefile.specs.devices.Device.{LeavesContent, Persists, TakesNoMemory, WhenHonest};
 ghost use Rattle.treefile.specs.ways.Ending.{IsBytes, Told, body_before, greatest_body, header_bytes};
 ghost use Rattle.treefile.specs.ways.Ending.{least_body, length_bytes, number_before};
-ghost use Rattle.treefile.specs.records.TreeFile.{version_of};
+ghost use Rattle.treefile.specs.records.TreeFile.{version_of, version_two};
 ghost use Rattle.treefile.specs.declared.reading.FrameFault.TheVariants.{Damaged};
 
 use std::alloc::{AllocError, Global};
@@ -70,6 +70,26 @@ impl Window {
         ensures { result ≡ self.now.at }
     {
         self.at
+    }
+
+    /// Returns whether the file is of version 2.
+    #[inline(always)]
+    pub(crate) fn is_second(&self) -> bool
+        ensures { IsTrue result → version_of self.now.version ≡ version_two }
+    {
+        self.version == FileVersion::Two
+    }
+
+    /// Goes before a frame that was not read, whose body has `length` bytes.
+    #[inline(always)]
+    pub(crate) fn pass_over(&mut self, length: usize)
+        requires { header_bytes + length + length_bytes ≤ self.old.at }
+        ensures at { self.new.at + length + length_bytes ≡ self.old.at }
+        ensures unread { unread self.new ≡ [] }
+        ensures version { self.new.version ≡ self.old.version }
+    {
+        self.from = self.to;
+        self.at -= (length + LENGTH) as u64;
     }
 
     /// Takes the bytes of the frame that ends at the offset. The length of its body; `None` where

@@ -1,3 +1,4 @@
+mod Lending
 pub mod records
 pub mod Run
 pub mod SameFile

@@ -10,6 +10,7 @@ mod laws;
 mod layout;
 mod memory;
 mod reading;
+mod shared;
 mod tree_laws;
 mod writing;
 
@@ -20,7 +21,8 @@ pub use fuse::FuseDevice;
 pub use laws::{files_are_read_back, frames_are_read, headers_are_told, last_is_read, records_fit};
 pub use layout::{FileVersion, HEADER_BYTES, LEAST_BODY, LENGTH_BYTES, MOST_VALUES};
 pub use memory::MemDevice;
-pub use reading::{FrameFault, fits_before, last_body, pass_in};
+pub use reading::{FrameFault, fits_before, last_body, pass_in, read_body};
+pub use shared::SharedDevice;
 pub use tree_laws::{
     files_have_one_tree, first_files_are_one, lists_tell_trees, orders_turn_round,
     passes_follow_files, records_are_read, records_tell_trees, refusals_are_true, root_is_last,

@@ -5,7 +5,7 @@ ghost use Rattle.std.specs.Prelude.{IsErrOf, IsTrue, OnOk, nat_eq, slice_range};
 ghost use Rattle.std.specs.List.{starts_with};
 ghost use Rattle.treefile.specs.ways.Backward.{pass_in};
 ghost use Rattle.treefile.specs.devices.Device.{LeavesContent, Persists, WhenHonest};
-ghost use Rattle.treefile.specs.ways.Ending.{IsBytes, Told, body_before, fits_before, greatest_body};
+ghost use Rattle.treefile.specs.ways.Ending.{IsBody, IsBytes, Told, body_before, fits_before, greatest_body};
 ghost use Rattle.treefile.specs.ways.Ending.{header_bytes, last_body_of, least_body};
 ghost use Rattle.treefile.specs.ways.Ending.{length_bytes, number_before};
 ghost use Rattle.treefile.specs.devices.Faults.{frame_fault_of};
@@ -120,19 +120,18 @@ pub fn fits_before(version: FileVersion, at: u64, length: u64) -> bool
         && HEADER_BYTES + length + LENGTH_BYTES <= at
 }
 
-/// So many bytes of a device from an offset on. Takes memory for them.
+/// Fills a vector with `count` bytes of a device from offset `at` on. What the vector had is dropped.
 #[tactic(auto, using(std::proofs::lemmas::List::take_at))]
-fn bytes_at<D: Device>(
-    alloc: Global,
+fn fill_from<D: Device>(
     device: &mut D,
     at: u64,
     count: usize,
-) -> Result<Vec<u8>, FrameFault>
+    bytes: &mut Vec<u8>,
+) -> Result<(), FrameFault>
     requires { WhenHonest (D.is_honest device.old) (at + count ≤ length (D.content device.old)) }
-    ensures found { WhenHonest (D.is_honest device.new)
-        (IfOk result
-        (λ found. found.items ≡ slice_range (D.content device.old) at (at + count))) }
-    ensures count { IfOk result (λ found. length found.items ≡ count) }
+    ensures found { WhenHonest (D.is_honest device.new) (OnOk result
+        (bytes.new.items ≡ slice_range (D.content device.old) at (at + count))) }
+    ensures count { OnOk result (length bytes.new.items ≡ count) }
     ensures memory { IfErr result
         (λ fault. (fault ≡ FrameFault.Device) ⊎ (fault ≡ FrameFault.NoMemory)) }
     ensures content { LeavesContent (D.is_honest device.new)
@@ -140,19 +139,33 @@ fn bytes_at<D: Device>(
     ensures persists { Persists (D.is_honest device.old) (D.is_honest device.new)
         (D.failures device.old) (D.failures device.new) (IsErrOf result FrameFault.Device) }
 {
-    let mut bytes = vec![in alloc; 0; count]?;
+    bytes.resize(count, 0)?;
     device.read_at(at, bytes.as_mut_slice())?;
-    Ok(bytes)
+    Ok(())
 }
 
-/// The body of the frame that ends at an offset.
+/// Reads the body of the frame that ends at offset `at`, of version 2, into `body`, and drops what
+/// that vector had. The header of the file is not read.
+///
+/// Asks for an offset within the device's content, if the device is honest.
+///
+/// Fails with B2 Damaged and that offset if no frame ends there: if fewer than 4 bytes are between the
+/// header and it, or if the number in the last four of them is below 3, above 285,212,675 or more than
+/// what is between the header and those four. Fails with D1 Device if a call of the device failed, and
+/// with NoMemory if the body is longer than `body` has room for and memory is refused. After a failure
+/// `body` has any bytes.
 #[tactic(auto, unfolding(crate::specs::ways::Ending::body_before))]
-fn body_before<D: Device>(alloc: Global, device: &mut D, at: u64) -> Result<Vec<u8>, FrameFault>
+pub fn read_body<D: Device>(device: &mut D, at: u64, body: &mut Vec<u8>) -> Result<(), FrameFault>
     requires { WhenHonest (D.is_honest device.old) (at ≤ length (D.content device.old)) }
-    ensures told { WhenHonest (D.is_honest device.new)
-        (Told (λ body. body.items) result (body_before version_two (D.content device.old) at)) }
+    // The body and B2, exactly as the content has them
+    ensures exact { WhenHonest (D.is_honest device.new)
+        (Told (λ _. body.new.items) result (body_before version_two (D.content device.old) at)) }
+    // Whatever the device is, a body is read that may be in a frame, and has room before the offset
+    ensures body { OnOk result (IsBody version_two body.new.items) }
+    ensures room { OnOk result (header_bytes + length body.new.items + length_bytes ≤ at) }
     ensures content { LeavesContent (D.is_honest device.new)
         (D.content device.old) (D.content device.new) }
+    // D1 only if the number of failures rose
     ensures persists { Persists (D.is_honest device.old) (D.is_honest device.new)
         (D.failures device.old) (D.failures device.new) (IsErrOf result FrameFault.Device) }
 {
@@ -163,7 +176,7 @@ fn body_before<D: Device>(alloc: Global, device: &mut D, at: u64) -> Result<Vec<
     if !fits_before(FileVersion::Two, at, length) {
         return Err(FrameFault::Damaged(at));
     }
-    bytes_at(alloc, device, at - LENGTH_BYTES - length, length as usize)
+    fill_from(device, at - LENGTH_BYTES - length, length as usize, body)
 }
 
 /// The body of the last frame of the tree file that a device has: the one that ends where the
@@ -187,5 +200,7 @@ pub fn last_body<D: Device>(alloc: Global, device: &mut D) -> Result<Vec<u8>, Fr
 {
     let end = device.len()?;
     pass_in(FileVersion::Two, device, end)?;
-    body_before(alloc, device, end)
+    let mut body = Vec::new(alloc);
+    read_body(device, end, &mut body)?;
+    Ok(body)
 }

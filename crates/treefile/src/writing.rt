@@ -5,7 +5,8 @@ ghost use Rattle.std.specs.Prelude.{true, false, All, IfOk, IfSome, IsErrOf, Ok,
 ghost use Rattle.std.specs.List.{flat_map};
 ghost use Rattle.ag_value.specs.Spelling.{spelling_of};
 ghost use Rattle.ag_value.specs.Well.{IsWell};
-ghost use Rattle.treefile.specs.devices.Device.{AppendsFront, LeavesContent, Persists, WhenHonest};
+ghost use Rattle.treefile.specs.devices.Device.{Appends, AppendsFront, LeavesContent, Persists};
+ghost use Rattle.treefile.specs.devices.Device.{WhenHonest};
 ghost use Rattle.treefile.specs.ways.Ending.{IsBody};
 ghost use Rattle.treefile.specs.ways.Puts.{SettlesPut};
 ghost use Rattle.treefile.specs.records.TreeFile.{body_of, frame, header, version_two};
@@ -15,6 +16,7 @@ use crate::device::{Device, DeviceFault};
 use crate::layout::header_of;
 use ag_carried::Carried;
 use ag_value::{NoMemory, Value, encode};
+use shared_bytes::SharedBytes;
 use std::alloc::{AllocError, Global};
 use std::marker::Model;
 
@@ -24,6 +26,7 @@ use std::marker::Model;
 #[derive(Drop)]
 pub struct Writer {
     buffer: Vec<u8>,
+    parts: SharedBytes,
     written: u64,
     is_broken: bool,
 }
@@ -59,6 +62,7 @@ impl Writer {
         device.append(&header_of(pass))?;
         Ok(Writer {
             buffer: Vec::new(alloc),
+            parts: SharedBytes::new(alloc),
             written: 0,
             is_broken: false,
         })
@@ -134,7 +138,8 @@ impl Writer {
         self.settle(answer)
     }
 
-    /// Appends the frame of a record of carried values, as `put` does with values.
+    /// Appends the frame of a record of carried values, as `put` does with values. If some of them are
+    /// shared, the device may share them too (`Device::append_parts`).
     #[inline(always)]
     pub fn put_carried<D: Device>(
         &mut self,
@@ -191,9 +196,35 @@ impl Writer {
             let answer = device.append(&frame);
             return self.settle(answer);
         }
-        fill_carried(&mut self.buffer, kind, number, values)?;
-        let answer = device.append(self.buffer.as_slice());
+        let answer = self.append_row(device, kind, number, values);
         self.settle(answer)
+    }
+
+    /// Appends the frame of a record of carried values by one call of the device: of parts, if some of the
+    /// values are shared.
+    #[inline(never)]
+    fn append_row<D: Device>(
+        &mut self,
+        device: &mut D,
+        kind: Kind,
+        number: u16,
+        values: &[Carried],
+    ) -> Result<(), DeviceFault>
+        requires few { length values.now ≤ version_two.most_values }
+        requires well { All IsWell values.now }
+        ensures writer { self.new ≡ self.old }
+        ensures content { WhenHonest (D.is_honest device.new)
+            (Appends (frame (body_of kind number values.now))
+            (D.content device.old) (D.content device.new) result) }
+        ensures persists { Persists (D.is_honest device.old) (D.is_honest device.new)
+            (D.failures device.old) (D.failures device.new) (IsErrOf result DeviceFault.Failed) }
+    {
+        if values.iter().any(|value| value.is_shared()) {
+            fill_parts(&mut self.parts, &mut self.buffer, kind, number, values)?;
+            return device.append_parts(&self.parts, &mut self.buffer);
+        }
+        fill_carried(&mut self.buffer, kind, number, values)?;
+        device.append(self.buffer.as_slice())
     }
 
     /// Appends the frame of a body as it stands, by one call of the device. Takes memory for the
@@ -501,4 +532,81 @@ fn append_carried(buffer: &mut Vec<u8>, value: &Carried) -> Result<(), NoMemory>
     };
     buffer.extend_from_slice(&number_spelling(n))?;
     Ok(())
+}
+
+/// Makes bytes the frame of a record of carried values, which shares those that are shared. `buffer` is
+/// for the others.
+fn fill_parts(
+    parts: &mut SharedBytes,
+    buffer: &mut Vec<u8>,
+    kind: Kind,
+    number: u16,
+    values: &[Carried],
+) -> Result<(), NoMemory>
+    requires few { length values.now ≤ version_two.most_values }
+    requires well { All IsWell values.now }
+    ensures { OnOk result (parts.new ≡ frame (body_of kind number values.now)) }
+{
+    fill_parts_of_body(parts, buffer, kind, number, values)?;
+    close_parts(parts)
+}
+
+/// Makes bytes that are a body its frame.
+fn close_parts(parts: &mut SharedBytes) -> Result<(), NoMemory>
+    requires { IsBody version_two parts.old }
+    ensures { OnOk result (parts.new ≡ frame parts.old) }
+{
+    let length = parts.len() as u32;
+    parts.append(&length.to_be_bytes())
+}
+
+/// Makes bytes the body of such a record.
+fn fill_parts_of_body(
+    parts: &mut SharedBytes,
+    buffer: &mut Vec<u8>,
+    kind: Kind,
+    number: u16,
+    values: &[Carried],
+) -> Result<(), NoMemory>
+    requires { All IsWell values.now }
+    ensures { OnOk result (parts.new ≡ body_of kind number values.now) }
+{
+    let [high, low] = number.to_be_bytes();
+    parts.clear();
+    parts.append(&[kind.byte(), high, low])?;
+    append_values_to_parts(parts, buffer, values)
+}
+
+/// Appends the encodings of carried values: those that are shared as one more owner.
+fn append_values_to_parts(
+    parts: &mut SharedBytes,
+    buffer: &mut Vec<u8>,
+    values: &[Carried],
+) -> Result<(), NoMemory>
+    requires { All IsWell values.now }
+    ensures { OnOk result (parts.new ≡ parts.old ++ flat_map spelling_of values.now) }
+{
+    for value in values {
+        append_to_parts(parts, buffer, value)?;
+    }
+    Ok(())
+}
+
+/// Appends the encoding of a carried value: of a shared one as one more owner.
+fn append_to_parts(
+    parts: &mut SharedBytes,
+    buffer: &mut Vec<u8>,
+    value: &Carried,
+) -> Result<(), NoMemory>
+    requires { IsWell value.now }
+    ensures { OnOk result (parts.new ≡ parts.old ++ spelling_of value.now) }
+{
+    match value.encoded()? {
+        Some(bytes) => parts.append_encoded(&bytes),
+        None => {
+            buffer.clear();
+            append_carried(buffer, value)?;
+            parts.append(buffer.as_slice())
+        }
+    }
 }

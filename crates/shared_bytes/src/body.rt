@@ -1,0 +1,316 @@
+//! Lent parts of such bytes.
+
+ghost use Rattle.std.specs.Prelude.{◌≡◌, ◌++◌, ◌+◌, ◌-◌, ◌≤◌, ℕ, List, length, take};
+ghost use Rattle.std.specs.Prelude.{IfOk, IfSome, IsTrue, OnOk};
+ghost use Rattle.ag_value.specs.Spelling.{spelling_of};
+ghost use Rattle.ag_value.specs.Well.{IsWell};
+ghost use Rattle.shared_bytes.specs.Spliced.{AreSplices, CutAt, IsBeforeSplice, spliced};
+
+use crate::splice::Splice;
+use ag_carried::{Carried, Encoded};
+use ag_value::{NoMemory, ValueFault};
+use std::alloc::{AllocError, Global};
+use std::marker::Model;
+
+/// A lent part of bytes: own ones, and between them the encodings of shared values. Contracts see the
+/// list of its bytes.
+#[derive(Drop)]
+pub struct Body<'a> {
+    own: &'a [u8],
+    splices: &'a [Splice],
+    base: usize,
+    at: u64,
+    end: u64,
+}
+
+impl<'a> Model for Body<'a> {
+    ghost use Rattle.std.specs.Prelude.{List, ℕ, ◌+◌, ◌^◌, ◌<◌, length};
+    ghost use Rattle.shared_bytes.specs.Spliced.{AreSplices, spliced};
+
+    ghost Value = { List ℕ };
+
+    ghost view = { λ b. spliced b.base b.own.now b.splices.now };
+
+    ghost invariant = { λ b. AreSplices b.base b.at (b.base + length b.own.now) b.end b.splices.now
+        × (b.base + length b.own.now < 2 ^ 64) };
+}
+
+/// Returns the number of the own byte at `offset`, if own bytes `from` to `end` are at `start` and the
+/// following offsets. Returns `None` if none of these is there.
+fn own_from(from: usize, start: u64, end: usize, offset: u64) -> Option<usize>
+    ensures behind { IfSome result (λ own. from ≤ own) }
+    ensures at { IfSome result (λ own. offset ≡ start + (own - from)) }
+    ensures within { IfSome result (λ own. own ≤ end) }
+{
+    if offset < start {
+        return None;
+    }
+    let own = from.checked_add((offset - start) as usize)?;
+    if end < own {
+        return None;
+    }
+    Some(own)
+}
+
+/// Returns whether own byte `own` comes before splice `count`, or there are only `count` splices.
+fn is_before(splices: &[Splice], count: usize, own: usize) -> bool
+    ensures { IsTrue result → IsBeforeSplice splices.now count own }
+{
+    if count < splices.len() {
+        let splice = &splices[count];
+        return own <= splice.own;
+    }
+    true
+}
+
+/// Returns the number of the own byte at `offset`, if it comes before all splices.
+fn first_own(splices: &[Splice], base: usize, at: u64, end: usize, offset: u64) -> Option<usize>
+    ensures cut { IfSome result (λ own. CutAt base at splices.now 0 own offset) }
+    ensures within { IfSome result (λ own. own ≤ end) }
+{
+    let own = own_from(base, at, end, offset)?;
+    if !is_before(splices, 0, own) {
+        return None;
+    }
+    Some(own)
+}
+
+/// Returns the number of the own byte at `offset`, if it comes after `count` splices.
+fn next_own(
+    splices: &[Splice],
+    base: usize,
+    at: u64,
+    end: usize,
+    offset: u64,
+    count: usize,
+) -> Option<usize>
+    requires some { 1 ≤ count }
+    requires few { count ≤ length splices.now }
+    ensures cut { IfSome result (λ own. CutAt base at splices.now count own offset) }
+    ensures within { IfSome result (λ own. own ≤ end) }
+{
+    let splice = &splices[count - 1];
+    let start = splice.at.checked_add(splice.bytes.len() as u64)?;
+    let own = own_from(splice.own, start, end, offset)?;
+    if !is_before(splices, count, own) {
+        return None;
+    }
+    Some(own)
+}
+
+/// Returns the number of the own byte at `offset`, if `count` splices come before it. Returns `None` if
+/// it is otherwise.
+fn own_at(
+    splices: &[Splice],
+    base: usize,
+    at: u64,
+    end: usize,
+    offset: u64,
+    count: usize,
+) -> Option<usize>
+    ensures cut { IfSome result (λ own. CutAt base at splices.now count own offset) }
+    ensures within { IfSome result (λ own. own ≤ end) }
+    ensures few { IfSome result (λ _. count ≤ length splices.now) }
+{
+    if count == 0 {
+        return first_own(splices, base, at, end, offset);
+    }
+    if splices.len() < count {
+        return None;
+    }
+    next_own(splices, base, at, end, offset, count)
+}
+
+impl<'a> Body<'a> {
+    /// Returns bytes that are all own ones as a body. Takes no memory.
+    pub fn from_slice(own: &'a [u8]) -> Body<'a>
+        ensures { result ≡ own.entry.now }
+    {
+        let end = own.len() as u64;
+        Body {
+            own,
+            splices: &[],
+            base: 0,
+            at: 0,
+            end,
+        }
+    }
+
+    /// Returns all bytes, of which the last one ends at an offset.
+    pub(crate) fn whole(own: &'a [u8], splices: &'a [Splice], end: u64) -> Body<'a>
+        requires { AreSplices 0 0 (length own.now) end splices.now }
+        ensures { result ≡ spliced 0 own.entry.now splices.entry.now }
+    {
+        Body {
+            own,
+            splices,
+            base: 0,
+            at: 0,
+            end,
+        }
+    }
+
+    /// Returns the number of bytes.
+    pub fn len(&self) -> u64
+        ensures { result ≡ length self.now }
+    {
+        self.end - self.at
+    }
+
+    /// Lends the bytes as a slice, if none of them are shared. Takes no memory.
+    #[inline(always)]
+    pub fn as_slice(&self) -> Option<&'a [u8]>
+        ensures { IfSome result (λ bytes. bytes.now ≡ self.now) }
+    {
+        if !self.splices.is_empty() {
+            return None;
+        }
+        Some(self.own)
+    }
+
+    /// Returns the number of shared values that begin before an offset from the first byte.
+    pub fn splices_before(&self, offset: u64) -> usize {
+        let place = self.at.saturating_add(offset);
+        self.splices.partition_point(|splice| splice.at < place)
+    }
+
+    /// Splits the body at an offset from its first byte, after `count` of its shared values. Returns
+    /// `None` if the offset is inside a shared value, or if the number of those before it is another.
+    /// Takes no memory.
+    pub fn cut(self, offset: u64, count: usize) -> Option<(Body<'a>, Body<'a>)>
+        ensures parts { IfSome result (λ p. self.entry ≡ p.0 ++ p.1) }
+        ensures size { IfSome result (λ p. length p.0 ≡ offset) }
+    {
+        let Body {
+            own,
+            splices,
+            base,
+            at,
+            end,
+        } = self;
+        let place = at.checked_add(offset)?;
+        let middle = own_at(splices, base, at, base + own.len(), place, count)?;
+        let (own, own_behind) = own.split_at(middle - base);
+        let (splices, splices_behind) = splices.split_at(count);
+        let front = Body {
+            own,
+            splices,
+            base,
+            at,
+            end: place,
+        };
+        let rest = Body {
+            own: own_behind,
+            splices: splices_behind,
+            base: middle,
+            at: place,
+            end,
+        };
+        Some((front, rest))
+    }
+
+    /// Lends the encoding of the shared value with which the body begins, if it begins with one.
+    pub fn shared(&self) -> Option<&'a Encoded>
+        ensures { IfSome result (λ bytes. take (length bytes.now) self.now ≡ bytes.now) }
+    {
+        match self.splices {
+            [splice, ..] if splice.own == self.base => Some(&splice.bytes),
+            _ => None,
+        }
+    }
+
+    /// Lends the own bytes with which the body begins.
+    pub fn own(&self) -> &'a [u8]
+        ensures { take (length result.now) self.now ≡ result.now }
+    {
+        match self.splices {
+            [] => self.own,
+            [splice, ..] => &self.own[..splice.own - self.base],
+        }
+    }
+
+    /// Returns the same body once more.
+    pub fn again(&self) -> Body<'a>
+        ensures { result ≡ self.now }
+    {
+        Body {
+            own: self.own,
+            splices: self.splices,
+            base: self.base,
+            at: self.at,
+            end: self.end,
+        }
+    }
+
+    /// Appends a copy of all bytes to a vector. Without memory some of them may be there.
+    pub fn append_to(&self, out: &mut Vec<u8>) -> Result<(), AllocError>
+        ensures { OnOk result (out.new.items ≡ out.old.items ++ self.now) }
+    {
+        append_all(self.own, self.base, self.splices, out)
+    }
+
+    /// Takes the value whose encoding is a prefix of the body: a shared one in one step, and one of own
+    /// bytes as `Carried::read` does. Returns the value and the rest of the body, or `None` if the body
+    /// begins with no value that is either shared or of own bytes alone: then only a copy of all bytes
+    /// (`append_to`) shows whether it begins with a value.
+    pub fn take(&self, alloc: Global) -> Result<Option<(Carried, Body<'a>)>, NoMemory>
+        ensures well { IfOk result (λ found. IfSome found (λ p. IsWell p.0)) }
+        ensures encoded { IfOk result
+            (λ found. IfSome found (λ p. self.now ≡ spelling_of p.0 ++ p.1)) }
+    {
+        match self.shared() {
+            Some(bytes) => self.take_shared(bytes),
+            None => self.take_own(alloc),
+        }
+    }
+
+    /// Takes the value with this encoding, with which the body begins.
+    fn take_shared(&self, bytes: &Encoded) -> Result<Option<(Carried, Body<'a>)>, NoMemory>
+        requires { take (length bytes.now) self.now ≡ bytes.now }
+        ensures well { IfOk result (λ found. IfSome found (λ p. IsWell p.0)) }
+        ensures encoded { IfOk result
+            (λ found. IfSome found (λ p. self.now ≡ spelling_of p.0 ++ p.1)) }
+    {
+        let Some((_, rest)) = self.again().cut(bytes.len() as u64, 1) else {
+            return Ok(None);
+        };
+        Ok(Some((bytes.value()?, rest)))
+    }
+
+    /// Takes the value whose encoding is a prefix of the own bytes with which the body begins.
+    fn take_own(&self, alloc: Global) -> Result<Option<(Carried, Body<'a>)>, NoMemory>
+        ensures well { IfOk result (λ found. IfSome found (λ p. IsWell p.0)) }
+        ensures encoded { IfOk result
+            (λ found. IfSome found (λ p. self.now ≡ spelling_of p.0 ++ p.1)) }
+    {
+        let (value, length) = match Carried::read(alloc, self.own()) {
+            Ok(found) => found,
+            Err(ValueFault::Malformed) => return Ok(None),
+            Err(ValueFault::NoMemory) => return Err(NoMemory::NoMemory),
+        };
+        let Some((_, rest)) = self.again().cut(length as u64, 0) else {
+            return Ok(None);
+        };
+        Ok(Some((value, rest)))
+    }
+}
+
+/// Appends a copy of own bytes, the first of which has number `base`, and of the encodings between them.
+fn append_all(
+    own: &[u8],
+    base: usize,
+    splices: &[Splice],
+    out: &mut Vec<u8>,
+) -> Result<(), AllocError>
+    requires { (at : ℕ) × (total : ℕ) × AreSplices base at (base + length own.now) total splices.now }
+    ensures { OnOk result (out.new.items ≡ out.old.items ++ spliced base own.now splices.now) }
+{
+    let mut from = 0;
+    for splice in splices {
+        let next = splice.own - base;
+        out.extend_from_slice(&own[from..next])?;
+        splice.bytes.append_to(out)?;
+        from = next;
+    }
+    out.extend_from_slice(&own[from..])
+}

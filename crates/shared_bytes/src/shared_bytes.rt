@@ -1,0 +1,295 @@
+//! Bytes that grow at their end, of which some are shared.
+
+ghost use Rattle.std.specs.Prelude.{◌≡◌, ◌++◌, ◌+◌, ◌-◌, ◌<◌, ◌≤◌, ◌^◌, ℕ, List, [], drop, length, map, slice_range, take};
+ghost use Rattle.std.specs.Prelude.{min, None, slice_index, IfOk, IfSome, IsTrue, OnErr, OnOk};
+ghost use Rattle.shared_bytes.specs.Reads.{HasRead};
+ghost use Rattle.shared_bytes.specs.Spliced.{AreSplices, shift, spliced};
+
+use crate::body::Body;
+use crate::splice::Splice;
+use ag_carried::Encoded;
+use ag_value::NoMemory;
+use std::alloc::{AllocError, Global};
+use std::marker::Model;
+
+/// Bytes that grow at their end: own ones in one vector, and between them the encodings of large values,
+/// which are shared and not copied. Contracts see the list of all bytes.
+#[derive(Drop)]
+pub struct SharedBytes {
+    alloc: Global,
+    own: Vec<u8>,
+    splices: Vec<Splice>,
+    len: u64,
+}
+
+impl Model for SharedBytes {
+    ghost use Rattle.std.specs.Prelude.{List, ℕ};
+
+    ghost Value = { List ℕ };
+
+    ghost use Rattle.std.specs.Prelude.{length};
+    ghost use Rattle.shared_bytes.specs.Spliced.{AreSplices, spliced};
+
+    ghost view = { λ m. spliced 0 m.own.items m.splices.items };
+
+    ghost use Rattle.std.specs.Prelude.{◌<◌, slice_index};
+
+    ghost invariant = { λ m. AreSplices 0 0 (length m.own.items) m.len m.splices.items
+        × ((i : ℕ) → slice_index (spliced 0 m.own.items m.splices.items) i < 256) };
+}
+
+impl SharedBytes {
+    /// Returns an empty list of bytes, which grows by the allocator. Takes no memory.
+    pub fn new(alloc: Global) -> SharedBytes
+        ensures { result ≡ [] }
+    {
+        SharedBytes {
+            alloc,
+            own: Vec::new(alloc),
+            splices: Vec::new(alloc),
+            len: 0,
+        }
+    }
+
+    /// Returns the number of bytes. Takes no memory.
+    pub fn len(&self) -> u64
+        ensures len { result ≡ length self.now }
+        ensures bytes { (i : ℕ) → slice_index self.now i < 256 }
+    {
+        self.len
+    }
+
+    /// Returns whether `count` bytes more can be counted.
+    fn has_room(&self, count: u64) -> bool
+        ensures { IsTrue result → length self.now + count < 2 ^ 64 }
+    {
+        self.len().checked_add(count).is_some()
+    }
+
+    /// Appends a copy of bytes. Without memory nothing changes.
+    #[inline(always)]
+    pub fn append(&mut self, bytes: &[u8]) -> Result<(), NoMemory>
+        ensures ok { OnOk result (self.new ≡ self.old ++ bytes.now) }
+        ensures err { OnErr result (self.new ≡ self.old) }
+    {
+        if !self.has_room(bytes.len() as u64) {
+            return Err(NoMemory::NoMemory);
+        }
+        self.append_own(bytes)?;
+        Ok(())
+    }
+
+    /// Appends a copy of bytes that can be counted.
+    #[inline(always)]
+    fn append_own(&mut self, bytes: &[u8]) -> Result<(), AllocError>
+        requires { length self.old + length bytes.now < 2 ^ 64 }
+        ensures ok { OnOk result (self.new ≡ self.old ++ bytes.now) }
+        ensures err { OnErr result (self.new ≡ self.old) }
+    {
+        self.own.extend_from_slice(bytes)?;
+        self.len += bytes.len() as u64;
+        Ok(())
+    }
+
+    /// Appends the encoding of a large value, as one more owner. Without memory nothing changes.
+    pub fn append_encoded(&mut self, bytes: &Encoded) -> Result<(), NoMemory>
+        ensures ok { OnOk result (self.new ≡ self.old ++ bytes.now) }
+        ensures err { OnErr result (self.new ≡ self.old) }
+    {
+        if !self.has_room(bytes.len() as u64) {
+            return Err(NoMemory::NoMemory);
+        }
+        self.append_shared(bytes)?;
+        Ok(())
+    }
+
+    /// Appends an encoding that can be counted, as one more owner. Without memory nothing changes.
+    fn append_shared(&mut self, bytes: &Encoded) -> Result<(), AllocError>
+        requires { length self.old + length bytes.now < 2 ^ 64 }
+        ensures ok { OnOk result (self.new ≡ self.old ++ bytes.now) }
+        ensures err { OnErr result (self.new ≡ self.old) }
+    {
+        let splice = Splice {
+            own: self.own.len(),
+            at: self.len,
+            bytes: bytes.share()?,
+        };
+        let Ok(()) = self.splices.push(splice) else {
+            return Err(AllocError);
+        };
+        self.len += bytes.len() as u64;
+        Ok(())
+    }
+
+    /// Removes all bytes. Takes no memory.
+    pub fn clear(&mut self)
+        ensures { self.new ≡ [] }
+    {
+        self.own.clear();
+        self.splices.clear();
+        self.len = 0;
+    }
+
+    /// Appends all bytes of `other`: a copy of its own ones, and its shared values as one more owner.
+    /// Without memory nothing changes.
+    pub fn append_all(&mut self, other: &SharedBytes) -> Result<(), NoMemory>
+        ensures ok { OnOk result (self.new ≡ self.old ++ other.now) }
+        ensures err { OnErr result (self.new ≡ self.old) }
+    {
+        if !self.has_room(other.len()) {
+            return Err(NoMemory::NoMemory);
+        }
+        self.append_memory(other)?;
+        Ok(())
+    }
+
+    /// Appends all bytes of `other`, which can be counted.
+    fn append_memory(&mut self, other: &SharedBytes) -> Result<(), AllocError>
+        requires { length self.old + length other.now < 2 ^ 64 }
+        ensures ok { OnOk result (self.new ≡ self.old ++ other.now) }
+        ensures err { OnErr result (self.new ≡ self.old) }
+    {
+        let count = self.own.len();
+        let mut moved = shifted(self.alloc, other.splices.as_slice(), count, self.len)?;
+        self.own.extend_from_slice(other.own.as_slice())?;
+        let Ok(()) = self.splices.append(&mut moved) else {
+            self.own.truncate(count);
+            return Err(AllocError);
+        };
+        self.len += other.len;
+        Ok(())
+    }
+
+    /// Copies the bytes from an offset on into a slice, as many as it has. Takes no memory.
+    pub fn read_at(&self, at: u64, out: &mut [u8])
+        requires { at + length out.old ≤ length self.now }
+        ensures { out.new ≡ slice_range self.now at (at + length out.old) }
+    {
+        read_pieces(
+            self.own.as_slice(),
+            self.splices.as_slice(),
+            self.len,
+            at,
+            out,
+        );
+    }
+
+    /// Lends the bytes as a slice, if none of them are shared. Takes no memory.
+    #[inline(always)]
+    pub fn as_slice(&self) -> Option<&[u8]>
+        ensures { IfSome result (λ bytes. bytes.now ≡ self.now) }
+    {
+        if self.splices.is_empty() {
+            Some(self.own.as_slice())
+        } else {
+            None
+        }
+    }
+
+    /// Lends all bytes. Takes no memory.
+    pub fn lend(&self) -> Body<'_>
+        ensures { result ≡ self.now }
+    {
+        Body::whole(self.own.as_slice(), self.splices.as_slice(), self.len)
+    }
+
+    /// Appends a copy of all bytes to a vector. Without memory some of them may be there.
+    pub fn append_to(&self, out: &mut Vec<u8>) -> Result<(), AllocError>
+        ensures { OnOk result (out.new.items ≡ out.old.items ++ self.now) }
+    {
+        self.lend().append_to(out)
+    }
+}
+
+/// Returns the encodings as they are after `own` more own bytes, and `at` more bytes in all.
+fn shifted(
+    alloc: Global,
+    splices: &[Splice],
+    own: usize,
+    at: u64,
+) -> Result<Vec<Splice>, AllocError>
+    ensures { IfOk result (λ moved. moved.items ≡ map (shift own at) splices.now) }
+{
+    let mut moved = Vec::with_capacity(alloc, splices.len())?;
+    for splice in splices {
+        let splice = splice.shifted(own, at)?;
+        let Ok(()) = moved.push(splice) else {
+            return Err(AllocError);
+        };
+    }
+    Ok(moved)
+}
+
+/// Copies the bytes from offset `at` on into a slice, as many as it has: own ones, and the encodings
+/// between them. All bytes together end at offset `end`.
+fn read_pieces(own: &[u8], splices: &[Splice], end: u64, at: u64, out: &mut [u8])
+    requires splices { AreSplices 0 0 (length own.now) end splices.now }
+    requires there { at + length out.old ≤ end }
+    ensures { out.new ≡ take (length out.old) (drop at (spliced 0 own.now splices.now)) }
+{
+    let mut from = 0;
+    let mut place = 0;
+    let mut done = 0;
+    for splice in splices {
+        done = copy_own(&own[from..splice.own], place, at, done, out);
+        done = copy_shared(&splice.bytes, splice.at, at, done, out);
+        place = splice.at + splice.bytes.len() as u64;
+        from = splice.own;
+    }
+    copy_own(&own[from..], place, at, done, out);
+}
+
+/// A slice of `size` bytes is filled from offset `at` on, and has `done` of them. Returns which part of
+/// the `len` bytes at offset `place` comes next, by its index and length, or `None` if none of them does.
+fn lacking(place: u64, len: usize, at: u64, done: usize, size: usize) -> Option<(usize, usize)>
+    requires within { done ≤ size }
+    requires room { at + size < 2 ^ 64 }
+    ensures here { IfSome result (λ part. at + done ≡ place + part.0) }
+    ensures there { IfSome result (λ part. part.0 ≤ len) }
+    ensures count { IfSome result (λ part. part.1 ≡ min (len - part.0) (size - done)) }
+    ensures none { result ≡ None → done < size → place ≤ at + done → place + len ≤ at + done }
+{
+    let here = at + done as u64;
+    if done == size || here < place {
+        return None;
+    }
+    let skip = here - place;
+    if len as u64 <= skip {
+        return None;
+    }
+    let skip = skip as usize;
+    Some((skip, (len - skip).min(size - done)))
+}
+
+/// Copies the next bytes of a slice that is filled from offset `at` on, and has `done` of them, out of a
+/// piece at offset `place`. Returns how many it then has.
+fn copy_own(piece: &[u8], place: u64, at: u64, done: usize, out: &mut [u8]) -> usize
+    requires within { done ≤ length out.old }
+    requires room { at + length out.old < 2 ^ 64 }
+    ensures within { result ≤ length out.old }
+    ensures read { (content rest : List ℕ) → drop place content ≡ piece.now ++ rest
+        → HasRead place at done content out.old
+        → HasRead (place + length piece.now) at result content out.new }
+{
+    let Some((skip, count)) = lacking(place, piece.len(), at, done, out.len()) else {
+        return done;
+    };
+    out[done..done + count].copy_from_slice(&piece[skip..skip + count]);
+    done + count
+}
+
+/// Copies them out of an encoding, as `copy_own` does.
+fn copy_shared(piece: &Encoded, place: u64, at: u64, done: usize, out: &mut [u8]) -> usize
+    requires within { done ≤ length out.old }
+    requires room { at + length out.old < 2 ^ 64 }
+    ensures within { result ≤ length out.old }
+    ensures read { (content rest : List ℕ) → drop place content ≡ piece.now ++ rest
+        → HasRead place at done content out.old
+        → HasRead (place + length piece.now) at result content out.new }
+{
+    let Some((skip, count)) = lacking(place, piece.len(), at, done, out.len()) else {
+        return done;
+    };
+    piece.copy_part(skip, &mut out[done..done + count]);
+    done + count
+}

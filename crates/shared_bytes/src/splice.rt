@@ -1,0 +1,29 @@
+//! The encoding of a shared value between own bytes.
+
+ghost use Rattle.std.specs.Prelude.{◌≡◌, IfOk};
+ghost use Rattle.shared_bytes.specs.Spliced.{shift};
+
+use ag_carried::Encoded;
+use std::alloc::AllocError;
+
+/// The encoding of a shared value in a list of bytes: the number of own bytes before it, its offset in
+/// the whole list, and its bytes.
+#[derive(Drop)]
+pub struct Splice {
+    pub own: usize,
+    pub at: u64,
+    pub bytes: Encoded,
+}
+
+impl Splice {
+    /// Returns the same encoding after `own` more own bytes, and `at` more bytes in all.
+    pub fn shifted(&self, own: usize, at: u64) -> Result<Splice, AllocError>
+        ensures { IfOk result (λ splice. splice ≡ shift own at self.now) }
+    {
+        let (Some(own), Some(at)) = (own.checked_add(self.own), at.checked_add(self.at)) else {
+            return Err(AllocError);
+        };
+        let bytes = self.bytes.share()?;
+        Ok(Splice { own, at, bytes })
+    }
+}

@@ -1,0 +1,173 @@
+//! A device in memory that shares large values.
+
+ghost use Rattle.std.specs.Prelude.{◌≡◌, ◌↔◌, ◌+◌, ◌-◌, ◌<◌, ◌≤◌, [], Ok, IfSome, IsTrue, drop, length};
+ghost use Rattle.std.specs.Int.{w32, from_be_bytes};
+ghost use Rattle.treefile.specs.ways.Ending.{IsBytes, body_before, length_bytes};
+ghost use Rattle.treefile.specs.records.TreeFile.{version_two};
+
+use crate::device::{Device, DeviceFault};
+use crate::layout::{FileVersion, HEADER_BYTES, LENGTH_BYTES};
+use crate::reading::fits_before;
+use shared_bytes::{Body, SharedBytes};
+use std::alloc::Global;
+use std::marker::Model;
+
+/// A device in memory that shares large values with their other owners. Contracts see the bytes. It is
+/// honest, and never fails.
+#[derive(Drop)]
+pub struct SharedDevice {
+    bytes: SharedBytes,
+}
+
+impl Model for SharedDevice {
+    ghost use Rattle.std.specs.Prelude.{List, ℕ};
+
+    ghost Value = { List ℕ };
+
+    ghost view = { λ d. d.bytes };
+}
+
+impl SharedDevice {
+    /// Returns a device without bytes, which grows by the allocator. Takes no memory.
+    pub fn new(alloc: Global) -> SharedDevice
+        ensures { result ≡ [] }
+    {
+        SharedDevice {
+            bytes: SharedBytes::new(alloc),
+        }
+    }
+}
+
+/// Returns whether there are `count` bytes from an offset on.
+fn has_part(bytes: &SharedBytes, at: u64, count: usize) -> bool
+    ensures { IsTrue result ↔ (at + count ≤ length bytes.now) }
+{
+    let len = bytes.len();
+    at <= len && count as u64 <= len - at
+}
+
+impl Device for SharedDevice {
+    ghost use Rattle.std.specs.Prelude.{true};
+
+    ghost content = { λ bytes. bytes };
+
+    ghost is_honest = { λ _. true };
+
+    ghost failures = { λ _. 0 };
+
+    fn len(&mut self) -> Result<u64, DeviceFault> {
+        Ok(self.bytes.len())
+    }
+
+    fn append(&mut self, bytes: &[u8]) -> Result<(), DeviceFault> {
+        match self.bytes.append(bytes) {
+            Ok(()) => Ok(()),
+            Err(_) => Err(DeviceFault::NoMemory),
+        }
+    }
+
+    fn read_at(&mut self, at: u64, out: &mut [u8]) -> Result<(), DeviceFault> {
+        if !has_part(&self.bytes, at, out.len()) {
+            return Ok(());
+        }
+        self.bytes.read_at(at, out);
+        Ok(())
+    }
+
+    fn clear(&mut self) -> Result<(), DeviceFault> {
+        self.bytes.clear();
+        Ok(())
+    }
+
+    fn append_parts(
+        &mut self,
+        parts: &SharedBytes,
+        _buffer: &mut Vec<u8>,
+    ) -> Result<(), DeviceFault> {
+        match self.bytes.append_all(parts) {
+            Ok(()) => Ok(()),
+            Err(_) => Err(DeviceFault::NoMemory),
+        }
+    }
+
+    fn lend_before(&self, at: u64) -> Option<Body<'_>> {
+        match self.bytes.as_slice() {
+            Some(content) => own_body_before(content, at),
+            None => body_between(&self.bytes, at),
+        }
+    }
+}
+
+/// Lends the body of the frame that ends at an offset of a content without shared values.
+fn own_body_before(content: &[u8], at: u64) -> Option<Body<'_>>
+    ensures body { IfSome result (λ body. body_before version_two content.now at ≡ Ok body) }
+    ensures bytes { IfSome result
+        (λ body. IsBytes (drop (at - length_bytes - length body) content.now)) }
+{
+    Some(Body::from_slice(slice_before(content, at)?))
+}
+
+/// Lends the body of the frame that ends at an offset of a content, as a slice.
+fn slice_before(content: &[u8], at: u64) -> Option<&[u8]>
+    ensures body { IfSome result (λ body. body_before version_two content.now at ≡ Ok body.now) }
+    ensures bytes { IfSome result
+        (λ body. IsBytes (drop (at - length_bytes - length body.now) content.now)) }
+{
+    if at < HEADER_BYTES + LENGTH_BYTES || at > content.len() as u64 {
+        return None;
+    }
+    let (frame, _rest) = content.split_at(at as usize);
+    let (rest, last) = frame.split_at(frame.len() - LENGTH_BYTES as usize);
+    let length = number_in(last)?;
+    if !fits_before(FileVersion::Two, at, u64::from(length)) {
+        return None;
+    }
+    let (_before, body) = rest.split_at(rest.len() - length as usize);
+    Some(body)
+}
+
+/// Lends the body of the frame that ends at an offset of a content.
+fn body_between(bytes: &SharedBytes, at: u64) -> Option<Body<'_>>
+    ensures body { IfSome result (λ body. body_before version_two bytes.now at ≡ Ok body) }
+    ensures bytes { IfSome result
+        (λ body. IsBytes (drop (at - length_bytes - length body) bytes.now)) }
+{
+    // so that the prover knows that these are bytes
+    let _count = bytes.len();
+    if at < HEADER_BYTES + LENGTH_BYTES {
+        return None;
+    }
+    let whole = bytes.lend();
+    let count = whole.splices_before(at);
+    let (frame, _behind) = whole.cut(at, count)?;
+    let (rest, last) = frame.cut(at - LENGTH_BYTES, count)?;
+    let length = number_of(&last)?;
+    if !fits_before(FileVersion::Two, at, u64::from(length)) {
+        return None;
+    }
+    let start = at - LENGTH_BYTES - u64::from(length);
+    let count = rest.splices_before(start);
+    let (_before, body) = rest.cut(start, count)?;
+    Some(body)
+}
+
+/// Returns the number in four bytes, none of which are shared.
+fn number_of(part: &Body<'_>) -> Option<u32>
+    ensures { IfSome result (λ n. n ≡ from_be_bytes w32 part.now) }
+{
+    match part.own() {
+        [a, b, c, d] if part.len() == 4 => Some(u32::from_be_bytes([*a, *b, *c, *d])),
+        _ => None,
+    }
+}
+
+/// Returns the number in four bytes.
+#[inline(always)]
+fn number_in(bytes: &[u8]) -> Option<u32>
+    ensures { IfSome result (λ n. n ≡ from_be_bytes w32 bytes.now) }
+{
+    match bytes {
+        [a, b, c, d] => Some(u32::from_be_bytes([*a, *b, *c, *d])),
+        _ => None,
+    }
+}
