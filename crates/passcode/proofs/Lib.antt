@@ -1,7 +1,11 @@
-pub mod Counting
-pub mod Directions
-pub mod Filling
+pub mod Agreeing
+pub mod Following
+pub mod Lawful
+pub mod Leaving
 pub mod lists
-pub mod Passes
-pub mod Planned
+pub mod Loops
+pub mod Marks
+pub mod Sampled
 pub mod Slices
+pub mod States
+pub mod Turns

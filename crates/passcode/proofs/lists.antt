@@ -1,9 +1,4 @@
--- Lists of instructions: what they are made of, and that there is one.
-pub mod Agreeing
+-- The lists of code.
 pub mod Collected
-pub mod Members
-pub mod OneList
-pub mod Parts
-pub mod Rising
-pub mod SampleList
+pub mod Counting
 pub mod Shaped

@@ -1,5 +1,5 @@
 -- What the laws state.
-use Rattle.std.specs.Prelude.{ℕ, ◌≡◌, List, Some}
+use Rattle.std.specs.Prelude.{ℕ, ◌≡◌, ◌≤◌, ◌↔◌, List, Some}
 use Rattle.std.specs.List.{count_by}
 use Rattle.ag_grammar.specs.declared.grammar.Production.{Production}
 use Rattle.ag_grammar.specs.grammars.Accepted.{IsAccepted}
@@ -9,13 +9,15 @@ use Rattle.ag_grammar.specs.grammars.Passes.{Passes, IsLegal}
 use Rattle.passcode.specs.declared.instr.Instr.{Instr}
 use Rattle.passcode.specs.Agreement.{IsListFor}
 use Rattle.passcode.specs.Counts.{is_giving}
-use Rattle.passcode.specs.Order.{IsInOrder}
+use Rattle.passcode.specs.Course.{Runs, start}
 
--- The rules of agreement and the order determine the list of a production and a pass, where the grammar is accepted and the
--- assignment legal.
-abbrev pub OneList : Type 0
-OneList = (g : Grammar) (m : Passes) (p k : ℕ) (q : Production) (xs ys : List Instr) → IsAccepted g → IsLegal g m → IsProduction g p q → IsListFor m q k xs → IsInOrder xs → IsListFor m q k ys → IsInOrder ys → xs ≡ ys
+-- Under a legal assignment of an accepted grammar, a list agrees for a production and a pass exactly where it runs from the
+-- start to the end.
+abbrev pub ListsRun : Type 0
+ListsRun = (g : Grammar) (m : Passes) (p k : ℕ) (q : Production) (xs : List Instr) → IsAccepted g → IsLegal g m
+    → IsProduction g p q → 1 ≤ k → IsListFor m q k xs ↔ Runs m q k start xs
 
 -- A list that agrees runs as many rules as the production has in the pass, whether or not the assignment is legal.
 abbrev pub ListsEvaluateRules : Type 0
-ListsEvaluateRules = (m : Passes) (q : Production) (k : ℕ) (xs : List Instr) → IsListFor m q k xs → count_by is_giving xs ≡ pass_rule_count m k (Some q)
+ListsEvaluateRules = (m : Passes) (q : Production) (k : ℕ) (xs : List Instr) → IsListFor m q k xs
+    → count_by is_giving xs ≡ pass_rule_count m k (Some q)

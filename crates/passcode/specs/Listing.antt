@@ -1,115 +1,74 @@
--- How `generate` puts a list together: its instructions have rising keys. A place has keys for its `Get`, for the attributes that
--- it may have, its `Go` and its `Put`; what stands behind all places begins where the keys of so many places as there may be end.
-use Rattle.std.specs.Prelude.{ℕ, zero, suc, ◌≡◌, ◌+◌, ◌-◌, ◌*◌, ◌<◌, ◌⊎◌, ◌↔◌, List, Option, Some, slice_get, length}
-use Rattle.ag_grammar.specs.Lists.{Has}
-use Rattle.ag_grammar.specs.declared.grammar.Item.TheVariants as item
+-- What is left of the list for a production and a pass in a state of a node. At the start it is the list that `generate` makes.
+use Rattle.std.specs.Prelude.{ℕ, suc, ◌≡◌, ◌-◌, Bool, false, cond, nat_eq, List, [], ◌∷◌, ◌++◌, Option, Some, None, length}
+use Rattle.std.specs.List.{flat_map, list_any, position, range_with_len}
 use Rattle.ag_grammar.specs.declared.grammar.Item.{Item}
+use Rattle.ag_grammar.specs.declared.grammar.Item.TheVariants as item
 use Rattle.ag_grammar.specs.declared.grammar.Production.{Production}
-use Rattle.ag_grammar.specs.declared.direction.Direction.{Direction}
-use Rattle.ag_grammar.specs.declared.direction.Direction.TheVariants.{LeftToRight, RightToLeft}
-use Rattle.ag_grammar.specs.grammars.Accepted.{most_attributes, most_stored}
-use Rattle.ag_grammar.specs.grammars.Passes.{Passes, nth}
-use Rattle.passassign.specs.Dependencies.{Adds}
+use Rattle.ag_grammar.specs.declared.grammar.Target.{Target}
+use Rattle.ag_grammar.specs.grammars.AttributeGrammar.{Grammar, IsProduction, item_at}
+use Rattle.ag_grammar.specs.grammars.Counts.{is_pass, pass_at}
+use Rattle.ag_grammar.specs.grammars.Passes.{Passes, item_passes}
 use Rattle.passcode.specs.declared.instr.Instr.{Instr}
 use Rattle.passcode.specs.declared.instr.Instr.TheVariants as instr
-use Rattle.passcode.specs.declared.table.Given.{Given}
-use Rattle.passcode.specs.Agreement.{giving, IsListFor}
-use Rattle.passcode.specs.Order.{IsInOrder}
-use Rattle.passcode.specs.Tables.{given_at}
+use Rattle.passcode.specs.Agreement.{giving}
+use Rattle.passcode.specs.Rows.{Lists, IsListOf}
+use Rattle.passcode.specs.Course.{Phase, Between, Got, Gone, Ended, arity, place_of}
 
--- where a place comes among as many places as there may be, in a direction
-abbrev pub rank : Direction → ℕ → ℕ
-rank LeftToRight j = j
-rank RightToLeft j = most_stored - j
+-- two attributes at places are the same
+abbrev pub is_same : Target → Target → Bool
+is_same o w = cond (nat_eq o.place w.place) (nat_eq o.attr w.attr) false
 
--- how many keys a place has
-abbrev pub place_keys : ℕ
-place_keys = most_attributes + 3
+-- the number of the rule that gives an attribute at a place its value, if one does
+abbrev pub rule_for : Production → Target → Option ℕ
+rule_for q o = position (λ u. is_same u.target o) q.rules
 
--- the key of the first instruction of a place
-abbrev pub first_key : Direction → ℕ → ℕ
-first_key d j = rank d j * place_keys
+-- the instruction of a rule, unless it was run
+abbrev pub instruction_left : List ℕ → Target → Option ℕ → List Instr
+instruction_left done o None = []
+instruction_left done o (Some r) = cond (list_any (nat_eq r) done) [] (giving o.place o.attr r ∷ [])
 
--- the key of a place's `Go`
-abbrev pub go_key : Direction → ℕ → ℕ
-go_key d j = first_key d j + (most_attributes + 1)
+-- the instruction that gives an attribute of pass k its value
+abbrev pub left_for : Passes → Production → ℕ → List ℕ → Target → List Instr
+left_for m q k done o = cond (is_pass k (pass_at m q o)) (instruction_left done o (rule_for q o)) []
 
--- the key of a place's `Put`
-abbrev pub put_key : Direction → ℕ → ℕ
-put_key d j = first_key d j + (most_attributes + 2)
+-- those for the attributes at a place, in their order
+abbrev pub left_at : Passes → Production → ℕ → List ℕ → ℕ → List Instr
+left_at m q k done j = flat_map (λ a. left_for m q k done (record { place = j; attr = a }))
+    (range_with_len 0 (length (item_passes m (item_at q j))))
 
--- the key of the first instruction behind all places
-abbrev pub last_key : ℕ
-last_key = (most_stored + 1) * place_keys
+-- the instructions of a child after its `Get`
+abbrev pub child_part : Passes → Production → ℕ → List ℕ → ℕ → List Instr
+child_part m q k done j = left_at m q k done j ++ instr.Go j ∷ instr.Put j ∷ []
 
--- the key of an instruction
-abbrev pub key_of : Direction → Instr → ℕ
-key_of d (instr.Get j) = first_key d j
-key_of d (instr.Set j a r) = first_key d j + 1 + a
-key_of d (instr.Go j) = go_key d j
-key_of d (instr.Put j) = put_key d j
-key_of d (instr.Def a r) = last_key + a
-key_of d instr.End = last_key + most_attributes
+-- the instructions of a place with this item: the pass has nothing to do in a token
+abbrev pub visit : Passes → Production → ℕ → List ℕ → ℕ → Option Item → List Instr
+visit m q k done j (Some (item.Symbol s)) = instr.Get j ∷ child_part m q k done j
+visit m q k done j (Some (item.Terminal t)) = instr.Get j ∷ instr.Put j ∷ []
+visit m q k done j None = []
 
--- the key of the first instruction that gives an attribute at a place
-abbrev pub giving_key : Direction → ℕ → ℕ
-giving_key d zero = last_key
-giving_key d (suc j) = first_key d (suc j) + 1
+-- the places that come in n turns from a turn on
+abbrev pub visits : Passes → Production → ℕ → List ℕ → (t n : ℕ) → List Instr
+visits m q k done t n = flat_map (λ t. visit m q k done (place_of q k t) (item_at q (place_of q k t))) (range_with_len t n)
 
--- keys rise along a list, and are all below a bound
-pub record AreRising (d : Direction) (bound : ℕ) (xs : List Instr) : Type 0 where
-  pub rise : (m n : ℕ) (x y : Instr) → slice_get xs m ≡ Some x → slice_get xs n ≡ Some y → m < n → key_of d x < key_of d y
-  pub below : (n : ℕ) (x : Instr) → slice_get xs n ≡ Some x → key_of d x < bound
+-- the node's own attributes, and the `End`
+abbrev pub own_part : Passes → Production → ℕ → List ℕ → List Instr
+own_part m q k done = left_at m q k done 0 ++ instr.End ∷ []
 
--- A list goes on by the instructions that are so: where keys rose up to one bound, they now rise up to another.
-pub record Extends (d : Direction) (P : Instr → Type 0) (low high : ℕ) (old new : List Instr) : Type 0 where
-  pub adds : Adds P old new
-  pub rising : AreRising d low old → AreRising d high new
+-- all from a turn on
+abbrev pub left_from : Passes → Production → ℕ → List ℕ → ℕ → List Instr
+left_from m q k done t = visits m q k done t (arity q - t) ++ own_part m q k done
 
--- some number below n is so
-abbrev pub OfFirst : (ℕ → Instr → Type 0) → ℕ → Instr → Type 0
-OfFirst R n i = (a : ℕ) × (a < n) × R a i
+-- what is left in a state
+abbrev pub left_in : Passes → Production → ℕ → Phase → ℕ → List ℕ → List Instr
+left_in m q k Between t done = left_from m q k done t
+left_in m q k Got t done = child_part m q k done (place_of q k t) ++ left_from m q k done (suc t)
+left_in m q k Gone t done = instr.Put (place_of q k t) ∷ left_from m q k done (suc t)
+left_in m q k Ended t done = []
 
--- the instruction that gives an attribute at a place, where a table has it with this pass
-abbrev pub IsGivenBy : List (Option Given) → ℕ → ℕ → ℕ → Instr → Type 0
-IsGivenBy table k j a i = (e : Given) × (given_at table j a ≡ Some e) × (e.pass ≡ k) × (i ≡ giving j a e.rule)
+-- the list for a production and a pass
+abbrev pub list_of : Passes → Production → ℕ → List Instr
+list_of m q k = left_from m q k [] 0
 
--- one that gives some attribute at the place
-abbrev pub GivesAt : List (Option Given) → ℕ → ℕ → Instr → Type 0
-GivesAt table k j = OfFirst (IsGivenBy table k j) most_attributes
-
--- the `Go` of a place, where a declared symbol stands there
-abbrev pub IsGoOf : Item → ℕ → Instr → Type 0
-IsGoOf (item.Symbol s) j i = i ≡ instr.Go j
-IsGoOf (item.Terminal t) j i = ⊥
-
--- an instruction of a place where this item stands
-abbrev pub IsVisit : List (Option Given) → ℕ → ℕ → Item → Instr → Type 0
-IsVisit table k j x i = (i ≡ instr.Get j) ⊎ GivesAt table k j i ⊎ IsGoOf x j i ⊎ (i ≡ instr.Put j)
-
--- the place that comes after so many turns, where there are places below this number
-abbrev pub place_at : Direction → ℕ → ℕ → ℕ
-place_at d count turn = suc (nth d (count - 1) turn)
-
--- where the keys of the place that comes after so many turns begin
-abbrev pub turn_key : Direction → ℕ → ℕ → ℕ
-turn_key LeftToRight count turn = suc turn * place_keys
-turn_key RightToLeft count turn = (most_stored + 1 - (count - turn)) * place_keys
-
--- an instruction of one of the places that come before a turn
-abbrev pub IsVisitBefore : Direction → List (Option Given) → ℕ → List Item → ℕ → Instr → Type 0
-IsVisitBefore d table k places turn i = (t : ℕ) × (x : Item) × (t < turn) × (slice_get places (place_at d (length places) t) ≡ Some x) × IsVisit table k (place_at d (length places) t) x i
-
--- an instruction of the list of a pass
-abbrev pub IsPart : Direction → List (Option Given) → ℕ → List Item → Instr → Type 0
-IsPart d table k places i = IsVisitBefore d table k places (length places - 1) i ⊎ GivesAt table k 0 i ⊎ (i ≡ instr.End)
-
--- a list has the instructions that are so, and their keys rise up to a bound
-pub record IsMadeOf (d : Direction) (P : Instr → Type 0) (bound : ℕ) (xs : List Instr) : Type 0 where
-  pub members : (i : Instr) → Has xs i ↔ P i
-  pub rising : AreRising d bound xs
-
--- a list keeps the rules for a pass, and the order
-pub record IsGenerated (m : Passes) (q : Production) (k : ℕ) (xs : List Instr) : Type 0 where
-  pub list : IsListFor m q k xs
-  pub order : IsInOrder xs
+-- each list of code is the one for its production and its pass
+abbrev pub AreLists : Grammar → Passes → Lists → Type 0
+AreLists g m code = (p k : ℕ) (q : Production) (xs : List Instr) → IsProduction g p q → IsListOf code p k xs → xs ≡ list_of m q k

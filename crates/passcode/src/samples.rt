@@ -5,27 +5,44 @@ ghost use Rattle.ag_grammar.specs.grammars.Counts.{pass_rule_count};
 ghost use Rattle.ag_grammar.specs.grammars.Sample.{sample_passes};
 ghost use Rattle.passcode.specs.Agreement.{IsListFor};
 ghost use Rattle.passcode.specs.Counts.{is_giving};
-ghost use Rattle.passcode.specs.Order.{IsInOrder};
+ghost use Rattle.passcode.specs.Course.{IsVisited, Runs, place_of, start};
+ghost use Rattle.passcode.specs.Listing.{list_of};
 ghost use Rattle.passcode.specs.Sample.{sample_production, sample_list, forward_list, late_list};
+ghost use Rattle.passcode.specs.Sample.{hasty_list, hasty_passes, hasty_production};
 ghost use Rattle.passcode.specs.Sample.{undefined_list};
 
 use ag_grammar::samples::sample_legal;
 
-/// A list for the first production of the first sample keeps the four rules,
-#[tactic(auto, using(crate::proofs::lists::SampleList::agrees))]
+/// The first pass goes from right to left. Of the two places of the first sample's first production
+/// it visits the second one first: after one turn this place was visited, and the first one was not.
+#[tactic(auto, using(crate::proofs::Sampled::sample_visited, crate::proofs::Sampled::sample_unvisited))]
+pub fn sample_turns()
+    ensures turn { place_of sample_production 1 0 ≡ 2 }
+    ensures next { place_of sample_production 1 1 ≡ 1 }
+    ensures visited { IsVisited sample_production 1 1 2 }
+    ensures unvisited { IsVisited sample_production 1 1 1 → ⊥ }
+{}
+
+/// A list for this production runs in that pass,
+#[tactic(auto, using(crate::proofs::Sampled::sample_runs))]
+pub fn sample_runs()
+    ensures { Runs sample_passes sample_production 1 start sample_list }
+{
+    sample_legal();
+}
+
+/// it keeps the four rules,
+#[tactic(auto, using(crate::proofs::Sampled::sample_agrees))]
 pub fn sample_agrees()
     ensures { IsListFor sample_passes sample_production 1 sample_list }
 {
     sample_legal();
 }
 
-/// and the order of `generate`.
-#[tactic(auto, using(crate::proofs::lists::SampleList::ordered))]
-pub fn sample_in_order()
-    ensures { IsInOrder sample_list }
-{
-    sample_legal();
-}
+/// and is the one that `generate` makes.
+pub fn sample_made()
+    ensures { list_of sample_passes sample_production 1 ≡ sample_list }
+{}
 
 /// It runs three rules: the production has three, and all of them are of the first pass.
 pub fn sample_counted()
@@ -34,19 +51,29 @@ pub fn sample_counted()
 {}
 
 /// With its places from left to right it does not agree, since the first pass goes from right to left;
-#[tactic(auto, using(crate::proofs::lists::SampleList::forward_refused))]
+#[tactic(auto, using(crate::proofs::Sampled::forward_refused))]
 pub fn forward_refused()
     ensures { IsListFor sample_passes sample_production 1 forward_list → ⊥ }
 {}
 
-/// nor with an attribute of a child behind the child's `Go`,
-#[tactic(auto, using(crate::proofs::lists::SampleList::late_refused))]
+/// nor with an attribute of a child after the child's `Go`,
+#[tactic(auto, using(crate::proofs::Sampled::late_refused))]
 pub fn late_refused()
     ensures { IsListFor sample_passes sample_production 1 late_list → ⊥ }
 {}
 
 /// nor without the rule for `out`.
-#[tactic(auto, using(crate::proofs::lists::SampleList::undefined_refused))]
+#[tactic(auto, using(crate::proofs::Sampled::undefined_refused))]
 pub fn undefined_refused()
     ensures { IsListFor sample_passes sample_production 1 undefined_list → ⊥ }
+{
+    sample_legal();
+}
+
+/// Agreement alone is not enough if the assignment is not legal: a list agrees, though a rule of the
+/// first pass uses what the second one gives the node itself, and does not run.
+#[tactic(auto, using(crate::proofs::Sampled::hasty_agrees, crate::proofs::Sampled::hasty_stops))]
+pub fn legality_is_needed()
+    ensures agrees { IsListFor hasty_passes hasty_production 1 hasty_list }
+    ensures stops { Runs hasty_passes hasty_production 1 start hasty_list → ⊥ }
 {}

@@ -1,7 +1,8 @@
 pub mod Checked
+pub mod Completing
 pub mod courses
+pub mod Lists
 pub mod Loops
 pub mod Marked
-pub mod Sampled
 pub mod Strikes
 pub mod Taken

@@ -11,16 +11,29 @@ use Rattle.planchecker.specs.Marking.{IsMarked}
 pub none_marked : (n k : ℕ) → is_marked (replicate n false) k ≡ true → ⊥
 none_marked n k e = elim (cases_lt k n) [
   | inl lt ↦ false≢true (sym (get_or-replicate n k false false lt) ∙ e)
-  | inr le ↦ false≢true (sym (get_or_past (replicate n false) k false (subst (λ m. m ≤ k) (sym (length-replicate n false)) le)) ∙ e)
+  | inr le ↦ false≢true
+      (sym (get_or_past (replicate n false) k false (subst (λ m. m ≤ k) (sym (length-replicate n false)) le)) ∙ e)
 ]
 
-pub mark_more : (slots : List Bool) (symbol attr : ℕ) → symbol < most_symbols → attr < most_attributes → slot_of symbol attr < length slots → (s a : ℕ) → IsMarked (record { slots = set slots (slot_of symbol attr) true }) s a ↔ (IsMarked (record { slots = slots }) s a ⊎ ((symbol ≡ s) × (attr ≡ a)))
+pub mark_more : (slots : List Bool) (symbol attr : ℕ) → symbol < most_symbols → attr < most_attributes
+    → slot_of symbol attr < length slots → (s a : ℕ) → IsMarked (record { slots = set slots (slot_of symbol attr) true }) s a
+    ↔ (IsMarked (record { slots = slots }) s a ⊎ ((symbol ≡ s) × (attr ≡ a)))
 mark_more slots symbol attr ls la within s a = elim (cases_eq (slot_of s a) (slot_of symbol attr)) [
   | inl same ↦ (
     (λ h. inr (slot_same symbol attr s a la h.1 (sym same))),
     (λ h. elim h [
-      | inl m ↦ (m.0, m.1, subst (λ k. is_marked (set slots (slot_of symbol attr) true) k ≡ true) (sym same) (get_or-set_same slots (slot_of symbol attr) true false within))
-      | inr e ↦ (subst (λ s. s < most_symbols) e.0 ls, subst (λ a. a < most_attributes) e.1 la, subst (λ k. is_marked (set slots (slot_of symbol attr) true) k ≡ true) (sym same) (get_or-set_same slots (slot_of symbol attr) true false within))
+      | inl m ↦ (
+        m.0,
+        m.1,
+        subst (λ k. is_marked (set slots (slot_of symbol attr) true) k ≡ true) (sym same)
+            (get_or-set_same slots (slot_of symbol attr) true false within),
+      )
+      | inr e ↦ (
+        subst (λ s. s < most_symbols) e.0 ls,
+        subst (λ a. a < most_attributes) e.1 la,
+        subst (λ k. is_marked (set slots (slot_of symbol attr) true) k ≡ true) (sym same)
+            (get_or-set_same slots (slot_of symbol attr) true false within),
+      )
     ]),
   )
   | inr other ↦ (

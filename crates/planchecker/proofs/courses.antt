@@ -1,9 +1,2 @@
--- Which lists can be followed, and that an agreeing one can.
-pub mod Completing
-pub mod Due
-pub mod Followed
-pub mod Fronts
-pub mod Sorting
+-- Lists of a plan, as passrun's proofs follow them.
 pub mod Sounding
-pub mod Stepwise
-pub mod Turns

@@ -1,10 +1,10 @@
 pub mod Agreeing
 pub mod courses
 pub mod First
+pub mod Following
 pub mod Laws
 pub mod Legality
 pub mod Marking
 pub mod Plans
-pub mod Sample
 pub mod Shapes
 pub mod Striking

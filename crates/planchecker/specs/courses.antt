@@ -1,5 +1,3 @@
--- How a list of instructions is followed at a node.
-pub mod Course
-pub mod Following
+-- What a pass works by, and what it asks of it.
 pub mod Settings
 pub mod Sound

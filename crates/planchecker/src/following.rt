@@ -1,4 +1,4 @@
-//! Which instruction of a list is the first that can't stand where it does.
+//! Which instruction of a list is the first that can't come next.
 
 ghost use Rattle.std.specs.Prelude.{ℕ, ◌≡◌, ◌<◌, ◌≤◌, ◌↔◌, IsTrue, Some, length, slice_get};
 ghost use Rattle.ag_grammar.specs.Lists.{Has};
@@ -6,172 +6,129 @@ ghost use Rattle.ag_grammar.specs.declared.grammar.Target.{Target as TheTarget};
 ghost use Rattle.ag_grammar.specs.grammars.Accepted.{most_passes, most_rules};
 ghost use Rattle.ag_grammar.specs.grammars.Passes.{HasPass};
 ghost use Rattle.passassign.specs.Rows.{passes_of};
-ghost use Rattle.passcode.specs.Agreement.{HasPlace, IsAtHand, IsChild, StandsBefore};
-ghost use Rattle.passcode.specs.Agreement.{instruction_of};
+ghost use Rattle.passcode.specs.Agreement.{IsRuleAt};
+ghost use Rattle.passcode.specs.Course.{AreGiven, IsAtHand, IsTurnOf, IsVisited, MayGive};
+ghost use Rattle.passcode.specs.Course.{MayRun, after, arity, place_of, run_count};
+ghost use Rattle.passcode.specs.Limits.{IsPlanned};
 ghost use Rattle.passcode.specs.Rows.{row_of};
-ghost use Rattle.passcode.specs.Tables.{IsPlanned};
 ghost use Rattle.passcode.specs.declared.instr.Instr.TheVariants as instr;
 ghost use Rattle.planchecker.specs.Agreeing.{IsListWrongOrNone, IsWrongOrNone};
-ghost use Rattle.planchecker.specs.courses.Following.{AreGiven, ArePut, ArePutBefore, IsDue, IsOwnRule};
-ghost use Rattle.planchecker.specs.courses.Following.{IsReady, IsWithin};
+ghost use Rattle.planchecker.specs.Following.{IsOnWay, RunsRule, state_of};
 
-use crate::legality::pass_of;
-use crate::listed::stands_before;
-use ag_grammar::limits::MOST_STORED;
-use ag_grammar::{Direction, Item, Production, Rule, Target};
+use ag_grammar::{Direction, Item, Production, Target};
 use passassign::Assignment;
-use passcode::{Instr, instruction};
+use passcode::{Course, Instr, Phase, arity, is_same};
 
-/// The first number that no place of a right side has.
-const PLACES_END: u16 = MOST_STORED as u16 + 1;
-
-/// The right side has this place.
-fn is_place(production: &Production, place: u16) -> bool
-    ensures { IsTrue result ↔ HasPlace production.now place }
-{
-    if place == 0 {
-        return false;
-    }
-    match production.item_at(place) {
-        Some(_) => true,
-        None => false,
-    }
-}
-
-/// A declared symbol stands at this place of the right side.
-fn is_child(production: &Production, place: u16) -> bool
-    ensures { IsTrue result ↔ IsChild production.now place }
-{
-    if place == 0 {
-        return false;
-    }
-    match production.item_at(place) {
-        Some(Item::Symbol(_)) => true,
-        Some(Item::Terminal(_)) => false,
-        None => false,
-    }
-}
-
-/// An index of a list for a production and a pass, and the assignment with which the list is to
-/// agree.
+/// A node on its way along a list of instructions, of which it has run those before an index.
 #[derive(Clone, Copy)]
-pub(crate) struct At<'a> {
-    pub assignment: &'a Assignment,
-    pub production: &'a Production,
-    pub pass: u16,
+pub(crate) struct Node<'a> {
+    pub course: Course<'a>,
+    pub children: usize,
     pub list: &'a [Instr],
-    pub end: usize,
+    pub index: usize,
+    pub phase: Phase,
+    pub turn: usize,
 }
 
-impl At<'_> {
-    /// An attribute at a place has the pass.
-    fn has_pass(&self, target: Target) -> bool
-        ensures { IsTrue result ↔ HasPass (passes_of self.now.assignment.now)
-            self.now.production.now target self.now.pass }
+/// Whether an instruction runs the rule with a number.
+fn runs_rule(one: Instr, number: u16) -> bool
+    ensures { IsTrue result ↔ RunsRule one number }
+{
+    match one {
+        Instr::Set {
+            place: _,
+            attr: _,
+            rule,
+        } => rule == number,
+        Instr::Def { attr: _, rule } => rule == number,
+        Instr::Get(_) => false,
+        Instr::Go(_) => false,
+        Instr::Put(_) => false,
+        Instr::End => false,
+    }
+}
+
+impl Node<'_> {
+    /// Returns the place of the child that the pass visits after `turn` others.
+    fn place(&self, turn: usize) -> u16
+        requires way { IsOnWay self.now }
+        requires within { turn < self.now.children }
+        ensures { result ≡ place_of self.now.course.production.now self.now.course.pass turn }
     {
-        match pass_of(self.assignment, self.production, target) {
-            Some(own) => own == self.pass,
-            None => false,
-        }
+        1 + Direction::of_pass(self.course.pass).nth(self.children, turn) as u16
     }
 
-    /// An instruction stands in front of the index.
-    fn is_behind(&self, one: Instr) -> bool
-        requires fits { IsWithin self.now }
-        ensures { IsTrue result ↔ StandsBefore self.now.list.now self.now.end one }
+    /// Whether the node is in a phase, and this is the place of the child whose turn it is.
+    fn is_turn_of(&self, phase: Phase, place: u16) -> bool
+        requires { IsOnWay self.now }
+        ensures { IsTrue result ↔ IsTurnOf self.now.course.production.now self.now.course.pass
+            (state_of self.now) phase place }
     {
-        stands_before(self.list, self.end, one)
+        self.phase == phase && self.turn < self.children && place == self.place(self.turn)
     }
 
-    /// A place is done with, if it is one.
-    fn is_put(&self, place: u16) -> bool
-        requires fits { IsWithin self.now }
-        ensures { IsTrue result ↔ (HasPlace self.now.production.now place
-            → StandsBefore self.now.list.now self.now.end (instr.Put place)) }
+    /// Whether the rule with a number was run.
+    fn was_run(&self, number: u16) -> bool
+        requires { IsOnWay self.now }
+        ensures { IsTrue result ↔ Has (state_of self.now).done number }
     {
-        !is_place(self.production, place) || self.is_behind(Instr::Put(place))
-    }
-
-    /// The places that the pass visits before one are done with.
-    fn are_put_before(&self, place: u16) -> bool
-        requires fits { IsWithin self.now }
-        ensures { IsTrue result ↔ ArePutBefore self.now.production.now self.now.pass
-            self.now.list.now self.now.end place }
-    {
-        for other in 1..PLACES_END {
-            if Direction::of_pass(self.pass).is_before(other, place) && !self.is_put(other) {
-                return false;
+        for index in 0..self.index {
+            if runs_rule(self.list[index], number) {
+                return true;
             }
         }
-        true
+        false
     }
 
-    /// All places are done with.
-    fn are_put(&self) -> bool
-        requires fits { IsWithin self.now }
-        ensures { IsTrue result ↔ ArePut self.now.production.now self.now.list.now self.now.end }
+    /// Returns the number of children in which the pass has run.
+    fn run_count(&self) -> usize
+        requires { IsOnWay self.now }
+        ensures count { result ≡ run_count self.now.phase self.now.turn }
+        ensures within { result ≤ self.now.children }
     {
-        for place in 1..PLACES_END {
-            if !self.is_put(place) {
-                return false;
+        match self.phase {
+            Phase::Gone => self.turn + 1,
+            Phase::Between => self.turn,
+            Phase::Got => self.turn,
+            Phase::Ended => self.turn,
+        }
+    }
+
+    /// Whether the pass has run in the child at a place.
+    fn is_visited(&self, place: u16) -> bool
+        requires { IsOnWay self.now }
+        ensures { IsTrue result ↔ IsVisited self.now.course.production.now self.now.course.pass
+            (run_count self.now.phase self.now.turn) place }
+    {
+        for turn in 0..self.run_count() {
+            if self.place(turn) == place {
+                return true;
             }
         }
-        true
+        false
     }
 
-    /// A rule of the pass with a target at a place is done with, if it is one.
-    fn is_given(&self, place: u16, number: u16, rule: &Rule) -> bool
-        requires fits { IsWithin self.now }
-        ensures { IsTrue result ↔ (rule.now.target.place ≡ place
-            → HasPass (passes_of self.now.assignment.now) self.now.production.now
-            rule.now.target self.now.pass
-            → StandsBefore self.now.list.now self.now.end (instruction_of rule.now number)) }
+    /// Whether an attribute at a place is at hand.
+    fn is_at_hand(&self, target: Target) -> bool
+        requires { IsOnWay self.now }
+        ensures { IsTrue result ↔ IsAtHand (passes_of self.now.course.assignment.now)
+            self.now.course.production.now self.now.course.pass (state_of self.now) target }
     {
-        let target = rule.target;
-        if target.place != place || !self.has_pass(target) {
-            return true;
-        }
-        self.is_behind(instruction(target.place, target.attr, number))
-    }
-
-    /// All rules of the pass with a target at a place are done with.
-    fn are_given(&self, place: u16) -> bool
-        requires fits { IsWithin self.now }
-        ensures { IsTrue result ↔ AreGiven (passes_of self.now.assignment.now)
-            self.now.production.now self.now.pass self.now.list.now self.now.end place }
-    {
-        for (number, rule) in self.production.rules.as_slice().iter().enumerate() {
-            if !self.is_given(place, number as u16, rule) {
-                return false;
-            }
-        }
-        true
-    }
-
-    /// An attribute at a place is at hand.
-    fn is_at_hand(&self, argument: Target) -> bool
-        requires fits { IsWithin self.now }
-        ensures { IsTrue result ↔ IsAtHand (passes_of self.now.assignment.now)
-            self.now.production.now self.now.pass self.now.list.now self.now.end argument }
-    {
-        if argument.place == 0 {
-            return true;
-        }
-        let Some(used) = pass_of(self.assignment, self.production, argument) else {
+        let Some(pass) = self.course.pass_of(target) else {
             return false;
         };
-        if used < self.pass {
+        if pass < self.course.pass {
             return true;
         }
-        used == self.pass && self.is_behind(Instr::Go(argument.place))
+        pass == self.course.pass && (target.place == 0 || self.is_visited(target.place))
     }
 
-    /// All arguments of a rule are at hand.
+    /// Whether all arguments of a rule are at hand.
     fn are_at_hand(&self, arguments: &[Target]) -> bool
-        requires fits { IsWithin self.now }
-        ensures { IsTrue result ↔ ((o : TheTarget) → Has arguments.now o
-            → IsAtHand (passes_of self.now.assignment.now) self.now.production.now self.now.pass
-            self.now.list.now self.now.end o) }
+        requires { IsOnWay self.now }
+        ensures { IsTrue result ↔ ((o : TheTarget) → Has arguments.now o → IsAtHand
+            (passes_of self.now.course.assignment.now) self.now.course.production.now
+            self.now.course.pass (state_of self.now) o) }
     {
         for argument in arguments {
             if !self.is_at_hand(*argument) {
@@ -181,145 +138,189 @@ impl At<'_> {
         true
     }
 
-    /// A rule of this number gives an attribute in the pass, and its arguments are at hand.
-    fn is_own_rule(&self, target: Target, number: u16) -> bool
-        requires fits { IsWithin self.now }
-        ensures { IsTrue result ↔ IsOwnRule (passes_of self.now.assignment.now)
-            self.now.production.now self.now.pass self.now.list.now self.now.end target.place
-            target.attr number }
+    /// Whether the rule with a number may give an attribute at a place its value.
+    fn may_give(&self, target: Target, number: u16) -> bool
+        requires { IsOnWay self.now }
+        ensures { IsTrue result ↔ MayGive (passes_of self.now.course.assignment.now)
+            self.now.course.production.now self.now.course.pass (state_of self.now)
+            target.place target.attr number }
     {
-        let rules = self.production.rules.as_slice();
-        if number as usize >= rules.len() {
+        let rules = self.course.production.rules.as_slice();
+        if number as usize >= rules.len() || self.was_run(number) {
             return false;
         }
         let rule = &rules[number as usize];
-        let own = rule.target;
-        if own.place != target.place || own.attr != target.attr {
-            return false;
-        }
-        if !self.has_pass(own) {
+        if !is_same(rule.target, target) || !self.course.has_pass(rule.target) {
             return false;
         }
         self.are_at_hand(rule.args.as_slice())
     }
 
-    /// A `Set` has what it needs.
-    fn is_set_ready(&self, target: Target, number: u16) -> bool
-        requires fits { IsWithin self.now }
-        ensures { IsTrue result ↔ IsReady (passes_of self.now.assignment.now)
-            self.now.production.now self.now.pass self.now.list.now self.now.end
-            (instr.Set target.place target.attr number) }
+    /// Whether a rule was run, if its target is of the pass.
+    fn is_given(&self, number: u16, target: Target) -> bool
+        requires { IsOnWay self.now }
+        ensures { IsTrue result ↔ (HasPass (passes_of self.now.course.assignment.now)
+            self.now.course.production.now target self.now.course.pass
+            → Has (state_of self.now).done number) }
     {
-        if target.place == 0 || !self.is_behind(Instr::Get(target.place)) {
-            return false;
-        }
-        if self.is_behind(Instr::Go(target.place)) {
-            return false;
-        }
-        self.is_own_rule(target, number)
+        !self.course.has_pass(target) || self.was_run(number)
     }
 
-    /// A `Go` has what it needs.
-    fn is_go_ready(&self, place: u16) -> bool
-        requires fits { IsWithin self.now }
-        ensures { IsTrue result ↔ IsReady (passes_of self.now.assignment.now)
-            self.now.production.now self.now.pass self.now.list.now self.now.end
-            (instr.Go place) }
+    /// Whether each rule of the pass with a target at a place was run.
+    fn are_given(&self, place: u16) -> bool
+        requires { IsOnWay self.now }
+        ensures { IsTrue result ↔ AreGiven (passes_of self.now.course.assignment.now)
+            self.now.course.production.now self.now.course.pass (state_of self.now) place }
     {
-        if !is_child(self.production, place) || !self.is_behind(Instr::Get(place)) {
-            return false;
+        for (number, rule) in self.course.production.rules.as_slice().iter().enumerate() {
+            if rule.target.place == place && !self.is_given(number as u16, rule.target) {
+                return false;
+            }
         }
-        self.are_given(place)
+        true
     }
 
-    /// A `Put` has what it needs.
-    fn is_put_ready(&self, place: u16) -> bool
-        requires fits { IsWithin self.now }
-        ensures { IsTrue result ↔ IsReady (passes_of self.now.assignment.now)
-            self.now.production.now self.now.pass self.now.list.now self.now.end
-            (instr.Put place) }
+    /// Whether each rule of the pass was run.
+    fn are_all_given(&self) -> bool
+        requires { IsOnWay self.now }
+        ensures { IsTrue result ↔ ((j : ℕ) → AreGiven (passes_of self.now.course.assignment.now)
+            self.now.course.production.now self.now.course.pass (state_of self.now) j) }
     {
-        if !is_place(self.production, place) || !self.is_behind(Instr::Get(place)) {
-            return false;
+        for (number, rule) in self.course.production.rules.as_slice().iter().enumerate() {
+            if !self.is_given(number as u16, rule.target) {
+                return false;
+            }
         }
-        !is_child(self.production, place) || self.is_behind(Instr::Go(place))
+        true
     }
 
-    /// An instruction has what it needs.
-    fn is_ready(&self, one: Instr) -> bool
-        requires fits { IsWithin self.now }
-        ensures { IsTrue result ↔ IsReady (passes_of self.now.assignment.now)
-            self.now.production.now self.now.pass self.now.list.now self.now.end one }
+    /// Whether `End` may come next.
+    fn may_end(&self) -> bool
+        requires { IsOnWay self.now }
+        ensures { IsTrue result ↔ MayRun (passes_of self.now.course.assignment.now)
+            self.now.course.production.now self.now.course.pass (state_of self.now) instr.End }
+    {
+        match self.phase {
+            Phase::Between => self.turn == self.children && self.are_all_given(),
+            Phase::Got => false,
+            Phase::Gone => false,
+            Phase::Ended => false,
+        }
+    }
+
+    /// Whether an instruction may come next.
+    fn may_run(&self, one: Instr) -> bool
+        requires { IsOnWay self.now }
+        ensures { IsTrue result ↔ MayRun (passes_of self.now.course.assignment.now)
+            self.now.course.production.now self.now.course.pass (state_of self.now) one }
     {
         match one {
-            Instr::Get(place) => is_place(self.production, place) && self.are_put_before(place),
-            Instr::Set { place, attr, rule } => self.is_set_ready(Target { place, attr }, rule),
-            Instr::Go(place) => self.is_go_ready(place),
-            Instr::Put(place) => self.is_put_ready(place),
-            Instr::Def { attr, rule } => self.is_own_rule(Target { place: 0, attr }, rule),
-            Instr::End => self.are_put() && self.are_given(0),
+            Instr::Get(place) => self.is_turn_of(Phase::Between, place),
+            Instr::Set { place, attr, rule } => {
+                self.is_turn_of(Phase::Got, place) && self.may_give(Target { place, attr }, rule)
+            }
+            Instr::Go(place) => self.is_turn_of(Phase::Got, place) && self.are_given(place),
+            Instr::Put(place) => self.is_turn_of(Phase::Gone, place),
+            Instr::Def { attr, rule } => {
+                self.phase != Phase::Ended && self.may_give(Target { place: 0, attr }, rule)
+            }
+            Instr::End => self.may_end(),
         }
     }
 
-    /// An instruction may stand at the index.
-    pub(crate) fn is_due(&self, one: Instr) -> bool
-        requires fits { IsWithin self.now }
-        ensures { IsTrue result ↔ IsDue (passes_of self.now.assignment.now)
-            self.now.production.now self.now.pass self.now.list.now self.now.end one }
+    /// Returns the phase after an instruction.
+    fn phase_after(&self, one: Instr) -> Phase
+        requires { IsOnWay self.now }
+        ensures { result ≡ (after self.now.course.production.now (state_of self.now) one).phase }
     {
-        if self.is_behind(Instr::End) || self.is_behind(one) {
-            return false;
+        match one {
+            Instr::Get(place) => match self.course.production.item_at(place) {
+                Some(Item::Symbol(_)) => Phase::Got,
+                Some(Item::Terminal(_)) => Phase::Gone,
+                None => Phase::Gone,
+            },
+            Instr::Go(_) => Phase::Gone,
+            Instr::Put(_) => Phase::Between,
+            Instr::End => Phase::Ended,
+            Instr::Set {
+                place: _,
+                attr: _,
+                rule: _,
+            } => self.phase,
+            Instr::Def { attr: _, rule: _ } => self.phase,
         }
-        self.is_ready(one)
+    }
+
+    /// Returns the number of complete children after an instruction.
+    fn turn_after(&self, one: Instr) -> usize
+        requires { IsOnWay self.now }
+        ensures { result ≡ (after self.now.course.production.now (state_of self.now) one).turn }
+    {
+        match one {
+            Instr::Put(_) => self.turn + 1,
+            Instr::Get(_) => self.turn,
+            Instr::Go(_) => self.turn,
+            Instr::End => self.turn,
+            Instr::Set {
+                place: _,
+                attr: _,
+                rule: _,
+            } => self.turn,
+            Instr::Def { attr: _, rule: _ } => self.turn,
+        }
     }
 }
 
-/// The first index at which no list that agrees goes on as this one does.
-fn first_wrong(
-    assignment: &Assignment,
-    production: &Production,
-    pass: u16,
-    list: &[Instr],
-) -> Option<usize>
-    requires planned { IsPlanned (passes_of assignment.now) production.now }
-    requires rules { length production.now.rules ≤ most_rules }
-    requires pass { 1 ≤ pass }
-    ensures { IsWrongOrNone (passes_of assignment.now) production.now pass list.now result }
+/// Returns the first index at which no list that agrees goes on as this one does.
+fn first_wrong(course: &Course, list: &[Instr]) -> Option<usize>
+    requires planned { IsPlanned (passes_of course.now.assignment.now) course.now.production.now }
+    requires pass { 1 ≤ course.now.pass }
+    ensures { IsWrongOrNone (passes_of course.now.assignment.now) course.now.production.now
+        course.now.pass list.now result }
 {
-    for end in 0..list.len() {
-        let at = At {
-            assignment,
-            production,
-            pass,
+    let children = arity(course.production);
+    let mut phase = Phase::Between;
+    let mut turn = 0;
+    for index in 0..list.len() {
+        let node = Node {
+            course: *course,
+            children,
             list,
-            end,
+            index,
+            phase,
+            turn,
         };
-        if !at.is_due(list[end]) {
-            return Some(end);
+        if !node.may_run(list[index]) {
+            return Some(index);
         }
+        phase = node.phase_after(list[index]);
+        turn = node.turn_after(list[index]);
     }
-    if stands_before(list, list.len(), Instr::End) {
-        None
-    } else {
-        Some(list.len())
+    match phase {
+        Phase::Ended => None,
+        _ => Some(list.len()),
     }
 }
 
-/// The first list of a production that does not agree, by its pass, and the first index at which
-/// no list that agrees goes on as it does.
+/// Returns the pass of the first list of a production that does not agree, and the first index at
+/// which no list that agrees goes on as it does.
 pub(crate) fn first_list(
     assignment: &Assignment,
     production: &Production,
     lists: &[Vec<Instr>],
 ) -> Option<(u16, usize)>
     requires planned { IsPlanned (passes_of assignment.now) production.now }
-    requires rules { length production.now.rules ≤ most_rules }
     requires few { length lists.now ≤ most_passes }
     ensures { IsListWrongOrNone (passes_of assignment.now) production.now (row_of lists.now) result }
 {
     for (index, list) in lists.iter().enumerate() {
         let pass = index as u16 + 1;
-        if let Some(at) = first_wrong(assignment, production, pass, list.as_slice()) {
+        let course = Course {
+            assignment,
+            production,
+            pass,
+        };
+        if let Some(at) = first_wrong(&course, list.as_slice()) {
             return Some((pass, at));
         }
     }

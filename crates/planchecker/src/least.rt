@@ -11,10 +11,9 @@ ghost use Rattle.passassign.specs.Rows.{numbers_of, passes_of};
 ghost use Rattle.planchecker.specs.First.{EachAt};
 ghost use Rattle.planchecker.specs.Marking.{IsMarked};
 
-use crate::legality::pass_at;
 use crate::marks::Marks;
 use crate::striking::{Candidates, marks_of};
-use ag_grammar::{Direction, Grammar};
+use ag_grammar::{Direction, Grammar, Item};
 use ag_value::Items;
 use passassign::laws::none_is_earlier;
 use passassign::{Assignment, Strike, Strikes};
@@ -33,14 +32,14 @@ impl Candidates for PassCandidates<'_> {
     ghost later = { λ x. HasPassAfter (passes_of x.assignment.now) x.pass };
 
     fn is_candidate(&self, symbol: u16, attr: u16) -> bool {
-        match pass_at(self.assignment.rows(), symbol, attr) {
+        match self.assignment.pass_of(Item::Symbol(symbol), attr) {
             Some(own) => self.pass <= own,
             None => false,
         }
     }
 
     fn is_later(&self, symbol: u16, attr: u16) -> bool {
-        match pass_at(self.assignment.rows(), symbol, attr) {
+        match self.assignment.pass_of(Item::Symbol(symbol), attr) {
             Some(own) => self.pass < own,
             None => false,
         }

@@ -7,10 +7,8 @@ mod following;
 pub mod laws;
 mod least;
 mod legality;
-mod listed;
 mod marks;
 mod plan;
-pub mod samples;
 mod shape;
 mod striking;
 

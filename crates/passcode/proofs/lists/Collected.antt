@@ -1,59 +1,59 @@
 -- The lists of a production, and those of all productions, as they are collected.
-use Rattle.std.proofs.Common.{ℕ, ◌≡◌, ◌+◌, ◌-◌, ◌≤◌, ◌⊎◌, ◌++◌, List, [], ◌∷◌, Option, Some, slice_get, get_or, length, inl, inr, ap, ◌∙◌, sym, subst, arith}
+use Rattle.std.proofs.Common.{ℕ, ◌≡◌, ◌+◌, ◌-◌, ◌⊎◌, ◌++◌, List, [], ◌∷◌, Some, slice_get, get_or, length, inl, inr, ap, ◌∙◌, sym}
+use Rattle.std.proofs.Common.{subst, arith}
 use Rattle.std.proofs.lemmas.Bool.{cases_lt}
 use Rattle.std.proofs.lemmas.List.{map_push, length-map, get_or_past}
 use Rattle.std.proofs.lemmas.Option.{slice_get-get_or, slice_get_cases}
 use Rattle.std.specs.Global.{Vec}
 use Rattle.ag_grammar.specs.Lists.{Each}
-use Rattle.ag_grammar.specs.declared.grammar.Item.{Item}
 use Rattle.ag_grammar.specs.declared.grammar.Production.{Production}
 use Rattle.ag_grammar.specs.grammars.AttributeGrammar.{Grammar}
-use Rattle.ag_grammar.specs.grammars.Passes.{Passes, direction_of}
+use Rattle.ag_grammar.specs.grammars.Passes.{Passes}
 use Rattle.passassign.proofs.slots.Lists.{get_push_cases}
-use Rattle.ag_grammar.specs.grammars.AttributeGrammar.{places_of}
 use Rattle.passcode.specs.declared.instr.Instr.{Instr}
-use Rattle.passcode.specs.declared.table.Given.{Given}
-use Rattle.passcode.specs.Agreement.{Agrees}
-use Rattle.passcode.specs.Listing.{IsGenerated, IsMadeOf, IsPart}
-use Rattle.passcode.specs.Order.{AreInOrder}
+use Rattle.passcode.specs.Listing.{AreLists, list_of}
 use Rattle.passcode.specs.Rows.{Lists, IsListOf, row_of, rows_of}
-use Rattle.passcode.specs.Tables.{IsPlanned, IsTable}
-use Rattle.passcode.proofs.lists.Agreeing.{generated}
+
+-- the list of a production and a pass
+abbrev pub IsGenerated : Passes → Production → ℕ → List Instr → Type 0
+IsGenerated m q k xs = xs ≡ list_of m q k
 
 -- a list more is collected
-pub lists_more : (m : Passes) (q : Production) (n : ℕ) (lists new : List (Vec Instr)) (one : Vec Instr) → new ≡ lists ++ one ∷ [] → length lists ≡ n → IsGenerated m q (n + 1) one.items
-    → ((i : ℕ) (xs : List Instr) → slice_get (row_of lists) i ≡ Some xs → IsGenerated m q (i + 1) xs) → (i : ℕ) (xs : List Instr) → slice_get (row_of new) i ≡ Some xs → IsGenerated m q (i + 1) xs
-lists_more m q n lists new one put len here before i xs is = elim (get_push_cases (row_of lists) one.items xs i (ap (λ r. slice_get r i) (sym row) ∙ is)) [
-  | inl old ↦ before i xs old
-  | inr last ↦ (
-      let a = last.0 in
-      let b : length (row_of lists) ≡ length lists = length-map lists (λ (v : Vec Instr). v.items) in
-      let at : n ≡ i = omega arith in
-      subst (IsGenerated m q (i + 1)) last.1 (subst (λ k. IsGenerated m q (k + 1) one.items) at here))
-]
+pub lists_more : (m : Passes) (q : Production) (n : ℕ) (lists new : List (Vec Instr)) (one : Vec Instr) → new ≡ lists ++ one ∷ []
+    → length lists ≡ n → IsGenerated m q (n + 1) one.items
+    → ((i : ℕ) (xs : List Instr) → slice_get (row_of lists) i ≡ Some xs → IsGenerated m q (i + 1) xs) → (i : ℕ) (xs : List Instr)
+    → slice_get (row_of new) i ≡ Some xs → IsGenerated m q (i + 1) xs
+lists_more m q n lists new one put len here before i xs is =
+    elim (get_push_cases (row_of lists) one.items xs i (ap (λ r. slice_get r i) (sym row) ∙ is)) [
+      | inl old ↦ before i xs old
+      | inr last ↦ (
+          let a = last.0 in
+          let b : length (row_of lists) ≡ length lists = length-map lists (λ (v : Vec Instr). v.items) in
+          let at : n ≡ i = omega arith in
+          subst (IsGenerated m q (i + 1)) last.1 (subst (λ k. IsGenerated m q (k + 1) one.items) at here))
+    ]
   where
     row : row_of new ≡ row_of lists ++ one.items ∷ []
     row = ap row_of put ∙ map_push (λ (v : Vec Instr). v.items) lists one
 
--- a list that is put together of the parts that a production's table and places give
-pub list_generated : (m : Passes) (q : Production) (k : ℕ) (table rules : List (Option Given)) (places items : List Item) (xs : List Instr) → IsPlanned m q → IsTable m q rules → table ≡ rules → places ≡ items → items ≡ places_of q → 1 ≤ k
-    → IsMadeOf (direction_of k) (IsPart (direction_of k) table k places) 340 xs → IsGenerated m q k xs
-list_generated m q k table rules places items xs planned t same are of one made =
-    generated m q k rules xs planned t one (subst (λ r. IsMadeOf (direction_of k) (IsPart (direction_of k) r k (places_of q)) 340 xs) same (subst (λ ps. IsMadeOf (direction_of k) (IsPart (direction_of k) table k ps) 340 xs) (are ∙ of) made))
-
--- The rows of some productions: each has so many lists, which are generated.
+-- The rows of some productions: each has as many lists as there are passes, which are generated.
 pub record AreCollected (m : Passes) (passes : ℕ) (productions : List Production) (rows : Lists) : Type 0 where
   pub lengths : Each (λ row. length row ≡ passes) rows
-  pub lists : (p i : ℕ) (q : Production) (row : List (List Instr)) (xs : List Instr) → slice_get productions p ≡ Some q → slice_get rows p ≡ Some row → slice_get row i ≡ Some xs → IsGenerated m q (i + 1) xs
+  pub lists : (p i : ℕ) (q : Production) (row : List (List Instr)) (xs : List Instr) → slice_get productions p ≡ Some q
+      → slice_get rows p ≡ Some row → slice_get row i ≡ Some xs → IsGenerated m q (i + 1) xs
 
-pub rows_more : (m : Passes) (passes n : ℕ) (productions : List Production) (q : Production) (rows new : List (Vec (Vec Instr))) (one : Vec (Vec Instr)) → new ≡ rows ++ one ∷ [] → length rows ≡ n → slice_get productions n ≡ Some q → length one.items ≡ passes
-    → ((i : ℕ) (xs : List Instr) → slice_get (row_of one.items) i ≡ Some xs → IsGenerated m q (i + 1) xs) → AreCollected m passes productions (rows_of rows) → AreCollected m passes productions (rows_of new)
+pub rows_more : (m : Passes) (passes n : ℕ) (productions : List Production) (q : Production) (rows new : List (Vec (Vec Instr)))
+    (one : Vec (Vec Instr)) → new ≡ rows ++ one ∷ [] → length rows ≡ n → slice_get productions n ≡ Some q
+    → length one.items ≡ passes
+    → ((i : ℕ) (xs : List Instr) → slice_get (row_of one.items) i ≡ Some xs → IsGenerated m q (i + 1) xs)
+    → AreCollected m passes productions (rows_of rows) → AreCollected m passes productions (rows_of new)
 rows_more m passes n productions q rows new one put len this many here before = record { lengths = lengths; lists = lists }
   where
     all : rows_of new ≡ rows_of rows ++ row_of one.items ∷ []
     all = ap rows_of put ∙ map_push (λ (v : Vec (Vec Instr)). row_of v.items) rows one
 
-    cases : (p : ℕ) (row : List (List Instr)) → slice_get (rows_of new) p ≡ Some row → (slice_get (rows_of rows) p ≡ Some row) ⊎ ((p ≡ length (rows_of rows)) × (row_of one.items ≡ row))
+    cases : (p : ℕ) (row : List (List Instr)) → slice_get (rows_of new) p ≡ Some row → (slice_get (rows_of rows) p ≡ Some row)
+        ⊎ ((p ≡ length (rows_of rows)) × (row_of one.items ≡ row))
     cases p row is = get_push_cases (rows_of rows) (row_of one.items) row p (ap (λ r. slice_get r p) (sym all) ∙ is)
 
     lengths : Each (λ row. length row ≡ passes) (rows_of new)
@@ -62,7 +62,8 @@ rows_more m passes n productions q rows new one put len this many here before = 
       | inr last ↦ ap length (sym last.1) ∙ length-map one.items (λ (v : Vec Instr). v.items) ∙ many
     ]
 
-    lists : (p i : ℕ) (w : Production) (row : List (List Instr)) (xs : List Instr) → slice_get productions p ≡ Some w → slice_get (rows_of new) p ≡ Some row → slice_get row i ≡ Some xs → IsGenerated m w (i + 1) xs
+    lists : (p i : ℕ) (w : Production) (row : List (List Instr)) (xs : List Instr) → slice_get productions p ≡ Some w
+        → slice_get (rows_of new) p ≡ Some row → slice_get row i ≡ Some xs → IsGenerated m w (i + 1) xs
     lists p i w row xs at is e = elim (cases p row is) [
       | inl old ↦ before.lists p i w row xs at old e
       | inr last ↦ (
@@ -74,27 +75,35 @@ rows_more m passes n productions q rows new one put len this many here before = 
           subst (λ z. IsGenerated m z (i + 1) xs) f (here i xs (ap (λ r. slice_get r i) last.1 ∙ e)))
     ]
 
-module _ (g : Grammar) (m : Passes) (passes : ℕ) (code : Lists) (many : length code ≡ length g.productions) (all : AreCollected m passes g.productions code) where
+module _ (g : Grammar) (m : Passes) (passes : ℕ) (code : Lists) (many : length code ≡ length g.productions)
+    (all : AreCollected m passes g.productions code) where
   -- a list of code is that of a production
-  of_production : (p k : ℕ) (xs : List Instr) → IsListOf code p k xs → (q : Production) × (slice_get g.productions p ≡ Some q) × IsGenerated m q k xs
+  of_production : (p k : ℕ) (xs : List Instr) → IsListOf code p k xs → (q : Production) × (slice_get g.productions p ≡ Some q)
+      × IsGenerated m q k xs
   of_production p k xs is = elim (cases_lt p (length code)) [
     | inl less ↦ elim (slice_get_cases g.productions p).1 [
-      | inl found ↦ (found.0, found.2, subst (λ n. IsGenerated m found.0 n xs) (let one = is.0 in let e : k - 1 + 1 ≡ k = omega arith in e) (all.lists p (k - 1) found.0 (get_or code p []) xs found.2 (slice_get-get_or code p [] less) is.1))
+      | inl found ↦ (
+        found.0,
+        found.2,
+        subst (λ n. IsGenerated m found.0 n xs)
+            (let one = is.0 in let e : k - 1 + 1 ≡ k = omega arith in e)
+            (all.lists p (k - 1) found.0 (get_or code p []) xs found.2 (slice_get-get_or code p [] less) is.1),
+      )
       | inr past ↦ absurd (let most = past.0 in omega arith)
     ]
-    | inr past ↦ absurd (let bad : slice_get {X = List Instr} [] (k - 1) ≡ Some xs = ap (λ r. slice_get r (k - 1)) (sym (get_or_past code p [] past)) ∙ is.1 in let worse : ⊥ = cc in worse)
+    | inr past ↦ absurd (let bad : slice_get {X = List Instr} [] (k - 1) ≡ Some xs =
+        ap (λ r. slice_get r (k - 1)) (sym (get_or_past code p [] past)) ∙ is.1 in let worse : ⊥ = cc in worse)
   ]
 
-  pub collected_agrees : Agrees g m code
-  collected_agrees p k q xs at is =
+  pub collected_lists : AreLists g m code
+  collected_lists p k q xs at is =
       let found = of_production p k xs is in
       let both : Some found.0 ≡ Some q = sym found.1 ∙ at in
       let e : found.0 ≡ q = cc in
-      (subst (λ w. IsGenerated m w k xs) e found.2).list
-
-  pub collected_order : AreInOrder code
-  collected_order p k xs is = let found = of_production p k xs is in found.2.order
+      subst (λ w. IsGenerated m w k xs) e found.2
 
 -- the rows of all productions are as many as these
-pub all_rows : (g : Grammar) (slice : List Production) (rows : List (Vec (Vec Instr))) (n : ℕ) (code : Lists) → slice ≡ g.productions → length rows ≡ n → n ≡ length slice → code ≡ rows_of rows → length code ≡ length g.productions
-all_rows g slice rows n code lent len end is = ap length is ∙ length-map rows (λ (v : Vec (Vec Instr)). row_of v.items) ∙ len ∙ end ∙ ap length lent
+pub all_rows : (g : Grammar) (slice : List Production) (rows : List (Vec (Vec Instr))) (n : ℕ) (code : Lists)
+    → slice ≡ g.productions → length rows ≡ n → n ≡ length slice → code ≡ rows_of rows → length code ≡ length g.productions
+all_rows g slice rows n code lent len end is = ap length is ∙ length-map rows (λ (v : Vec (Vec Instr)). row_of v.items) ∙ len
+    ∙ end ∙ ap length lent

@@ -3,20 +3,16 @@ use Rattle.std.proofs.Common.{ℕ, ◌≡◌, ◌-◌, ◌≤◌, List, [], leng
 use Rattle.std.proofs.lemmas.Option.{slice_get_within, slice_get-get_or}
 use Rattle.ag_grammar.specs.declared.grammar.Production.{Production}
 use Rattle.ag_grammar.specs.grammars.AttributeGrammar.{Grammar, IsProduction}
-use Rattle.passassign.specs.Rows.{IsGreatest}
-use Rattle.passassign.proofs.slots.Few.{few_rules}
+use Rattle.passassign.specs.Rows.{IsGreatest, passes_of}
 use Rattle.passcode.specs.Rows.{Lists, IsListOf, lists_of}
-use Rattle.passcode.proofs.Planned.{planned}
+use Rattle.passcode.proofs.Lawful.{lists_run}
 use Rattle.passcode.proofs.lists.Shaped.{greatest_most}
 use Rattle.planchecker.specs.Plans.{IsPlan}
-use Rattle.planchecker.specs.Laws.{ListsAreFollowed, PlansAreSound}
+use Rattle.planchecker.specs.Laws.{PlansAreSound}
 use Rattle.planchecker.specs.courses.Settings.{Setting, list_at, setting_of}
-use Rattle.planchecker.proofs.courses.Followed.{followed}
 
-pub lists_are_followed : ListsAreFollowed
-lists_are_followed c p q xs accepted legal is list = followed c q (planned c.grammar c.passes accepted legal p q is) (few_rules c.grammar accepted p q is) xs list
-
-module _ (g : Grammar) (rows : List (List ℕ)) (code : Lists) (passes k : ℕ) (plan : IsPlan g rows code) (greatest : IsGreatest passes rows) (one : 1 ≤ k) (most : k ≤ passes) where
+module _ (g : Grammar) (rows : List (List ℕ)) (code : Lists) (passes k : ℕ) (plan : IsPlan g rows code)
+    (greatest : IsGreatest passes rows) (one : 1 ≤ k) (most : k ≤ passes) where
   -- a production has a list for the pass
   list_of : (p : ℕ) (q : Production) → IsProduction g p q → IsListOf code p k (list_at (setting_of g (rows, code) k) p)
   list_of p q is =
@@ -32,7 +28,9 @@ pub plans_are_sound : PlansAreSound
 plans_are_sound g rows code passes k accepted plan greatest one most = record {
   accepted = accepted;
   legal = plan.legal;
-  course = λ p q is. lists_are_followed c p q (list_at c p) accepted plan.legal is (plan.agrees p k q (list_at c p) is (list_of g rows code passes k plan greatest one most p q is));
+  course = λ p q is. (
+      let list = plan.agrees p k q (list_at c p) is (list_of g rows code passes k plan greatest one most p q is) in
+      (lists_run g (passes_of rows) p k q (list_at c p) accepted plan.legal is one).0 list);
   next = omega arith;
 }
   where

@@ -1,9 +1,8 @@
--- What a pass works by, and the places of a right side in its direction. All of this is this project's.
-use Rattle.std.specs.Prelude.{ℕ, suc, ◌≡◌, ◌-◌, ◌<◌, List, [], length, slice_index_or}
+-- What a pass works by (this project's).
+use Rattle.std.specs.Prelude.{ℕ, ◌-◌, List, [], slice_index_or}
 use Rattle.ag_grammar.specs.declared.direction.Direction.{Direction}
-use Rattle.ag_grammar.specs.declared.grammar.Production.{Production}
-use Rattle.ag_grammar.specs.grammars.AttributeGrammar.{Grammar, stored_items}
-use Rattle.ag_grammar.specs.grammars.Passes.{Passes, direction_of, nth}
+use Rattle.ag_grammar.specs.grammars.AttributeGrammar.{Grammar}
+use Rattle.ag_grammar.specs.grammars.Passes.{Passes, direction_of}
 use Rattle.passassign.specs.Rows.{passes_of}
 use Rattle.passcode.specs.declared.instr.Instr.{Instr}
 use Rattle.passcode.specs.Rows.{Lists, lists_of}
@@ -27,15 +26,3 @@ way c = direction_of c.write
 -- the instructions for a production in the pass, none where it has none
 abbrev pub list_at : Setting → ℕ → List Instr
 list_at c p = slice_index_or (lists_of c.code p) c.read []
-
--- how many children a node of a production has
-abbrev pub arity : Production → ℕ
-arity q = length (stored_items q.items)
-
--- the place, from 1, of the child that is visited after i others, of n
-abbrev pub place : Direction → ℕ → ℕ → ℕ
-place d n i = suc (nth d n i)
-
--- the place of one of the first i children that are visited, of n
-abbrev pub IsSeen : Direction → ℕ → ℕ → ℕ → Type 0
-IsSeen d n i j = (b : ℕ) × (b < i) × (j ≡ place d n b)

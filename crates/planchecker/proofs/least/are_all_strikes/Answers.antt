@@ -10,8 +10,13 @@ pub loop-index-preserved : goal.loop-index-preserved
 loop-index-preserved c =
     let lists = c.args.lists.now in
     let i = c.loop-index.index in
-    let at : slice_get lists i ≡ Some c.as_slice.result.now = slice_get-get_or lists i c.index-lists-index.result c.loop-index-test.true ∙ ap Some (sym c.index-lists-index.is ∙ sym c.as_slice.ensures) in
-    front_more (λ i (xs : List Strike). AreStrikesAt c.args.grammar.now (passes_of c.args.assignment.now) (i + 1) xs) lists i c.as_slice.result.now at c.loop-index.invariant (is_yes c.if-not-are_strikes_at.ensures)
+    let at : slice_get lists i ≡ Some c.as_slice.result.now =
+    slice_get-get_or lists i c.index-lists-index.result c.loop-index-test.true
+    ∙ ap Some (sym c.index-lists-index.is ∙ sym c.as_slice.ensures) in
+    front_more (λ i (xs : List Strike). AreStrikesAt c.args.grammar.now (passes_of c.args.assignment.now) (i + 1) xs) lists i
+    c.as_slice.result.now at c.loop-index.invariant (is_yes c.if-not-are_strikes_at.ensures)
 
 pub returns : goal.returns
-returns c = says_yes (front_whole (λ i (xs : List Strike). AreStrikesAt c.args.grammar.now (passes_of c.args.assignment.now) (i + 1) xs) c.args.lists.now c.loop-index.index c.loop-index-test.false c.loop-index.invariant)
+returns c = says_yes
+    (front_whole (λ i (xs : List Strike). AreStrikesAt c.args.grammar.now (passes_of c.args.assignment.now) (i + 1) xs)
+    c.args.lists.now c.loop-index.index c.loop-index-test.false c.loop-index.invariant)

@@ -6,4 +6,5 @@ use Rattle.planchecker.proofs.Loops.{Front}
 use Rattle.planchecker.proofs.least.are_later_struck.Given as goal
 
 abbrev pub invariant-loop-symbol : goal.invariant-loop-symbol
-invariant-loop-symbol l = Front (λ s (row : List ℕ). EachAt (λ a p. l.pass < p → IsMarked l.struck s a) row) (numbers_of l.rows) l.symbol
+invariant-loop-symbol l = Front (λ s (row : List ℕ). EachAt (λ a p. l.pass < p → IsMarked l.struck s a) row) (numbers_of l.rows)
+    l.symbol

@@ -7,7 +7,8 @@ use Rattle.planchecker.specs.First.{EachAt}
 use Rattle.planchecker.proofs.least.check_least.Goals as goal
 
 -- lists as many as the greatest pass, each with the strikes of its pass
-strikes_of : (g : Grammar) (rows : List (List ℕ)) (lent lists : List (List Strike)) (n : ℕ) → lent ≡ lists → length lent ≡ n → IsGreatest n rows → EachAt (λ i xs. AreStrikesAt g (passes_of rows) (i + 1) xs) lent → AreStrikesOf g rows lists
+strikes_of : (g : Grammar) (rows : List (List ℕ)) (lent lists : List (List Strike)) (n : ℕ) → lent ≡ lists → length lent ≡ n
+    → IsGreatest n rows → EachAt (λ i xs. AreStrikesAt g (passes_of rows) (i + 1) xs) lent → AreStrikesOf g rows lists
 strikes_of g rows lent lists n same len greatest each = record {
   count = subst (λ k. IsGreatest k rows) (sym len ∙ ap length same) greatest;
   each = subst (λ xs. EachAt (λ i xs. AreStrikesAt g (passes_of rows) (i + 1) xs) xs) same each;
@@ -15,11 +16,15 @@ strikes_of g rows lent lists n same len greatest each = record {
 
 pub returns-clause-strikes : goal.returns-clause-strikes
 returns-clause-strikes c = (
-  (λ t. strikes_of c.args.grammar.now c.args.assignment.now c.as_slice-lists.result.now c.args.strikes.now.passes c.passes.result c.as_slice-lists.ensures c.if-lists-passes.false c.passes.ensures (c.are_all_strikes.ensures.0 t)),
-  (λ h. c.are_all_strikes.ensures.1 (subst (λ xs. EachAt (λ i xs. AreStrikesAt c.args.grammar.now (passes_of c.args.assignment.now) (i + 1) xs) xs) (sym c.as_slice-lists.ensures) h.each)),
+  (λ t. strikes_of c.args.grammar.now c.args.assignment.now c.as_slice-lists.result.now c.args.strikes.now.passes c.passes.result
+      c.as_slice-lists.ensures c.if-lists-passes.false c.passes.ensures (c.are_all_strikes.ensures.0 t)),
+  (λ h. c.are_all_strikes.ensures.1
+      (subst (λ xs. EachAt (λ i xs. AreStrikesAt c.args.grammar.now (passes_of c.args.assignment.now) (i + 1) xs) xs)
+      (sym c.as_slice-lists.ensures) h.each)),
 )
 
 pub returns-clause-least : goal.returns-clause-least
 returns-clause-least c = λ t other legal s a p q e f.
     c.none_is_earlier.ensures c.args.grammar.now c.args.assignment.now c.args.strikes.now.passes other
-    (strikes_of c.args.grammar.now c.args.assignment.now c.as_slice-lists.result.now c.args.strikes.now.passes c.passes.result c.as_slice-lists.ensures c.if-lists-passes.false c.passes.ensures (c.are_all_strikes.ensures.0 t)) legal s a p q e f
+    (strikes_of c.args.grammar.now c.args.assignment.now c.as_slice-lists.result.now c.args.strikes.now.passes c.passes.result
+    c.as_slice-lists.ensures c.if-lists-passes.false c.passes.ensures (c.are_all_strikes.ensures.0 t)) legal s a p q e f

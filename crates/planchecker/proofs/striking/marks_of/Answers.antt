@@ -18,17 +18,23 @@ returns-then-not-is_next-clause-good g c =
     let x = get_or xs i none in
     let marked = c.loop-strike.invariant.marked in
     says_no (λ h. is_no c.if-not-is_next.ensures
-    (next_where c.args.grammar.now c.args.direction (g.C.Candidates.candidates c.args.candidates.now) (g.C.Candidates.later c.args.candidates.now) x (IsStruckBy (take i xs)) (IsMarked c.loop-strike.struck) (λ s a. (marked s a).1) (λ s a. (marked s a).0) (h i x (slice_get-get_or xs i none c.loop-strike-test.true))))
+    (next_where c.args.grammar.now c.args.direction (g.C.Candidates.candidates c.args.candidates.now)
+    (g.C.Candidates.later c.args.candidates.now) x (IsStruckBy (take i xs)) (IsMarked c.loop-strike.struck)
+    (λ s a. (marked s a).1) (λ s a. (marked s a).0) (h i x (slice_get-get_or xs i none c.loop-strike-test.true))))
 
 pub mark-requires-clause-symbol : goal.mark-requires-clause-symbol
 mark-requires-clause-symbol g c =
     let next = is_yes c.if-not-is_next.ensures in
-    (within_limits c.args.grammar.now c.productions-productions.ensures.accepted c.args.direction (g.C.Candidates.candidates c.args.candidates.now) (IsMarked c.loop-strike.struck) (get_or c.args.strikes.now c.loop-strike.strike-index none) next.good).0
+    (within_limits c.args.grammar.now c.productions-productions.ensures.accepted c.args.direction
+    (g.C.Candidates.candidates c.args.candidates.now) (IsMarked c.loop-strike.struck)
+    (get_or c.args.strikes.now c.loop-strike.strike-index none) next.good).0
 
 pub mark-requires-clause-attr : goal.mark-requires-clause-attr
 mark-requires-clause-attr g c =
     let next = is_yes c.if-not-is_next.ensures in
-    (within_limits c.args.grammar.now c.productions-productions.ensures.accepted c.args.direction (g.C.Candidates.candidates c.args.candidates.now) (IsMarked c.loop-strike.struck) (get_or c.args.strikes.now c.loop-strike.strike-index none) next.good).1
+    (within_limits c.args.grammar.now c.productions-productions.ensures.accepted c.args.direction
+    (g.C.Candidates.candidates c.args.candidates.now) (IsMarked c.loop-strike.struck)
+    (get_or c.args.strikes.now c.loop-strike.strike-index none) next.good).1
 
 pub loop-strike-preserved : goal.loop-strike-preserved
 loop-strike-preserved g c =
@@ -40,12 +46,17 @@ loop-strike-preserved g c =
     let candidates = g.C.Candidates.candidates c.args.candidates.now in
     let later = g.C.Candidates.later c.args.candidates.now in
     record {
-      good = front_more (λ i x. IsNext c.args.grammar.now c.args.direction candidates later (take i xs) x) xs i x at c.loop-strike.invariant.good
-          (next_where c.args.grammar.now c.args.direction candidates later x (IsMarked c.loop-strike.struck) (IsStruckBy (take i xs)) (λ s a. (marked s a).0) (λ s a. (marked s a).1) (is_yes c.if-not-is_next.ensures));
+      good = front_more (λ i x. IsNext c.args.grammar.now c.args.direction candidates later (take i xs) x) xs i x at
+          c.loop-strike.invariant.good
+          (next_where c.args.grammar.now c.args.direction candidates later x (IsMarked c.loop-strike.struck)
+          (IsStruckBy (take i xs)) (λ s a. (marked s a).0) (λ s a. (marked s a).1) (is_yes c.if-not-is_next.ensures));
       full = c.mark.ensures.full;
       marked = marks_more (IsMarked c.loop-strike.struck) (IsMarked c.mark.new.self) xs i x at marked c.mark.ensures.marked;
     }
 
 pub returns-clause-good : goal.returns-clause-good
 returns-clause-good g c =
-    says_yes (front_whole (λ i x. IsNext c.args.grammar.now c.args.direction (g.C.Candidates.candidates c.args.candidates.now) (g.C.Candidates.later c.args.candidates.now) (take i c.args.strikes.now) x) c.args.strikes.now c.loop-strike.strike-index c.loop-strike-test.false c.loop-strike.invariant.good)
+    says_yes (front_whole
+    (λ i x. IsNext c.args.grammar.now c.args.direction (g.C.Candidates.candidates c.args.candidates.now)
+    (g.C.Candidates.later c.args.candidates.now) (take i c.args.strikes.now) x) c.args.strikes.now c.loop-strike.strike-index
+    c.loop-strike-test.false c.loop-strike.invariant.good)

@@ -8,7 +8,8 @@ use Rattle.planchecker.proofs.striking.marks_of.Given as goal
 
 abbrev pub invariant-loop-strike : goal.invariant-loop-strike
 invariant-loop-strike g l = record {
-  good : Front (λ i x. IsNext l.grammar l.direction (g.C.Candidates.candidates l.candidates) (g.C.Candidates.later l.candidates) (take i l.strikes) x) l.strikes l.strike-index;
+  good : Front (λ i x. IsNext l.grammar l.direction (g.C.Candidates.candidates l.candidates) (g.C.Candidates.later l.candidates)
+      (take i l.strikes) x) l.strikes l.strike-index;
   full : length l.struck.slots ≡ most_slots;
   marked : (s a : ℕ) → IsMarked l.struck s a ↔ IsStruckBy (take l.strike-index l.strikes) s a;
 }

@@ -1,0 +1,371 @@
+-- A list that keeps the rules of agreement runs, where each rule may use its arguments.
+use Rattle.std.proofs.Common.{ℕ, zero, suc, ◌≡◌, ◌<◌, ◌≤◌, inl, inr, List, Some, slice_get, length, refl, ap, ◌∙◌, sym, subst}
+use Rattle.std.proofs.Common.{arith}
+use Rattle.std.proofs.lemmas.Bool.{cases_eq, cases_lt}
+use Rattle.std.proofs.lemmas.Option.{slice_get_within}
+use Rattle.ag_grammar.specs.Lists.{Has}
+use Rattle.ag_grammar.specs.declared.grammar.Item.TheVariants as item
+use Rattle.ag_grammar.specs.declared.grammar.Production.{Production}
+use Rattle.ag_grammar.specs.declared.grammar.Rule.{Rule}
+use Rattle.ag_grammar.specs.declared.grammar.Target.{Target}
+use Rattle.ag_grammar.specs.grammars.AttributeGrammar.{item_at, IsArgument}
+use Rattle.ag_grammar.specs.grammars.Passes.{Passes, HasPass, IsBefore, IsLegalFor, MayUse, direction_of}
+use Rattle.passcode.specs.declared.instr.Instr.{Instr}
+use Rattle.passcode.specs.declared.instr.Instr.TheVariants as instr
+use Rattle.passcode.specs.Agreement.{HasPlace, IsAtHand, IsChild, IsListFor, IsRuleAt, StandsOnceIf, giving, instruction_of}
+use Rattle.passcode.specs.Course as Course
+use Rattle.passcode.specs.Course.{AreGiven, Phase, State, Between, Got, Gone, Ended, IsTurnOf, MayGive, MayRun, Runs, after}
+use Rattle.passcode.specs.Course.{arity, place_of, read_count, run_count, start, state_at}
+use Rattle.passcode.proofs.Agreeing.{has_symbol}
+use Rattle.passcode.proofs.Marks.{end_mark, get_mark, go_mark, got_child, put_mark, read_in, read_is, read_within, run_is}
+use Rattle.passcode.proofs.Marks.{rule_mark, run_in}
+use Rattle.passcode.proofs.States.{IsMark, MayRunTo, index_runs, kept, marked, stands}
+use Rattle.passcode.proofs.Turns.{has_place, place_before, turn_of}
+
+-- the phase of a node, by how many children were read and passed
+phase_between : (p : Phase) (t : ℕ) → read_count p t ≤ t → (p ≡ Ended → ⊥) → p ≡ Between
+phase_between Between t le going = refl
+phase_between Got t le going = absurd (omega arith)
+phase_between Gone t le going = absurd (omega arith)
+phase_between Ended t le going = absurd (going refl)
+
+phase_got : (p : Phase) (t u : ℕ) → run_count p t ≤ u → u < read_count p t → (p ≡ Got) × (u ≡ t)
+phase_got Between t u le less = absurd (omega arith)
+phase_got Got t u le less = (refl, omega arith)
+phase_got Gone t u le less = absurd (omega arith)
+phase_got Ended t u le less = absurd (omega arith)
+
+phase_gone : (p : Phase) (t u : ℕ) → t ≤ u → u < read_count p t → (p ≡ Got → ⊥) → (p ≡ Gone) × (u ≡ t)
+phase_gone Between t u le less apart = absurd (omega arith)
+phase_gone Got t u le less apart = absurd (apart refl)
+phase_gone Gone t u le less apart = (refl, omega arith)
+phase_gone Ended t u le less apart = absurd (omega arith)
+
+-- what a rule may use is of no later pass
+pub may_use_most : (k j i p : ℕ) → MayUse k j i p → p ≤ k
+may_use_most k zero i p h = h
+may_use_most k (suc j) i p (inl h) = h.1
+may_use_most k (suc j) i p (inr (inl h)) = h.1
+may_use_most k (suc j) i p (inr (inr less)) = omega arith
+
+-- the parts of a rule's own instruction
+set_parts : (j a r : ℕ) (o : Target) (s : ℕ) → instr.Set j a r ≡ giving o.place o.attr s → (o ≡ record { place = j; attr = a })
+    × (r ≡ s)
+set_parts j a r o s = go o.place o.attr
+  where
+    go : (p b : ℕ) → instr.Set j a r ≡ giving p b s → ◌≡◌ {A = Target} (record { place = p; attr = b })
+        (record { place = j; attr = a }) × (r ≡ s)
+    go zero b e = absurd (let bad : ⊥ = cc in bad)
+    go (suc p) b e = (cc, cc)
+
+def_parts : (a r : ℕ) (o : Target) (s : ℕ) → instr.Def a r ≡ giving o.place o.attr s → (o ≡ record { place = 0; attr = a })
+    × (r ≡ s)
+def_parts a r o s = go o.place o.attr
+  where
+    go : (p b : ℕ) → instr.Def a r ≡ giving p b s → ◌≡◌ {A = Target} (record { place = p; attr = b })
+        (record { place = 0; attr = a }) × (r ≡ s)
+    go zero b e = (cc, cc)
+    go (suc p) b e = absurd (let bad : ⊥ = cc in bad)
+
+set_place : (j a r : ℕ) (o : Target) (s : ℕ) → instr.Set j a r ≡ giving o.place o.attr s → 1 ≤ j
+set_place j a r o s = go o.place
+  where
+    go : (p : ℕ) → instr.Set j a r ≡ giving p o.attr s → 1 ≤ j
+    go zero e = absurd (let bad : ⊥ = cc in bad)
+    go (suc p) e = let same : j ≡ suc p = cc in omega arith
+
+set_of : (u : Rule) (r j : ℕ) → 1 ≤ j → u.target.place ≡ j → instruction_of u r ≡ instr.Set j u.target.attr r
+set_of u r zero least e = absurd (omega arith)
+set_of u r (suc j) least e = ap (λ p. giving p u.target.attr r) e
+
+not_end : (j a r : ℕ) → giving j a r ≡ instr.End → ⊥
+not_end zero a r e = let bad : ⊥ = cc in bad
+not_end (suc j) a r e = let bad : ⊥ = cc in bad
+
+turn_read : (p : Phase) (t : ℕ) → t ≤ read_count p t
+turn_read Between t = omega arith
+turn_read Got t = omega arith
+turn_read Gone t = omega arith
+turn_read Ended t = omega arith
+
+module _ (m : Passes) (q : Production) (k : ℕ) (xs : List Instr) (one : 1 ≤ k) (allowed : IsLegalFor (HasPass m) q)
+    (list : IsListFor m q k xs) where
+  -- the instruction at an index, if those before it were followed
+  module _ (n : ℕ) (x : Instr) (is : slice_get xs n ≡ Some x) (may : MayRunTo m q k start xs n) where
+    abbrev s : State
+    s = state_at q start xs n
+
+    -- what is before it has left its mark, and what is here has not yet
+    seen : (A : State → Type 0) (y : Instr) → IsMark m q k A y → (i : ℕ) → i < n → slice_get xs i ≡ Some y
+        → A (state_at q start xs n)
+    seen A y mark i less at = marked m q k xs n may A y mark i n less (omega arith) at
+
+    new : (A : State → Type 0) → IsMark m q k A x → (P : Type 0) → StandsOnceIf P xs x → A (state_at q start xs n) → ⊥
+    new A mark P stands_once a =
+        let before = stands m q k xs n may A x mark n (omega arith) a in
+        let less = before.1 in
+        let same = stands_once.once before.0 n before.2 is in
+        omega arith
+
+    going : (state_at q start xs n).phase ≡ Ended → ⊥
+    going e =
+        let before = stands m q k xs n may (λ s. s.phase ≡ Ended) instr.End (end_mark m q k) n (omega arith) e in
+        let less = before.1 in
+        let last = list.ends.last before.0 before.2 in
+        let within = slice_get_within xs n x is in
+        omega arith
+
+    -- if the `Get` of a turn is before it, the child was read
+    was_read : (t j : ℕ) → t < arity q → j ≡ place_of q k t → ((i : ℕ) → slice_get xs i ≡ Some (instr.Get j) → i < n)
+        → t < read_in (state_at q start xs n)
+    was_read t j within place front =
+        let get = (list.visits.got j).there (subst (HasPlace q) (sym place) (has_place q k t within)) in
+        seen (λ s. t < read_in s) (instr.Get (place_of q k t)) (get_mark m q k t within) get.0 (front get.0 get.1)
+        (get.1 ∙ ap (λ j. Some (instr.Get j)) place)
+
+    was_run : (t j : ℕ) → t < arity q → j ≡ place_of q k t → IsChild q j → ((i : ℕ) → slice_get xs i ≡ Some (instr.Go j) → i < n)
+        → t < run_in (state_at q start xs n)
+    was_run t j within place child front =
+        let go = (list.visits.gone j).there child in
+        seen (λ s. t < run_in s) (instr.Go (place_of q k t)) (go_mark m q k t within (subst (IsChild q) place child)) go.0
+        (front go.0 go.1) (go.1 ∙ ap (λ j. Some (instr.Go j)) place)
+
+    was_put : (t j : ℕ) → t < arity q → j ≡ place_of q k t → ((i : ℕ) → slice_get xs i ≡ Some (instr.Put j) → i < n)
+        → t < (state_at q start xs n).turn
+    was_put t j within place front =
+        let put = (list.visits.put j).there (subst (HasPlace q) (sym place) (has_place q k t within)) in
+        seen (λ s. t < s.turn) (instr.Put (place_of q k t)) (put_mark m q k t within) put.0 (front put.0 put.1)
+        (put.1 ∙ ap (λ j. Some (instr.Put j)) place)
+
+    was_given : (r : ℕ) (u : Rule) → IsRuleAt q r u → HasPass m q u.target k
+        → ((i : ℕ) → slice_get xs i ≡ Some (instruction_of u r) → i < n) → Has (state_at q start xs n).done r
+    was_given r u at passed front =
+        let give = (list.gives.given r u at).there passed in
+        seen (λ s. Has s.done r) (instruction_of u r) (rule_mark m q k r u at) give.0 (front give.0 give.1) give.1
+
+    turn_here : (p : Phase) (t j : ℕ) → t < arity q → j ≡ place_of q k t → s.phase ≡ p → t ≡ s.turn → IsTurnOf q k s p j
+    turn_here p t j within place phase same = record
+        { phase_is = phase; within = subst (λ t. t < arity q) same within; place = place ∙ ap (place_of q k) same }
+
+    -- what is at hand at the index is at hand in its state
+    hand : (r : ℕ) (u : Rule) → IsRuleAt q r u → HasPass m q u.target k → (o : Target) → IsArgument u o → IsAtHand m q k xs n o
+        → Course.IsAtHand m q k s o
+    hand r u at passed o arg (inl own) = let p = allowed u o k (r, at) arg passed in
+        (p.0, p.1, may_use_most k u.target.place o.place p.0 p.2, inr (inl own))
+    hand r u at passed o arg (inr (inl h)) = let low = h.2 in (h.0, h.1, omega arith, inl low)
+    hand r u at passed o arg (inr (inr h)) =
+        let go = h.1 in
+        let child = (list.visits.gone o.place).only (go.0, go.2) in
+        let turn = turn_of q k o.place (item.Symbol child.0, child.1) in
+        let run = seen (λ s. turn.0 < run_in s) (instr.Go (place_of q k turn.0))
+        (go_mark m q k turn.0 turn.1 (subst (IsChild q) turn.2 child)) go.0 go.1 (go.2 ∙ ap (λ j. Some (instr.Go j)) turn.2)
+        in
+        (k, h.0, omega arith, inr (inr (turn.0, run, turn.2)))
+
+    -- a rule's own instruction may give its value
+    may_give : (j a r : ℕ) (u : Rule) → IsRuleAt q r u → u.target ≡ record { place = j; attr = a } → x ≡ instruction_of u r
+        → MayGive m q k s j a r
+    may_give j a r u at target own = record {
+      rule = u;
+      numbered = at;
+      target = target;
+      passed = passed;
+      at_hand = λ o arg. hand r u at passed o arg (list.arguments r n u o at here arg);
+      fresh = new (λ s. Has s.done r) (subst (IsMark m q k (λ s. Has s.done r)) (sym own) (rule_mark m q k r u at))
+          (HasPass m q u.target k) (subst (StandsOnceIf (HasPass m q u.target k) xs) (sym own) (list.gives.given r u at));
+    }
+      where
+        here : slice_get xs n ≡ Some (instruction_of u r)
+        here = is ∙ ap Some own
+
+        passed : HasPass m q u.target k
+        passed = (list.gives.given r u at).only (n, here)
+
+  module _ (n : ℕ) (may : MayRunTo m q k start xs n) where
+    abbrev now : State
+    now = state_at q start xs n
+
+    get_may : (j : ℕ) → slice_get xs n ≡ Some (instr.Get j) → MayRun m q k (state_at q start xs n) (instr.Get j)
+    get_may j is = turn_here n (instr.Get j) is may Between turn.0 j turn.1 turn.2 phase
+        (let a = low in let b = high in let e = read_is now Between phase in omega arith)
+      where
+        turn : (t : ℕ) × (t < arity q) × (j ≡ place_of q k t)
+        turn = turn_of q k j ((list.visits.got j).only (n, is))
+
+        low : read_in now ≤ turn.0
+        low = elim (cases_lt turn.0 (read_in now)) [
+          | inl less ↦ absurd (new n (instr.Get j) is may (λ s. turn.0 < read_in s)
+              (subst (λ j. IsMark m q k (λ s. turn.0 < read_in s) (instr.Get j)) (sym turn.2) (get_mark m q k turn.0 turn.1))
+              (HasPlace q j) (list.visits.got j) less)
+          | inr le ↦ le
+        ]
+
+        high : turn.0 ≤ now.turn
+        high = elim (cases_lt now.turn turn.0) [
+          | inl less ↦ absurd (
+              let within : now.turn < arity q = (let w = turn.1 in omega arith) in
+              let earlier = subst (IsBefore (direction_of k) (place_of q k now.turn)) (sym turn.2)
+              (place_before q k now.turn turn.0 less turn.1) in
+              let put = was_put n (instr.Get j) is may now.turn (place_of q k now.turn) within refl
+              (λ i e. list.visits.in_direction (place_of q k now.turn) j earlier i n e is) in
+              omega arith)
+          | inr le ↦ le
+        ]
+
+        phase : now.phase ≡ Between
+        phase = phase_between now.phase now.turn (let a = low in let b = high in omega arith) (going n (instr.Get j) is may)
+
+    -- at a child that was read, and in which the pass has not run
+    got_turn : (x : Instr) → slice_get xs n ≡ Some x → (j : ℕ) → (child : IsChild q j)
+        → ((i : ℕ) → slice_get xs i ≡ Some (instr.Get j) → i < n) → ((i : ℕ) → i < n → slice_get xs i ≡ Some (instr.Go j) → ⊥)
+        → IsTurnOf q k (state_at q start xs n) Got j
+    got_turn x is j child get go = turn_here n x is may Got turn.0 j turn.1 turn.2 phase.0 phase.1
+      where
+        turn : (t : ℕ) × (t < arity q) × (j ≡ place_of q k t)
+        turn = turn_of q k j (item.Symbol child.0, child.1)
+
+        low : run_in now ≤ turn.0
+        low = elim (cases_lt turn.0 (run_in now)) [
+          | inl less ↦ absurd (
+              let before = stands m q k xs n may (λ s. turn.0 < run_in s) (instr.Go (place_of q k turn.0))
+              (go_mark m q k turn.0 turn.1 (subst (IsChild q) turn.2 child)) n (omega arith) less in
+              go before.0 before.1 (before.2 ∙ ap (λ j. Some (instr.Go j)) (sym turn.2)))
+          | inr le ↦ le
+        ]
+
+        phase : (now.phase ≡ Got) × (turn.0 ≡ now.turn)
+        phase = phase_got now.phase now.turn turn.0 low (was_read n x is may turn.0 j turn.1 turn.2 get)
+
+    set_may : (j a r : ℕ) → slice_get xs n ≡ Some (instr.Set j a r) → MayRun m q k (state_at q start xs n) (instr.Set j a r)
+    set_may j a r is = (
+      got_turn (instr.Set j a r) is j child (λ i e. list.gives.behind_get j a r i n e is)
+          (λ i less e. let after = list.gives.before_go j a r n i is e in omega arith),
+      subst (MayGive m q k (state_at q start xs n) j a) (sym parts.1)
+          (may_give n (instr.Set j a r) is may j a own.0 own.1 own.2 parts.0 own.3),
+    )
+      where
+        own : (r' : ℕ) × (u : Rule) × IsRuleAt q r' u × (instr.Set j a r ≡ instruction_of u r')
+        own = list.gives.own (instr.Set j a r) (j, a, r, inl refl) (n, is)
+
+        parts : (own.1.target ≡ record { place = j; attr = a }) × (r ≡ own.0)
+        parts = set_parts j a r own.1.target own.0 own.3
+
+        symbol : (s : ℕ) × (item_at q own.1.target.place ≡ Some (item.Symbol s))
+        symbol = has_symbol m q own.1.target k one ((list.gives.given own.0 own.1 own.2).only (n, is ∙ ap Some own.3))
+
+        child : IsChild q j
+        child = (
+          symbol.0,
+          (
+            set_place j a r own.1.target own.0 own.3,
+            ap (λ (o : Target). item_at q o.place) (sym parts.0)
+                ∙ symbol.1,
+          ),
+        )
+
+    def_may : (a r : ℕ) → slice_get xs n ≡ Some (instr.Def a r) → MayRun m q k (state_at q start xs n) (instr.Def a r)
+    def_may a r is = (
+      going n (instr.Def a r) is may,
+      subst (MayGive m q k (state_at q start xs n) 0 a) (sym parts.1)
+          (may_give n (instr.Def a r) is may 0 a own.0 own.1 own.2 parts.0 own.3),
+    )
+      where
+        own : (r' : ℕ) × (u : Rule) × IsRuleAt q r' u × (instr.Def a r ≡ instruction_of u r')
+        own = list.gives.own (instr.Def a r) (0, a, r, inr refl) (n, is)
+
+        parts : (own.1.target ≡ record { place = 0; attr = a }) × (r ≡ own.0)
+        parts = def_parts a r own.1.target own.0 own.3
+
+    go_may : (j : ℕ) → slice_get xs n ≡ Some (instr.Go j) → MayRun m q k (state_at q start xs n) (instr.Go j)
+    go_may j is = (
+      got_turn (instr.Go j) is j child (λ i e. list.visits.go_behind_get j i n e is)
+          (λ i less e. let same = (list.visits.gone j).once i n e is in omega arith),
+      λ r u at here passed. was_given n (instr.Go j) is may r u at passed
+          (λ i e. list.gives.before_go j u.target.attr r i n (e ∙ ap Some (set_of u r j child.1.0 here)) is),
+    )
+      where
+        child : IsChild q j
+        child = (list.visits.gone j).only (n, is)
+
+    put_may : (j : ℕ) → slice_get xs n ≡ Some (instr.Put j) → MayRun m q k (state_at q start xs n) (instr.Put j)
+    put_may j is = turn_here n (instr.Put j) is may Gone turn.0 j turn.1 turn.2 phase.0 phase.1
+      where
+        turn : (t : ℕ) × (t < arity q) × (j ≡ place_of q k t)
+        turn = turn_of q k j ((list.visits.put j).only (n, is))
+
+        low : now.turn ≤ turn.0
+        low = elim (cases_lt turn.0 now.turn) [
+          | inl less ↦ absurd (new n (instr.Put j) is may (λ s. turn.0 < s.turn)
+              (subst (λ j. IsMark m q k (λ s. turn.0 < s.turn) (instr.Put j)) (sym turn.2) (put_mark m q k turn.0 turn.1))
+              (HasPlace q j) (list.visits.put j) less)
+          | inr le ↦ le
+        ]
+
+        read : turn.0 < read_in now
+        read = was_read n (instr.Put j) is may turn.0 j turn.1 turn.2 (λ i e. list.visits.put_behind_get j i n e is)
+
+        -- the pass has run in a declared symbol's child
+        not_got : now.phase ≡ Got → ⊥
+        not_got e =
+            let count = read_is now Got e in
+            let less = read in
+            let least = low in
+            let same : turn.0 ≡ now.turn = omega arith in
+            let here = kept m q k xs n may (λ s. s.phase ≡ Got → IsChild q (place_of q k s.turn)) (got_child m q k) 0 n
+            (omega arith) (omega arith) (λ e. absurd (let bad : ⊥ = cc in bad)) e in
+            let child = subst (IsChild q) (ap (place_of q k) (sym same) ∙ sym turn.2) here in
+            let run = was_run n (instr.Put j) is may turn.0 j turn.1 turn.2 child (λ i e. list.visits.put_behind_go j i n e is) in
+            let none = run_is now Got e in
+            omega arith
+
+        phase : (now.phase ≡ Gone) × (turn.0 ≡ now.turn)
+        phase = phase_gone now.phase now.turn turn.0 low read not_got
+
+    end_may : slice_get xs n ≡ Some instr.End → MayRun m q k (state_at q start xs n) instr.End
+    end_may is = (
+      phase_between now.phase now.turn (let a = all_put in let b = most in omega arith) (going n instr.End is may),
+      (let a = all_put in let b = most in let c = turn_read now.phase now.turn in omega arith),
+      given,
+    )
+      where
+        -- all is before `End`
+        front : (x : Instr) → (x ≡ instr.End → ⊥) → (i : ℕ) → slice_get xs i ≡ Some x → i < n
+        front x other i e = elim (cases_eq i n) [
+          | inl same ↦ absurd (other (let both : Some x ≡ Some instr.End = sym e ∙ ap (slice_get xs) same ∙ is in cc))
+          | inr apart ↦ (let last = list.ends.last n is in let within = slice_get_within xs i x e in omega arith)
+        ]
+
+        all_put : arity q ≤ now.turn
+        all_put = elim (cases_lt now.turn (arity q)) [
+          | inl less ↦ absurd (let put = was_put n instr.End is may now.turn (place_of q k now.turn) less refl
+              (front (instr.Put (place_of q k now.turn)) (λ e. let bad : ⊥ = cc in bad)) in omega arith)
+          | inr le ↦ le
+        ]
+
+        most : read_in now ≤ arity q
+        most = kept m q k xs n may (λ s. read_in s ≤ arity q) (read_within m q k) 0 n (omega arith) (omega arith) (omega arith)
+
+        given : (j : ℕ) → AreGiven m q k now j
+        given j r u at here passed = was_given n instr.End is may r u at passed
+            (front (instruction_of u r) (not_end u.target.place u.target.attr r))
+
+    step : (x : Instr) → slice_get xs n ≡ Some x → MayRun m q k (state_at q start xs n) x
+    step (instr.Get j) is = get_may j is
+    step (instr.Set j a r) is = set_may j a r is
+    step (instr.Go j) is = go_may j is
+    step (instr.Put j) is = put_may j is
+    step (instr.Def a r) is = def_may a r is
+    step instr.End is = end_may is
+
+  may_to : (n : ℕ) → MayRunTo m q k start xs n
+  may_to zero i x less is = absurd (omega arith)
+  may_to (suc n) i x less is = elim (cases_eq i n) [
+    | inl same ↦ subst (λ i. MayRun m q k (state_at q start xs i) x) (sym same)
+        (step n (may_to n) x (ap (slice_get xs) (sym same) ∙ is))
+    | inr other ↦ may_to n i x (omega arith) is
+  ]
+
+  pub follows : Runs m q k start xs
+  follows = index_runs m q k start xs (may_to (length xs))
+      (marked m q k xs (length xs) (may_to (length xs)) (λ s. s.phase ≡ Ended) instr.End (end_mark m q k) list.ends.there.0
+      (length xs) (slice_get_within xs list.ends.there.0 instr.End list.ends.there.1) (omega arith) list.ends.there.1)

@@ -1,0 +1,62 @@
+-- What follows from an accepted grammar and a legal assignment for a production, and so for its lists.
+use Rattle.std.proofs.Common.{ℕ, ◌≡◌, ◌≤◌, map, Option, Some, None, slice_get, length, refl, sym, subst, arith, length-append}
+use Rattle.std.proofs.lemmas.List.{length-map}
+use Rattle.ag_grammar.specs.declared.grammar.Item.TheVariants as item
+use Rattle.ag_grammar.specs.declared.grammar.Item.{Item}
+use Rattle.ag_grammar.specs.declared.grammar.Production.{Production}
+use Rattle.ag_grammar.specs.declared.grammar.Symbol.{Symbol}
+use Rattle.ag_grammar.specs.declared.grammar.Terminal.TheVariants.{Literal, Class}
+use Rattle.ag_grammar.specs.grammars.Accepted.{IsAccepted, most_attributes}
+use Rattle.ag_grammar.specs.grammars.AttributeGrammar.{Grammar, IsProduction, Synthesized, Inherited, attribute_names, item_at}
+use Rattle.ag_grammar.specs.grammars.AttributeGrammar.{symbol_kinds}
+use Rattle.ag_grammar.specs.grammars.Passes.{Passes, IsLegal, item_passes}
+use Rattle.passassign.proofs.slots.Few.{few_rules}
+use Rattle.passcode.specs.Agreement.{Agrees, IsListFor}
+use Rattle.passcode.specs.Laws.{ListsRun}
+use Rattle.passcode.specs.Limits.{IsPlanned}
+use Rattle.passcode.specs.Listing.{AreLists, list_of}
+use Rattle.passcode.specs.Rows.{Lists}
+use Rattle.passcode.proofs.Agreeing.{agrees}
+use Rattle.passcode.proofs.Following.{follows}
+use Rattle.passcode.proofs.Leaving.{list_runs}
+
+module _ (g : Grammar) (m : Passes) (accepted : IsAccepted g) (legal : IsLegal g m) where
+  few_kinds : (s : Option Symbol) → ((x : Symbol) → s ≡ Some x → length (attribute_names x) ≤ most_attributes)
+      → length (symbol_kinds s) ≤ most_attributes
+  few_kinds None few = omega arith
+  few_kinds (Some x) few =
+      let n = few x refl in
+      let a = length-append x.syn x.inh in
+      let b = length-append (map (λ n. Synthesized) x.syn) (map (λ n. Inherited) x.inh) in
+      let c = length-map x.syn (λ n. Synthesized) in
+      let d = length-map x.inh (λ n. Inherited) in
+      omega arith
+
+  few_attributes : (o : Option Item) → length (item_passes m o) ≤ most_attributes
+  few_attributes None = omega arith
+  few_attributes (Some (item.Symbol s)) = let same = legal.whole s in let few =
+      few_kinds (slice_get g.symbols s) (λ x e. accepted.limits.attribute_count s x e) in omega arith
+  few_attributes (Some (item.Terminal (Class c))) = omega arith
+  few_attributes (Some (item.Terminal (Literal l))) = omega arith
+
+  pub planned : (p : ℕ) (q : Production) → IsProduction g p q → IsPlanned m q
+  planned p q is = record {
+    places = accepted.limits.stored_count p q is;
+    rules = few_rules g accepted p q is;
+    attributes = λ j. few_attributes (item_at q j);
+    single = (accepted.complete p q is).single;
+    allowed = legal.allowed p q is;
+  }
+
+  pub lists_agree : (code : Lists) → AreLists g m code → Agrees g m code
+  lists_agree code are p k q xs is at =
+      let known = planned p q is in
+      subst (IsListFor m q k) (sym (are p k q xs is at))
+      (agrees m q k (list_of m q k) at.0 (list_runs m q k at.0 known.single known.allowed))
+
+pub lists_run : ListsRun
+lists_run g m p k q xs accepted legal is one =
+    let known = planned g m accepted legal p q is in (
+      (λ list. follows m q k xs one known.allowed list),
+      λ runs. agrees m q k xs one runs,
+    )

@@ -1,0 +1,260 @@
+-- The marks of instructions: how many children were read, passed or completed, which rules were run, and the end.
+use Rattle.std.proofs.Common.{ℕ, zero, suc, ◌≡◌, ◌<◌, ◌≤◌, ◌⊎◌, inl, inr, [], ◌∷◌, Option, Some, None, slice_get, refl, ap, ◌∙◌}
+use Rattle.std.proofs.Common.{sym, subst, arith}
+use Rattle.std.proofs.lemmas.Bool.{cases_eq}
+use Rattle.ag_grammar.specs.Lists.{Has}
+use Rattle.ag_grammar.specs.declared.grammar.Item.{Item}
+use Rattle.ag_grammar.specs.declared.grammar.Item.TheVariants as item
+use Rattle.ag_grammar.specs.declared.grammar.Production.{Production}
+use Rattle.ag_grammar.specs.declared.grammar.Rule.{Rule}
+use Rattle.ag_grammar.specs.grammars.AttributeGrammar.{item_at}
+use Rattle.ag_grammar.specs.grammars.Passes.{Passes}
+use Rattle.passcode.specs.declared.instr.Instr.{Instr}
+use Rattle.passcode.specs.declared.instr.Instr.TheVariants as instr
+use Rattle.passcode.specs.Agreement.{IsChild, IsRuleAt, giving, instruction_of}
+use Rattle.passcode.specs.Course.{Phase, State, Between, Got, Gone, Ended, MayGive, MayRun, after, after_get, arity, place_of}
+use Rattle.passcode.specs.Course.{read_count, run_count, start}
+use Rattle.passcode.proofs.States.{IsKept, IsMark}
+use Rattle.passcode.proofs.Turns.{one_turn}
+use Rattle.ag_grammar.specs.declared.grammar.Target.{Target}
+
+-- how many children of a node in a state were read, and in how many the pass has run
+abbrev pub read_in : State → ℕ
+read_in s = read_count s.phase s.turn
+
+abbrev pub run_in : State → ℕ
+run_in s = run_count s.phase s.turn
+
+pub read_is : (s : State) (p : Phase) → s.phase ≡ p → read_in s ≡ read_count p s.turn
+read_is s p e = ap (λ p. read_count p s.turn) e
+
+pub run_is : (s : State) (p : Phase) → s.phase ≡ p → run_in s ≡ run_count p s.turn
+run_is s p e = ap (λ p. run_count p s.turn) e
+
+read_after : (o : Option Item) (t : ℕ) → read_count (after_get o) t ≡ suc t
+read_after None t = refl
+read_after (Some (item.Symbol s)) t = refl
+read_after (Some (item.Terminal x)) t = refl
+
+pub run_after : (o : Option Item) (t : ℕ) → (t ≤ run_count (after_get o) t) × (run_count (after_get o) t ≤ suc t)
+run_after None t = (omega arith, omega arith)
+run_after (Some (item.Symbol s)) t = (omega arith, omega arith)
+run_after (Some (item.Terminal x)) t = (omega arith, omega arith)
+
+not_ended : (o : Option Item) → after_get o ≡ Ended → ⊥
+not_ended None e = let bad : ⊥ = cc in bad
+not_ended (Some (item.Symbol s)) e = let bad : ⊥ = cc in bad
+not_ended (Some (item.Terminal x)) e = let bad : ⊥ = cc in bad
+
+got_symbol : (o : Option Item) → after_get o ≡ Got → (s : ℕ) × (o ≡ Some (item.Symbol s))
+got_symbol None e = absurd (let bad : ⊥ = cc in bad)
+got_symbol (Some (item.Symbol s)) e = (s, refl)
+got_symbol (Some (item.Terminal x)) e = absurd (let bad : ⊥ = cc in bad)
+
+module _ (m : Passes) (q : Production) (k : ℕ) where
+  -- A counter: it begins at 0, and rises from the turn's number by the instruction x of the turn's place, or at a place of
+  -- another kind.
+  record IsCounter (P : ℕ → Type 0) (f : State → ℕ) (x : ℕ → Instr) : Type 0 where
+    first : f start ≡ 0
+    steps : (s : State) (y : Instr) → MayRun m q k s y → (f (after q s y) ≡ f s)
+        ⊎ ((f s ≡ s.turn) × (f (after q s y) ≡ suc s.turn) × (P (place_of q k s.turn) → y ≡ x (place_of q k s.turn)))
+    takes : (s : State) (j : ℕ) → MayRun m q k s (x j) → (s.turn < arity q) × (j ≡ place_of q k s.turn) × (f s ≡ s.turn)
+        × (f (after q s (x j)) ≡ suc s.turn)
+
+  counter_stays : (P : ℕ → Type 0) (f : State → ℕ) (x : ℕ → Instr) → IsCounter P f x → (t : ℕ) → IsKept m q k (λ s. t < f s)
+  counter_stays P f x counter t s y may less = elim (counter.steps s y may)
+      [ inl e ↦ omega arith | inr h ↦ (let a = h.0 in let b = h.1 in omega arith) ]
+
+  -- so that it has passed a turn is the mark of that turn's instruction
+  counter_mark : (P : ℕ → Type 0) (f : State → ℕ) (x : ℕ → Instr) → IsCounter P f x → (t : ℕ) → t < arity q → P (place_of q k t)
+      → IsMark m q k (λ s. t < f s) (x (place_of q k t))
+  counter_mark P f x counter t within is = record {
+    none = λ less. (let e = counter.first in omega arith);
+    stays = counter_stays P f x counter t;
+    made = λ s may. (let h = counter.takes s (place_of q k t) may in let e = one_turn q k t s.turn within h.0 h.1 in let a =
+        h.3 in omega arith);
+    before = λ s may less. (let h = counter.takes s (place_of q k t) may in let e = one_turn q k t s.turn within h.0 h.1 in
+        let a = h.2 in omega arith);
+    only = λ s y may less. elim (counter.steps s y may) [
+      | inl e ↦ inl (omega arith)
+      | inr h ↦ elim (cases_eq t s.turn) [
+        | inl same ↦ (let here = ap (place_of q k) same in inr (h.2 (subst P here is) ∙ ap x (sym here)))
+        | inr other ↦ inl (let a = h.0 in let b = h.1 in omega arith)
+      ]
+    ];
+  }
+
+  abbrev Any : ℕ → Type 0
+  Any j = Unit {0}
+
+  reads : IsCounter Any read_in instr.Get
+  reads = record {
+    first = refl;
+    steps = steps;
+    takes =
+        λ s j may. (may.within, may.place, read_is s Between may.phase_is, read_after (item_at q j) s.turn);
+  }
+    where
+      steps : (s : State) (y : Instr) → MayRun m q k s y → (read_in (after q s y) ≡ read_in s)
+          ⊎ ((read_in s ≡ s.turn) × (read_in (after q s y) ≡ suc s.turn) × (Unit {0} → y ≡ instr.Get (place_of q k s.turn)))
+      steps s (instr.Get j) may = inr
+          (read_is s Between may.phase_is, read_after (item_at q j) s.turn, λ u. ap instr.Get may.place)
+      steps s (instr.Set j a r) may = inl refl
+      steps s (instr.Go j) may = inl (sym (read_is s Got may.0.phase_is))
+      steps s (instr.Put j) may = inl (sym (read_is s Gone may.phase_is))
+      steps s (instr.Def a r) may = inl refl
+      steps s instr.End may = inl (sym (read_is s Between may.0))
+
+  puts : IsCounter Any (λ s. s.turn) instr.Put
+  puts = record { first = refl; steps = steps; takes = λ s j may. (may.within, may.place, refl, refl) }
+    where
+      steps : (s : State) (y : Instr) → MayRun m q k s y → ((after q s y).turn ≡ s.turn)
+          ⊎ ((s.turn ≡ s.turn) × ((after q s y).turn ≡ suc s.turn) × (Unit {0} → y ≡ instr.Put (place_of q k s.turn)))
+      steps s (instr.Get j) may = inl refl
+      steps s (instr.Set j a r) may = inl refl
+      steps s (instr.Go j) may = inl refl
+      steps s (instr.Put j) may = inr (refl, refl, λ u. ap instr.Put may.place)
+      steps s (instr.Def a r) may = inl refl
+      steps s instr.End may = inl refl
+
+  runs : IsCounter (IsChild q) run_in instr.Go
+  runs = record { first = refl; steps = steps; takes = λ s j may. (may.0.within, may.0.place, run_is s Got may.0.phase_is, refl) }
+    where
+      by_item : (s : State) (j : ℕ) → MayRun m q k s (instr.Get j) → (o : Option Item) → item_at q j ≡ o
+          → (run_count (after_get o) s.turn ≡ run_in s)
+          ⊎ ((run_in s ≡ s.turn) × (run_count (after_get o) s.turn ≡ suc s.turn)
+          × (IsChild q (place_of q k s.turn) → instr.Get j ≡ instr.Go (place_of q k s.turn)))
+      by_item s j may (Some (item.Symbol x)) e = inl (sym (run_is s Between may.phase_is))
+      by_item s j may (Some (item.Terminal x)) e = inr (
+        run_is s Between may.phase_is,
+        refl,
+        λ child. absurd
+            (let both = sym e ∙ ap (item_at q) may.place ∙ child.1.1 in let bad : ⊥ = cc in bad),
+      )
+      by_item s j may None e = inr (
+        run_is s Between may.phase_is,
+        refl,
+        λ child. absurd
+            (let both = sym e ∙ ap (item_at q) may.place ∙ child.1.1 in let bad : ⊥ = cc in bad),
+      )
+
+      steps : (s : State) (y : Instr) → MayRun m q k s y → (run_in (after q s y) ≡ run_in s)
+          ⊎ ((run_in s ≡ s.turn) × (run_in (after q s y) ≡ suc s.turn)
+          × (IsChild q (place_of q k s.turn) → y ≡ instr.Go (place_of q k s.turn)))
+      steps s (instr.Get j) may = by_item s j may (item_at q j) refl
+      steps s (instr.Set j a r) may = inl refl
+      steps s (instr.Go j) may = inr (run_is s Got may.0.phase_is, refl, λ child. ap instr.Go may.0.place)
+      steps s (instr.Put j) may = inl (sym (run_is s Gone may.phase_is))
+      steps s (instr.Def a r) may = inl refl
+      steps s instr.End may = inl (sym (run_is s Between may.0))
+
+  pub run_stays : (t : ℕ) → IsKept m q k (λ s. t < run_in s)
+  run_stays t = counter_stays (IsChild q) run_in instr.Go runs t
+
+  pub get_mark : (t : ℕ) → t < arity q → IsMark m q k (λ s. t < read_in s) (instr.Get (place_of q k t))
+  get_mark t within = counter_mark Any read_in instr.Get reads t within tt
+
+  pub put_mark : (t : ℕ) → t < arity q → IsMark m q k (λ s. t < s.turn) (instr.Put (place_of q k t))
+  put_mark t within = counter_mark Any (λ s. s.turn) instr.Put puts t within tt
+
+  pub go_mark : (t : ℕ) → t < arity q → IsChild q (place_of q k t) → IsMark m q k (λ s. t < run_in s) (instr.Go (place_of q k t))
+  go_mark t within child = counter_mark (IsChild q) run_in instr.Go runs t within child
+
+  -- the end
+  pub end_mark : IsMark m q k (λ s. s.phase ≡ Ended) instr.End
+  end_mark = record {
+    none = λ e. (let bad : ⊥ = cc in bad);
+    stays = stays;
+    made = λ s may. refl;
+    before =
+        λ s may e. (let f = may.0 in let bad : ⊥ = cc in bad);
+    only = only;
+  }
+    where
+      stays : IsKept m q k (λ s. s.phase ≡ Ended)
+      stays s (instr.Get j) may e = let f = may.phase_is in absurd (let bad : ⊥ = cc in bad)
+      stays s (instr.Set j a r) may e = e
+      stays s (instr.Go j) may e = let f = may.0.phase_is in absurd (let bad : ⊥ = cc in bad)
+      stays s (instr.Put j) may e = let f = may.phase_is in absurd (let bad : ⊥ = cc in bad)
+      stays s (instr.Def a r) may e = e
+      stays s instr.End may e = refl
+
+      only : (s : State) (y : Instr) → MayRun m q k s y → (after q s y).phase ≡ Ended → (s.phase ≡ Ended) ⊎ (y ≡ instr.End)
+      only s (instr.Get j) may e = absurd (not_ended (item_at q j) e)
+      only s (instr.Set j a r) may e = inl e
+      only s (instr.Go j) may e = absurd (let bad : ⊥ = cc in bad)
+      only s (instr.Put j) may e = absurd (let bad : ⊥ = cc in bad)
+      only s (instr.Def a r) may e = inl e
+      only s instr.End may e = inr refl
+
+  -- a node that has come to a child and not gone into it has come to a declared symbol's
+  pub got_child : IsKept m q k (λ s. s.phase ≡ Got → IsChild q (place_of q k s.turn))
+  got_child s (instr.Get j) may was e = let x = got_symbol (item_at q j) e in
+      subst (IsChild q) may.place (x.0, (let p = may.place in omega arith, x.1))
+  got_child s (instr.Set j a r) may was e = was e
+  got_child s (instr.Go j) may was e = absurd (let bad : ⊥ = cc in bad)
+  got_child s (instr.Put j) may was e = absurd (let bad : ⊥ = cc in bad)
+  got_child s (instr.Def a r) may was e = was e
+  got_child s instr.End may was e = absurd (let bad : ⊥ = cc in bad)
+
+  -- no more children are read than there are
+  pub read_within : IsKept m q k (λ s. read_in s ≤ arity q)
+  read_within s (instr.Get j) may le = let e = read_after (item_at q j) s.turn in let w = may.within in omega arith
+  read_within s (instr.Set j a r) may le = le
+  read_within s (instr.Go j) may le = let w = may.0.within in omega arith
+  read_within s (instr.Put j) may le = let w = may.within in omega arith
+  read_within s (instr.Def a r) may le = le
+  read_within s instr.End may le = let e = may.1 in omega arith
+
+  -- the own instruction of a rule
+  module _ (r : ℕ) (u : Rule) (at : IsRuleAt q r u) where
+    own : (s : State) (j a : ℕ) → MayGive m q k s j a r → giving j a r ≡ instruction_of u r
+    own s j a gives =
+        let both : Some gives.rule ≡ Some u = sym gives.numbered ∙ at in
+        let same : u ≡ gives.rule = cc in
+        ap (λ (o : Target). giving o.place o.attr r) (sym gives.target) ∙ ap (λ (w : Rule). instruction_of w r) (sym same)
+
+    pub rule_mark : IsMark m q k (λ s. Has s.done r) (instruction_of u r)
+    rule_mark = record {
+      none = none;
+      stays = stays;
+      made = made u.target.place u.target.attr;
+      before =
+          before u.target.place u.target.attr;
+      only = only;
+    }
+      where
+        none : Has start.done r → ⊥
+        none h = let e : slice_get {X = ℕ} [] h.0 ≡ Some r = h.1 in let bad : ⊥ = cc in bad
+
+        more : (s : State) (n : ℕ) → Has s.done r → Has (n ∷ s.done) r
+        more s n h = (suc h.0, h.1)
+
+        stays : IsKept m q k (λ s. Has s.done r)
+        stays s (instr.Get j) may h = h
+        stays s (instr.Set j a n) may h = more s n h
+        stays s (instr.Go j) may h = h
+        stays s (instr.Put j) may h = h
+        stays s (instr.Def a n) may h = more s n h
+        stays s instr.End may h = h
+
+        made : (j a : ℕ) (s : State) → MayRun m q k s (giving j a r) → Has (after q s (giving j a r)).done r
+        made zero a s may = (0, refl)
+        made (suc j) a s may = (0, refl)
+
+        before : (j a : ℕ) (s : State) → MayRun m q k s (giving j a r) → Has s.done r → ⊥
+        before zero a s may h = may.1.fresh h
+        before (suc j) a s may h = may.1.fresh h
+
+        only : (s : State) (y : Instr) → MayRun m q k s y → Has (after q s y).done r → Has s.done r ⊎ (y ≡ instruction_of u r)
+        only s (instr.Get j) may h = inl h
+        only s (instr.Set j a n) may (suc i, e) = inl (i, e)
+        only s (instr.Set zero a n) may (zero, e) = let p = may.0.place in absurd (omega arith)
+        only s (instr.Set (suc j) a n) may (zero, e) = let same : n ≡ r = cc in
+            inr (ap (instr.Set (suc j) a) same ∙ own s (suc j) a (subst (MayGive m q k s (suc j) a) same may.1))
+        only s (instr.Go j) may h = inl h
+        only s (instr.Put j) may h = inl h
+        only s (instr.Def a n) may (suc i, e) = inl (i, e)
+        only s (instr.Def a n) may (zero, e) = let same : n ≡ r = cc in
+            inr (ap (instr.Def a) same ∙ own s 0 a (subst (MayGive m q k s 0 a) same may.1))
+        only s instr.End may h = inl h

@@ -1,0 +1,119 @@
+-- The sample lists.
+use Rattle.std.proofs.Common.{ℕ, zero, suc, ◌≡◌, ◌<◌, inl, inr, List, [], ◌∷◌, Some, slice_get, refl, ap, sym, subst, arith}
+use Rattle.ag_grammar.specs.Lists.{Has}
+use Rattle.ag_grammar.specs.declared.grammar.Rule.{Rule}
+use Rattle.ag_grammar.specs.declared.grammar.Target.{Target}
+use Rattle.ag_grammar.specs.grammars.AttributeGrammar.{IsArgument}
+use Rattle.ag_grammar.specs.grammars.Passes.{HasPass, IsLegal}
+use Rattle.ag_grammar.specs.grammars.Sample.{attribute, sample, sample_passes, rule_out}
+use Rattle.ag_grammar.proofs.grammars.samples.NumberSample.{accepted}
+use Rattle.passcode.specs.Agreement.{IsListFor, IsRuleAt, StandsOnceIf, instruction_of}
+use Rattle.passcode.specs.Course.{AreGiven, IsAtHand, IsVisited, Runs, start}
+use Rattle.passcode.specs.Limits.{IsPlanned}
+use Rattle.passcode.specs.Sample.{sample_production, sample_list, forward_list, late_list, undefined_list}
+use Rattle.passcode.specs.Sample.{hasty_list, hasty_passes, hasty_production, hasty_rule}
+use Rattle.passcode.proofs.Agreeing.{agrees}
+use Rattle.passcode.proofs.Following.{follows}
+use Rattle.passcode.proofs.Lawful.{planned}
+use Rattle.passcode.proofs.Leaving.{list_runs}
+
+pub sample_visited : IsVisited sample_production 1 1 2
+sample_visited = (0, omega arith, refl)
+
+pub sample_unvisited : IsVisited sample_production 1 1 1 → ⊥
+sample_unvisited (zero, less, e) = let bad : ⊥ = cc in bad
+sample_unvisited (suc t, less, e) = omega arith
+
+known : IsLegal sample sample_passes → IsPlanned sample_passes sample_production
+known legal = planned sample sample_passes accepted legal 0 sample_production refl
+
+pub sample_runs : IsLegal sample sample_passes → Runs sample_passes sample_production 1 start sample_list
+sample_runs legal = let k = known legal in list_runs sample_passes sample_production 1 (omega arith) k.single k.allowed
+
+pub sample_agrees : IsLegal sample sample_passes → IsListFor sample_passes sample_production 1 sample_list
+sample_agrees legal = agrees sample_passes sample_production 1 sample_list (omega arith) (sample_runs legal)
+
+pub forward_refused : IsListFor sample_passes sample_production 1 forward_list → ⊥
+forward_refused h = let bad : 7 < 0 = h.visits.in_direction 2 1 (omega arith) 7 0 refl refl in omega arith
+
+pub late_refused : IsListFor sample_passes sample_production 1 late_list → ⊥
+late_refused h = let bad : 6 < 5 = h.gives.before_go 1 1 1 6 5 refl refl in omega arith
+
+-- at the `End` of the last list rule 0 was not run
+pub undefined_refused : IsLegal sample sample_passes → IsListFor sample_passes sample_production 1 undefined_list → ⊥
+undefined_refused legal h = let k = known legal in let runs =
+    follows sample_passes sample_production 1 undefined_list (omega arith) k.allowed h in
+    none (runs.1.1.1.1.1.1.1.1.0.2 0 0 rule_out refl refl refl)
+  where
+    none : Has {A = ℕ} (1 ∷ 2 ∷ []) 0 → ⊥
+    none (zero, e) = let bad : ⊥ = cc in bad
+    none (suc zero, e) = let bad : ⊥ = cc in bad
+    none (suc (suc n), e) = let bad : ⊥ = cc in bad
+
+-- the only rule of the other production
+only_rule : (r : ℕ) (u : Rule) → IsRuleAt hasty_production r u → (hasty_rule ≡ u) × (0 ≡ r)
+only_rule zero u e = (cc, refl)
+only_rule (suc r) u e = absurd (let bad : ⊥ = cc in bad)
+
+own_attribute : (o : Target) → IsArgument hasty_rule o → attribute 0 1 ≡ o
+own_attribute o (zero, e) = cc
+own_attribute o (suc n, e) = absurd (let bad : ⊥ = cc in bad)
+
+-- under this assignment its list runs
+abbrev calm_passes : ℕ → List ℕ
+calm_passes s = 1 ∷ 1 ∷ []
+
+calm_runs : Runs calm_passes hasty_production 1 start hasty_list
+calm_runs = (
+  (
+    (λ e. let bad : ⊥ = cc in bad),
+    record {
+      rule = hasty_rule;
+      numbered = refl;
+      target = refl;
+      passed = refl;
+      at_hand = λ o arg. subst (IsAtHand calm_passes hasty_production 1 start) (own_attribute o arg)
+          (1, refl, omega arith, inr (inl refl));
+      fresh = λ h. (let e : slice_get {X = ℕ} [] h.0 ≡ Some 0 = h.1 in let bad : ⊥ = cc in bad);
+    },
+  ),
+  ((refl, refl, given), refl),
+)
+  where
+    given : (j : ℕ) → AreGiven calm_passes hasty_production 1 (record { phase = start.phase; turn = 0; done = 0 ∷ [] }) j
+    given j r u at place has = (0, ap Some (only_rule r u at).1)
+
+-- and so it agrees under the other one too, which differs in an argument's pass alone
+pub hasty_agrees : IsListFor hasty_passes hasty_production 1 hasty_list
+hasty_agrees = record {
+  visits = calm.visits;
+  gives = record { given = given; own = calm.gives.own; behind_get = calm.gives.behind_get; before_go = calm.gives.before_go };
+  arguments = λ r n u o at stands arg. inl
+      (ap (λ (o : Target). o.place)
+      (sym (own_attribute o (subst (λ (w : Rule). IsArgument w o) (sym (only_rule r u at).0) arg))));
+  ends = calm.ends;
+}
+  where
+    calm : IsListFor calm_passes hasty_production 1 hasty_list
+    calm = agrees calm_passes hasty_production 1 hasty_list (omega arith) calm_runs
+
+    given : (r : ℕ) (u : Rule) → IsRuleAt hasty_production r u
+        → StandsOnceIf (HasPass hasty_passes hasty_production u.target 1) hasty_list (instruction_of u r)
+    given r u at =
+        let was = calm.gives.given r u at in
+        let is = only_rule r u at in
+        record {
+          there = λ has. was.there (subst (λ (w : Rule). HasPass calm_passes hasty_production w.target 1) is.0 refl);
+          only = λ h. subst (λ (w : Rule). HasPass hasty_passes hasty_production w.target 1) is.0 refl;
+          once = was.once;
+        }
+
+pub hasty_stops : Runs hasty_passes hasty_production 1 start hasty_list → ⊥
+hasty_stops h =
+    let give = h.0.1 in
+    let is = only_rule 0 give.rule give.numbered in
+    let hand = give.at_hand (attribute 0 1) (subst (λ (w : Rule). IsArgument w (attribute 0 1)) is.0 (0, refl)) in
+    let passed : Some 2 ≡ Some hand.0 = hand.1 in
+    let second : 2 ≡ hand.0 = cc in
+    let most = hand.2 in
+    omega arith

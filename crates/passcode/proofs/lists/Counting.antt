@@ -1,0 +1,197 @@
+-- A list that agrees has one instruction for each rule of its production and pass.
+use Rattle.std.proofs.Common.{◌≡◌, ℕ, zero, suc, ◌+◌, ◌<◌, ◌≤◌, inl, inr, Bool, true, false, cond, List, [], ◌∷◌, length, Option}
+use Rattle.std.proofs.Common.{Some, None, slice_get, refl, ap, sym, subst, ◌∙◌, arith}
+use Rattle.std.specs.Prelude.{nat_eq}
+use Rattle.std.specs.List.{count_by}
+use Rattle.std.proofs.lemmas.Bool.{cases_lt, eq-eqb, eqb-true, ne_eqb}
+use Rattle.std.proofs.lemmas.Option.{slice_get_within}
+use Rattle.ag_grammar.specs.declared.grammar.Production.{Production}
+use Rattle.ag_grammar.specs.declared.grammar.Rule.{Rule}
+use Rattle.ag_grammar.specs.grammars.Counts.{is_of_pass, is_pass, pass_at, pass_rule_count}
+use Rattle.ag_grammar.specs.grammars.Passes.{Passes, HasPass}
+use Rattle.ag_grammar.proofs.grammars.Counting.{count_more}
+use Rattle.passcode.specs.declared.instr.Instr.{Instr}
+use Rattle.passcode.specs.declared.instr.Instr.TheVariants as instr
+use Rattle.passcode.specs.Agreement.{IsGiving, IsListFor, IsRuleAt, StandsOnceIf, giving, instruction_of}
+use Rattle.passcode.specs.Counts.{is_giving}
+use Rattle.passcode.specs.Laws.{ListsEvaluateRules}
+
+-- an instruction evaluates the rule of a number
+abbrev evaluates : ℕ → Instr → Bool
+evaluates n (instr.Get j) = false
+evaluates n (instr.Set j a r) = nat_eq r n
+evaluates n (instr.Go j) = false
+evaluates n (instr.Put j) = false
+evaluates n (instr.Def a r) = nat_eq r n
+evaluates n instr.End = false
+
+-- how many instructions of a list evaluate one of some rules, of which the first has a number
+abbrev evaluated : ℕ → List Rule → List Instr → ℕ
+evaluated n [] xs = 0
+evaluated n (u ∷ us) xs = count_by (evaluates n) xs + evaluated (suc n) us xs
+
+-- the same of one instruction
+abbrev evaluated_by : ℕ → List Rule → Instr → ℕ
+evaluated_by n [] i = 0
+evaluated_by n (u ∷ us) i = cond (evaluates n i) 1 0 + evaluated_by (suc n) us i
+
+evaluated_none : (n : ℕ) (us : List Rule) → evaluated n us [] ≡ 0
+evaluated_none n [] = refl
+evaluated_none n (u ∷ us) = omega (arith, evaluated_none (suc n) us)
+
+evaluated_more : (n : ℕ) (us : List Rule) (i : Instr) (xs : List Instr)
+    → evaluated n us (i ∷ xs) ≡ evaluated_by n us i + evaluated n us xs
+evaluated_more n [] i xs = refl
+evaluated_more n (u ∷ us) i xs = omega (arith, count_more (evaluates n) i xs, evaluated_more (suc n) us i xs)
+
+-- an instruction that evaluates no rule of these numbers
+by_none : (n : ℕ) (us : List Rule) (i : Instr) → ((k : ℕ) → n ≤ k → evaluates k i ≡ false) → evaluated_by n us i ≡ 0
+by_none n [] i never = refl
+by_none n (u ∷ us) i never =
+    let rest = by_none (suc n) us i (λ k le. never k (omega arith)) in
+    let first : ◌≡◌ {A = ℕ} (cond (evaluates n i) 1 0) 0 = ap (λ b. cond b 1 0) (never n (omega arith)) in
+    omega (arith, first, rest)
+
+by_one : (n r : ℕ) (us : List Rule) (i : Instr) → ((k : ℕ) → evaluates k i ≡ nat_eq r k) → n ≤ r → r < n + length us
+    → evaluated_by n us i ≡ 1
+by_one n r [] i is from to = absurd (omega arith)
+by_one n r (u ∷ us) i is from to = elim (cases_lt n r) [
+  | inl less ↦ (
+      let rest = by_one (suc n) r us i is (omega arith) (omega arith) in
+      let first : ◌≡◌ {A = ℕ} (cond (evaluates n i) 1 0) 0 = ap (λ b. cond b 1 0) (is n ∙ ne_eqb r n (λ e. omega arith)) in
+      omega (arith, first, rest))
+  | inr past ↦ (
+      let rest = by_none (suc n) us i (λ k le. is k ∙ ne_eqb r k (λ e. omega arith)) in
+      let first : ◌≡◌ {A = ℕ} (cond (evaluates n i) 1 0) 1 = ap (λ b. cond b 1 0) (is n ∙ eq-eqb r n (omega arith)) in
+      omega (arith, first, rest))
+]
+
+-- the number of the rule that an instruction evaluates is one of these, where it evaluates one
+abbrev IsNumberBelow : ℕ → Instr → Type 0
+IsNumberBelow n i = (r : ℕ) → ((k : ℕ) → evaluates k i ≡ nat_eq r k) → r < n
+
+by_instr : (us : List Rule) (i : Instr) → IsNumberBelow (length us) i → evaluated_by 0 us i ≡ cond (is_giving i) 1 0
+by_instr us (instr.Get j) is = by_none 0 us (instr.Get j) (λ k le. refl)
+by_instr us (instr.Set j a r) is = by_one 0 r us (instr.Set j a r) (λ k. refl) (omega arith)
+    (let less = is r (λ k. refl) in omega arith)
+by_instr us (instr.Go j) is = by_none 0 us (instr.Go j) (λ k le. refl)
+by_instr us (instr.Put j) is = by_none 0 us (instr.Put j) (λ k le. refl)
+by_instr us (instr.Def a r) is = by_one 0 r us (instr.Def a r) (λ k. refl) (omega arith)
+    (let less = is r (λ k. refl) in omega arith)
+by_instr us instr.End is = by_none 0 us instr.End (λ k le. refl)
+
+all_evaluated : (us : List Rule) (xs : List Instr) → ((n : ℕ) (i : Instr) → slice_get xs n ≡ Some i → IsNumberBelow (length us) i)
+    → count_by is_giving xs ≡ evaluated 0 us xs
+all_evaluated us [] is = sym (evaluated_none 0 us)
+all_evaluated us (i ∷ xs) is = omega (
+  arith,
+  count_more is_giving i xs,
+  evaluated_more 0 us i xs,
+  by_instr us i (is 0 i refl),
+  all_evaluated us xs (λ n j e. is (suc n) j e),
+)
+
+count_none : (f : Instr → Bool) (xs : List Instr) → ((n : ℕ) (i : Instr) → slice_get xs n ≡ Some i → f i ≡ false)
+    → count_by f xs ≡ 0
+count_none f [] never = refl
+count_none f (i ∷ xs) never =
+    let first : ◌≡◌ {A = ℕ} (cond (f i) 1 0) 0 = ap (λ b. cond b 1 0) (never 0 i refl) in
+    omega (arith, first, count_more f i xs, count_none f xs (λ n j e. never (suc n) j e))
+
+count_one : (f : Instr → Bool) (xs : List Instr) (at : ℕ) (x : Instr) → slice_get xs at ≡ Some x → f x ≡ true
+    → ((n : ℕ) (i : Instr) → slice_get xs n ≡ Some i → (n ≡ at → ⊥) → f i ≡ false) → count_by f xs ≡ 1
+count_one f [] at x e is only = absurd (let bad : ⊥ = cc in bad)
+count_one f (i ∷ xs) zero x e is only =
+    let same : i ≡ x = cc in
+    let first : ◌≡◌ {A = ℕ} (cond (f i) 1 0) 1 = ap (λ b. cond b 1 0) (ap f same ∙ is) in
+    omega (arith, first, count_more f i xs, count_none f xs (λ n j h. only (suc n) j h (λ z. omega arith)))
+count_one f (i ∷ xs) (suc at) x e is only =
+    let first : ◌≡◌ {A = ℕ} (cond (f i) 1 0) 0 = ap (λ b. cond b 1 0) (only 0 i refl (λ z. omega arith)) in
+    omega (arith, first, count_more f i xs, count_one f xs at x e is (λ n j h ne. only (suc n) j h (λ z. ne (omega arith))))
+
+-- what evaluates a rule of a number in a list that agrees is that rule's own instruction
+own_number : (place attr r k : ℕ) → evaluates k (giving place attr r) ≡ nat_eq r k
+own_number zero a r k = refl
+own_number (suc j) a r k = refl
+
+is_given : (i : Instr) (k : ℕ) → evaluates k i ≡ true → IsGiving i
+is_given (instr.Get j) k e = absurd cc
+is_given (instr.Set j a r) k e = (j, a, r, inl refl)
+is_given (instr.Go j) k e = absurd cc
+is_given (instr.Put j) k e = absurd cc
+is_given (instr.Def a r) k e = (0, a, r, inr refl)
+is_given instr.End k e = absurd cc
+
+by_bool : (b : Bool) → (b ≡ true → ⊥) → b ≡ false
+by_bool true never = absurd (never refl)
+by_bool false never = refl
+
+module _ (m : Passes) (q : Production) (k : ℕ) (xs : List Instr) (is : IsListFor m q k xs) where
+  own : (n r : ℕ) (u : Rule) (i : Instr) → IsRuleAt q r u → slice_get xs n ≡ Some i → evaluates r i ≡ true
+      → i ≡ instruction_of u r
+  own n r u i at stands e =
+      let o = is.gives.own i (is_given i r e) (n, stands) in
+      let same_number : o.0 ≡ r = eqb-true o.0 r
+      (sym (own_number o.1.target.place o.1.target.attr o.0 r) ∙ ap (evaluates r) (sym o.3) ∙ e) in
+      let z : Some o.1 ≡ Some u = sym o.2 ∙ ap (slice_get q.rules) same_number ∙ at in
+      let same : o.1 ≡ u = cc in
+      o.3 ∙ ap (instruction_of o.1) same_number ∙ ap (λ (w : Rule). instruction_of w r) same
+
+  one_rule : (r : ℕ) (u : Rule) → IsRuleAt q r u → count_by (evaluates r) xs ≡ cond (is_of_pass m k q u) 1 0
+  one_rule r u at = go (pass_at m q u.target) refl
+    where
+      once : StandsOnceIf (HasPass m q u.target k) xs (instruction_of u r)
+      once = is.gives.given r u at
+
+      here : evaluates r (instruction_of u r) ≡ true
+      here = own_number u.target.place u.target.attr r r ∙ eq-eqb r r refl
+
+      -- where it isn't of the pass
+      not_there : (HasPass m q u.target k → ⊥) → count_by (evaluates r) xs ≡ 0
+      not_there never = count_none (evaluates r) xs
+          (λ n i e. by_bool (evaluates r i) (λ t. never (once.only (n, e ∙ ap Some (own n r u i at e t)))))
+
+      always : HasPass m q u.target k → count_by (evaluates r) xs ≡ 1
+      always has =
+          let stands = once.there has in
+          count_one (evaluates r) xs stands.0 (instruction_of u r) stands.1 here
+          (λ n i e ne. by_bool (evaluates r i) (λ t. ne (once.once n stands.0 (e ∙ ap Some (own n r u i at e t)) stands.1)))
+
+      go : (o : Option ℕ) → pass_at m q u.target ≡ o → count_by (evaluates r) xs ≡ cond (is_pass k (pass_at m q u.target)) 1 0
+      go None e = not_there (λ has. let z : None ≡ Some k = sym e ∙ has in let bad : ⊥ = cc in bad)
+          ∙ sym (ap (λ o. cond (is_pass k o) 1 0) e)
+      go (Some p) e = by_test (nat_eq p k) refl
+        where
+          by_test : (b : Bool) → nat_eq p k ≡ b → count_by (evaluates r) xs ≡ cond (is_pass k (pass_at m q u.target)) 1 0
+          by_test true same = always (e ∙ ap Some (eqb-true p k same))
+              ∙ sym (ap (λ o. cond (is_pass k o) 1 0) e ∙ ap (λ b. cond b 1 0) same)
+          by_test false other = not_there
+              (λ has. let z : Some p ≡ Some k = sym e ∙ has in let same : p ≡ k = cc in let bad : true ≡ false =
+              sym (eq-eqb p k same) ∙ other in cc) ∙ sym (ap (λ o. cond (is_pass k o) 1 0) e ∙ ap (λ b. cond b 1 0) other)
+
+  -- each rule of some, of which the first has a number
+  each_rule : (n : ℕ) (us : List Rule) → ((i : ℕ) (u : Rule) → slice_get us i ≡ Some u → IsRuleAt q (n + i) u)
+      → evaluated n us xs ≡ count_by (is_of_pass m k q) us
+  each_rule n [] at = refl
+  each_rule n (u ∷ us) at =
+      let first : IsRuleAt q n u = subst (λ i. IsRuleAt q i u) (let z : n + 0 ≡ n = omega arith in z) (at 0 u refl) in
+      let others = each_rule (suc n) us
+      (λ i w e. subst (λ j. IsRuleAt q j w) (let z : n + suc i ≡ suc n + i = omega arith in z) (at (suc i) w e)) in
+      omega (arith, count_more (is_of_pass m k q) u us, one_rule n u first, others)
+
+  numbered : (n : ℕ) (i : Instr) → slice_get xs n ≡ Some i → (r : ℕ) → ((k : ℕ) → evaluates k i ≡ nat_eq r k) → r < length q.rules
+  numbered n i stands r e =
+      let there : evaluates r i ≡ true = e r ∙ eq-eqb r r refl in
+      let o = is.gives.own i (is_given i r there) (n, stands) in
+      let same : o.0 ≡ r = eqb-true o.0 r
+      (sym (own_number o.1.target.place o.1.target.attr o.0 r) ∙ ap (evaluates r) (sym o.3) ∙ there) in
+      let w = slice_get_within q.rules o.0 o.1 o.2 in
+      omega arith
+
+  counted : count_by is_giving xs ≡ pass_rule_count m k (Some q)
+  counted =
+      all_evaluated q.rules xs numbered ∙ each_rule 0 q.rules
+      (λ i u e. subst (λ j. IsRuleAt q j u) (let z : i ≡ 0 + i = omega arith in z) e)
+
+pub lists_evaluate_rules : ListsEvaluateRules
+lists_evaluate_rules m q k xs is = counted m q k xs is
