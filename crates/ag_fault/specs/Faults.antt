@@ -28,7 +28,7 @@ use Rattle.ag_fault.specs.declared.build_fault.BuildFault.TheVariants as build
 use Rattle.ag_fault.specs.declared.fault.Fault.{Fault}
 use Rattle.ag_fault.specs.declared.fault.Fault.TheVariants as fault
 
--- want of memory is a fault of its own, and never inside another
+-- refused memory is always `NoMemory`, and never inside another fault
 abbrev pub expr_fault_of : ExprFault → Fault
 expr_fault_of expr.NoMemory = fault.NoMemory
 expr_fault_of e = fault.Expr e
@@ -47,7 +47,7 @@ parse_fault_of parse.Device = fault.Device
 parse_fault_of parse.NoMemory = fault.NoMemory
 parse_fault_of e = fault.Parse e
 
--- those of passes, where a failed device and want of memory are faults of their own too
+-- those of passes, in which a failed device and refused memory are separate faults too
 abbrev pub run_fault_of : RunFault → Fault
 run_fault_of run.Device = fault.Device
 run_fault_of run.NoMemory = fault.NoMemory
@@ -61,7 +61,7 @@ out_fault_of (out.Damaged at) = fault.Damaged at
 out_fault_of out.Device = fault.Device
 out_fault_of out.NoMemory = fault.NoMemory
 
--- the faults of each step that makes a translator; want of memory is a fault of its own here too
+-- the faults of each step that builds a translator; refused memory is `NoMemory` here too
 abbrev pub build_fault_of_text : TextFault → BuildFault
 build_fault_of_text text.NoMemory = build.NoMemory
 build_fault_of_text e = build.Text e

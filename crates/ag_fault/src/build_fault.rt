@@ -11,18 +11,19 @@ use ag_value::NoMemory;
 use llparse::TableFault;
 use normalform::NormalFault;
 
-/// Why a text makes no translator. Want of memory is in none but its own variant.
+/// Why a translator can't be built from a text. Refused memory is only `NoMemory`, never inside another
+/// variant.
 #[derive(Debug, Drop)]
 pub enum BuildFault {
-    /// G1 to G4: the text reads as no grammar.
+    /// G1 to G4: the text doesn't read as a grammar.
     Text(TextFault),
     /// N1 to N10: the grammar is not accepted.
     Normal(NormalFault),
-    /// L1: one token of look-ahead doesn't tell which production comes next.
+    /// L1: one token of look-ahead doesn't determine the next production.
     Table(TableFault),
     /// A1: no assignment of passes to the grammar's attributes is legal.
     Assign(StuckGrammar),
-    /// A growth was refused.
+    /// A request for memory was refused.
     NoMemory,
 }
 

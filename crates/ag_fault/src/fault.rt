@@ -22,11 +22,11 @@ use roottext::OutFault;
 use std::alloc::AllocError;
 use treefile::{DeviceFault, FileFault, FrameFault};
 
-/// Why the program, or a call of it, did not do what it was asked for. Each has a number, which is
-/// printed first.
+/// Why the program, or a call of its library, failed. Each fault has a number, which is printed
+/// first.
 #[derive(Debug, Drop)]
 pub enum Fault {
-    /// The words of the command line are not as they should be.
+    /// The command line is wrong.
     Usage,
     /// F1: a file can't be opened, read or created.
     File,
@@ -53,14 +53,13 @@ pub enum Fault {
     NoText(Value),
     /// B1: a device does not contain a tree file.
     NotATreeFile,
-    /// B2: no frame ends at this offset in bytes, where one should, or its body is not as it should
-    /// be.
+    /// B2: no frame ends at this offset in bytes, or its body is not the expected one.
     Damaged(u64),
     /// D1: a call of a device failed.
     Device,
-    /// O2: a write failed, or took no byte. A beginning of the text may have gone out.
+    /// O2: a write failed, or took no byte. A prefix of the text may have been written.
     Write,
-    /// A growth was refused.
+    /// A request for memory was refused.
     NoMemory,
 }
 

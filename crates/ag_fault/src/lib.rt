@@ -1,5 +1,5 @@
-//! The faults of the program: why a call of it did not do what it was asked for, how each is
-//! printed, and the status that the program ends with.
+//! The faults of the program and its library, how each is printed, and the exit status of the
+//! program.
 #![tactic(auto)]
 
 mod build_fault;

@@ -1,4 +1,4 @@
--- What the refusals of a translator say of the text, and the plan that it keeps.
+-- The meaning of the faults of building a translator for the text, and the plan of a translator.
 use Rattle.std.proofs.Common.{◌≡◌, ℕ, List, Result, Err, refl, subst, sym, ◌∙◌}
 use Rattle.std.specs.Prelude.{IsErrOf}
 use Rattle.agoutput.specs.declared.fault.ListingFault.{ListingFault}
@@ -10,7 +10,7 @@ use Rattle.llparse.specs.declared.table.fault.TableFault.{TableFault}
 use Rattle.llparse.specs.declared.table.fault.TableFault.TheVariants as table
 use Rattle.passassign.specs.Least.{IsLeast}
 use Rattle.passassign.specs.Rows.{passes_of}
-use Rattle.passcode.specs.Order.{AreInOrder}
+use Rattle.passcode.specs.Listing.{AreLists}
 use Rattle.passcode.specs.Rows.{Lists}
 use Rattle.planchecker.specs.Plans.{IsPlan}
 use Rattle.aggen.specs.Building.{IsBuildFault, IsLeastPlan}
@@ -27,8 +27,8 @@ pub conflict_told : (t : List ℕ) (g : Grammar) → IsGrammarOf t g → (f : Ta
 conflict_told t g is (table.Conflict symbol first second ahead) least = (g, is, least symbol first second ahead refl)
 conflict_told t g is table.NoMemory least = tt
 
-pub least_plan : (g : Grammar) (rows : List (List ℕ)) (code : Lists) (p : List (List ℕ) × Lists) → p ≡ (rows, code) → IsPlan g rows code → IsLeast g (passes_of rows) → AreInOrder code → IsLeastPlan g p.0 p.1
-least_plan g rows code p is plan least order = subst (λ (x : List (List ℕ) × Lists). IsLeastPlan g x.0 x.1) (sym is) (record { plan = plan; least = least; order = order })
+pub least_plan : (g : Grammar) (rows : List (List ℕ)) (code : Lists) (p : List (List ℕ) × Lists) → p ≡ (rows, code) → IsPlan g rows code → IsLeast g (passes_of rows) → AreLists g (passes_of rows) code → IsLeastPlan g p.0 p.1
+least_plan g rows code p is plan least lists = subst (λ (x : List (List ℕ) × Lists). IsLeastPlan g x.0 x.1) (sym is) (record { plan = plan; least = least; lists = lists })
 
 pub of_plan : (P : Grammar → List (List ℕ) → Lists → Type 0) (text : List ℕ) (g : Grammar) (rows : List (List ℕ)) (code : Lists) → IsGrammarOf text g → IsLeastPlan g rows code → P g rows code → OfPlan text P
 of_plan P text g rows code is plan holds = record { grammar = g; rows = rows; code = code; is = is; plan = plan; holds = holds }

@@ -1,4 +1,4 @@
--- Which texts read as no expression without occurrences, and what a refusal tells of them.
+-- Texts that don't read as an expression without occurrences, and the meaning of their faults.
 use Rattle.std.proofs.Common.{◌≡◌, ℕ, List, [], Some, None, inl, ap, ◌∙◌}
 use Rattle.ag_expr.specs.declared.fault.ExprFault.{ExprFault}
 use Rattle.ag_expr.specs.declared.fault.ExprFault.TheVariants.{NoToken, Unexpected, NumberTooLarge, TooDeep, NoMemory}
@@ -20,7 +20,7 @@ refused_none text (NumberTooLarge at) none is = none_closed text none
 refused_none text (TooDeep at) none is = none_closed text none
 refused_none text NoMemory none is = absurd is
 
--- what `read_expr` says of a refusal is what X tells
+-- a fault of `read_expr` is one of X
 pub explained : (text : List ℕ) (e : ExprFault) → IsRefused text e → IsAt text e → IsExplained text (expr_fault_of e)
 explained text (NoToken at) none is = (none, is)
 explained text (Unexpected at) none is = inl (none, is)
@@ -28,7 +28,7 @@ explained text (NumberTooLarge at) none is = (none, is)
 explained text (TooDeep at) none is = (none, is)
 explained text NoMemory none is = tt
 
--- a text with occurrences is refused by `read_expr` for want of memory alone
+-- for a text with occurrences the only fault of `read_expr` is NoMemory
 pub wanted : (text : List ℕ) (e : ExprFault) (at : ℕ) → IsRefused text e → OccursAt text at → IsUnexpectedAt at (expr_fault_of e)
 wanted text (NoToken k) at none occurs = absurd (none occurs.expr occurs.reads)
 wanted text (Unexpected k) at none occurs = absurd (none occurs.expr occurs.reads)

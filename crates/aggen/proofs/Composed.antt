@@ -1,4 +1,5 @@
--- A sentence is translated: its files are those of the one solution, and the text that goes out is the root's.
+-- A sentence is translated: its files are those of the one solution, and the text that is written is the
+-- root's.
 use Rattle.std.proofs.Common.{◌≡◌, ℕ, ◌-◌, ◌≤◌, Bool, true, List, [], ◌∷◌, ◌++◌, length, map, Option, Some, Result, Ok, Err, slice_get, refl, sym, subst, ◌∙◌, arith}
 use Rattle.std.specs.Io.KnownBytes.{Appends}
 use Rattle.ag_value.specs.declared.value.Value.{Text}
@@ -89,17 +90,17 @@ module _ (g : Grammar) (sentence : List ℕ) (rows : List (List ℕ)) (code : Li
   never_refused t start run.Device ha hb tree within file told = tt
   never_refused t start run.NoMemory ha hb tree within file told = tt
 
--- the files are left too where less is supposed of the devices
+-- the files are also left under a weaker hypothesis about the devices
 pub files_supposed : (g : Grammar) (sentence : List ℕ) (rows : List (List ℕ)) (ha hb ha' hb' : Bool) (a b : List ℕ) (report : Report) → (ha' ≡ true → ha ≡ true) → (hb' ≡ true → hb ≡ true) → LeavesFiles g sentence rows ha hb a b report → LeavesFiles g sentence rows ha' hb' a b report
 files_supposed g sentence rows ha hb ha' hb' a b report first second files = record { tree = files.tree; one = files.one; greatest = files.greatest; left = λ x y. files.left (first x) (second y) }
 
--- the one tree of a sentence, as parsing tells it
+-- the one tree of a sentence, from the contract of parsing
 pub one_tree : (g : Grammar) (sentence : List ℕ) (t : Tree) → IsTreeOfSentence g sentence t → ((t u : Tree) → IsTreeOfSentence g sentence t → IsTreeOfSentence g sentence u → t ≡ u) → IsWithinLimits most_depth most_nodes t → IsOneTree (IsTreeOfSentence g sentence) t
 one_tree g sentence t is one within = record { is_tree = is; only = λ s other. one s t other is; within = within }
 
 module _ (g : Grammar) (sentence : List ℕ) (rows : List (List ℕ)) (code : Lists) (least : IsLeastPlan g rows code) (ha hb : Bool) (a b : List ℕ) (report : Report) (files : LeavesFiles g sentence rows ha hb a b report) where
   module _ (r : Result (List ℕ) OutFault) (told : WhenHonest ha (WhenHonest hb (TellsRoot g rows (last_content report.last a b) r))) where
-    -- what was found in the last file is so of the values left
+    -- the result for the last file holds of the values left
     root_of : (x : ha ≡ true) (y : hb ≡ true) → IsRootText g (files.left x y).values r
     root_of x y = told x y report.passes files.greatest files.tree (files.left x y).values files.one.is_tree.tree.tree (files.left x y).leaves.file
 
@@ -121,7 +122,7 @@ module _ (g : Grammar) (sentence : List ℕ) (rows : List (List ℕ)) (code : Li
     });
   }
 
-  -- a beginning of it was
+  -- a prefix of it was written
   pub begins : (old new : Option (List ℕ)) (text : List ℕ) → WhenHonest ha (WhenHonest hb (TellsRoot g rows (last_content report.last a b) (Ok text))) → AppendsBeginning old new text → WhenHonest ha (WhenHonest hb (BeginsTranslation (IsTreeOfSentence g sentence) g old new))
   begins old new text told front x y = let left = files.left x y in record {
     tree = files.tree;
@@ -134,7 +135,7 @@ module _ (g : Grammar) (sentence : List ℕ) (rows : List (List ℕ)) (code : Li
     written = front.put;
   }
 
-  -- what a refusal of the text says
+  -- the meaning of a fault of the text
   pub root_refused : (old new : Option (List ℕ)) (f : OutFault) → WhenHonest ha (WhenHonest hb (TellsRoot g rows (last_content report.last a b) (Err f))) → IsTranslationFault g sentence ha hb old new (out_fault_of f)
   root_refused old new (out.NoText x) told = λ h k. let left = files.left h k in let root = root_of (Err (out.NoText x)) told h k in record {
     tree = files.tree;

@@ -1,4 +1,5 @@
--- The tree of a file is evaluated: the files that are left are those of its one solution, and a refusal is true of its content.
+-- The tree of a file is evaluated: the files are those of its one solution, and a fault is true of its
+-- content.
 use Rattle.std.proofs.Common.{◌≡◌, ℕ, suc, ◌-◌, ◌+◌, ◌*◌, ◌≤◌, Bool, List, Option, Result, Ok, Err, ◌++◌, refl, ap, sym, subst, ◌∙◌, true, arith}
 use Rattle.std.specs.Io.KnownBytes.{Appends}
 use Rattle.ag_value.specs.declared.value.Value.{Text}
@@ -46,7 +47,7 @@ use Rattle.aggen.specs.declared.translations.report.Report.{Report}
 use Rattle.aggen.proofs.Composed.{some_pass}
 use Rattle.aggen.proofs.Joined.{before_of_more, before_of_one, counts_joined, joined}
 
--- the second device comes first in the passes behind the first one
+-- the second device comes first in the passes after pass 1
 turned_last : (which last : Last) (a b : List ℕ) → last ≡ other_last which → last_content last a b ≡ last_content which b a
 turned_last A last a b e = ap (λ (l : Last). last_content l a b) e
 turned_last B last a b e = ap (λ (l : Last). last_content l a b) e
@@ -60,7 +61,7 @@ module _ (g : Grammar) (rows : List (List ℕ)) (code : Lists) (accepted : IsAcc
   file_in : (content : List ℕ) (t : Tree) (is : IsTreeInFile g content t) → IsFileOfTree version_two g (passes_of rows) 0 t (texts_are_given g t).0 content
   file_in content t is = let texts = texts_are_given g t in is.file (passes_of rows) texts.0 plan.legal.positive texts.1
 
-  -- what a refusal of pass 1 says of the content
+  -- the meaning of a fault of pass 1 for the content
   pub first_refused : (content : List ℕ) (f : RunFault) (ht ha hb : Bool) → WhenHonest ht (IsRunFault (setting_of g (rows, code) 1) content f) → IsPassesFault g ht ha hb content (run_fault_of f)
   first_refused content (run.Damaged at) ht ha hb told = λ x y z. ((λ t is. (told x).none t (texts_are_given g t).0 is.tree (file_in content t is)), ((rows, code), plan.legal.positive, (told x).shown))
   first_refused content run.TooDeep ht ha hb told = λ x y z. ((λ t is deep. (told x).none (node_count t) t (texts_are_given g t).0 is.tree (record { deep = deep; large = omega arith }) (file_in content t is)), ((rows, code), plan.legal.positive, (told x).shown))
@@ -68,7 +69,7 @@ module _ (g : Grammar) (rows : List (List ℕ)) (code : Lists) (accepted : IsAcc
   first_refused content run.Device ht ha hb told = tt
   first_refused content run.NoMemory ht ha hb told = tt
 
-  -- honest devices give back a file that no later pass refuses
+  -- honest devices return a file that no later pass rejects
   pub never_later : (content first : List ℕ) (count evals : ℕ) (f : RunFault) (ht ha hb : Bool) → WhenHonest ht (WhenHonest hb (IsPassed (setting_of g (rows, code) 1) content first count evals)) → WhenHonest hb (WhenHonest ha (IsRunFault (setting_of g (rows, code) 2) first f)) → IsPassesFault g ht ha hb content (run_fault_of f)
   never_later content first count evals (run.Damaged at) ht ha hb passed told = λ x y z. let is = passed x z in absurd ((told z y).none is.tree is.values is.fits is.written)
   never_later content first count evals run.TooDeep ht ha hb passed told = λ x y z. let is = passed x z in absurd ((told z y).none most_nodes is.tree is.values is.fits is.limits is.written)
@@ -80,7 +81,7 @@ module _ (g : Grammar) (rows : List (List ℕ)) (code : Lists) (accepted : IsAcc
     end : IsLastPass report.passes (passes_of rows)
     end = greatest_is_last report.passes rows greatest
 
-    -- a content is the file of one tree at most
+    -- a content is the file of at most one tree
     only : (s : Tree) → IsTreeInFile g content s → s ≡ passed.tree
     only s is =
         let fit = fits_version_two g (passes_of rows) accepted plan.legal in
@@ -115,7 +116,7 @@ module _ (g : Grammar) (rows : List (List ℕ)) (code : Lists) (accepted : IsAcc
 
 module _ (g : Grammar) (rows : List (List ℕ)) (code : Lists) (least : IsLeastPlan g rows code) (ht ha hb : Bool) (content a b : List ℕ) (report : Report) (files : LeavesFilesOfTree g rows ht ha hb content a b report) where
   module _ (r : Result (List ℕ) OutFault) (told : WhenHonest ha (WhenHonest hb (TellsRoot g rows (last_content report.last a b) r))) where
-    -- what was found in the last file is so of the values left
+    -- the result for the last file holds of the values left
     root_of : (h : ht ≡ true) (x : ha ≡ true) (y : hb ≡ true) → IsRootText g (files.left h x y).values r
     root_of h x y = let left = files.left h x y in told x y report.passes files.greatest left.tree left.values left.one.is_tree.tree left.leaves.file
 
@@ -139,7 +140,7 @@ module _ (g : Grammar) (rows : List (List ℕ)) (code : Lists) (least : IsLeastP
     });
   }
 
-  -- a beginning of it was
+  -- a prefix of it was written
   pub begins : (old new : Option (List ℕ)) (text : List ℕ) → WhenHonest ha (WhenHonest hb (TellsRoot g rows (last_content report.last a b) (Ok text))) → AppendsBeginning old new text → WhenHonest ht (WhenHonest ha (WhenHonest hb (BeginsTranslation (IsTreeInFile g content) g old new)))
   begins old new text told front h x y = let left = files.left h x y in record {
     tree = left.tree;
@@ -152,7 +153,7 @@ module _ (g : Grammar) (rows : List (List ℕ)) (code : Lists) (least : IsLeastP
     written = front.put;
   }
 
-  -- what a refusal of the text says
+  -- the meaning of a fault of the text
   pub root_refused : (old new : Option (List ℕ)) (f : OutFault) → WhenHonest ha (WhenHonest hb (TellsRoot g rows (last_content report.last a b) (Err f))) → IsEvaluationFault g ht ha hb content old new (out_fault_of f)
   root_refused old new (out.NoText x) told = λ h i k. let left = files.left h i k in let root = root_of (Err (out.NoText x)) told h i k in record {
     tree = left.tree;
@@ -167,6 +168,6 @@ module _ (g : Grammar) (rows : List (List ℕ)) (code : Lists) (least : IsLeastP
   root_refused old new out.Device told = tt
   root_refused old new out.NoMemory told = tt
 
--- the files are left too where less is supposed of the devices
+-- the files are also left under a weaker hypothesis about the devices
 pub files_of_tree_supposed : (g : Grammar) (rows : List (List ℕ)) (ht ha hb ht' ha' hb' : Bool) (content a b : List ℕ) (report : Report) → (ht' ≡ true → ht ≡ true) → (ha' ≡ true → ha ≡ true) → (hb' ≡ true → hb ≡ true) → LeavesFilesOfTree g rows ht ha hb content a b report → LeavesFilesOfTree g rows ht' ha' hb' content a b report
 files_of_tree_supposed g rows ht ha hb ht' ha' hb' content a b report zeroth first second files = record { greatest = files.greatest; left = λ t x y. files.left (zeroth t) (first x) (second y) }

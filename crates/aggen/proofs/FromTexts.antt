@@ -1,4 +1,4 @@
--- What a text reads as has readable literals and known classes.
+-- The grammar that a text reads as has readable literals and known classes.
 use Rattle.std.proofs.Common.{ℕ, zero, suc, ◌≡◌, ◌≤◌, ◌<◌, ◌==◌, Bool, true, false, not, cond, ◌||◌, List, [], ◌∷◌, length, Option, Some, None, slice_get, refl, sym, subst, arith}
 use Rattle.std.proofs.lemmas.Bool.{and_parts}
 use Rattle.std.specs.List.{list_any}
@@ -71,7 +71,7 @@ readable_sign at (token.Punctuation m) x e = absurd (cc)
 readable_one : (ps : List Placed) (x : RawItem) → one item_in ps x → IsReadableItem x
 readable_one ps x (p, alone, is) = readable_sign p.at p.token x is
 
--- what is so of each part is so of all
+-- a property of each part holds of all
 all_of_many : {A : Type 0} {item : List Placed → A → Type 0} (P : A → Type 0) → ((ps : List Placed) (x : A) → item ps x → P x) → {ps : List Placed} {xs : List A} → Many item ps xs → (i : ℕ) (x : A) → slice_get xs i ≡ Some x → P x
 all_of_many P each none i x e = absurd (cc)
 all_of_many P each (more us vs y ys first rest) zero x e = let same : y ≡ x = cc in subst P same (each us y first)

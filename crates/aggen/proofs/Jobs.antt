@@ -1,4 +1,4 @@
--- What is told of the grammar or the sentence of a job is told of the job.
+-- The results for the grammar or the sentence of a job are results for the job.
 use Rattle.std.proofs.Common.{refl, Result, Ok, Err, inl, inr, List, ℕ, Bool, Option}
 use Rattle.std.specs.Result.{IfErr}
 use Rattle.ag_grammar.specs.grammars.AttributeGrammar.{Grammar}
@@ -16,7 +16,7 @@ module _ (known : Option (List ℕ)) (text sentence : List ℕ) (ha hb : Bool) (
   pub no_translator : (b : BuildFault) → IsBuildFault text b → IsJobRefusal known ha hb old new (build_fault_of b)
   no_translator b told = inr (record { text = text; sentence = sentence; job = job; told = inl (record { reason = b; named = refl; told = told }) })
 
-  -- the translation of the sentence by the grammar is refused
+  -- the translation of the sentence by the grammar fails
   pub no_translation : (g : Grammar) → IsGrammarOf text g → (r : Result Report Fault) → IfErr r (λ e. IsTranslationFault g sentence ha hb old new e) → IfErr r (λ e. IsJobRefusal known ha hb old new e)
   no_translation g is (Ok report) told = tt
   no_translation g is (Err e) told = inr (record { text = text; sentence = sentence; job = job; told = inr (g, is, told) })

@@ -19,7 +19,8 @@ use Rattle.passrun.specs.declared.last.Last.{Last}
 use Rattle.passrun.specs.Rounds.{HasCounted, other_content}
 use Rattle.aggen.specs.Translation.{before_last}
 
--- Pass 1 met its equations with values whose files are the start and what the others began with. The others ran through these.
+-- Pass 1 met its equations with values whose files are the start and the file from which the others began.
+-- The others ran through these.
 module _ (version : Version) (g : Grammar) (m : Passes) (legal : IsLegal g m) (t : Tree) (u : Valuation) (tree : IsTreeOf g t) (last : ℕ) (start now other : List ℕ) (from : IsFileOfTree version g m 0 t u start) (one : Solves (OfPass m 1) g t u) (run : HasRun version g m t u 2 last now other) where
   kept_to : Same (λ p. p ≤ 1) g m t u run.values
   kept_to = same_weaker (λ p. p < 2) (λ p. p ≤ 1) g m (λ p h. omega arith) t u run.values run.ran.kept
@@ -30,11 +31,12 @@ module _ (version : Version) (g : Grammar) (m : Passes) (legal : IsLegal g m) (t
     | inr more ↦ run.ran.solved j more high
   ]
 
-  -- the file that the tree came in is one of the values that are left
+  -- the file of the tree is one of the values that are left
   started : IsFileOfTree version g m 0 t run.values start
   started = same_file version g m 0 t u run.values start (same_weaker (λ p. p < 2) (λ p. p ≤ 0) g m (λ p h. omega arith) t u run.values run.ran.kept) from
 
-  -- All passes ran: the file of the pass before the last is the other one, or where one pass ran, the one that the tree came in.
+  -- All passes ran: the file of the pass before the last is the other one, or if one pass ran, the file of
+  -- the tree.
   pub joined : (before : List ℕ) → (2 ≤ last → before ≡ other) → (last ≡ 1 → before ≡ start) → HasRun version g m t u 1 last now before
   joined before more single = record {
     values = run.values;
@@ -51,7 +53,7 @@ sums_joined : (f : ℕ → ℕ) (n : ℕ) → sum_of_passes f 0 (suc n) ≡ f 1 
 sums_joined f zero = let e : suc (0 + 0) ≡ 1 = omega arith in let same = ap f e in omega (arith, same)
 sums_joined f (suc n) = let h = sums_joined f n in let e : suc (0 + suc n) ≡ suc (1 + n) = omega arith in let same = ap f e in omega (arith, h, same)
 
--- pass 1 and the others counted: all passes are
+-- the counts of pass 1 and the others add up to those of all passes
 pub counts_joined : (g : Grammar) (m : Passes) (t : Tree) (n first evals : ℕ) (one others : Passed) → first ≡ rules_of_pass m 1 g t → one.read ≡ node_count t → one.written ≡ node_count t → HasCounted g m t 1 n evals others
     → (first + evals ≡ sum_of_passes (λ p. rules_of_pass m p g t) 0 (suc n)) × (one.read + others.read ≡ suc n * node_count t) × (one.written + others.written ≡ suc n * node_count t)
 counts_joined g m t n first evals one others e r w counted =
@@ -65,7 +67,7 @@ counts_joined g m t n first evals one others e r w counted =
     e_sum : sum_of_passes (λ p. rules_of_pass m p g t) 0 (suc n) ≡ rules_of_pass m 1 g t + sum_of_passes (λ p. rules_of_pass m p g t) 1 n → evals ≡ sum_of_passes (λ p. rules_of_pass m p g t) 1 n → first + evals ≡ sum_of_passes (λ p. rules_of_pass m p g t) 0 (suc n)
     e_sum sum more = omega (arith, e)
 
--- which content is that of the pass before the last
+-- the content of the pass before the last
 pub before_of_one : (passes : ℕ) (last : Last) (tree a b : List ℕ) → passes ≡ 1 → before_last passes last tree a b ≡ tree
 before_of_one passes last tree a b e = ap (λ n. before_last n last tree a b) e
 

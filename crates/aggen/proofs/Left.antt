@@ -1,4 +1,4 @@
--- What is left on the devices, and after which refusals.
+-- The contents of the devices after a call, also after a fault.
 use Rattle.std.proofs.Common.{◌≡◌, ℕ, Bool, true, List, [], ◌++◌, length, Option, Result, Ok, Err, sym, ◌∙◌}
 use Rattle.std.proofs.Math.Seq.{take-length}
 use Rattle.std.specs.Result.{IfErr}
@@ -82,7 +82,7 @@ no_parse_of_build (build.Table e) is = is
 no_parse_of_build (build.Assign e) is = is
 no_parse_of_build build.NoMemory is = is
 
--- which faults come before all passes ran
+-- faults before all passes ran
 pub none_after_files : (g : Grammar) (sentence : List ℕ) (ha hb : Bool) (f : Fault) → IsFilesFault g sentence ha hb f → IsAfterPasses f → ⊥
 none_after_files g sentence ha hb (fault.NoText x) told is = told
 none_after_files g sentence ha hb fault.Write told is = told
@@ -104,7 +104,7 @@ none_after_build (build.Table e) is = is
 none_after_build (build.Assign e) is = is
 none_after_build build.NoMemory is = is
 
--- the files are left too by a call that keeps the contents
+-- the files are also left by a call that keeps the contents
 pub files_kept : (g : Grammar) (sentence : List ℕ) (rows : List (List ℕ)) (ha hb ha' hb' : Bool) (a b a' b' : List ℕ) (report : Report)
     → (ha' ≡ true → ha ≡ true) → (hb' ≡ true → hb ≡ true) → WhenHonest ha' (a' ≡ a) → WhenHonest hb' (b' ≡ b) → LeavesFiles g sentence rows ha hb a b report → LeavesFiles g sentence rows ha' hb' a' b' report
 files_kept g sentence rows ha hb ha' hb' a b a' b' report first second same_a same_b files = record {

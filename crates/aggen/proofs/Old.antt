@@ -1,4 +1,4 @@
--- What a refusal of the conversion of an old file says, in the terms of the program's faults.
+-- The meaning of a fault of the conversion of an old file, by the program's faults.
 use Rattle.std.proofs.Common.{ℕ, List, Bool}
 use Rattle.ag_grammar.specs.grammars.AttributeGrammar.{Grammar}
 use Rattle.passrun.specs.Upgrading.{IsUpgradeFault}

@@ -1,4 +1,4 @@
--- The record in the file of a value is the one that was put.
+-- The record in the file of a value is the one that was written.
 use Rattle.std.proofs.Common.{◌≡◌, ℕ, zero, suc, List, [], ◌∷◌, Result, Ok, Err, sym, subst, ◌∙◌, arith}
 use Rattle.std.specs.Prelude.{All, IsErrOf, MatchResult, length}
 use Rattle.ag_value.specs.declared.value.Value.{Value}
@@ -38,7 +38,7 @@ offset_told content (Damaged k) told at is = damaged_at_end version_two content 
 offset_told content Device told at is = absurd cc
 offset_told content NoMemory told at is = absurd cc
 
--- a value that was read, or want of memory
+-- a value that was read, or NoMemory
 pub value_told : (value : Value) (r : Result Value Fault) → MatchResult r (λ found. found ≡ value) (λ e. e ≡ fault.NoMemory) → MatchResult r (λ found. found ≡ value) IsWant
 value_told value (Ok found) is = is
 value_told value (Err e) is = subst IsWant (sym is) tt

@@ -1,4 +1,4 @@
--- What a refusal of tokens, and of a tree of tokens, says of the sentence.
+-- The meaning of a fault of scanning, and of parsing, for the sentence.
 use Rattle.std.proofs.Common.{◌≡◌, ℕ, List, Result, Ok, Err, refl, subst, sym}
 use Rattle.std.specs.Prelude.{IsErrOf}
 use Rattle.ag_grammar.specs.grammars.Accepted.{IsAccepted}
@@ -25,7 +25,7 @@ same_tokens g ok sentence ts us a b = let same : Ok us ≡ Ok ts = at_most_one g
 pub with_tokens : (g : Grammar) → IsAccepted g → (sentence : List ℕ) (ts : List Token) → AreTokensOf (vocabulary_of g) sentence ts → (t : Tree) → IsTreeOfSentence g sentence t → IsTreeWith g (words_of ts) t
 with_tokens g ok sentence ts cut t is = subst (λ us. IsTreeWith g (words_of us) t) (same_tokens g ok sentence ts is.tokens cut is.cut) is.tree
 
--- a sentence that has a refusal has no tokens, and so no tree
+-- a sentence that is rejected by scanning has no tokens, and so no tree
 none_of : (g : Grammar) → IsAccepted g → (sentence : List ℕ) (f : ScanFault) → (IsAnswer (vocabulary_of g) sentence (Err f)) → HasNoTree g sentence
 none_of g ok sentence f is t of_sentence = let same : Ok of_sentence.tokens ≡ Err f = at_most_one g ok sentence (Ok of_sentence.tokens) (Err f) of_sentence.cut is in absurd cc
 
@@ -36,11 +36,11 @@ scan_told g ok sentence (scan.NoToken at) is = record { reason = is; of_sentence
 scan_told g ok sentence (scan.LongToken at) is = record { reason = is; of_sentence = λ e. absurd cc; none = none_of g ok sentence (scan.LongToken at) is }
 scan_told g ok sentence scan.NoMemory is = tt
 
--- a sentence has one tree at most
+-- a sentence has at most one tree
 pub one_of : (g : Grammar) → IsAccepted g → (tables : Choices) → FitsGrammar g tables → (sentence : List ℕ) (t u : Tree) → IsTreeOfSentence g sentence t → IsTreeOfSentence g sentence u → t ≡ u
 one_of g ok tables fits sentence t u a b = one_parse g tables fits (words_of a.tokens) t u a.tree (with_tokens g ok sentence a.tokens a.cut u b)
 
--- what a refusal of the tokens tells of the sentence
+-- the meaning of a fault of parsing for the sentence
 pub parse_told : (g : Grammar) → IsAccepted g → (sentence : List ℕ) (ts : List Token) → AreTokensOf (vocabulary_of g) sentence ts → (r : Result ℕ ParseFault) (f : ParseFault) → r ≡ Err f
     → ((at : ℕ) → r ≡ Err (parse.Unexpected at) → IsUnexpectedAt g ts at)
     → ((at : ℕ) (t : Tree) → r ≡ Err (parse.Unexpected at) → IsTreeWith g (words_of ts) t → ⊥)

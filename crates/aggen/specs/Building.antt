@@ -1,4 +1,5 @@
--- What it means that a text makes a translator: the grammar that it is, or its first fault. All of this is this project's.
+-- The meaning of building a translator: the grammar of a text, or its first fault. All of this is this
+-- project's.
 use Rattle.std.specs.Prelude.{ℕ, List}
 use Rattle.ag_grammar.specs.grammars.AttributeGrammar.{Grammar}
 use Rattle.ag_text.specs.declared.fault.TextFault.{TextFault}
@@ -12,7 +13,7 @@ use Rattle.normalform.specs.declared.fault.NormalFault.TheVariants as normal
 use Rattle.passassign.specs.Answer.{IsRefused}
 use Rattle.passassign.specs.Least.{IsLeast}
 use Rattle.passassign.specs.Rows.{passes_of}
-use Rattle.passcode.specs.Order.{AreInOrder}
+use Rattle.passcode.specs.Listing.{AreLists}
 use Rattle.passcode.specs.Rows.{Lists}
 use Rattle.planchecker.specs.Plans.{IsPlan}
 use Rattle.aggen.specs.Checking.{IsGrammarOf, IsNormalFaultOf, IsTextFaultOf}
@@ -20,25 +21,26 @@ use Rattle.ag_fault.specs.declared.build_fault.BuildFault.{BuildFault}
 use Rattle.ag_fault.specs.declared.build_fault.BuildFault.TheVariants as build
 use Rattle.ag_fault.specs.declared.stuck_grammar.StuckGrammar.{StuckGrammar}
 
--- L1: the text is an accepted grammar, whose least conflict this is; want of memory is no L1
+-- L1: the text is an accepted grammar, whose least conflict this is; NoMemory is not L1
 abbrev pub IsConflictOf : List ℕ → TableFault → Type 0
 IsConflictOf t (table.Conflict symbol first second ahead) = (g : Grammar) × IsGrammarOf t g × IsLeastConflict g symbol first second ahead
 IsConflictOf t table.NoMemory = ⊥
 
--- A1: the text is an accepted grammar without a conflict. It has no legal assignment, which the certificate shows.
+-- A1: the text is an accepted grammar without a conflict. It has no legal assignment, as the certificate
+-- shows.
 pub record IsStuckOf (t : List ℕ) (s : StuckGrammar) : Type 0 where
   pub grammar : IsGrammarOf t s.grammar
   pub free : HasNoConflict s.grammar
   pub refused : IsRefused s.grammar s.stuck
 
--- The least plan of a grammar: an assignment that is legal and gives no attribute a later pass than another legal one does, and
--- the code that agrees with it in the one order that `passcode` keeps.
+-- The least plan of a grammar: an assignment that is legal and assigns no attribute a later pass than another legal
+-- one does, and the code that agrees with it, each list of which is the one that `passcode` defines.
 pub record IsLeastPlan (g : Grammar) (rows : List (List ℕ)) (code : Lists) : Type 0 where
   pub plan : IsPlan g rows code
   pub least : IsLeast g (passes_of rows)
-  pub order : AreInOrder code
+  pub lists : AreLists g (passes_of rows) code
 
--- G and N: what the refusal of a text as an accepted grammar says; want of memory says nothing
+-- G and N: the meaning of rejecting a text as an accepted grammar; NoMemory has none
 abbrev pub IsGrammarFault : List ℕ → BuildFault → Type 0
 IsGrammarFault t (build.Text f) = IsTextFaultOf t f
 IsGrammarFault t (build.Normal f) = IsNormalFaultOf t f
@@ -46,7 +48,7 @@ IsGrammarFault t (build.Table f) = ⊥
 IsGrammarFault t (build.Assign f) = ⊥
 IsGrammarFault t build.NoMemory = Unit {0}
 
--- G, N, L and A: what the refusal of a text says
+-- G, N, L and A: the meaning of rejecting a text
 abbrev pub IsBuildFault : List ℕ → BuildFault → Type 0
 IsBuildFault t (build.Text f) = IsTextFaultOf t f
 IsBuildFault t (build.Normal f) = IsNormalFaultOf t f

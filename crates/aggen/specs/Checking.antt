@@ -1,5 +1,5 @@
--- What it means to check a grammar's text: the grammar that it is, its first fault, and the line that is written. All of
--- this is this project's.
+-- The meaning of checking a grammar's text: the grammar, its first fault, and the line that is written. All
+-- of this is this project's.
 use Rattle.std.specs.Prelude.{◌≡◌, ◌≢◌, ℕ, List, Option, Err}
 use Rattle.std.specs.Io.KnownBytes.{Appends}
 use Rattle.ag_expr.specs.declared.fault.ExprFault.TheVariants as expr
@@ -18,18 +18,18 @@ use Rattle.agoutput.specs.Writing.{AppendsBeginning}
 use Rattle.ag_fault.specs.declared.fault.Fault.{Fault}
 use Rattle.ag_fault.specs.declared.fault.Fault.TheVariants as fault
 
--- The literals and classes of what a text reads as are those that a text gives.
+-- The literals and classes of the grammar that a text reads as are readable.
 abbrev pub TextsAreReadable : Type 0
 TextsAreReadable = (text : List ℕ) (raw : RawGrammar) → ReadsAsGrammar text raw → IsReadable raw
 
--- the text reads as a raw grammar, which by numbers is this one, and it is accepted
+-- the text reads as a raw grammar, whose numbered grammar is this one, and it is accepted
 pub record IsGrammarOf (text : List ℕ) (grammar : Grammar) : Type 0 where
   pub raw : RawGrammar
   pub reads : ReadsAsGrammar text raw
   pub named : grammar ≡ numbered raw
   pub accepted : IsAccepted grammar
 
--- G1 to G4 are what reading the text answers: it reads as no grammar, and want of memory is not in them.
+-- G1 to G4 are the result of reading the text: it does not read as a grammar. NoMemory is not one of them.
 pub record IsTextFaultOf (text : List ℕ) (f : TextFault) : Type 0 where
   pub read : IsRead text (Err f)
   pub first : IsFirstOf text f
@@ -37,14 +37,15 @@ pub record IsTextFaultOf (text : List ℕ) (f : TextFault) : Type 0 where
   pub of_text : f ≢ text_fault.NoMemory
   pub of_expression : f ≢ text_fault.Expr expr.NoMemory
 
--- N1 to N10: the text reads as a raw grammar, whose first fault this is, and which by numbers is not accepted.
+-- N1 to N10: the text reads as a raw grammar, whose first fault this is, and whose numbered grammar is not
+-- accepted.
 pub record IsNormalFaultOf (text : List ℕ) (f : NormalFault) : Type 0 where
   pub raw : RawGrammar
   pub reads : ReadsAsGrammar text raw
   pub first : IsFirstFault raw f
   pub refused : IsAccepted (numbered raw) → ⊥
 
--- what a refusal says of the text; want of memory says nothing, and no other fault comes
+-- the meaning of a fault for the text; NoMemory has none, and no other fault is possible
 abbrev pub IsCheckFault : List ℕ → Fault → Type 0
 IsCheckFault text (fault.Text f) = IsTextFaultOf text f
 IsCheckFault text (fault.Normal f) = IsNormalFaultOf text f
@@ -57,7 +58,7 @@ pub record TellsCounts (text : List ℕ) (old new : Option (List ℕ)) : Type 0 
   pub is : IsGrammarOf text grammar
   pub line : Appends old new (counts_line grammar)
 
--- a beginning of the line of the text's grammar was written
+-- a prefix of the line of the text's grammar was written
 pub record BeginsCounts (text : List ℕ) (old new : Option (List ℕ)) : Type 0 where
   pub grammar : Grammar
   pub is : IsGrammarOf text grammar

@@ -1,5 +1,5 @@
--- What a call that evaluates the tree of a file tells: the files that it leaves, and what its refusals say. All of this is this
--- project's.
+-- The effects of evaluating the tree of a file: the files on the devices, and the meaning of the faults. All
+-- of this is this project's.
 use Rattle.std.specs.Prelude.{ℕ, ◌≤◌, List, Bool, Option}
 use Rattle.ag_grammar.specs.grammars.AttributeGrammar.{Grammar}
 use Rattle.ag_grammar.specs.grammars.Passes.{Passes}
@@ -33,12 +33,14 @@ pub record AreLeftOfTree (g : Grammar) (m : Passes) (content a b : List ℕ) (re
   pub leaves : LeavesSolution g m report.passes tree values (last_content report.last a b) (before_last report.passes report.last content a b)
   pub report_is : IsReport g report.passes tree report
 
--- The report has the greatest pass of an assignment, and where the devices are honest all its passes ran over the tree of a content.
+-- The report has the greatest pass of an assignment, and if the devices are honest all its passes ran over
+-- the tree of a content.
 pub record LeavesFilesOfTree (g : Grammar) (rows : List (List ℕ)) (honest_tree honest_a honest_b : Bool) (content a b : List ℕ) (report : Report) : Type 0 where
   pub greatest : IsGreatest report.passes rows
   pub left : WhenHonest honest_tree (WhenHonest honest_a (WhenHonest honest_b (AreLeftOfTree g (passes_of rows) content a b report)))
 
--- All passes of a least plan ran over the one tree of a content, and where the devices are honest they have its last two files.
+-- All passes of a least plan ran over the one tree of a content, and if the devices are honest they have its
+-- last two files.
 pub record LeavesLastFilesOfTree (g : Grammar) (honest_tree honest_a honest_b : Bool) (content a b : List ℕ) : Type 0 where
   pub rows : List (List ℕ)
   pub code : Lists
@@ -46,13 +48,15 @@ pub record LeavesLastFilesOfTree (g : Grammar) (honest_tree honest_a honest_b : 
   pub report : Report
   pub files : LeavesFilesOfTree g rows honest_tree honest_a honest_b content a b report
 
--- What pass 1 of a plan finds in a content that is to be the file of pass 0 of a tree of the grammar: a fault, or a limit that is
--- exceeded before one. Records of pass 0 have no values of attributes, so that it makes no difference which plan it is.
+-- The fault that pass 1 of a plan finds in a content that should be the file of pass 0 of a tree of the
+-- grammar, or a limit that is exceeded before one. Records of pass 0 have no values of attributes, so all
+-- plans find the same.
 abbrev pub ShowsInFile : Grammar → List ℕ → RunFault → Type 0
 ShowsInFile g content f = (plan : List (List ℕ) × Lists) × AreFromOne (passes_of plan.0) × Shows (source (setting_of g plan 1)) content f
 
--- R1: the content is the file of no tree of the grammar, and it shows at the offset. P2: of none of so few levels, and these are
--- exceeded before a fault is met. P3: of none of so few stored nodes, likewise. The others say nothing of it.
+-- R1: the content is the file of no tree of the grammar, and this shows at the offset. P2: it is the file of
+-- none within the limit of levels, which is exceeded before a fault is found. P3: the same with the limit of
+-- stored nodes. The other faults have no meaning for it.
 abbrev pub IsFileFault : Grammar → List ℕ → RunFault → Type 0
 IsFileFault g content (run.Damaged at) = ((t : Tree) → IsTreeInFile g content t → ⊥) × ShowsInFile g content (run.Damaged at)
 IsFileFault g content run.TooDeep = ((t : Tree) → IsTreeInFile g content t → depth_of t ≤ most_depth → ⊥) × ShowsInFile g content run.TooDeep
@@ -60,17 +64,18 @@ IsFileFault g content run.TooManyNodes = ((t : Tree) → IsTreeInFile g content 
 IsFileFault g content run.Device = Unit {0}
 IsFileFault g content run.NoMemory = Unit {0}
 
--- What a refusal before the text is taken says: R1, P2 and P3 are true of the content. A failed device and want of memory say
--- nothing, and no other fault comes.
+-- The meaning of a fault before the text is read: R1, P2 and P3 are true of the content. A device failure and
+-- NoMemory have no meaning, and no other fault is possible.
 abbrev pub IsPassesFault : Grammar → (honest_tree honest_a honest_b : Bool) → List ℕ → Fault → Type 0
 IsPassesFault g ht ha hb content (fault.Run f) = WhenHonest ht (WhenHonest ha (WhenHonest hb (IsFileFault g content f)))
 IsPassesFault g ht ha hb content fault.Device = Unit {0}
 IsPassesFault g ht ha hb content fault.NoMemory = Unit {0}
 IsPassesFault g ht ha hb content _ = ⊥
 
--- What a refusal of the evaluation of a tree says: R1, with its offset, P2 and P3 are true of the content that the tree comes in, and
--- O1 of its one tree; honest devices never bring B1 or B2; after O2 a beginning of the translation was written. A failed device and want of
--- memory say nothing, and no other fault comes.
+-- The meaning of a fault of the evaluation of a tree: R1, with its offset, P2 and P3 are true of the content
+-- of the tree's file, and O1 of its one tree; B1 and B2 are impossible on honest devices; after O2 a prefix
+-- of the translation was written. A device failure and NoMemory have no meaning, and no other fault is
+-- possible.
 abbrev pub IsEvaluationFault : Grammar → (honest_tree honest_a honest_b : Bool) → List ℕ → (old new : Option (List ℕ)) → Fault → Type 0
 IsEvaluationFault g ht ha hb content old new (fault.Run f) = WhenHonest ht (WhenHonest ha (WhenHonest hb (IsFileFault g content f)))
 IsEvaluationFault g ht ha hb content old new (fault.NoText x) = WhenHonest ht (WhenHonest ha (WhenHonest hb (HasNoText (IsTreeInFile g content) g x)))

@@ -1,5 +1,5 @@
--- What the translation of a job is, and what its refusals say: of what the reader gives, of the text of its grammar, and of its
--- sentence. All of this is this project's.
+-- The translation of a job, and the meaning of its faults: for the bytes of the reader, the text of its
+-- grammar, and its sentence. All of this is this project's.
 use Rattle.std.specs.Prelude.{◌≡◌, ◌⊎◌, List, ℕ, Bool, Option}
 use Rattle.std.specs.Option.{IfSome}
 use Rattle.ag_grammar.specs.grammars.AttributeGrammar.{Grammar}
@@ -14,11 +14,11 @@ use Rattle.ag_fault.specs.declared.fault.Fault.{Fault}
 use Rattle.ag_fault.specs.declared.fault.Fault.TheVariants as fault
 use Rattle.aggen.specs.declared.translations.report.Report.{Report}
 
--- What a reader gives, where that is known, is a job with this text of a grammar and this sentence.
+-- The bytes of a reader, if they are known, are a job with this text of a grammar and this sentence.
 abbrev pub HasJob : Option (List ℕ) → (text sentence : List ℕ) → Type 0
 HasJob known text sentence = IfSome known (λ bytes. IsJob bytes text sentence)
 
--- The sentence of a job was translated by its grammar, with all that the translation theorem says.
+-- The sentence of a job was translated by its grammar, in the sense of the translation theorem.
 pub record TranslatesJob (known : Option (List ℕ)) (honest_a honest_b : Bool) (a b : List ℕ) (old new : Option (List ℕ)) (report : Report) : Type 0 where
   pub text : List ℕ
   pub sentence : List ℕ
@@ -27,7 +27,7 @@ pub record TranslatesJob (known : Option (List ℕ)) (honest_a honest_b : Bool) 
   pub is : IsGrammarOf text grammar
   pub translates : TranslatesSentence grammar sentence honest_a honest_b a b old new report
 
--- J1 to J3: what is told of a reader's bytes that are no job
+-- J1 to J3: the meaning for a reader's bytes that are not a job
 pub record IsNoJob (known : Option (List ℕ)) (e : Fault) : Type 0 where
   pub reason : JobFault
   pub named : e ≡ job_fault_of reason
@@ -39,7 +39,8 @@ pub record IsNoTranslator (text : List ℕ) (e : Fault) : Type 0 where
   pub named : e ≡ build_fault_of reason
   pub told : IsBuildFault text reason
 
--- A job is refused: its grammar makes no translator, or the translation of its sentence by that grammar is refused.
+-- A job is rejected: its grammar makes no translator, or the translation of its sentence by that grammar
+-- fails.
 pub record IsRefusedJob (known : Option (List ℕ)) (honest_a honest_b : Bool) (old new : Option (List ℕ)) (e : Fault) : Type 0 where
   pub text : List ℕ
   pub sentence : List ℕ
@@ -55,11 +56,11 @@ pub record LeavesLastFilesOfJob (known : Option (List ℕ)) (honest_a honest_b :
   pub is : IsGrammarOf text grammar
   pub files : LeavesLastFiles grammar sentence honest_a honest_b a b
 
--- what the refusal of a job says: of what the reader gives, or of the grammar and the sentence that it has
+-- the meaning of a fault of a job: for the bytes of the reader, or for its grammar and sentence
 abbrev pub IsJobRefusal : Option (List ℕ) → (honest_a honest_b : Bool) → (old new : Option (List ℕ)) → Fault → Type 0
 IsJobRefusal known ha hb old new e = IsNoJob known e ⊎ IsRefusedJob known ha hb old new e
 
--- J, G, N, L and A come before a device is touched, and S too.
+-- J, G, N, L, A and S come before a device is used.
 abbrev pub IsBeforeTrees : Fault → Type 0
 IsBeforeTrees (fault.Job f) = Unit {0}
 IsBeforeTrees (fault.Text f) = Unit {0}
@@ -69,7 +70,7 @@ IsBeforeTrees (fault.Assign f) = Unit {0}
 IsBeforeTrees (fault.Scan f) = Unit {0}
 IsBeforeTrees _ = ⊥
 
--- So does P, before the second device is touched.
+-- P comes before the second device is used.
 abbrev pub IsBeforePasses : Fault → Type 0
 IsBeforePasses (fault.Parse f) = Unit {0}
 IsBeforePasses e = IsBeforeTrees e

@@ -1,4 +1,4 @@
--- What it means to print the plan of a grammar's text, or its code. All of this is this project's.
+-- The meaning of printing the plan of a grammar's text, or its code. All of this is this project's.
 use Rattle.std.specs.Prelude.{ℕ, List, Option}
 use Rattle.std.specs.Io.KnownBytes.{Appends}
 use Rattle.ag_grammar.specs.grammars.AttributeGrammar.{Grammar}
@@ -10,7 +10,7 @@ use Rattle.aggen.specs.Checking.{IsGrammarOf, IsNormalFaultOf, IsTextFaultOf}
 use Rattle.ag_fault.specs.declared.fault.Fault.{Fault}
 use Rattle.ag_fault.specs.declared.fault.Fault.TheVariants as fault
 
--- something holds of the grammar that a text is, and of its least plan
+-- a property holds of the grammar of a text, and of its least plan
 pub record OfPlan (text : List ℕ) (P : Grammar → List (List ℕ) → Lists → Type 0) : Type 0 where
   pub grammar : Grammar
   pub rows : List (List ℕ)
@@ -19,21 +19,22 @@ pub record OfPlan (text : List ℕ) (P : Grammar → List (List ℕ) → Lists �
   pub plan : IsLeastPlan grammar rows code
   pub holds : P grammar rows code
 
--- the lines of its passes were written, or a beginning of them
+-- the lines of its passes were written, or a prefix of them
 abbrev pub TellsPlan : List ℕ → Option (List ℕ) → Option (List ℕ) → Type 0
 TellsPlan text old new = OfPlan text (λ g rows code. AppendsPlan g rows old new)
 
 abbrev pub BeginsPlan : List ℕ → Option (List ℕ) → Option (List ℕ) → Type 0
 BeginsPlan text old new = OfPlan text (λ g rows code. AppendsPlanBeginning g rows old new)
 
--- the lines of its code were written, or a beginning of them
+-- the lines of its code were written, or a prefix of them
 abbrev pub TellsCode : List ℕ → Option (List ℕ) → Option (List ℕ) → Type 0
 TellsCode text old new = OfPlan text (λ g rows code. Appends old new (code_text g code))
 
 abbrev pub BeginsCode : List ℕ → Option (List ℕ) → Option (List ℕ) → Type 0
 BeginsCode text old new = OfPlan text (λ g rows code. AppendsBeginning old new (code_text g code))
 
--- G, N, L and A: what a refusal of the program says of the text; want of memory says nothing, and no other fault comes
+-- G, N, L and A: the meaning of a fault of the program for the text; NoMemory has none, and no other fault is
+-- possible
 abbrev pub IsTranslatorFault : List ℕ → Fault → Type 0
 IsTranslatorFault text (fault.Text f) = IsTextFaultOf text f
 IsTranslatorFault text (fault.Normal f) = IsNormalFaultOf text f

@@ -1,4 +1,5 @@
--- What it means to parse a sentence: the tree that it has, and what a refusal tells of it. All of this is this project's.
+-- The meaning of parsing a sentence: its tree, and the meaning of a fault for it. All of this is this
+-- project's.
 use Rattle.std.specs.Prelude.{◌≢◌, ℕ, List}
 use Rattle.ag_grammar.specs.grammars.AttributeGrammar.{Grammar}
 use Rattle.ag_grammar.specs.grammars.Tree.{Tree, most_depth, most_nodes}
@@ -13,7 +14,7 @@ use Rattle.llparse.specs.declared.sentence.parse_fault.ParseFault.TheVariants as
 use Rattle.ag_fault.specs.declared.fault.Fault.{Fault}
 use Rattle.ag_fault.specs.declared.fault.Fault.TheVariants as fault
 
--- a derivation tree of a sentence: its yield is the sentence's tokens, each the longest that begins where it stands
+-- a derivation tree of a sentence: its yield is the sentence's tokens, each the longest one at its offset
 pub record IsTreeOfSentence (g : Grammar) (sentence : List ℕ) (t : Tree) : Type 0 where
   pub tokens : List Token
   pub cut : AreTokensOf (vocabulary_of g) sentence tokens
@@ -22,13 +23,13 @@ pub record IsTreeOfSentence (g : Grammar) (sentence : List ℕ) (t : Tree) : Typ
 abbrev pub HasNoTree : Grammar → List ℕ → Type 0
 HasNoTree g sentence = (t : Tree) → IsTreeOfSentence g sentence t → ⊥
 
--- S1 to S4: the sentence has no tokens, for this reason, and so no tree; want of memory is no S
+-- S1 to S4: the sentence has no tokens, for this reason, and so no tree; NoMemory is not S
 pub record IsScanFaultOf (g : Grammar) (sentence : List ℕ) (f : ScanFault) : Type 0 where
   pub reason : IsRefused (vocabulary_of g) sentence f
   pub of_sentence : f ≢ scan.NoMemory
   pub none : HasNoTree g sentence
 
--- P1: the sentence has tokens, but no tree, and the offset is where that shows
+-- P1: the sentence has tokens, but no tree, and this shows at the offset
 pub record HasNoTreeFrom (g : Grammar) (sentence : List ℕ) (at : ℕ) : Type 0 where
   pub tokens : List Token
   pub cut : AreTokensOf (vocabulary_of g) sentence tokens
@@ -41,7 +42,7 @@ pub record LeavesOnlyTrees (g : Grammar) (sentence : List ℕ) (Leaves : List Le
   pub cut : AreTokensOf (vocabulary_of g) sentence tokens
   pub beyond : Leaves (words_of tokens)
 
--- P1 to P3: no tree, or each beyond a limit; a failed device and want of memory are no P
+-- P1 to P3: no tree, or each beyond a limit; a device failure and NoMemory are not P
 abbrev pub IsParseFaultOf : Grammar → List ℕ → ParseFault → Type 0
 IsParseFaultOf g sentence (parse.Unexpected at) = HasNoTreeFrom g sentence at
 IsParseFaultOf g sentence parse.TooDeep = LeavesOnlyTrees g sentence (LeavesOnlyDeeper most_depth g)
@@ -49,7 +50,8 @@ IsParseFaultOf g sentence parse.TooManyNodes = LeavesOnlyTrees g sentence (Leave
 IsParseFaultOf g sentence parse.Device = ⊥
 IsParseFaultOf g sentence parse.NoMemory = ⊥
 
--- what a refusal says of the sentence; a failed device and want of memory say nothing, and no other fault comes
+-- the meaning of a fault for the sentence; a device failure and NoMemory have none, and no other fault is
+-- possible
 abbrev pub IsSentenceFault : Grammar → List ℕ → Fault → Type 0
 IsSentenceFault g sentence (fault.Scan f) = IsScanFaultOf g sentence f
 IsSentenceFault g sentence (fault.Parse f) = IsParseFaultOf g sentence f

@@ -1,4 +1,4 @@
--- What it means to show a value: the expression of a text, the file that its value goes through, and the line that is
+-- The meaning of showing a value: the expression of a text, the file of its value, and the line that is
 -- written. All of this is this project's.
 use Rattle.std.specs.Prelude.{◌≡◌, ◌⊎◌, ℕ, pos, List, [], ◌∷◌, Option, None, Some}
 use Rattle.std.specs.Io.KnownBytes.{Appends}
@@ -18,7 +18,7 @@ use Rattle.ag_fault.specs.declared.fault.Fault.TheVariants as fault
 use Rattle.agoutput.specs.Lines.{value_line}
 use Rattle.agoutput.specs.Writing.{AppendsBeginning}
 
--- the environment of an expression without occurrences: nothing is asked of it
+-- the environment of an expression without occurrences: its values are never used
 abbrev pub no_values : ℕ → Value
 no_values k = value.Num (pos 0)
 
@@ -28,40 +28,40 @@ pub record HasValue (text : List ℕ) (is : Value) : Type 0 where
   pub reads : ReadsAsExpr text (tree, [])
   pub value : is ≡ value_of tree no_values
 
--- the text reads as no expression without occurrences
+-- the text does not read as an expression without occurrences
 abbrev pub HasNone : List ℕ → Type 0
 HasNone text = (is : Value) → HasValue text is → ⊥
 
--- where the first of some occurrences stands, if there is one
+-- the offset of the first of some occurrences, if there is one
 abbrev pub first_offset : List Occ → Option ℕ
 first_offset [] = None
 first_offset (first ∷ others) = Some first.at
 
--- the text reads as an expression with occurrences, and the `$` of the first one stands at the offset
+-- the text reads as an expression with occurrences, and the `$` of the first one is at the offset
 pub record OccursAt (text : List ℕ) (at : ℕ) : Type 0 where
   pub expr : Node × List Occ
   pub reads : ReadsAsExpr text expr
   pub offset : first_offset expr.1 ≡ Some at
 
--- What X1 to X4 tell of the text: it reads as no expression, and at the fault's offset stands what the fault says. X2
--- may tell instead that it reads as an expression with occurrences, the first at the offset. Want of memory is no X.
+-- The meaning of X1 to X4: the text does not read as an expression, and the fault is true at its offset. For
+-- X2 it may instead read as an expression with occurrences, the first at the offset. NoMemory is not X.
 abbrev pub IsReason : List ℕ → ExprFault → Type 0
 IsReason text (expr.Unexpected at) = (ReadsAsNone text × IsAt text (expr.Unexpected at)) ⊎ OccursAt text at
 IsReason text expr.NoMemory = ⊥
 IsReason text e = ReadsAsNone text × IsAt text e
 
--- the tree file of version 2 and pass 0 whose one record is a token of number 0 with this value
+-- the tree file of version 2 and pass 0 whose one record is a token with number 0 and this value
 abbrev pub file_of : Value → List ℕ
 file_of is = file version_two 0 (body_of Token 0 (is ∷ []) ∷ [])
 
--- the value of the text went through a file, and its line was written
+-- the value of the text was written to a file and read, and its line was written
 pub record Shows (text : List ℕ) (old new : Option (List ℕ)) (content : List ℕ) : Type 0 where
   pub shown : Value
   pub has : HasValue text shown
   pub file : content ≡ file_of shown
   pub line : Appends old new (value_line shown)
 
--- a beginning of the line was written
+-- a prefix of the line was written
 pub record ShowsBeginning (text : List ℕ) (old new : Option (List ℕ)) : Type 0 where
   pub shown : Value
   pub has : HasValue text shown
@@ -73,35 +73,35 @@ pub record WritesLine (old new : Option (List ℕ)) : Type 0 where
   pub well : IsWell shown
   pub line : Appends old new (value_line shown)
 
--- a beginning of the line of some well value was written
+-- a prefix of the line of some well value was written
 pub record BeginsLine (old new : Option (List ℕ)) : Type 0 where
   pub shown : Value
   pub well : IsWell shown
   pub beginning : AppendsBeginning old new (value_line shown)
 
--- where the fault is one of X1 to X4, what it tells of the text is true
+-- if the fault is one of X1 to X4, it is true of the text
 abbrev pub IsExplained : List ℕ → Fault → Type 0
 IsExplained text (fault.Expr e) = IsReason text e
 IsExplained text _ = Unit {0}
 
--- X2 at the offset, or want of memory
+-- X2 at the offset, or NoMemory
 abbrev pub IsUnexpectedAt : ℕ → Fault → Type 0
 IsUnexpectedAt at (fault.Expr e) = e ≡ expr.Unexpected at
 IsUnexpectedAt at fault.NoMemory = Unit {0}
 IsUnexpectedAt at _ = ⊥
 
--- X1 to X4: the text is no expression
+-- X1 to X4: the text is not an expression
 abbrev pub IsExprFault : Fault → Type 0
 IsExprFault (fault.Expr e) = Unit {0}
 IsExprFault _ = ⊥
 
--- a call of the device failed, or memory was short
+-- a call of the device failed, or memory was refused
 abbrev pub IsWant : Fault → Type 0
 IsWant fault.Device = Unit {0}
 IsWant fault.NoMemory = Unit {0}
 IsWant _ = ⊥
 
--- B1 and B2: the file on the device is not as it should be
+-- B1 and B2: the file on the device is not the expected one
 abbrev pub IsDamage : Fault → Type 0
 IsDamage fault.NotATreeFile = Unit {0}
 IsDamage (fault.Damaged at) = Unit {0}
@@ -121,7 +121,8 @@ IsTextFault (fault.Expr e) = Unit {0}
 IsTextFault fault.NoMemory = Unit {0}
 IsTextFault _ = ⊥
 
--- what comes of showing a value: a fault of its text, of the device, of the file on it, of writing, or of memory
+-- the possible faults of showing a value: of its text, of the device, of the file on it, of writing, or of
+-- memory
 abbrev pub IsShowFault : Fault → Type 0
 IsShowFault (fault.Expr e) = Unit {0}
 IsShowFault fault.NotATreeFile = Unit {0}

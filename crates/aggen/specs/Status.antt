@@ -1,14 +1,14 @@
--- Which faults a call may end with. This project's.
+-- The possible faults of a call. This project's.
 use Rattle.ag_fault.specs.declared.fault.Fault.{Fault}
 use Rattle.ag_fault.specs.declared.fault.Fault.TheVariants as fault
 
--- a file can't be opened or read, or memory is short
+-- a file can't be opened or read, or memory was refused
 abbrev pub IsSourceFault : Fault → Type 0
 IsSourceFault fault.File = Unit {0}
 IsSourceFault fault.NoMemory = Unit {0}
 IsSourceFault _ = ⊥
 
--- a fault of the command line, of printing what is wrong with it, or of memory
+-- a fault of the command line, of printing its error message, or of memory
 abbrev pub IsCommandFault : Fault → Type 0
 IsCommandFault fault.Usage = Unit {0}
 IsCommandFault fault.Write = Unit {0}

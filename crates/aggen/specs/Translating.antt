@@ -1,5 +1,5 @@
--- What a call that translates a sentence tells: the files that it leaves, and what its refusals say. All of this is this
--- project's.
+-- The effects of translating a sentence: the files on the devices, and the meaning of the faults. All of this
+-- is this project's.
 use Rattle.std.specs.Prelude.{ℕ, ◌≡◌, List, Bool, Option}
 use Rattle.ag_grammar.specs.grammars.AttributeGrammar.{Grammar}
 use Rattle.ag_grammar.specs.grammars.Passes.{Passes}
@@ -16,7 +16,7 @@ use Rattle.ag_fault.specs.declared.fault.Fault.{Fault}
 use Rattle.ag_fault.specs.declared.fault.Fault.TheVariants as fault
 use Rattle.aggen.specs.declared.translations.report.Report.{Report}
 
--- The passes are those of a least plan, and so many: its greatest number.
+-- The passes are those of a least plan, and `passes` is its greatest one.
 pub record ArePassesOf (g : Grammar) (m : Passes) (passes : ℕ) : Type 0 where
   pub rows : List (List ℕ)
   pub code : Lists
@@ -34,14 +34,15 @@ pub record AreLeft (g : Grammar) (m : Passes) (t : Tree) (a b : List ℕ) (repor
   pub leaves : LeavesSolution g m report.passes t values (last_content report.last a b) (other_content report.last a b)
   pub report_is : IsReport g report.passes t report
 
--- The sentence has one tree, and where the devices are honest all passes of an assignment ran over it.
+-- The sentence has one tree, and if the devices are honest all passes of an assignment ran over it.
 pub record LeavesFiles (g : Grammar) (sentence : List ℕ) (rows : List (List ℕ)) (honest_a honest_b : Bool) (a b : List ℕ) (report : Report) : Type 0 where
   pub tree : Tree
   pub one : IsOneTree (IsTreeOfSentence g sentence) tree
   pub greatest : IsGreatest report.passes rows
   pub left : WhenHonest honest_a (WhenHonest honest_b (AreLeft g (passes_of rows) tree a b report))
 
--- All passes of a least plan ran over the one tree of the sentence, and where the devices are honest they have its last two files.
+-- All passes of a least plan ran over the one tree of the sentence, and if the devices are honest they have
+-- its last two files.
 pub record LeavesLastFiles (g : Grammar) (sentence : List ℕ) (honest_a honest_b : Bool) (a b : List ℕ) : Type 0 where
   pub rows : List (List ℕ)
   pub code : Lists
@@ -49,8 +50,9 @@ pub record LeavesLastFiles (g : Grammar) (sentence : List ℕ) (honest_a honest_
   pub report : Report
   pub files : LeavesFiles g sentence rows honest_a honest_b a b report
 
--- What a refusal before the text is taken says: S and P are true of the sentence, and honest devices never bring R1, P2 or P3 of a
--- tree file. A failed device and want of memory say nothing, and no other fault comes.
+-- The meaning of a fault before the text is read: S and P are true of the sentence, and R1, P2 or P3 of a
+-- tree file are impossible on honest devices. A device failure and NoMemory have no meaning, and no other
+-- fault is possible.
 abbrev pub IsFilesFault : Grammar → (sentence : List ℕ) → (honest_a honest_b : Bool) → Fault → Type 0
 IsFilesFault g sentence ha hb (fault.Scan f) = IsScanFaultOf g sentence f
 IsFilesFault g sentence ha hb (fault.Parse f) = IsParseFaultOf g sentence f
@@ -59,9 +61,9 @@ IsFilesFault g sentence ha hb fault.Device = Unit {0}
 IsFilesFault g sentence ha hb fault.NoMemory = Unit {0}
 IsFilesFault g sentence ha hb _ = ⊥
 
--- What a refusal of a translation says: S, P and O1 are true of the sentence, honest devices never bring R1, B1, B2, nor P2 and P3 of
--- a tree file, and after O2 a beginning of the translation was written. A failed device and want of memory say nothing, and no
--- other fault comes.
+-- The meaning of a fault of a translation: S, P and O1 are true of the sentence; R1, B1, B2, and P2 and P3 of
+-- a tree file are impossible on honest devices; after O2 a prefix of the translation was written. A device
+-- failure and NoMemory have no meaning, and no other fault is possible.
 abbrev pub IsTranslationFault : Grammar → (sentence : List ℕ) → (honest_a honest_b : Bool) → (old new : Option (List ℕ)) → Fault → Type 0
 IsTranslationFault g sentence ha hb old new (fault.Scan f) = IsScanFaultOf g sentence f
 IsTranslationFault g sentence ha hb old new (fault.Parse f) = IsParseFaultOf g sentence f
@@ -80,7 +82,7 @@ IsAfterPasses (fault.NoText x) = Unit {0}
 IsAfterPasses fault.Write = Unit {0}
 IsAfterPasses _ = ⊥
 
--- a sentence is refused, by S1 to S4 or P1 to P3
+-- a sentence is rejected, by S1 to S4 or P1 to P3
 abbrev pub IsRefusedSentence : Fault → Type 0
 IsRefusedSentence (fault.Scan f) = Unit {0}
 IsRefusedSentence (fault.Parse f) = Unit {0}

@@ -1,5 +1,6 @@
--- What a translation is: the one tree that a sentence has, the only values that meet all its equations, the files in which they are
--- left, and the text that is written (Knuth 1968). How it is told here, the files and the limits are this project's.
+-- The definition of a translation: the one tree of a sentence, the only values that meet all its equations,
+-- the files in which they are stored, and the text that is written (Knuth 1968). The form of the statement,
+-- the files and the limits are this project's.
 use Rattle.std.specs.Prelude.{ℕ, zero, suc, ◌≡◌, ◌*◌, Bool, List, ◌++◌, Option}
 use Rattle.std.specs.Io.KnownBytes.{Appends}
 use Rattle.ag_value.specs.declared.value.Value.{Value, Text}
@@ -17,14 +18,14 @@ use Rattle.treefile.specs.devices.Device.{WhenHonest}
 use Rattle.treefile.specs.records.TreeFile.{version_two}
 use Rattle.aggen.specs.declared.translations.report.Report.{Report}
 
--- Of trees of a kind there is exactly one, and it is within the limits.
+-- There is exactly one tree of a kind, and it is within the limits.
 pub record IsOneTree (IsTree : Tree → Type 0) (t : Tree) : Type 0 where
   pub is_tree : IsTree t
   pub only : (s : Tree) → IsTree s → s ≡ t
   pub within : IsWithinLimits most_depth most_nodes t
 
--- A report is true of a tree and so many passes: it has the tree's nodes, each of its rules was evaluated once, and each pass read
--- and wrote one record for each node.
+-- A report is true of a tree and a number of passes: it has the number of the tree's nodes, each of its rules
+-- was evaluated once, and each pass read and wrote one record for each node.
 pub record IsReport (g : Grammar) (passes : ℕ) (t : Tree) (report : Report) : Type 0 where
   pub nodes : report.nodes ≡ node_count t
   pub passes_are : report.passes ≡ passes
@@ -32,8 +33,8 @@ pub record IsReport (g : Grammar) (passes : ℕ) (t : Tree) (report : Report) : 
   pub read : report.read ≡ passes * node_count t
   pub written : report.written ≡ passes * node_count t
 
--- The translation of a tree went out: its solution is left, the bytes that were added are the text of its root, and the report is
--- true.
+-- The translation of a tree was written: its solution is left, the bytes that were added are the text of its
+-- root, and the report is true.
 pub record IsTranslated (g : Grammar) (m : Passes) (passes : ℕ) (t : Tree) (now before : List ℕ) (old new : Option (List ℕ)) (report : Report) : Type 0 where
   pub values : Valuation
   pub leaves : LeavesSolution g m passes t values now before
@@ -43,8 +44,8 @@ pub record IsTranslated (g : Grammar) (m : Passes) (passes : ℕ) (t : Tree) (no
   pub report_is : IsReport g passes t report
 
 -- The translation theorem: there is exactly one tree; the values left in the last tree file meet every equation at every node; no
--- other values meet them all; and the bytes written are the root's text. `IsTree` tells which trees are meant, and `ArePasses` which
--- assignment the passes follow, and how many there are. What is said of files and bytes holds where the devices are honest.
+-- other values meet them all; and the bytes written are the root's text. `IsTree` defines the trees of the input,
+-- and `ArePasses` the assignment of the passes and their number. The statements about files and bytes hold if the devices are honest.
 pub record Translates (IsTree : Tree → Type 0) (ArePasses : Passes → ℕ → Type 0) (g : Grammar) (honest_a honest_b : Bool) (a b : List ℕ) (old new : Option (List ℕ)) (report : Report) : Type 0 where
   pub tree : Tree
   pub one : IsOneTree IsTree tree
@@ -53,7 +54,7 @@ pub record Translates (IsTree : Tree → Type 0) (ArePasses : Passes → ℕ →
   pub plan : ArePasses assignment passes
   pub translated : WhenHonest honest_a (WhenHonest honest_b (IsTranslated g assignment passes tree (last_content report.last a b) (other_content report.last a b) old new report))
 
--- O1: there is one tree, whose translation is this value, and that is no text.
+-- O1: there is one tree, whose translation is this value, which is not a text.
 pub record HasNoText (IsTree : Tree → Type 0) (g : Grammar) (value : Value) : Type 0 where
   pub tree : Tree
   pub one : IsOneTree IsTree tree
@@ -62,7 +63,7 @@ pub record HasNoText (IsTree : Tree → Type 0) (g : Grammar) (value : Value) : 
   pub root : IsTranslation g values value
   pub no_text : IsNoText value
 
--- O2: there is one tree, and a beginning of its translation was written.
+-- O2: there is one tree, and a prefix of its translation was written.
 pub record BeginsTranslation (IsTree : Tree → Type 0) (g : Grammar) (old new : Option (List ℕ)) : Type 0 where
   pub tree : Tree
   pub one : IsOneTree IsTree tree
@@ -79,7 +80,7 @@ pub record WritesText (old new : Option (List ℕ)) : Type 0 where
   pub well : IsWellText text
   pub written : Appends old new text
 
--- O2, whatever the devices gave back: a prefix of some text was written, which is UTF-8 and not too long for a value.
+-- O2, on any devices: a prefix of some text was written, which is UTF-8 and not too long for a value.
 pub record BeginsText (old new : Option (List ℕ)) : Type 0 where
   pub text : List ℕ
   pub well : IsWellText text
@@ -90,20 +91,20 @@ pub record IsTreeInFile (g : Grammar) (content : List ℕ) (t : Tree) : Type 0 w
   pub tree : IsTreeOf g t
   pub file : IsFirstFile version_two g t content
 
--- Where a tree comes in a file of its own, the file of the pass before the last one is that file where one pass runs, and else on the
--- other device.
+-- If a tree has a file of its own, the file of the pass before the last one is that file if one pass runs,
+-- and else the one on the other device.
 abbrev pub before_last : (passes : ℕ) → Last → (tree a b : List ℕ) → List ℕ
 before_last zero last tree a b = tree
 before_last (suc zero) last tree a b = tree
 before_last (suc (suc k)) last tree a b = other_content last a b
 
--- There is exactly one tree that a content is the file of, and its translation went out.
+-- There is exactly one tree whose file the content is, and its translation was written.
 pub record IsEvaluated (g : Grammar) (m : Passes) (passes : ℕ) (content a b : List ℕ) (old new : Option (List ℕ)) (report : Report) : Type 0 where
   pub tree : Tree
   pub one : IsOneTree (IsTreeInFile g content) tree
   pub translated : IsTranslated g m passes tree (last_content report.last a b) (before_last passes report.last content a b) old new report
 
--- The translation theorem for the file of a tree: what it says of a sentence holds of the one tree that the content is the file of.
+-- The translation theorem for the file of a tree: it holds of the one tree whose file the content is.
 pub record Evaluates (ArePasses : Passes → ℕ → Type 0) (g : Grammar) (honest_tree honest_a honest_b : Bool) (content a b : List ℕ) (old new : Option (List ℕ)) (report : Report) : Type 0 where
   pub assignment : Passes
   pub passes : ℕ

@@ -1,4 +1,4 @@
--- What bringing an old tree file over says where it is refused. All of this is this project's.
+-- The meaning of a fault of the conversion of an old tree file. All of this is this project's.
 use Rattle.std.specs.Prelude.{ℕ, Bool, List}
 use Rattle.ag_grammar.specs.grammars.AttributeGrammar.{Grammar}
 use Rattle.passrun.specs.Upgrading.{IsUpgradeFault}
@@ -6,8 +6,8 @@ use Rattle.treefile.specs.devices.Device.{WhenHonest}
 use Rattle.ag_fault.specs.declared.fault.Fault.{Fault}
 use Rattle.ag_fault.specs.declared.fault.Fault.TheVariants as fault
 
--- R1, with its offset, P2 and P3 are true of the old content. A failed device and want of memory say nothing, and no other fault
--- comes.
+-- R1, with its offset, P2 and P3 are true of the old content. A device failure and NoMemory have no meaning,
+-- and no other fault is possible.
 abbrev pub IsOldFileFault : Grammar → (honest_old honest_mid : Bool) → List ℕ → Fault → Type 0
 IsOldFileFault g ho hm content (fault.Run f) = WhenHonest ho (WhenHonest hm (IsUpgradeFault g content f))
 IsOldFileFault g ho hm content fault.Device = Unit {0}

@@ -1,4 +1,4 @@
-//! A grammar's least assignment of passes, with what shows that it is the least one.
+//! A grammar's least assignment of passes, with strikes that show that it is the least one.
 
 ghost use Rattle.std.specs.Prelude.{ℕ, ◌≡◌, List, IfErr, IfOk};
 ghost use Rattle.llparse.specs.Ahead.{HasNoConflict};
@@ -15,8 +15,8 @@ use llparse::tables;
 use passassign::{AssignFault, Assignment, Strikes, assign_with_strikes};
 use std::alloc::Global;
 
-/// A grammar with its least assignment, and the strikes that show that no attribute can have an earlier
-/// pass. `planchecker::check_least` checks them.
+/// A grammar with its least assignment, and the strikes that show that no attribute can have an
+/// earlier pass. `planchecker::check_least` checks them.
 #[derive(Drop)]
 pub struct CertifiedPlan {
     /// The grammar, which is accepted and has no conflict.
@@ -27,8 +27,8 @@ pub struct CertifiedPlan {
     pub strikes: Strikes,
 }
 
-/// Returns the least assignment of the grammar of a text, with its strikes. Each least assignment gives
-/// each attribute the same pass, and so does the plan of the text's translator.
+/// Returns the least assignment of the grammar of a text, with its strikes. Each least assignment
+/// assigns the same passes, and so does the plan of the text's translator.
 ///
 /// Fails as `Translator::build` does: with G1 to G4, N1 to N10, L1 or A1 if the text makes no
 /// translator.
@@ -36,7 +36,7 @@ pub fn certify_plan(alloc: Global, text: &[u8]) -> Result<CertifiedPlan, BuildFa
     ensures grammar { IfOk result (λ p. IsGrammarOf text.now p.grammar) }
     ensures free { IfOk result (λ p. HasNoConflict p.grammar) }
     ensures least { IfOk result (λ p. IsLeast p.grammar (passes_of p.assignment)) }
-    // the plan of a translator is a least one too (`Translator::plan`)
+    // The plan of a translator is a least one too (`Translator::plan`).
     ensures same { IfOk result (λ p. (rows : List (List ℕ)) → IsLeast p.grammar (passes_of rows)
         → (s : ℕ) → passes_of rows s ≡ passes_of p.assignment s) }
     ensures strikes { IfOk result (λ p. AreStrikesOf p.grammar p.assignment p.strikes.passes) }

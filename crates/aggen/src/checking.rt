@@ -1,4 +1,4 @@
-//! Reading and checking a grammar's text, and printing what was read.
+//! Reading and checking a grammar's text, and printing its counts.
 
 ghost use Rattle.std.specs.Prelude.{◌≡◌, ◌≢◌, IfErr, IfOk, IsErrOf, OnOk};
 ghost use Rattle.aggen.specs.Building.{IsGrammarFault};
@@ -12,11 +12,11 @@ use normalform::check;
 use std::alloc::Global;
 use std::io::Write;
 
-/// Reads and checks a grammar's text, and writes how many symbols and productions it has:
-/// `5 symbols, 8 productions`, and LF. The words are the same for every number.
+/// Reads and checks a grammar's text, and writes its numbers of symbols and productions: `5
+/// symbols, 8 productions` or `1 symbol, 1 production`, and LF.
 ///
-/// G1 to G4 and N1 to N10 where `grammar_of` refuses the text; O2 Write where a write fails or takes
-/// no byte. Nothing is written before all is known.
+/// Fails with G1 to G4 or N1 to N10 as `grammar_of` does, and with O2 Write if a write fails or
+/// takes no byte. Nothing is written before the line is complete.
 pub fn print_counts<W: Write>(alloc: Global, text: &[u8], out: &mut W) -> Result<(), Fault>
     ensures tells { OnOk result
         (TellsCounts text.now (W.contents out.old) (W.contents out.new)) }
@@ -31,8 +31,8 @@ pub fn print_counts<W: Write>(alloc: Global, text: &[u8], out: &mut W) -> Result
     Ok(())
 }
 
-/// The grammar that a text is, read and checked. G1 to G4 where it reads as none; N1 to N10, the
-/// first fault, where it reads as one that is not accepted.
+/// Reads and checks the grammar of a text. Fails with G1 to G4 if the text is not one of a grammar,
+/// and with the first fault of N1 to N10 if the grammar is not accepted.
 #[tactic(auto, using(crate::proofs::FromTexts::texts_are_readable))]
 pub fn grammar_of(alloc: Global, text: &[u8]) -> Result<Grammar, BuildFault>
     ensures grammar { IfOk result (λ g. IsGrammarOf text.now g) }

@@ -2,8 +2,8 @@
 
 ghost use Rattle.aggen.specs.Checking.{TextsAreReadable};
 
-/// The literals and classes of what a text reads as are those that a text gives, which the check of
-/// a grammar asks for.
+/// The literals and classes of the grammar that a text reads as are readable, as the check of a
+/// grammar requires.
 pub fn texts_are_readable()
     ensures { TextsAreReadable }
 {}

@@ -1,6 +1,6 @@
-//! Translators from attribute grammars: a grammar's text makes one or is refused, its plan is
-//! listed, it makes of a sentence the file of its one tree, and translates it; a job has grammar and
-//! sentence in one text. Beside it the value of an expression, by way of a tree file.
+//! Translators from attribute grammars. A translator is built from a grammar's text, lists its
+//! plan, parses a sentence into the file of its one tree, and translates it. A job has a grammar
+//! and a sentence in one text. The crate also evaluates expressions by way of a tree file.
 #![tactic(auto)]
 
 mod certified;

@@ -12,10 +12,11 @@ use std::fs;
 use std::io::{Error, ErrorKind, Read};
 use std::rt::Files;
 
-/// How many bytes of a file are read at most: one more than a grammar's text may have.
+/// The greatest number of bytes that are read of a file: one more than a grammar's text may have.
 const MOST: u64 = MOST_TEXT_BYTES as u64 + 1;
 
-/// The bytes of a file, at most 1,048,577 of them. F1 File where it can't be opened or read.
+/// Returns the bytes of a file, at most the first 1,048,577. Fails with F1 File if it can't be
+/// opened or read.
 pub fn source_of<R: Files>(rt: &R, alloc: Global, path: &str) -> Result<Vec<u8>, Fault>
     ensures { IfErr result IsSourceFault }
 {
@@ -25,7 +26,8 @@ pub fn source_of<R: Files>(rt: &R, alloc: Global, path: &str) -> Result<Vec<u8>,
     }
 }
 
-/// What a reader gives, at most 1,048,577 bytes of it. F1 File where it can't be read.
+/// Returns the bytes of a reader, at most the first 1,048,577. Fails with F1 File if it can't be
+/// read.
 pub fn bytes_of<R: Read + Drop>(alloc: Global, reader: R) -> Result<Vec<u8>, Fault>
     ensures read { IfOk result (λ bytes. IfSome (R.remaining reader)
         (λ left. bytes.items ≡ take (most_text_bytes + 1) left)) }
@@ -38,7 +40,7 @@ pub fn bytes_of<R: Read + Drop>(alloc: Global, reader: R) -> Result<Vec<u8>, Fau
     }
 }
 
-/// Why a file is not opened.
+/// Returns the fault for a file that can't be opened.
 fn refusal(error: &Error) -> Fault
     ensures { IsSourceFault result }
 {

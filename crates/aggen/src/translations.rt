@@ -1,4 +1,4 @@
-//! Translations of sentences, of trees in files, and of jobs, and what they tell of themselves.
+//! Translations of sentences, of trees in files, and of jobs, and their reports.
 
 pub mod evaluating;
 pub mod job;

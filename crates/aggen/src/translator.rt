@@ -1,4 +1,5 @@
-//! Translators: made once of a grammar's text, and then used for any number of sentences.
+//! Translators, which are built once from a grammar's text, and then used for any number of
+//! sentences.
 
 ghost use Rattle.std.specs.Prelude.{◌≡◌, ◌≢◌, ◌≤◌, IfErr, IfOk, IsErrOf, OnOk};
 ghost use Rattle.std.specs.Prelude.{OnErr, length};
@@ -45,8 +46,9 @@ use std::io::Write;
 use std::marker::Model;
 use treefile::{Device, Writer};
 
-/// A grammar with the tables of its productions and the plan of its passes, which it keeps fitting.
-/// Contracts see it as its grammar. It keeps the allocator that it was made by.
+/// A grammar with the tables of its productions and the plan of its passes; an invariant is that
+/// these fit the grammar. Contracts see the grammar. A translator keeps the allocator that it was
+/// built with.
 #[derive(Drop)]
 pub struct Translator {
     grammar: Grammar,
@@ -74,11 +76,11 @@ impl Model for Translator {
 }
 
 impl Translator {
-    /// The translator of a grammar's text.
+    /// Builds the translator of a grammar's text.
     ///
-    /// G1 to G4 where the text reads as no grammar; then N1 to N10, the first fault of the grammar
-    /// that it reads as; then L1, the least conflict of an accepted grammar; then A1, where no
-    /// assignment of passes is legal.
+    /// Fails with G1 to G4 if the text is not one of a grammar; then with the first fault of N1 to
+    /// N10 of the grammar; then with L1, the least conflict of an accepted grammar; then with A1,
+    /// if no assignment of passes is legal.
     pub fn build(alloc: Global, text: &[u8]) -> Result<Translator, BuildFault>
         ensures grammar { IfOk result (λ t. IsGrammarOf text.now t) }
         ensures free { IfOk result (λ t. HasNoConflict t) }
@@ -125,14 +127,14 @@ impl Translator {
         &self.plan
     }
 
-    /// Takes away what the device has, and leaves there the file of pass 0 of the sentence's one
-    /// tree; answers the number of its stored nodes.
+    /// Clears the device, and writes the file of pass 0 of the sentence's one tree to it. Returns
+    /// the number of its stored nodes.
     ///
-    /// S1 to S4 where the sentence has no tokens, before the device is touched; P1 where it has
-    /// tokens and no tree; P2 and P3 where its tree is beyond the limits; D1 where the device
-    /// failed. After a refusal the device has what it had, or a beginning of a file.
+    /// Fails with S1 to S4 if the sentence has no tokens, before the device is used; with P1 if it
+    /// has tokens and no tree; with P2 or P3 if its tree is beyond the limits; and with D1 if the
+    /// device failed. After a fault the device has its old content, or a prefix of a file.
     pub fn parse_tree<D: Device>(&self, sentence: &[u8], device: &mut D) -> Result<u32, Fault>
-        // an answer: there is one tree, it is within the limits, and its file is left
+        // Ok: there is one tree, it is within the limits, and its file is written.
         ensures tree { IfOk result (λ _. (t : Tree) × IsTreeOfSentence self.now sentence.now t) }
         ensures one { (t u : Tree) → IsTreeOfSentence self.now sentence.now t
             → IsTreeOfSentence self.now sentence.now u → t ≡ u }
@@ -144,13 +146,13 @@ impl Translator {
             → OnOk result (WhenHonest (D.is_honest device.new)
             (IsFirstFile version_two self.now t (D.content device.new))) }
 
-        // a refusal: what it says of the sentence is true
+        // Err: the fault is true of the sentence.
         ensures refused { IfErr result (λ e. IsSentenceFault self.now sentence.now e) }
         ensures untouched { IfErr result (λ e. IsScanFault e → device.new ≡ device.old) }
-        // what the device had, or a beginning of a file of pass 0
+        // The old content of the device, or a prefix of a file of pass 0
         ensures left { OnErr result (WhenHonest (D.is_honest device.new)
             (LeavesBeginning 0 (D.content device.old) (D.content device.new))) }
-        // an answer, and P: a prefix of a file of pass 0
+        // Ok and P: a prefix of a file of pass 0
         ensures begins { OnOk result (WhenHonest (D.is_honest device.new)
             (BeginsFile 0 (D.content device.new))) }
         ensures parsed { IfErr result (λ e. IsParseFault e →
@@ -171,19 +173,19 @@ impl Translator {
         Ok(count)
     }
 
-    /// Translates a sentence: leaves the file of its one tree on `a`, runs all passes to and fro
-    /// between `a` and `b`, takes the text of the root's `out` out of the file of the last pass,
-    /// and writes it. Nothing goes out before the last pass has ended.
+    /// Translates a sentence: writes the file of its one tree to `a`, runs all passes alternately
+    /// between `a` and `b`, reads the text of the root's `out` from the file of the last pass, and
+    /// writes it to `out`. Nothing is written to `out` before the last pass has ended.
     ///
-    /// S1 to S4, before a device is touched, and P1 to P3, before `b` is, as `parse_tree` has
-    /// them; O1 NoText where the translation is no text; O2 Write where a write failed or took no
-    /// byte; D1 Device where a call of a device failed. Of a device that does not give back what
-    /// was written, R1, P2 or P3 of a tree file, B1 or B2 may come. On every refusal but O2 the
-    /// writer is as before.
+    /// Fails with S1 to S4 before a device is used, and with P1 to P3 before `b` is, as
+    /// `parse_tree` does. Fails with O1 NoText if the translation is not a text, with O2 Write if a
+    /// write failed or took no byte, and with D1 Device if a call of a device failed. R1, P2 or P3
+    /// of a tree file, B1 or B2 are possible only on a device that does not return the bytes that
+    /// were written. After every fault except O2 the writer is unchanged.
     ///
-    /// After O1 and O2 the devices have the last two tree files. After P `a` has a prefix of the file
-    /// of pass 0, and after D1 and NoMemory each device has what it had, or a prefix of the file of some
-    /// pass. The next call takes the devices as they are.
+    /// After O1 and O2 the devices have the last two tree files. After P `a` has a prefix of the
+    /// file of pass 0, and after D1 and NoMemory each device has its old content, or a prefix of
+    /// the file of some pass. The next call can use the devices in any state.
     #[tactic(auto, using(crate::proofs::Begun::begun))]
     pub fn translate<D: Device, W: Write>(
         &self,
@@ -196,20 +198,21 @@ impl Translator {
         ensures translates { IfOk result (λ report. TranslatesSentence self.now sentence.now
             (D.is_honest a.new) (D.is_honest b.new) (D.content a.new) (D.content b.new)
             (W.contents out.old) (W.contents out.new) report) }
-        // whatever the devices returned
+        // on any devices
         ensures text { OnOk result (WritesText (W.contents out.old) (W.contents out.new)) }
 
-        // a refusal: what it says of the sentence is true
+        // Err: the fault is true of the sentence.
         ensures refused { IfErr result (λ e. IsTranslationFault self.now sentence.now
             (D.is_honest a.new) (D.is_honest b.new)
             (W.contents out.old) (W.contents out.new) e) }
         ensures kept { IfErr result (λ e. e ≢ Fault.Write → out.new ≡ out.old) }
-        // O2, whatever the devices gave back
+        // O2, on any devices
         ensures begins { IsErrOf result Fault.Write →
             BeginsText (W.contents out.old) (W.contents out.new) }
         ensures untouched { IfErr result (λ e. IsScanFault e → a.new ≡ a.old) }
         ensures b_untouched { IfErr result (λ e. IsRefusedSentence e → b.new ≡ b.old) }
-        // each honest device has what it had, or a prefix of a tree file, whatever the other gives back
+        // An honest device has its old content, or a prefix of a tree file, whatever the other
+        // device is.
         ensures a_left { WhenHonest (D.is_honest a.new)
             (LeavesSomeFile (D.content a.old) (D.content a.new)) }
         ensures b_left { WhenHonest (D.is_honest b.new)
@@ -220,7 +223,7 @@ impl Translator {
         ensures files { IfErr result (λ e. IsAfterPasses e →
             LeavesLastFiles self.now sentence.now (D.is_honest a.new) (D.is_honest b.new)
             (D.content a.new) (D.content b.new)) }
-        // D1 only where the number of failures rose on one of the two
+        // D1 only if the number of failures rose on one of the two
         ensures devices { BothLast D.is_honest D.failures a.old a.new
             D.is_honest D.failures b.old b.new (IsErrOf result Fault.Device) }
     {
@@ -231,19 +234,20 @@ impl Translator {
         Ok(report)
     }
 
-    /// Translates the tree whose file of pass 0 the device `tree` has: runs pass 1 from there to
-    /// `b`, the others to and fro between `b` and `a`, takes the text of the root's `out` out of
-    /// the file of the last pass, and writes it. The report tells on which of `a` and `b` that file
-    /// is; with one pass the file of the pass before it is that of the tree. Nothing goes out before
-    /// the last pass has ended, and `tree` is only read.
+    /// Translates the tree whose file of pass 0 is on the device `tree`: runs pass 1 from there to
+    /// `b`, the others alternately between `b` and `a`, reads the text of the root's `out` from the
+    /// file of the last pass, and writes it to `out`. The report has the device with that file, `a`
+    /// or `b`; if there is one pass, the file of the pass before it is that of `tree`. Nothing is
+    /// written to `out` before the last pass has ended, and `tree` is only read.
     ///
-    /// R1 where the content of `tree` is the file of pass 0 of no tree of the grammar; P2
-    /// where it is that of none of at most `MOST_DEPTH` levels, P3 where it is that of none of at most
-    /// `MOST_NODES` stored nodes; O1 NoText where the translation is no text; O2 Write where a write
-    /// failed or took no byte; D1 Device where a call of a device failed. Of a device that does not
-    /// give back what was written, B1, B2, or R1, P2 or P3 of a later pass's file may come. On every
-    /// refusal but O2 the writer is as before. After O1 and O2 the devices have the last two tree files,
-    /// and after each other refusal each has what it had, or a prefix of the file of some pass.
+    /// Fails with R1 if the content of `tree` is the file of pass 0 of no tree of the grammar; with
+    /// P2 if it is that of none of at most `MOST_DEPTH` levels, and with P3 if it is that of none
+    /// of at most `MOST_NODES` stored nodes. Fails with O1 NoText if the translation is not a
+    /// text, with O2 Write if a write failed or took no byte, and with D1 Device if a call of a
+    /// device failed. B1, B2, or R1, P2 or P3 of a later pass's file are possible only on a device
+    /// that does not return the bytes that were written. After every fault except O2 the writer is
+    /// unchanged. After O1 and O2 the devices have the last two tree files, and after each other
+    /// fault each has its old content, or a prefix of the file of some pass.
     #[tactic(auto, using(crate::proofs::Begun::begun))]
     pub fn evaluate_tree<T: Device, D: Device, W: Write>(
         &self,
@@ -252,23 +256,24 @@ impl Translator {
         b: &mut D,
         out: &mut W,
     ) -> Result<Report, Fault>
-        // the translation theorem, for the tree of a file
+        // The translation theorem, for the tree of a file
         ensures evaluates { IfOk result (λ report. EvaluatesTree self.now
             (T.is_honest tree.new) (D.is_honest a.new) (D.is_honest b.new)
             (T.content tree.old) (D.content a.new) (D.content b.new)
             (W.contents out.old) (W.contents out.new) report) }
 
-        // a refusal: what it says of the content is true
+        // Err: the fault is true of the content.
         ensures refused { IfErr result (λ e. IsEvaluationFault self.now
             (T.is_honest tree.new) (D.is_honest a.new) (D.is_honest b.new)
             (T.content tree.old) (W.contents out.old) (W.contents out.new) e) }
         ensures kept { IfErr result (λ e. e ≢ Fault.Write → out.new ≡ out.old) }
-        // O2, whatever the devices gave back
+        // O2, on any devices
         ensures begins { IsErrOf result Fault.Write →
             BeginsText (W.contents out.old) (W.contents out.new) }
         ensures content { LeavesContent (T.is_honest tree.new)
             (T.content tree.old) (T.content tree.new) }
-        // each honest device has what it had, or a prefix of a tree file, whatever the others give back
+        // An honest device has its old content, or a prefix of a tree file, whatever the others
+        // are.
         ensures a_left { WhenHonest (D.is_honest a.new)
             (LeavesSomeFile (D.content a.old) (D.content a.new)) }
         ensures b_left { WhenHonest (D.is_honest b.new)
@@ -277,7 +282,7 @@ impl Translator {
         ensures files { IfErr result (λ e. IsAfterPasses e →
             LeavesLastFilesOfTree self.now (T.is_honest tree.new) (D.is_honest a.new)
             (D.is_honest b.new) (T.content tree.old) (D.content a.new) (D.content b.new)) }
-        // D1 only where the number of failures rose on one of the three
+        // D1 only if the number of failures rose on one of the three
         ensures devices { ThreeLast T.is_honest T.failures tree.old tree.new
             D.is_honest D.failures a.old a.new D.is_honest D.failures b.old b.new
             (IsErrOf result Fault.Device) }
@@ -289,38 +294,40 @@ impl Translator {
         Ok(report)
     }
 
-    /// Brings an old tree file over: reads the file of version 1 and pass 0 of a tree of the grammar
-    /// from `old`, and leaves on `to` the file of version 2 and pass 0 of the same tree, the one that
-    /// `parse_tree` leaves of a sentence with this tree. `mid` has then the same records from right to
-    /// left, and `old` is only read. Answers the number of stored nodes.
+    /// Converts an old tree file: reads the file of version 1 and pass 0 of a tree of the grammar
+    /// from `old`, and writes to `to` the file of version 2 and pass 0 of the same tree, the one
+    /// that `parse_tree` writes for a sentence with this tree. `mid` has then the same records from
+    /// right to left, and `old` is only read. Returns the number of stored nodes.
     ///
-    /// R1 where the content of `old` is the file of version 1 and pass 0 of no tree of the grammar; P2
-    /// where it is that of no tree of at most `MOST_TURNED_DEPTH` levels (256), P3 where it is that of
-    /// none of at most `MOST_TURNED_NODES` stored nodes (65,536); D1 where a call of a device failed. Of
-    /// a `mid` that does not give back what was written, R1 or P2 may come, with an offset in `mid`.
-    /// After a refusal `mid` and `to` have what they had, or a prefix of a file.
+    /// Fails with R1 if the content of `old` is the file of version 1 and pass 0 of no tree of the
+    /// grammar; with P2 if it is that of no tree of at most `MOST_TURNED_DEPTH` levels (256), and
+    /// with P3 if it is that of none of at most `MOST_TURNED_NODES` stored nodes (65,536);
+    /// and with D1 if a call of a device failed. R1 or P2 with an offset in `mid` are possible only
+    /// if `mid` does not return the bytes that were written. After a fault `mid` and `to` have
+    /// their old contents, or a prefix of a file.
     pub fn upgrade<D: Device, E: Device, F: Device>(
         &self,
         old: &mut D,
         mid: &mut E,
         to: &mut F,
     ) -> Result<u32, Fault>
-        // an answer: the one tree of the old file is brought over
+        // Ok: the one tree of the old file is converted.
         ensures upgraded { IfOk result (λ count. WhenHonest (D.is_honest old.new)
             (WhenHonest (E.is_honest mid.new) (IsUpgraded self.now (D.content old.old)
             (E.content mid.new) (F.is_honest to.new) (F.content to.new) count))) }
-        // a refusal: what it says of the old content is true
+        // Err: the fault is true of the old content.
         ensures refused { IfErr result (λ e. IsOldFileFault self.now
             (D.is_honest old.new) (E.is_honest mid.new) (D.content old.old) e) }
-        // what the third device had, or a beginning of a file of pass 0
+        // The old content of the third device, or a prefix of a file of pass 0
         ensures left { OnErr result (WhenHonest (F.is_honest to.new)
             (LeavesBeginning 0 (F.content to.old) (F.content to.new))) }
-        // what the second device had, or a prefix of a file with the number 1, also on an answer
+        // The old content of the second device, or a prefix of a file with the pass number 1, also
+        // after Ok
         ensures mid_left { WhenHonest (E.is_honest mid.new)
             (LeavesBeginning 1 (E.content mid.old) (E.content mid.new)) }
         ensures content { LeavesContent (D.is_honest old.new)
             (D.content old.old) (D.content old.new) }
-        // D1 only where the number of failures rose on one of the three
+        // D1 only if the number of failures rose on one of the three
         ensures devices { ThreeLast D.is_honest D.failures old.old old.new
             E.is_honest E.failures mid.old mid.new F.is_honest F.failures to.old to.new
             (IsErrOf result Fault.Device) }
@@ -330,7 +337,7 @@ impl Translator {
     }
 }
 
-/// The plan of a grammar and its least assignment.
+/// Makes the plan of a grammar and its least assignment.
 #[tactic(auto, using(planchecker::proofs::Taken::made_is_taken, crate::proofs::Building::least_plan))]
 fn plan_of(alloc: Global, grammar: &Grammar, assignment: Assignment) -> Result<Plan, NoMemory>
     requires least { IsLeast grammar.now (passes_of assignment) }
@@ -341,7 +348,7 @@ fn plan_of(alloc: Global, grammar: &Grammar, assignment: Assignment) -> Result<P
     let code = generate(alloc, grammar, &assignment)?;
     match check_plan(grammar, assignment, code) {
         Ok(plan) => Ok(plan),
-        // what `assign` and `generate` give is a plan
+        // An assignment of `assign` with the code of `generate` is a plan.
         Err(_) => unreachable!(),
     }
 }

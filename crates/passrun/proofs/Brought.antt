@@ -1,4 +1,4 @@
--- Bringing the records of a file of version 1 over: what was read and what is to come, one tree after the other.
+-- Converting the records of a file of version 1: those read and those to be read, one tree after the other.
 use Rattle.std.proofs.Common.{◌≡◌, ℕ, suc, ◌+◌, ◌-◌, ◌<◌, ◌≤◌, Bool, true, List, [], ◌∷◌, ◌++◌, All, length, reverse, pos, get_or, take, drop, Option, Some, None, Ok, Err, refl, ap, sym, subst, ◌∙◌, append_assoc, append-nil, length-append, arith}
 use Rattle.std.specs.List.{flat_map}
 use Rattle.std.specs.Option.{IfSome}
@@ -42,9 +42,9 @@ use Rattle.passrun.specs.declared.run_fault.RunFault.TheVariants as fault
 use Rattle.passrun.specs.Damage.{IsWithin}
 use Rattle.passrun.proofs.Damage.{IsTellable, broken, leaves_on, too_deep, too_many}
 
--- ---- items that are to come
+-- ---- children to be read
 
--- stored items of two right sides, one behind the other
+-- The children of two right sides, one after the other.
 pub stored_both : (xs ys : List Item) → stored_items (xs ++ ys) ≡ stored_items xs ++ stored_items ys
 stored_both [] ys = refl
 stored_both (item.Symbol s ∷ xs) ys = ap (λ zs. item.Symbol s ∷ zs) (stored_both xs ys)
@@ -59,20 +59,20 @@ before_both : (level : ℕ) (xs ys : List Child) (others : ToCome) → before_ot
 before_both level [] ys others = refl
 before_both level (x ∷ xs) ys others = before_both level xs ys ((level, x) ∷ others)
 
--- those of the right one come first
+-- The children of the right one are read first.
 pub coming_both : (g : Grammar) (level : ℕ) (xs ys : List Item) (others : ToCome) → coming g level (xs ++ ys) others ≡ coming g level ys (coming g level xs others)
 coming_both g level xs ys others =
     ap (λ zs. before_others RightToLeft level (told version_one.has_copies g unassigned 0 zs []) others) (stored_both xs ys)
     ∙ ap (λ zs. before_others RightToLeft level zs others) (told_both g (stored_items xs) (stored_items ys))
     ∙ before_both level (to_come g xs) (to_come g ys) others
 
--- one with a place
+-- An item that is a child.
 pub coming_one : (g : Grammar) (level : ℕ) (x : Item) (others : ToCome) → stored_items (x ∷ []) ≡ x ∷ [] → coming g level (x ∷ []) others ≡ (level, (x, None)) ∷ others
 coming_one g level x others progress = ap (λ zs. before_others RightToLeft level (told version_one.has_copies g unassigned 0 zs []) others) progress
 
 -- ---- records
 
--- what a record's own children are
+-- The children of the node of a record.
 abbrev pub children_in : (g : Grammar) (x : Item) (r : OldRecord) → IsOf g x r → List Child
 children_in g (item.Symbol s) (old.Node p) is = to_come g is.0.items
 children_in g (item.Symbol s) (old.Token d v) is = []
@@ -105,26 +105,26 @@ no_record g (item.Symbol s) body nothing ys (p, q, e, is, children, as_told) =
 no_record g (item.Terminal (Class c)) body nothing ys (x, text, same, none, as_told) = nothing (old.Token c (Text x)) (refl, (x, text, refl)) same
 no_record g (item.Terminal (Literal l)) body nothing ys is = is
 
--- ---- refusals
+-- ---- faults
 
 module _ (g : Grammar) (accepted : IsAccepted g) where
   pub tellable : IsTellable (old_file g)
   tellable = record { few = numbered g accepted; usable = version_one_usable; fits = record { tokens = omega arith; nodes = λ p q is. omega arith } }
 
-  -- what is no file under no assignment is none under any
+  -- A content that is the file of no tree under the empty assignment is the first file of no tree.
   pub no_first : (content : List ℕ) → HasNoTree version_one g unassigned 0 content → HasNoFirstTree version_one g content
   no_first content none t tree is = let texts = texts_are_given g t in none t texts.0 tree (is unassigned texts.0 unassigned_from_one texts.1)
 
   pub no_first_within : (levels nodes : ℕ) (content : List ℕ) → HasNoTreeWithin levels nodes version_one g unassigned 0 content → HasNoFirstTreeWithin levels nodes version_one g content
   no_first_within levels nodes content none t tree within is = let texts = texts_are_given g t in none t texts.0 tree within (is unassigned texts.0 unassigned_from_one texts.1)
 
-  -- the way breaks
+  -- Reading meets damage.
   pub breaks_at : (content : List ℕ) (progress : Progress) (todo : ToCome) → IsAt g content progress todo → IsWithin (old_file g) todo progress.records → Breaks version_one g unassigned 0 todo (next_before version_one content progress.at) → IsUpgradeFault g content (fault.Damaged progress.at)
   breaks_at content progress todo is within so =
       let damaged = broken (old_file g) tellable content progress.at is.readable (todo, is.way, subst (IsWithin (old_file g) todo) is.counted within, so) in
       (no_first content damaged.none, damaged.shown)
 
-  -- or exceeds a limit
+  -- Reading exceeds a limit.
   pub goes_too_deep : (content : List ℕ) (progress : Progress) (level : ℕ) (x : Child) (todo : ToCome) → IsAt g content progress ((level, x) ∷ todo) → most_levels < level → IsUpgradeFault g content fault.TooDeep
   goes_too_deep content progress level x todo is deep =
       let far = too_deep (old_file g) tellable content (record { readable = is.readable; at = progress.at; level = level; next = x; others = todo; way = is.way; deep = deep }) in
@@ -137,7 +137,7 @@ module _ (g : Grammar) (accepted : IsAccepted g) where
       let far = too_many (old_file g) tellable content (record { readable = is.readable; at = progress.at; level = level; next = x; others = todo; way = is.way; within = deep; full = omega arith }) in
       ((λ levels. no_first_within levels most_records content (far.none levels)), far.shown)
 
-  -- or a record more was read
+  -- One more record was read.
   pub one_more : (content : List ℕ) (before now : Progress) (level : ℕ) (x : Item) (others : ToCome) (r : OldRecord) (is : IsOf g x r) → level ≤ most_levels → before.records < most_records → next_before version_one content before.at ≡ Ok (Some (body_in r)) → now.at ≡ before_frame before.at (body_in r) → now.records ≡ before.records + 1
       → IsAt g content before ((level, (x, None)) ∷ others) → IsAt g content now (before_others RightToLeft (suc level) (children_in g x r is) others)
   one_more content before now level x others r is deep less found at records here =
@@ -153,7 +153,7 @@ module _ (g : Grammar) (accepted : IsAccepted g) where
         counted = omega (arith, records, here.counted, length-append here.way.bodies (body_in r ∷ []));
       }
 
-  -- ---- an item whose record is to come
+  -- ---- an item whose record is to be read
 
   module _ (content : List ℕ) (x : Item) (level : ℕ) (progress : Progress) (stored : stored_items (x ∷ []) ≡ x ∷ []) where
     here : (others : ToCome) → IsAt g content progress (coming g level (x ∷ []) others) → IsAt g content progress ((level, (x, None)) ∷ others)
@@ -166,7 +166,7 @@ module _ (g : Grammar) (accepted : IsAccepted g) where
     one_too_many deep many others is = goes_too_far content progress level (x, None) others (here others is) deep many
 
   module _ (content : List ℕ) (x : Item) (level : ℕ) (progress : Progress) (stored : stored_items (x ∷ []) ≡ x ∷ []) (deep : level ≤ most_levels) (less : progress.records < most_records) where
-    -- what ends there breaks the way
+    -- The frame that ends there is damage, or none ends there.
     pub one_breaks : (at : ℕ) → at ≡ progress.at → ((others : ToCome) → Breaks version_one g unassigned 0 ((level, (x, None)) ∷ others) (next_before version_one content progress.at)) → IsUnbrought g content (x ∷ []) level progress (fault.Damaged at)
     one_breaks at same so others is = subst (λ n. IsUpgradeFault g content (fault.Damaged n)) (sym same) (breaks_at content progress ((level, (x, None)) ∷ others) (here content x level progress stored others is) (deep, less) (so others))
 
@@ -182,21 +182,21 @@ module _ (g : Grammar) (accepted : IsAccepted g) where
     one_fault view frame_fault.Device found = λ others is. tt
     one_fault view frame_fault.NoMemory found = λ others is. tt
 
--- a record with a production is a node's
+-- A record with a production is a node's.
 pub node_of : (g : Grammar) (x : Item) (p : ℕ) → IsOf g x (old.Node p) → (q : Production) × IsProduction g p q
 node_of g (item.Symbol s) p is = (is.0, is.1)
 node_of g (item.Terminal (Class c)) p is = elim is [ ]
 node_of g (item.Terminal (Literal l)) p is = elim is [ ]
 
--- the children of a node are those of its production
+-- The children of a node are those of its production.
 pub children_are : (g : Grammar) (x : Item) (p : ℕ) (items : List Item) (is : IsOf g x (old.Node p)) → ((q : Production) → IsProduction g p q → items ≡ q.items) → children_in g x (old.Node p) is ≡ to_come g items
 children_are g (item.Symbol s) p items is all = ap (to_come g) (sym (all is.0 is.1))
 children_are g (item.Terminal (Class c)) p items is all = elim is [ ]
 children_are g (item.Terminal (Literal l)) p items is all = elim is [ ]
 
--- ---- trees that were brought over
+-- ---- converted trees
 
--- the trees of one forest, and those of another behind them
+-- The trees of one forest, followed by those of another.
 abbrev pub beside : Forest → Forest → Forest
 beside tree.none ts = ts
 beside (tree.more u us) ts = tree.more u (beside us ts)
@@ -222,7 +222,7 @@ texts_both tree.none ts = refl
 texts_both (tree.more (tree.leaf c x) us) ts = ap (λ vs. Text x ∷ vs) (texts_both us ts)
 texts_both (tree.more (tree.node p ws) us) ts = texts_both us ts
 
--- from right to left those behind come first
+-- From right to left, the trees of the second forest come first.
 prefix_both : (version : Version) (us ts : Forest) → prefix_all RightToLeft (first_bodies_all version (beside us ts)) ≡ prefix_all RightToLeft (first_bodies_all version ts) ++ prefix_all RightToLeft (first_bodies_all version us)
 prefix_both version tree.none ts = sym (append-nil (prefix_all RightToLeft (first_bodies_all version ts)))
 prefix_both version (tree.more u us) ts =
@@ -236,7 +236,7 @@ postfix_both version (tree.more u us) ts =
     ∙ append_assoc (postfix_all RightToLeft (first_bodies_all version ts)) (postfix_all RightToLeft (first_bodies_all version us)) (postfix RightToLeft (first_bodies version u))
 
 module _ (g : Grammar) (accepted : IsAccepted g) (content : List ℕ) where
-  -- nothing was, where no item has a place
+  -- Nothing was converted if no item is a child.
   pub none_brought : (front xs : List Item) (level : ℕ) (progress : Progress) (honest : Bool) (out : List ℕ) → stored_items xs ≡ [] → Brought g content front xs level progress progress honest out out []
   none_brought front xs level progress honest out none =
       let same : (others : ToCome) → coming g level (front ++ xs) others ≡ coming g level front others =
@@ -252,11 +252,11 @@ module _ (g : Grammar) (accepted : IsAccepted g) (content : List ℕ) where
         texts_are = refl;
       }
 
-  -- more were, in front of those that had been
-  -- the same where less is supposed of the other device
+  -- Trees that were converted, with a weaker assumption about the other device.
   abbrev pub brought_supposed : (front xs : List Item) (level : ℕ) (before now : Progress) (honest then : Bool) (out_old out_now : List ℕ) (texts : List Value) → (honest ≡ true → then ≡ true) → Brought g content front xs level before now then out_old out_now texts → Brought g content front xs level before now honest out_old out_now texts
   brought_supposed front xs level before now honest then out_old out_now texts supposed brought = record { trees = brought.trees; fits = brought.fits; deep = brought.deep; read = brought.read; nodes = brought.nodes; on = brought.on; written = λ h. brought.written (supposed h); texts_are = brought.texts_are }
 
+  -- More trees were converted, those of the items before the ones converted so far.
   pub more_brought : (front xs ys : List Item) (level : ℕ) (before between now : Progress) (honest : Bool) (out_old out_between out_now : List ℕ) (texts others : List Value)
       → Brought g content (front ++ xs) ys level before between honest out_old out_between texts → Brought g content [] xs level between now honest out_between out_now others
       → Brought g content front (xs ++ ys) level before now honest out_old out_now (texts ++ others)
@@ -280,7 +280,7 @@ module _ (g : Grammar) (accepted : IsAccepted g) (content : List ℕ) where
             ∙ sym (reverse-append (leaf_texts us) (leaf_texts ts)) ∙ ap reverse (sym (texts_both us ts));
       }
 
-  -- where a child is refused, its parent is
+  -- If a child fails, its parent does.
   pub child_refused : (x child : Item) (front ys : List Item) (level : ℕ) (before first now : Progress) (r : OldRecord) (is : IsOf g x r) (honest : Bool) (out_old out_now : List ℕ) (texts : List Value) (f : RunFault)
       → stored_items (x ∷ []) ≡ x ∷ [] → level ≤ most_levels → before.records < most_records → next_before version_one content before.at ≡ Ok (Some (body_in r)) → first.at ≡ before_frame before.at (body_in r) → first.records ≡ before.records + 1
       → children_in g x r is ≡ to_come g ((front ++ child ∷ []) ++ ys) → Brought g content (front ++ child ∷ []) ys (suc level) first now honest out_old out_now texts
@@ -290,7 +290,7 @@ module _ (g : Grammar) (accepted : IsAccepted g) (content : List ℕ) where
       let all : IsAt g content first (coming g (suc level) ((front ++ child ∷ []) ++ ys) others) = subst (λ zs. IsAt g content first (before_others RightToLeft (suc level) zs others)) children one in
       refused (coming g (suc level) front others) (subst (IsAt g content now) (coming_both g (suc level) front (child ∷ []) others) (brought.on others all))
 
-  -- one item more, from right to left
+  -- One more item was converted, from right to left.
   pub next_brought : (items : List Item) (at level : ℕ) (d : Item) (before between now : Progress) (honest : Bool) (out_old out_between out_now : List ℕ) (texts text all : List Value) → 0 < at → at ≤ length items
       → Brought g content (take at items) (drop at items) level before between honest out_old out_between texts → Brought g content [] (get_or items (at - 1) d ∷ []) level between now honest out_between out_now text → all ≡ texts ++ text
       → Brought g content (take (at - 1) items) (drop (at - 1) items) level before now honest out_old out_now all
@@ -304,7 +304,7 @@ module _ (g : Grammar) (accepted : IsAccepted g) (content : List ℕ) where
       (subst (λ ys. Brought g content (take (at - 1) items) ys level before now honest out_old out_now (texts ++ text)) (sym behind)
       (more_brought (take (at - 1) items) (x ∷ []) (drop at items) level before between now honest out_old out_between out_now texts text here next))
 
-  -- where it is refused, its parent is
+  -- If one more item fails, its parent does.
   pub next_refused : (x : Item) (p : ℕ) (items : List Item) (at level : ℕ) (d : Item) (before first now : Progress) (is : IsOf g x (old.Node p)) (honest : Bool) (out_old out_now : List ℕ) (texts : List Value) (f : RunFault)
       → stored_items (x ∷ []) ≡ x ∷ [] → level ≤ most_levels → before.records < most_records → next_before version_one content before.at ≡ Ok (Some (body_of Node p [])) → first.at ≡ before_frame before.at (body_of Node p []) → first.records ≡ before.records + 1
       → ((q : Production) → IsProduction g p q → items ≡ q.items) → 0 < at → at ≤ length items → Brought g content (take at items) (drop at items) (suc level) first now honest out_old out_now texts
@@ -317,7 +317,7 @@ module _ (g : Grammar) (accepted : IsAccepted g) (content : List ℕ) where
       let here = subst (λ xs. Brought g content xs (drop at items) (suc level) first now honest out_old out_now texts) front so_far in
       child_refused x child (take (at - 1) items) (drop at items) level before first now (old.Node p) is honest out_old out_now texts f stored deep less found begins records (children_are g x p items is all ∙ ap (to_come g) whole) here refused
 
-  -- a token
+  -- A token was converted.
   pub token_brought : (x : Item) (level d : ℕ) (v : Value) (before now : Progress) (honest : Bool) (out_old out_now : List ℕ)
       → stored_items (x ∷ []) ≡ x ∷ [] → IsOf g x (old.Token d v) → level ≤ most_levels → before.records < most_records → next_before version_one content before.at ≡ Ok (Some (body_in (old.Token d v))) → now.at ≡ before_frame before.at (body_in (old.Token d v)) → now.records ≡ before.records + 1
       → WhenHonest honest (out_now ≡ out_old ++ frame (body_in (old.Token d v))) → Brought g content [] (x ∷ []) level before now honest out_old out_now (v ∷ [])
@@ -337,7 +337,7 @@ module _ (g : Grammar) (accepted : IsAccepted g) (content : List ℕ) where
         texts_are = ap (λ w. w ∷ []) is.1.2;
       }
 
-  -- a node, whose children were
+  -- A node was converted after its children.
   pub node_brought : (x : Item) (level p : ℕ) (before first now : Progress) (honest : Bool) (out_old out_between out_now : List ℕ) (texts : List Value)
       → stored_items (x ∷ []) ≡ x ∷ [] → (is : IsOf g x (old.Node p)) → level ≤ most_levels → before.records < most_records → next_before version_one content before.at ≡ Ok (Some (body_of Node p [])) → first.at ≡ before_frame before.at (body_of Node p []) → first.records ≡ before.records + 1
       → (items : List Item) → ((q : Production) → IsProduction g p q → items ≡ q.items) → Brought g content [] items (suc level) first now honest out_old out_between texts
@@ -365,7 +365,7 @@ module _ (g : Grammar) (accepted : IsAccepted g) (content : List ℕ) where
         texts_are = refl;
       }
 
--- a text is well where there is one
+-- A text, if there is one, is well.
 pub text_is_well : (text : Option Value) → IfSome text IsWell → All IsWell (text_list text)
 text_is_well None well = All-nil IsWell
 text_is_well (Some v) well = All-cons IsWell v [] well (All-nil IsWell)

@@ -1,4 +1,5 @@
--- Where it shows that a file is that of no tree, or of none within the limits: that it is so, and that one refusal alone shows.
+-- The offset at which a content shows that it is the file of no tree, or of none within the limits: such a
+-- content is one, and shows at most one fault.
 use Rattle.std.specs.List.{flat_map}
 use Rattle.std.proofs.Common.{ℕ, suc, ◌≡◌, ◌≢◌, ◌+◌, ◌^◌, ◌<◌, ◌≤◌, ◌⊎◌, inl, inr, Bool, true, false, if◌then◌else◌, List, [], ◌∷◌, ◌++◌, Some, Ok, Err, length, refl, ap, ◌∙◌, sym, subst, arith}
 use Rattle.ag_grammar.specs.declared.direction.Direction.{Direction}
@@ -22,14 +23,14 @@ use Rattle.passrun.specs.declared.run_fault.RunFault.TheVariants as fault
 use Rattle.passrun.specs.Damage.{BreaksAt, ComesTo, ExceedsDepth, ExceedsNodes, HasTooManyNodes, IsDamaged, IsReadable, IsTooDeep, IsWithin, Leaves, Shows, Source, source}
 use Rattle.passrun.specs.Laws.{ShowsOnce}
 
--- one record more
+-- One more record was read.
 pub leaves_on : (s : Source) (d : Direction) (bodies : List (List ℕ)) (body : List ℕ) (level : ℕ) (x : Child) (ys : List Child) (todo left : ToCome) → Leaves s d todo bodies ((level, x) ∷ left) → level ≤ s.depth → IsRecordOf s.version s.grammar s.passes s.pass x body ys
     → Leaves s d todo (bodies ++ body ∷ []) (before_others d (suc level) ys left)
 leaves_on s d [] body level x ys todo left h le is = subst (λ (t : ToCome). Leaves s d t (body ∷ []) (before_others d (suc level) ys left)) (sym h) (ys, le, is, refl)
 leaves_on s d (first ∷ bodies) body level x ys [] left h le is = elim h [ ]
 leaves_on s d (first ∷ bodies) body level x ys (y ∷ todo) left h le is = (h.0, h.1, h.2, leaves_on s d bodies body level x ys (before_others d (suc y.0) h.0 todo) left h.3 le is)
 
--- what is left by bodies that were read is on the way
+-- The children still to be read after some bodies are those of reading up to that offset.
 comes_on : (s : Source) (content : List ℕ) (bodies : List (List ℕ)) (at count start : ℕ) (todo left : ToCome) → IsNumbered s.grammar → IsOnTheWay s.version s.grammar s.passes s.pass content at count todo → ReadsTo s.version content at bodies start
     → Leaves s (other (direction_of s.pass)) todo bodies left → IsOnTheWay s.version s.grammar s.passes s.pass content start (count + length bodies) left
 comes_on s content [] at count start todo left few way read h =
@@ -41,7 +42,7 @@ comes_on s content (body ∷ bodies) at count start ((level, x) ∷ todo) left f
     let sum : suc count + length bodies ≡ count + suc (length bodies) = omega arith in
     subst (λ n. IsOnTheWay s.version s.grammar s.passes s.pass content start n left) sum (comes_on s content bodies (before_frame at body) (suc count) start (before_others (other (direction_of s.pass)) (suc level) h.0 todo) left few on read.1 h.3)
 
--- What the way stops at after a number of bodies: it breaks at the offset, or a limit is exceeded.
+-- The fault at which reading stops after a number of bodies: damage at the offset, or an exceeded limit.
 abbrev Stops : Source → List ℕ → (at count : ℕ) → ToCome → RunFault → Type 0
 Stops s content at count todo (fault.Damaged there) = (there ≡ at) × IsWithin s todo count × Breaks s.version s.grammar s.passes s.pass todo (next_before s.version content at)
 Stops s content at count [] fault.TooDeep = ⊥
@@ -51,7 +52,7 @@ Stops s content at count (x ∷ xs) fault.TooManyNodes = (x.0 ≤ s.depth) × (s
 Stops s content at count todo fault.Device = ⊥
 Stops s content at count todo fault.NoMemory = ⊥
 
--- at one place it stops for one reason
+-- Reading stops at one offset for at most one fault.
 same_stop : (s : Source) (content : List ℕ) (at count : ℕ) (todo : ToCome) (e f : RunFault) → Stops s content at count todo e → Stops s content at count todo f → e ≡ f
 same_stop s content at count todo (fault.Damaged a) (fault.Damaged b) p q = ap fault.Damaged (p.0 ∙ sym q.0)
 same_stop s content at count [] (fault.Damaged a) fault.TooDeep p q = absurd q
@@ -71,7 +72,7 @@ same_stop s content at count todo fault.NoMemory f p q = absurd p
 same_stop s content at count todo e fault.Device p q = absurd q
 same_stop s content at count todo e fault.NoMemory p q = absurd q
 
--- where the way goes on within the limits it does not stop
+-- If reading continues within the limits, it does not stop.
 never_stops : (s : Source) (content body : List ℕ) (at count level : ℕ) (x : Child) (ys : List Child) (todo : ToCome) (f : RunFault) → level ≤ s.depth → count < s.nodes → next_before s.version content at ≡ Ok (Some body)
     → IsRecordOf s.version s.grammar s.passes s.pass x body ys → Stops s content at count ((level, x) ∷ todo) f → ⊥
 never_stops s content body at count level x ys todo (fault.Damaged there) le less found is stops =
@@ -82,7 +83,7 @@ never_stops s content body at count level x ys todo fault.TooManyNodes le less f
 never_stops s content body at count level x ys todo fault.Device le less found is stops = stops
 never_stops s content body at count level x ys todo fault.NoMemory le less found is stops = stops
 
--- two ways from one place stop for one reason
+-- Reading from one offset stops for at most one fault.
 one_stop : (s : Source) (content : List ℕ) (bodies others : List (List ℕ)) (from at there count : ℕ) (todo left rest : ToCome) (e f : RunFault) → IsNumbered s.grammar → ReadsTo s.version content from bodies at → ReadsTo s.version content from others there
     → Leaves s (other (direction_of s.pass)) todo bodies left → Leaves s (other (direction_of s.pass)) todo others rest → count + length bodies ≤ s.nodes → count + length others ≤ s.nodes
     → Stops s content at (count + length bodies) left e → Stops s content there (count + length others) rest f → e ≡ f
@@ -107,7 +108,7 @@ one_stop s content (body ∷ bodies) (another ∷ others) from at there count ((
     h.3 (subst (λ (ys : List Child). Leaves s (other (direction_of s.pass)) (before_others (other (direction_of s.pass)) (suc level) ys todo) others rest) items h'.3) (omega arith) (omega arith)
     (subst (λ n. Stops s content at n left e) sum stops) (subst (λ n. Stops s content there n rest f) sum' stops')
 
--- what begins as no tree file
+-- The content does not begin as a tree file.
 no_file : (is : Bool) (pass : ℕ) (f : FrameFault) → (if is then Ok pass else Err frame_fault.NotATreeFile) ≡ Err f → (is ≡ false) × (f ≡ frame_fault.NotATreeFile)
 no_file true pass f e = absurd cc
 no_file false pass f e = (refl, cc)
@@ -116,34 +117,35 @@ is_file : (is : Bool) (pass n : ℕ) → (if is then Ok pass else Err frame_faul
 is_file true pass n e = (refl, cc)
 is_file false pass n e = absurd cc
 
--- What is read can be told: a record can number the productions, the version's files can be read, and their records have room.
+-- A source is usable: a record can number its productions, the version's files can be read, and their records
+-- have room.
 pub record IsTellable (s : Source) : Type 0 where
   pub few : IsNumbered s.grammar
   pub usable : IsUsable s.version
   pub fits : FitsVersion s.version s.grammar s.passes
 
--- what a pass reads can
+-- The source of a pass is usable.
 pub tellable : (c : Setting) → IsSound c → IsTellable (source c)
 tellable c sound =
     let fits = fits_version_two c.grammar c.passes sound.accepted sound.legal in
     record { few = fits.0; usable = version_two_usable; fits = fits.1 }
 
 module _ (s : Source) (sound : IsTellable s) where
-  -- the way to an offset
+  -- Reading up to an offset.
   pub way_to : (content : List ℕ) (at : ℕ) (todo : ToCome) (h : ComesTo s content at todo) → IsOnTheWay s.version s.grammar s.passes s.pass content at (length h.bodies) todo
   way_to content at todo h =
       let begins = way_begins s.version s.grammar s.passes s.pass content sound.usable sound.fits in
       let sum : 0 + length h.bodies ≡ length h.bodies = omega arith in
       subst (λ n. IsOnTheWay s.version s.grammar s.passes s.pass content at n todo) sum (comes_on s content h.bodies (length content) 0 at (root_to_come s.grammar) todo sound.few begins h.read h.records)
 
-  -- the content is the file of no tree where the way breaks,
+  -- The content is the file of no tree if reading meets damage.
   pub broken : (content : List ℕ) (at : ℕ) → IsReadable s content → BreaksAt s content at → IsDamaged s content at
   broken content at readable h = record {
     none = way_breaks s.version s.grammar s.passes s.pass content at (length h.1.bodies) h.0 (way_to content at h.0 h.1) h.3;
     shown = inr (inr (readable, h));
   }
 
-  -- of none within the limits where one is exceeded,
+  -- The content is the file of no tree within the limits if one is exceeded.
   pub too_deep : (content : List ℕ) → ExceedsDepth s content → IsTooDeep s content
   too_deep content h = record {
     none = λ nodes. way_is_too_long s.version s.grammar s.passes s.pass content h.at (length h.way.bodies) h.level s.depth nodes h.next h.others (way_to content h.at ((h.level, h.next) ∷ h.others) h.way) (inl h.deep);
@@ -158,7 +160,7 @@ module _ (s : Source) (sound : IsTellable s) where
         shown = h;
       }
 
-  -- of no tree where it begins as no tree file, as reading its header tells,
+  -- The content is the file of no tree if reading its header fails, since it does not begin as a tree file.
   pub unstarted : (content : List ℕ) (f : FrameFault) → pass_in s.version content ≡ Err f → (f ≡ frame_fault.NotATreeFile) × IsDamaged s content 0
   unstarted content f told =
       let is = no_file (is_tree_file s.version content) (pass_of content) f told in (
@@ -172,7 +174,7 @@ module _ (s : Source) (sound : IsTellable s) where
         },
       )
 
-  -- and where it is that of another pass
+  -- The content is the file of no tree of this pass if it is the file of another pass.
   pub other_pass : (content : List ℕ) (pass : ℕ) → s.pass < 2 ^ 16 → pass_in s.version content ≡ Ok pass → pass ≢ s.pass → IsDamaged s content 4
   other_pass content pass small told not =
       let is = is_file (is_tree_file s.version content) (pass_of content) pass told in
@@ -182,15 +184,15 @@ module _ (s : Source) (sound : IsTellable s) where
         shown = inr (inl (is.0, otherwise, refl));
       }
 
-  -- it can be read where it is that of the pass before
+  -- The content can be read if it is the file of the previous pass.
   pub readable : (content : List ℕ) (pass : ℕ) → pass_in s.version content ≡ Ok pass → pass ≡ s.pass → IsReadable s content
   readable content pass told same =
       let is = is_file (is_tree_file s.version content) (pass_of content) pass told in
       record { begins = is.0; number = is.1 ∙ same }
 
--- ---- one refusal shows alone
+-- ---- at most one fault shows
 
--- the header of a content shows a refusal, or the way through it stops for one
+-- The header of a content shows a fault, or reading stops for one.
 abbrev ShowsOnWay : Source → List ℕ → RunFault → Type 0
 ShowsOnWay s content f = IsReadable s content × ((todo : ToCome) × (at : ℕ) × (way : ComesTo s content at todo) × Stops s content at (length way.bodies) todo f)
 

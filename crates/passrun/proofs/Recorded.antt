@@ -1,5 +1,6 @@
--- What is read from the body of a record.
+-- Reading the body of a record.
 use Rattle.std.specs.List.{flat_map}
+use Rattle.std.specs.Int.{to_be_bytes, w16}
 use Rattle.std.specs.Int.Signed.{mag}
 use Rattle.std.specs.Prelude.{IfOk, OnOk}
 use Rattle.std.proofs.Common.{ℕ, ℤ, zero, suc, ◌≡◌, ◌+◌, ◌-◌, ◌^◌, ◌<◌, ◌≤◌, Bool, true, false, nat_le, if◌then◌else◌, List, [], ◌∷◌, ◌++◌, ◌||◌, All, Some, slice_get, length, take, drop, get_or, Result, Ok, Err, refl, ap, ◌∙◌, sym, subst, arith, append_assoc, append-nil, length-append, length-drop, length-take, pos, negsuc}
@@ -23,13 +24,13 @@ use Rattle.treefile.specs.records.Listed.{copied_count, copies_count, count_up_t
 use Rattle.treefile.specs.records.Records.{values_up_to}
 use Rattle.treefile.proofs.records.Spelled.{spelled_apart}
 use Rattle.treefile.proofs.records.Values.{count_of_values, values_well}
-use Rattle.treefile.specs.records.TreeFile.{body_from}
+use Rattle.treefile.specs.records.TreeFile.{body_from, kind_byte}
 use Rattle.planchecker.specs.courses.Settings.{Setting}
 use Rattle.passrun.specs.declared.reading.record.RecordFault.{RecordFault}
 use Rattle.passrun.specs.passing.Places.{Table, copied_passes, copies, row_passes}
 use Rattle.passrun.specs.reading.Reading.{AllWell, AreTaken, AreUntaken, IsNodeBody, IsNodeRead, IsNoNode, IsNoNodeBody, IsNoRow, IsTaken, IsUntaken, StandInFront, one_value}
 
--- a number of 64 bits with a sign is well
+-- A signed number of 64 bits is well.
 pub number_well : (z : ℤ) → mag z < 2 ^ 63 → IsWell (Num z)
 number_well z small =
     record {
@@ -42,22 +43,22 @@ number_well z small =
     signed (pos n) less = lt-ltb n (2 ^ 63) less
     signed (negsuc n) less = lt-ltb n (2 ^ 63) less
 
--- and so is 0
+-- 0 is well.
 pub zero_well : IsWell (Num (pos 0))
 zero_well = number_well (pos 0) (omega arith)
 
--- values that are the same stand in front,
+-- Equal lists begin with each other.
 pub stand_alone : (old new : List Value) → new ≡ old → StandInFront old new
 stand_alone old new same = ([], same ∙ sym (append-nil old))
 
--- and those that stand in front of them do so of what stands behind them
+-- Beginning with a list is transitive.
 pub stand_on : (old now new : List Value) → StandInFront old now → StandInFront now new → StandInFront old new
 stand_on old now new front more = (front.0 ++ more.0, more.1 ∙ ap (λ xs. xs ++ more.0) front.1 ∙ append_assoc old front.0 more.0)
 
 not_le : (a b : ℕ) → b < a → nat_le a b ≡ false
 not_le a b h = lt-leb a b h
 
--- In the place of an attribute of the pass a number is taken,
+-- 0 is pushed in the place of an attribute of the pass.
 pub taken_place : (k pass : ℕ) (bytes : List ℕ) (old new : List Value) → 1 ≤ k → pass ≡ k → new ≡ old ++ Num (pos 0) ∷ [] → IsTaken (k - 1) k pass bytes bytes old new
 taken_place k pass bytes old new one same row =
     let r : nat_le pass (k - 1) ≡ false = not_le pass (k - 1) (omega arith) in
@@ -70,21 +71,25 @@ taken_place k pass bytes old new one same row =
       only = λ w others well is. sym (is ∙ ap (λ b. flat_map spelling_of (if b then w ∷ [] else []) ++ others) r);
     }
 
--- a number whose spelling stands in front is taken for one that an earlier pass gave,
-pub taken_number : (k pass : ℕ) (bytes rest : List ℕ) (z : ℤ) (old new : List Value) → pass < k → IsWell (Num z) → bytes ≡ spelling_of (Num z) ++ rest → new ≡ old ++ Num z ∷ [] → IsTaken (k - 1) k pass bytes rest old new
-taken_number k pass bytes rest z old new less well is row =
+-- The value that the bytes begin with is taken for an attribute of an earlier pass.
+pub taken_value : (k pass : ℕ) (bytes rest : List ℕ) (v : Value) (old new : List Value) → pass < k → IsWell v → bytes ≡ spelling_of v ++ rest → new ≡ old ++ v ∷ [] → IsTaken (k - 1) k pass bytes rest old new
+taken_value k pass bytes rest v old new less well is row =
     let r : nat_le pass (k - 1) ≡ true = le-leb pass (k - 1) (omega arith) in
     let w : nat_le pass k ≡ true = le-leb pass k (omega arith) in
-    let one : (v : Value) (behind : List ℕ) → flat_map spelling_of (one_value (k - 1) pass v) ++ behind ≡ spelling_of v ++ behind = λ v behind. ap (λ b. flat_map spelling_of (if b then v ∷ [] else []) ++ behind) r ∙ ap (λ xs. xs ++ behind) (append-nil (spelling_of v)) in
+    let one : (x : Value) (others : List ℕ) → flat_map spelling_of (one_value (k - 1) pass x) ++ others ≡ spelling_of x ++ others = λ x others. ap (λ b. flat_map spelling_of (if b then x ∷ [] else []) ++ others) r ∙ ap (λ xs. xs ++ others) (append-nil (spelling_of x)) in
     record {
-      value = Num z;
+      value = v;
       well = well;
-      row = row ∙ ap (λ b. old ++ (if b then Num z ∷ [] else [])) (sym w);
-      spelled = is ∙ sym (one (Num z) rest);
-      only = λ v others v_well same. (spelled_apart v (Num z) others rest v_well well (sym (one v others) ∙ sym same ∙ is)).1;
+      row = row ∙ ap (λ b. old ++ (if b then v ∷ [] else [])) (sym w);
+      spelled = is ∙ sym (one v rest);
+      only = λ x others x_well same. (spelled_apart x v others rest x_well well (sym (one x others) ∙ sym same ∙ is)).1;
     }
 
--- and nothing for one of a later pass.
+-- The number that the bytes begin with is taken for an attribute of an earlier pass.
+pub taken_number : (k pass : ℕ) (bytes rest : List ℕ) (z : ℤ) (old new : List Value) → pass < k → IsWell (Num z) → bytes ≡ spelling_of (Num z) ++ rest → new ≡ old ++ Num z ∷ [] → IsTaken (k - 1) k pass bytes rest old new
+taken_number k pass bytes rest z old new less well is row = taken_value k pass bytes rest (Num z) old new less well is row
+
+-- Nothing is taken for an attribute of a later pass.
 pub taken_later : (k pass : ℕ) (bytes : List ℕ) (old new : List Value) → 1 ≤ k → k < pass → new ≡ old → IsTaken (k - 1) k pass bytes bytes old new
 taken_later k pass bytes old new one more row =
     let r : nat_le pass (k - 1) ≡ false = not_le pass (k - 1) (omega arith) in
@@ -97,7 +102,7 @@ taken_later k pass bytes old new one more row =
       only = λ w others well is. sym (is ∙ ap (λ b. flat_map spelling_of (if b then w ∷ [] else []) ++ others) r);
     }
 
--- the values of attributes, one more in front
+-- The values of attributes, with one more at the beginning.
 abbrev pub cons : Value → (ℕ → Value) → ℕ → Value
 cons v f zero = v
 cons v f (suc a) = f a
@@ -106,7 +111,7 @@ cons_well : (v : Value) (f : ℕ → Value) → IsWell v → ((a : ℕ) → IsWe
 cons_well v f h g zero = h
 cons_well v f h g (suc a) = g a
 
--- the spellings of some values, and of others behind them, before bytes
+-- The encodings of two lists of values, followed by bytes.
 spelled_on : (vs ws : List Value) (bytes : List ℕ) → flat_map spelling_of (vs ++ ws) ++ bytes ≡ flat_map spelling_of vs ++ (flat_map spelling_of ws ++ bytes)
 spelled_on vs ws bytes = ap (λ (zs : List ℕ). zs ++ bytes) (flat_map-append spelling_of vs ws) ∙ append_assoc (flat_map spelling_of vs) (flat_map spelling_of ws) bytes
 
@@ -136,14 +141,20 @@ others_untaken read write p ps bytes rest old mid one nothing h others well is =
     let behind = flat_map spelling_of (values_up_to read ps (λ a. h (suc a))) ++ others in
     nothing (λ a. h (suc a)) others (λ a. well (suc a)) (sym (one.only (h 0) behind (well 0) (is ∙ spelled_on (one_value read p (h 0)) (values_up_to read ps (λ a. h (suc a))) others)))
 
--- the text of a token is taken as the value of one attribute of pass 0
+-- Bytes are not a row if the bytes after the first value are not a row of the other values.
+pub others_no_row : (read write p : ℕ) (ps bytes rest : List ℕ) (old mid : List Value) → IsTaken read write p bytes rest old mid → IsNoRow read ps rest → IsNoRow read (p ∷ ps) bytes
+others_no_row read write p ps bytes rest old mid one none h well is =
+    let others = values_up_to read ps (λ a. h (suc a)) in
+    none (λ a. h (suc a)) (λ a. well (suc a)) (sym (one.only (h 0) (flat_map spelling_of others) (well 0) (is ∙ flat_map-append spelling_of (one_value read p (h 0)) others)))
+
+-- The text of a token is taken as the value of one attribute of pass 0.
 pub text_taken : (read write : ℕ) (bytes rest : List ℕ) (old new : List Value) → IsTaken read write 0 bytes rest old new → AreTaken read write (0 ∷ []) bytes rest old new
 text_taken read write bytes rest old new one = more_taken read write 0 [] bytes rest rest old new new one (none_taken read write rest new new refl)
 
 pub text_untaken : (read : ℕ) (bytes : List ℕ) → IsUntaken read 0 bytes → AreUntaken read (0 ∷ []) bytes
 text_untaken read bytes nothing = first_untaken read 0 [] bytes nothing
 
--- the values at items, those of one more in front
+-- The values at items, with those of one more at the beginning.
 abbrev pub first_row : (ℕ → Value) → Table → Table
 first_row f e zero = f
 first_row f e (suc j) = e j
@@ -152,7 +163,7 @@ first_well : (f : ℕ → Value) (e : Table) → ((a : ℕ) → IsWell (f a)) �
 first_well f e g h zero a = g a
 first_well f e g h (suc j) a = h j a
 
--- The values of attributes of some passes and of others behind them: a valuation of the latter,
+-- The values of attributes with passes ps are followed by others: a valuation of the others.
 abbrev behind_of : List ℕ → (ℕ → Value) → ℕ → Value
 behind_of [] g = g
 behind_of (p ∷ ps) g = behind_of ps (λ a. g (suc a))
@@ -165,7 +176,7 @@ values_parted : (k : ℕ) (ps qs : List ℕ) (g : ℕ → Value) → values_up_t
 values_parted k [] qs g = refl
 values_parted k (p ∷ ps) qs g = ap (λ vs. one_value k p (g 0) ++ vs) (values_parted k ps qs (λ a. g (suc a))) ∙ sym (append_assoc (one_value k p (g 0)) (values_up_to k ps (λ a. g (suc a))) (values_up_to k qs (behind_of ps (λ a. g (suc a)))))
 
--- and one of both.
+-- A valuation of both.
 abbrev joined : List ℕ → (ℕ → Value) → (ℕ → Value) → ℕ → Value
 joined [] f g = g
 joined (p ∷ ps) f g = cons (f 0) (joined ps (λ a. f (suc a)) g)
@@ -178,7 +189,7 @@ values_joined : (k : ℕ) (ps qs : List ℕ) (f g : ℕ → Value) → values_up
 values_joined k [] qs f g = refl
 values_joined k (p ∷ ps) qs f g = ap (λ vs. one_value k p (f 0) ++ vs) (values_joined k ps qs (λ a. f (suc a)) g) ∙ sym (append_assoc (one_value k p (f 0)) (values_up_to k ps (λ a. f (suc a))) (values_up_to k qs g))
 
--- What is copied of the items of a right side, as a table; literals have no place,
+-- The copies at the items of a right side, as a table. Literals have no place in it.
 abbrev table_of : Setting → List Item → (ℕ → Value) → Table
 table_of c [] g = λ j. g
 table_of c (item.Symbol s ∷ xs) g = first_row g (table_of c xs (behind_of (copied_passes c (item.Symbol s)) g))
@@ -202,7 +213,7 @@ copies_parted c k (item.Symbol s ∷ xs) g =
 copies_parted c k (item.Terminal (Class d) ∷ xs) g = values_parted k (0 ∷ []) (item_passes_of c xs) g ∙ ap (λ vs. values_up_to k (0 ∷ []) g ++ vs) (copies_parted c k xs (behind_of (0 ∷ []) g))
 copies_parted c k (item.Terminal (Literal l) ∷ xs) g = copies_parted c k xs g
 
--- and back.
+-- The values of a table as a valuation of the copies.
 abbrev listed : Setting → List Item → Table → ℕ → Value
 listed c [] e = e 0
 listed c (item.Symbol s ∷ xs) e = joined (copied_passes c (item.Symbol s)) (e 0) (listed c xs (λ j. e (suc j)))
@@ -223,7 +234,7 @@ copies_listed c k (item.Symbol s ∷ xs) e =
 copies_listed c k (item.Terminal (Class d) ∷ xs) e = values_joined k (0 ∷ []) (item_passes_of c xs) (e 0) (listed c xs (λ j. e (suc j))) ∙ ap (λ vs. values_up_to k (0 ∷ []) (e 0) ++ vs) (copies_listed c k xs (λ j. e (suc j)))
 copies_listed c k (item.Terminal (Literal l) ∷ xs) e = copies_listed c k xs e
 
--- values that are well up to a pass, and others in the place of later ones
+-- Values that are well up to a pass, and others in the place of later ones.
 pub mended : (k : ℕ) (ps : List ℕ) (f : ℕ → Value) → ((a p : ℕ) → slice_get ps a ≡ Some p → p ≤ k → IsWell (f a)) → (h : ℕ → Value) × ((a : ℕ) → IsWell (h a)) × (values_up_to k ps f ≡ values_up_to k ps h)
 mended k [] f well = ((λ a. Num (pos 0)), (λ a. zero_well), refl)
 mended k (p ∷ ps) f well = go (nat_le p k) refl (mended k ps (λ a. f (suc a)) (λ a n is le. well (suc a) n is le))
@@ -243,10 +254,11 @@ mended k (p ∷ ps) f well = go (nat_le p k) refl (mended k ps (λ a. f (suc a))
 passes_left : (c : Setting) (s p : ℕ) (q : Production) → IsProduction c.grammar p q → q.left ≡ s → left_passes c.passes (slice_get c.grammar.productions p) ≡ c.passes s
 passes_left c s p q there left = ap (left_passes c.passes) there ∙ ap c.passes left
 
--- a row that was taken is that of a node, with its own values and the copies
-pub node_read : (c : Setting) (s p : ℕ) (body spellings : List ℕ) (old new : List Value) → (b : IsNodeBody c.grammar s p spellings body) → AreTaken c.read c.write (row_passes c b.production) spellings [] old new → IsNodeRead c s p body old new
-node_read c s p body spellings old new b taken =
-    let q = b.production in
+-- The record of a node was read: its body has the number of a production of the symbol, and a row with the
+-- node's own values and the copies was taken from the bytes after it.
+pub row_read : (c : Setting) (s p : ℕ) (q : Production) (body spellings : List ℕ) (old new : List Value) → IsProduction c.grammar p q → q.left ≡ s → body ≡ body_from Node p spellings
+    → AreTaken c.read c.write (row_passes c q) spellings [] old new → IsNodeRead c s p body old new
+row_read c s p q body spellings old new there left is_body taken =
     let g = taken.values in
     let own = c.passes q.left in
     let rest = behind_of own g in
@@ -254,24 +266,32 @@ node_read c s p body spellings old new b taken =
     λ k. values_parted k own (item_passes_of c q.items) g ∙ ap (λ vs. values_up_to k own g ++ vs) (copies_parted c k q.items rest) in
     record {
       production = q;
-      there = b.there;
-      left = b.left;
+      there = there;
+      left = left;
       values = g;
       well = taken.well;
       table = table_of c q.items rest;
       table_well = table_well c q.items rest (behind_well own g taken.well);
-      row = taken.row ∙ ap (λ vs. old ++ vs) (parted c.write ∙ ap (λ s. values_up_to c.write (c.passes s) g ++ copies c c.write (stored_items q.items) (table_of c q.items rest)) b.left);
-      same = b.same ∙ ap (body_from Node p) (taken.spelled ∙ append-nil (flat_map spelling_of (values_up_to c.read (row_passes c q) g)) ∙ ap (flat_map spelling_of) (parted c.read
-          ∙ ap (λ ps. values_up_to c.read ps g ++ copies c c.read (stored_items q.items) (table_of c q.items rest)) (ap c.passes b.left ∙ sym (passes_left c s p q b.there b.left))));
+      row = taken.row ∙ ap (λ vs. old ++ vs) (parted c.write ∙ ap (λ s. values_up_to c.write (c.passes s) g ++ copies c c.write (stored_items q.items) (table_of c q.items rest)) left);
+      same = is_body ∙ ap (body_from Node p) (taken.spelled ∙ append-nil (flat_map spelling_of (values_up_to c.read (row_passes c q) g)) ∙ ap (flat_map spelling_of) (parted c.read
+          ∙ ap (λ ps. values_up_to c.read ps g ++ copies c c.read (stored_items q.items) (table_of c q.items rest)) (ap c.passes left ∙ sym (passes_left c s p q there left))));
     }
 
--- what is no node's body is no node's record
+pub node_read : (c : Setting) (s p : ℕ) (body spellings : List ℕ) (old new : List Value) → (b : IsNodeBody c.grammar s p spellings body) → AreTaken c.read c.write (row_passes c b.production) spellings [] old new → IsNodeRead c s p body old new
+node_read c s p body spellings old new b taken = row_read c s p b.production body spellings old new b.there b.left b.same taken
+
+-- The body of a node that begins with the bytes of another body.
+pub longer_body : (p : ℕ) (head rest body : List ℕ) → head ≡ body_from Node p [] → body ≡ head ++ rest → body ≡ body_from Node p rest
+longer_body p head rest body is_head is_body =
+    is_body ∙ ap (λ (xs : List ℕ). xs ++ rest) is_head ∙ ap (λ (xs : List ℕ). kind_byte Node ∷ xs) (ap (λ (xs : List ℕ). xs ++ rest) (append-nil (to_be_bytes w16 p)))
+
+-- A body that is not a node's body is not a node's record.
 pub no_node : (c : Setting) (s : ℕ) (body : List ℕ) → length c.grammar.productions ≤ 65536 → IsNoNodeBody c.grammar s body → IsNoNode c s body
 no_node c s body few nothing p q h e there left well table_well same =
     let within = slice_get_within c.grammar.productions p q there in
     nothing p q (flat_map spelling_of (values_up_to c.read (left_passes c.passes (slice_get c.grammar.productions p)) h ++ copies c c.read (stored_items q.items) e)) there left (omega arith) same
 
--- and where none can be taken, the body is that of no node
+-- If no values can be taken, the body is not that of a node.
 pub no_node_read : (c : Setting) (s p : ℕ) (body spellings : List ℕ) → length c.grammar.productions ≤ 65536 → (b : IsNodeBody c.grammar s p spellings body) → IsNoRow c.read (row_passes c b.production) spellings → IsNoNode c s body
 no_node_read c s p body spellings few b nothing r w h e there left well table_well is =
     let q = b.production in
@@ -285,14 +305,14 @@ no_node_read c s p body spellings few b nothing r w h e there left well table_we
     (one.1 ∙ ap (flat_map spelling_of) (ap (λ ps. values_up_to c.read ps h ++ copies c c.read (stored_items w.items) e) (passes_left c s r w there left ∙ ap c.passes (sym b.left)) ∙ ap (λ (w : Production). values_up_to c.read own h ++ copies c c.read (stored_items w.items) e) wq)
     ∙ ap (flat_map spelling_of) (ap (λ vs. values_up_to c.read own h ++ vs) (sym (copies_listed c c.read q.items e)) ∙ sym (values_joined c.read own (item_passes_of c q.items) h (listed c q.items e))))
 
--- nothing is left behind a row
+-- No bytes are left after a row.
 pub no_row_left : (read write : ℕ) (ps bytes rest : List ℕ) (old new : List Value) → AreTaken read write ps bytes rest old new → (length rest ≡ 0 → ⊥) → IsNoRow read ps bytes
 no_row_left read write ps bytes rest old new taken some h well is = some (ap length (sym (taken.only h [] well (is ∙ sym (append-nil (flat_map spelling_of (values_up_to read ps h)))))))
 
 pub no_row_taken : (read : ℕ) (ps bytes : List ℕ) → AreUntaken read ps bytes → IsNoRow read ps bytes
 no_row_taken read ps bytes nothing h well is = nothing h [] well (is ∙ sym (append-nil (flat_map spelling_of (values_up_to read ps h))))
 
--- A list of well values is the values of attributes, where it has as many as these have of passes so far,
+-- A list of well values is the values of attributes if its length is their number of passes up to k.
 valued : (k : ℕ) (ps : List ℕ) (vs : List Value) → length vs ≡ count_up_to k ps → All IsWell vs → (f : ℕ → Value) × ((a : ℕ) → IsWell (f a)) × (values_up_to k ps f ≡ vs)
 valued k [] [] long well = ((λ a. Num (pos 0)), (λ a. zero_well), refl)
 valued k [] (v ∷ vs) long well = absurd (omega arith)
@@ -308,7 +328,7 @@ valued k (p ∷ ps) vs long well = go (nat_le p k) refl (λ vs long well. valued
         let r = on vs (omega arith) well in
         (cons (Num (pos 0)) r.0, cons_well (Num (pos 0)) r.0 zero_well r.1, ap (λ b. (if b then Num (pos 0) ∷ [] else []) ++ values_up_to k ps r.0) z ∙ r.2)
 
--- and copies, where it has as many as some items have.
+-- A list of well values is the copies of some items if its length is their number.
 pub count_copied : (c : Setting) (k : ℕ) (x : Item) → copied_count c.grammar c.passes k x ≡ count_up_to k (copied_passes c x)
 count_copied c k (item.Symbol s) = refl
 count_copied c k (item.Terminal (Class d)) = let one : ◌≡◌ {A = ℕ} (if nat_le 0 k then 1 else 0) 1 = ap (λ b. if b then 1 else 0) (le-leb 0 k (omega arith)) in omega arith
@@ -331,7 +351,7 @@ tabled c k (x ∷ xs) vs long well =
     take_drop (suc n) [] = refl
     take_drop (suc n) (v ∷ vs) = ap (λ ws. v ∷ ws) (take_drop n vs)
 
--- The copies of a table are as many as some items have, and well.
+-- The copies of a table have the number of those of some items, and are well.
 pub copies_counted : (c : Setting) (k : ℕ) (xs : List Item) (e : Table) → length (copies c k xs e) ≡ copies_count c.grammar c.passes k xs
 copies_counted c k [] e = refl
 copies_counted c k (x ∷ xs) e =
@@ -346,7 +366,7 @@ pub copies_well : (c : Setting) (k : ℕ) (xs : List Item) (e : Table) → AllWe
 copies_well c k [] e well = All-nil IsWell
 copies_well c k (x ∷ xs) e well = All-append IsWell (values_up_to k (copied_passes c x) (e 0)) (copies c k xs (λ j. e (suc j))) (values_well k (copied_passes c x) (e 0) (λ a p is le. well 0 a)) (copies_well c k xs (λ j. e (suc j)) (λ j. well (suc j)))
 
--- a fault is the same whatever is missing
+-- A fault is the same for each type of result.
 pub same_err : {A B : Type 0} (e f : RecordFault) → ◌≡◌ {A = Result A RecordFault} (Err e) (Err f) → ◌≡◌ {A = Result B RecordFault} (Err e) (Err f)
 same_err e f is = let same : e ≡ f = cc in ap (λ (e : RecordFault). Err e) same
 
@@ -369,7 +389,7 @@ pub empty_is : {X : Type 0} (xs : List X) → length xs < 1 → xs ≡ []
 empty_is [] h = refl
 empty_is (x ∷ xs) h = absurd (omega arith)
 
--- the passes of the items from one on, where those of the ones before it stand in front
+-- The passes of the items from one on, if those of the items before it are at the beginning.
 pub passes_more : (f : Item → List ℕ) (front whole : List ℕ) (xs : List Item) (i : ℕ) (d : Item) → i < length xs → front ++ flat_map f (drop i xs) ≡ whole → (front ++ f (get_or xs i d)) ++ flat_map f (drop (i + 1) xs) ≡ whole
 passes_more f front whole xs i d less is = append_assoc front (f (get_or xs i d)) (flat_map f (drop (i + 1) xs)) ∙ ap (λ (ps : List ℕ). front ++ ps) (step xs i less) ∙ is
   where
@@ -387,7 +407,7 @@ passes_whole f front whole xs i past is = sym (append-nil front) ∙ ap (λ (ys 
     drop_past (x ∷ xs) zero past = absurd (omega arith)
     drop_past (x ∷ xs) (suc i) past = drop_past xs i (omega arith)
 
--- a production that is found by its number is the one of this number
+-- A production found by its number is the one with this number.
 pub production_is : (qs lent : List Production) (n : ℕ) (q found d : Production) → lent ≡ qs → found ≡ get_or lent n d → slice_get qs n ≡ Some q → found ≡ q
 production_is qs lent n q found d same is there =
     let less = slice_get_within qs n q there in
@@ -395,7 +415,7 @@ production_is qs lent n q found d same is there =
     let both : Some found ≡ Some q = ap Some is ∙ sym (slice_get-get_or lent n d (omega arith)) ∙ ap (λ (ps : List Production). slice_get ps n) same ∙ there in
     cc
 
--- the passes from one on are that one and those behind it, and behind the last there are none
+-- The passes from an index on are the one there and those after it; there are none after the last.
 pub passes_from : (ps : List ℕ) (i d : ℕ) → i < length ps → get_or ps i d ∷ drop (i + 1) ps ≡ drop i ps
 passes_from [] i d less = absurd (omega arith)
 passes_from (p ∷ ps) zero d less = refl
@@ -407,7 +427,7 @@ no_passes_from [] (suc i) past = refl
 no_passes_from (p ∷ ps) zero past = absurd (omega arith)
 no_passes_from (p ∷ ps) (suc i) past = no_passes_from ps i (omega arith)
 
--- bytes that begin with 0
+-- Bytes that begin with 0.
 pub tagged : (bytes : List ℕ) → 1 ≤ length bytes → get_or bytes 0 0 ≡ 0 → bytes ≡ 0 ∷ take (length bytes - 1) (drop 1 bytes)
 tagged [] some is = absurd (omega arith)
 tagged (b ∷ bytes) some is = ap (λ c. c ∷ bytes) is ∙ ap (λ bytes. 0 ∷ bytes) (sym (take_rest (b ∷ bytes) 1))

@@ -1,4 +1,4 @@
--- Why a refusal is true.
+-- The reasons for which a fault holds.
 use Rattle.std.specs.Option.{option_map}
 use Rattle.std.specs.Prelude.{IsTrue}
 use Rattle.std.proofs.Common.{ℕ, suc, ◌≡◌, ◌+◌, ◌-◌, Bool, true, List, [], ◌∷◌, ◌++◌, Option, Some, None, Ok, Err, is_some, Bor, slice_get, length, drop, reverse, refl, ap, ◌∙◌, sym, subst, arith}
@@ -38,12 +38,12 @@ use Rattle.passrun.proofs.Damage.{broken, tellable, unstarted}
 use Rattle.passrun.proofs.steps.Steps.{get_first}
 use Rattle.passrun.proofs.steps.Turning.{Answers, begins_so, got_place}
 
--- a body was lent
+-- A body was returned.
 pub some_lent : (found : Option (Bor (List ℕ))) → is_some found ≡ true → (body : List ℕ) × (option_map (λ (b : Bor (List ℕ)). b.now) found ≡ Some body)
 some_lent (Some body) e = (body.now, refl)
 some_lent None e = absurd cc
 
--- where the record of a child is fetched, that child is the first to come, with the copy of its values
+-- When the record of a child is fetched, that child is the first to be read, with the copy of its values.
 record FirstCome (c : Setting) (content : List ℕ) (m : Machine) (x : OpenNode) (j : ℕ) (row : PlaceRow) : Type 0 where
   values : ℕ → Value
   left : ToCome
@@ -55,14 +55,14 @@ record FirstCome (c : Setting) (content : List ℕ) (m : Machine) (x : OpenNode)
 abbrev in_front : ℕ → Item → List Value → ToCome → ToCome
 in_front n x copy left = (n, (x, Some copy)) ∷ left
 
--- what was read stands behind the other values
+-- The values that were read come after the other values.
 pub read_row : (c : Setting) (x : Item) (p : ℕ) (body : List ℕ) (old new : List Value) → IsRead c x p body old new → (row : List Value) × (new ≡ old ++ row)
 read_row c (item.Symbol s) p body old new h = (values_up_to c.write (c.passes s) h.values ++ copies c c.write (stored_items h.production.items) h.table, h.row)
 read_row c (item.Terminal (Class d)) p body old new h = (Text h.1.text ∷ [], h.1.row)
 read_row c (item.Terminal (Literal l)) p body old new h = elim h [ ]
 
 module _ (c : Setting) (sound : IsSound c) where
-  -- what is to come first where the record of a child is fetched
+  -- The first child to be read when the record of a child is fetched.
   first_come : (honest : Bool) (content : List ℕ) (m : Machine) (x : OpenNode) (j : ℕ) (row : PlaceRow) → RunsFrom c honest content m (Some x) → slice_get (list_at c x.production) x.at ≡ Some (instr.Get j) → Answers c x j (Some row) → honest ≡ true → FirstCome c content m x j row
   first_come honest content m x j row (to_honest, to, meter, r) at is w =
       let xs = reverse m.waiting.items in
@@ -90,7 +90,7 @@ module _ (c : Setting) (sound : IsSound c) where
       let z = first_come honest content m x j row runs at is w in
       unfetched c sound row.item (Some (values_up_to c.read (copied_passes c row.item) z.values)) (length m.waiting.items + 1) content m.back z.left f z.readable z.here z.count (subst (λ n. IsUnfetched c row.item n content m.back f) count (h w))
 
-  -- the record of a child does not agree with its copy
+  -- The record of a child does not agree with its copy.
   pub get_differs : (honest : Bool) (content : List ℕ) (m : Machine) (x : OpenNode) (j p n : ℕ) (row : PlaceRow) (back : BackState) (read ours theirs : List Value) (from start : ℕ) (answer : Bool) → RunsFrom c honest content m (Some x) → slice_get (list_at c x.production) x.at ≡ Some (instr.Get j) → Answers c x j (Some row) → n ≡ length m.waiting.items + 1
       → HasFetched c row.item p n honest content m.back back m.values.items read → Agrees c row.item ours theirs answer → (IsTrue answer → ⊥) → ours ≡ drop from read → theirs ≡ drop start read → from ≡ x.base + row.start → start ≡ length m.values.items
       → WhenHonest honest (IsDamaged (source c) content m.back.progress.at)
@@ -106,7 +106,7 @@ module _ (c : Setting) (sound : IsSound c) where
       let other = agrees z.values (read_values c row.item p h.body m.values.items read h.taken) found.0 back_row.0 front (theirs_are ∙ ap (λ n. drop n read) start_is ∙ back_row.1) in
       disagreed c sound row.item p (suc (length m.waiting.items + 1)) content h.body m.back.progress.at z.left m.values.items read h.taken z.values (λ same. not_true (other.1 same)) z.readable z.here (omega arith) (omega arith) (h.found w)
 
-  -- the content does not begin as a tree file
+  -- The content does not begin as a tree file.
   pub not_started : (content : List ℕ) (view : BackState → ℕ) (f : FrameFault) → Told view (Err f) (pass_in version_two content) → IsRunFault c content (run_fault_of_frame f)
   not_started content view frame_fault.NotATreeFile told = (unstarted (source c) (tellable c sound) content frame_fault.NotATreeFile told).1
   not_started content view (frame_fault.Damaged at) told = absurd (let z = (unstarted (source c) (tellable c sound) content (frame_fault.Damaged at) told).0 in cc)
@@ -118,7 +118,7 @@ module _ (c : Setting) (sound : IsSound c) where
       let here : ComesTo (source c) content state.progress.at ((1, (item.Symbol c.grammar.start, None)) ∷ []) = record { bodies = []; read = sym end; records = refl; few = omega arith } in
       unfetched c sound (item.Symbol c.grammar.start) None 0 content state [] f readable here fresh (subst (λ s. IsUnfetched c (item.Symbol s) 0 content state f) is h)
 
-  -- nothing is to come, and something is there
+  -- No child is to be read, and a frame is left.
   pub left_over : (content : List ℕ) (at : ℕ) (body : List ℕ) → IsReadable (source c) content → ComesTo (source c) content at [] → next_before version_two content at ≡ Ok (Some body) → IsDamaged (source c) content at
   left_over content at body readable here found = broken (source c) (tellable c sound) content at readable ([], here, tt, subst (Breaks version_two c.grammar c.passes c.read []) (sym found) tt)
 
@@ -128,7 +128,7 @@ module _ (c : Setting) (sound : IsSound c) where
   end_refused content at view frame_fault.Device readable here told = tt
   end_refused content at view frame_fault.NoMemory readable here told = tt
 
-  -- all that a tree has was read
+  -- All records of a tree were read.
   pub end_come : (honest : Bool) (content : List ℕ) (to_honest : Bool) (to : List ℕ) (m : Machine) → RunsBetween c honest content to_honest to m None → WhenHonest honest (IsReadable (source c) content × ComesTo (source c) content m.back.progress.at [])
   end_come honest content to_honest to m (meter, r) w = (r.running.readable w, record { bodies = r.running.tapes.read; read = r.running.read w; records = subst (AreRecords (source c) r.running.tapes.read) r.running.passing.nothing r.running.ahead; few = r.running.few })
 

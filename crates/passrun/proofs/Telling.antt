@@ -1,5 +1,5 @@
--- What a pass tells of some tree is so of whichever tree has the file that it read; and what it refuses was refused before the passes
--- that ran.
+-- The result of a pass for some tree holds for every tree that has the file it read. A fault of a pass holds
+-- before the earlier passes ran.
 use Rattle.std.proofs.Common.{◌≡◌, ℕ, suc, ◌-◌, ◌<◌, ◌≤◌, List, ap, sym, subst, ◌∙◌, arith}
 use Rattle.ag_grammar.specs.grammars.Accepted.{IsAccepted}
 use Rattle.ag_grammar.specs.grammars.AttributeGrammar.{Grammar}
@@ -53,8 +53,8 @@ passes_are_told g plan k from to count evals accepted legal positive is =
     let next : k ≡ suc (k - 1) = omega arith in
     (pass_runs (setting_of g plan k) from to count evals accepted legal next is, pass_counts (setting_of g plan k) from to count evals accepted legal next is)
 
--- A refusal of the pass behind some passes is true of what stood before them: R1, P2 and P3 never come there, since the first file is
--- that of a tree within the limits.
+-- A fault of the pass after some passes holds for the content before them: R1, P2 and P3 never occur there,
+-- since the first file is that of a tree within the limits.
 pub refused_back : (g : Grammar) (plan : List (List ℕ) × Lists) (k n : ℕ) (start now before : List ℕ) → RunsPasses version_two g (passes_of plan.0) (k - 1) (n - 1) start now before → HoldsTree g (passes_of plan.0) (k - 1) start → (f : RunFault) → IsRunFault (setting_of g plan n) now f → IsRunFault (setting_of g plan k) start f
 refused_back g plan k n start now before runs held (fault.Damaged at) damaged = absurd (refusal_goes_back version_two g (passes_of plan.0) (k - 1) (n - 1) start now before runs damaged.none held.tree held.values held.is_tree held.file)
 refused_back g plan k n start now before runs held fault.TooDeep deep =

@@ -1,4 +1,4 @@
--- What all passes come to.
+-- The results of all passes together.
 use Rattle.std.proofs.Common.{◌≡◌, ℕ, zero, suc, ◌-◌, ◌≤◌, List, [], ◌∷◌, Some, None, refl, ap, subst, ◌∙◌, arith}
 use Rattle.ag_grammar.specs.Lists.{Each}
 use Rattle.ag_grammar.specs.grammars.Accepted.{IsAccepted}
@@ -24,7 +24,7 @@ values_are_the_solution g m last start which a b evals sum accepted legal is h t
     let run = h.runs t u tree file in
     run_is_the_solution g m t u run.values last accepted legal is tree run.ran
 
--- from pass 1 on
+-- From pass 1 on, the last file has the solution.
 pub solutions_left : (g : Grammar) (m : Passes) (k last : ℕ) (start : List ℕ) (which : Last) (a b : List ℕ) (evals : ℕ) (sum : Passed)
     → IsAccepted g → IsLegal g m → IsLastPass last m → k ≡ 0 → HasRunAll g m k last start which a b evals sum
     → LeavesSolutions g m last start (last_content which a b) (other_content which a b)
@@ -39,7 +39,7 @@ solutions_left g m k last start which a b evals sum accepted legal is first ran 
       },
     )
 
--- no symbol has a later pass than the greatest number of the rows
+-- No attribute of a symbol has a later pass than the greatest number of the rows.
 row_within : (last : ℕ) (rows : List (List ℕ)) (s : ℕ) → AreAtMost last rows → Each (λ k. k ≤ last) (passes_of rows s)
 row_within last [] s most i k at = absurd (let none : None ≡ Some k = at in let bad : ⊥ = cc in bad)
 row_within last (row ∷ rows) zero most i k at = most 0 row refl i k at

@@ -1,4 +1,4 @@
--- What bringing a file of version 1 over tells of a whole content.
+-- Converting a file of version 1: the whole content.
 use Rattle.std.proofs.Common.{◌≡◌, ◌≢◌, ℕ, suc, ◌+◌, ◌-◌, ◌≤◌, Bool, true, List, [], ◌∷◌, ◌++◌, All, length, reverse, slice_get, Option, Some, None, Result, Ok, Err, refl, ap, sym, subst, ◌∙◌, arith, length-take}
 use Rattle.std.specs.List.{flat_map}
 use Rattle.std.specs.Option.{option_map}
@@ -47,7 +47,7 @@ use Rattle.passrun.proofs.Brought.{breaks_at, no_first, tellable}
 use Rattle.passrun.proofs.Damage.{other_pass, readable, unstarted}
 
 module _ (g : Grammar) (accepted : IsAccepted g) where
-  -- ---- the beginning
+  -- ---- the beginning of the file
 
   pub not_begun : {X : Type 0} (view : X → ℕ) (content : List ℕ) (f : FrameFault) → Told view (Err f) (pass_in version_one content) → IsUpgradeFault g content (run_fault_of_frame f)
   not_begun view content frame_fault.NotATreeFile found =
@@ -71,7 +71,7 @@ module _ (g : Grammar) (accepted : IsAccepted g) where
     counted = fresh;
   }
 
-  -- ---- the end
+  -- ---- the end of the file
 
   pub left_over : (content : List ℕ) (progress : Progress) (at : ℕ) (body : List ℕ) → at ≡ progress.at → IsAt g content progress [] → next_before version_one content progress.at ≡ Ok (Some body) → IsUpgradeFault g content (fault.Damaged at)
   left_over content progress at body same here found =
@@ -84,7 +84,7 @@ module _ (g : Grammar) (accepted : IsAccepted g) where
   fault_behind view content progress frame_fault.Device here found = tt
   fault_behind view content progress frame_fault.NoMemory here found = tt
 
-  -- the root's tree, and nothing behind it
+  -- The root's tree was converted, and nothing is left after it.
   pub whole_brought : (content : List ℕ) (before : Progress) (now : BackState) (honest : Bool) (out_old out : List ℕ) (texts : List Value) → IsAt g content before ((1, (item.Symbol g.start, None)) ∷ []) → before.at ≡ length content → before.records ≡ 0
       → Brought g content [] (item.Symbol g.start ∷ []) 1 before now.progress honest out_old out texts → IsOver content now → now.progress.records ≤ most_records → next_before version_one content now.progress.at ≡ Ok None → WhenHonest honest (out_old ≡ header version_two 1)
       → IsBrought g content honest out
@@ -111,7 +111,7 @@ module _ (g : Grammar) (accepted : IsAccepted g) where
             to = λ h. written h ∙ ap (λ (xs : List ℕ). xs ++ flat_map frame (postfix RightToLeft (first_bodies version_two t))) (begun h);
           }
 
-  -- a content is the file of version 1 and pass 0 of one tree at most
+  -- A content is the file of version 1 and pass 0 of at most one tree.
   first_tree : (content : List ℕ) (t s : Tree) → IsTreeOf g t → IsTreeOf g s → IsFirstFile version_one g t content → IsFirstFile version_one g s content → t ≡ s
   first_tree content t s fits also file other =
       let telling = tellable g accepted in
@@ -119,9 +119,9 @@ module _ (g : Grammar) (accepted : IsAccepted g) where
       let words = texts_are_given g s in
       (one_file version_one g unassigned 0 t s texts.0 words.0 content telling.usable telling.fits telling.few fits also (file unassigned texts.0 unassigned_from_one texts.1) (other unassigned words.0 unassigned_from_one words.1)).0
 
-  -- ---- turning the file between round
+  -- ---- reversing the intermediate file
 
-  -- a record's number tells how many children its node has
+  -- The number of a record determines the number of children of its node.
   mutual
     ranked : (x : Item) (t : Tree) → Fits g x t → IsRanked (rank_of (stored_count g)) (first_bodies version_two t)
     ranked (item.Symbol s) (tree.leaf c x) fits = elim fits [ ]
@@ -148,7 +148,7 @@ module _ (g : Grammar) (accepted : IsAccepted g) where
     tree_many (x ∷ xs) tree.none fits = elim fits [ ]
     tree_many (x ∷ xs) (tree.more t ts) fits = ap suc (tree_many xs ts fits.1)
 
-  -- and the records may stand in frames
+  -- The records fit in frames.
   few_copies : (xs : List Item) → most_copies g unassigned xs ≤ length xs
   few_copies [] = omega arith
   few_copies (x ∷ xs) = omega (arith, few_copied x, few_copies xs)
@@ -182,7 +182,7 @@ module _ (g : Grammar) (accepted : IsAccepted g) where
         let large = is.within.large in
         record { deep = omega (arith, same_depth version_two is.tree); large = omega (arith, same_count version_two is.tree) }
 
-    -- it can be,
+    -- The intermediate file can be reversed, so that only D1 and NoMemory occur.
     pub turned_fault : (f : TurnFault) → TurnTold (rank_of (stored_count g)) 0 mid honest turned (Err f) → IsUpgradeFault g content (run_fault_of_turn f)
     turned_fault turn_fault.NotATreeFile so = absurd (told (Err turn_fault.NotATreeFile) so)
     turned_fault (turn_fault.Damaged at) so = absurd (told (Err (turn_fault.Damaged at)) so)
@@ -191,7 +191,7 @@ module _ (g : Grammar) (accepted : IsAccepted g) where
     turned_fault turn_fault.Device so = tt
     turned_fault turn_fault.NoMemory so = tt
 
-    -- into the file of version 2
+    -- The reversed file is that of version 2.
     pub turned_tree : (count : ℕ) → TurnTold (rank_of (stored_count g)) 0 mid honest turned (Ok count) → IsUpgraded g content mid honest turned count
     turned_tree count so =
         let it = told (Ok count) so in

@@ -1,4 +1,4 @@
--- Where it shows that files by binary fractions are damaged, worked out.
+-- Files of binary fractions that are damaged, as worked examples.
 use Rattle.std.proofs.Common.{◌≡◌, ℕ, inl, inr, true, pos, List, [], ◌∷◌, Some, None, Ok, slice_get, refl, ap, ◌∙◌, sym, subst, arith}
 use Rattle.std.proofs.lemmas.List.Elements.{All-nil}
 use Rattle.std.proofs.lemmas.Option.{same_Some}
@@ -37,14 +37,14 @@ before_header = refl
 pub header_alone : ShowsAt (fractions 0) (header version_two 0) 6
 header_alone = inr (inr (record { begins = header_begins; number = refl }, (root_to_come binary, record { bodies = []; read = refl; records = refl; few = omega arith }, (omega arith, omega arith), subst (Breaks version_two binary binary_passes 0 (root_to_come binary)) (sym before_header) tt)))
 
--- after it the root exceeds a limit of 0 levels, and one of 0 nodes
+-- After the header the root exceeds a limit of 0 levels, and a limit of 0 nodes.
 pub root_deep : ExceedsDepth (fractions_within 0 1) (header version_two 0)
 root_deep = record { readable = record { begins = header_begins; number = refl }; at = 6; level = 1; next = (item.Symbol binary.start, None); others = []; way = record { bodies = []; read = refl; records = refl; few = omega arith }; deep = omega arith }
 
 pub root_many : ExceedsNodes (fractions_within 1 0) (header version_two 0)
 root_many = record { readable = record { begins = header_begins; number = refl }; at = 6; level = 1; next = (item.Symbol binary.start, None); others = []; way = record { bodies = []; read = refl; records = refl; few = omega arith }; within = omega arith; full = refl }
 
--- Q's record is none of N
+-- The record of Q is not a record of N.
 abbrev numbers : ℕ → Value
 numbers a = Num (pos 65536)
 
@@ -58,7 +58,7 @@ q_is_none ys is =
     let left : ◌≡◌ {A = ℕ} 0 1 = sym is.3.left ∙ ap (λ (q : Production). q.left) same in
     omega (arith, left)
 
--- the file of Q's record alone
+-- The file of the record of Q alone.
 abbrev q_file : List ℕ
 q_file = file version_two 0 ((0 ∷ 0 ∷ 1 ∷ []) ∷ [])
 

@@ -1,4 +1,4 @@
--- What a pass keeps true from its beginning to its end, and the passes from one to the next.
+-- The invariant of a pass from its beginning to its end, and the passes in sequence.
 pub mod Ahead
 pub mod Counted
 pub mod Ending

@@ -1,4 +1,4 @@
--- Where the values of a node stand, and that a pass of a plan can run.
+-- The slots of a node's values, and that a pass of a plan can run.
 pub mod Able
 pub mod Agreeing
 pub mod Copies

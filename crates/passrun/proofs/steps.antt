@@ -1,4 +1,4 @@
--- What each step of a pass does.
+-- The effect of each step of a pass.
 pub mod Facts
 pub mod Given
 pub mod Giving

@@ -1,5 +1,5 @@
--- Where it shows that a file is that of no tree, or of none within the limits: at the first place on the way from its end to its
--- header where a fault is met or a limit is exceeded. All of this is this project's.
+-- The offset at which a content shows that it is the file of no tree, or of none within the limits: the first
+-- one, read backward, at which damage is met or a limit is exceeded. All definitions are this project's.
 use Rattle.std.specs.Prelude.{ℕ, suc, ◌≡◌, ◌≢◌, ◌<◌, ◌≤◌, ◌⊎◌, List, [], ◌∷◌, length, true, false}
 use Rattle.ag_grammar.specs.declared.direction.Direction.{Direction}
 use Rattle.ag_grammar.specs.grammars.AttributeGrammar.{Grammar}
@@ -14,8 +14,8 @@ use Rattle.planchecker.specs.courses.Settings.{Setting}
 use Rattle.passrun.specs.declared.run_fault.RunFault.{RunFault}
 use Rattle.passrun.specs.declared.run_fault.RunFault.TheVariants as fault
 
--- What a file is read as: one of a version, which a pass leaves of a tree of a grammar; and the limits within which it is read, of
--- the tree's levels and of its stored nodes.
+-- How a file is read: its version, and the pass that wrote it for a tree of a grammar; and the limits of the
+-- tree's levels and of its stored nodes.
 pub record Source : Type 0 where
   pub version : Version
   pub grammar : Grammar
@@ -24,7 +24,7 @@ pub record Source : Type 0 where
   pub depth : ℕ
   pub nodes : ℕ
 
--- a pass reads the file of the pass before it
+-- A pass reads the file of the previous pass.
 abbrev pub source : Setting → Source
 source c = record { version = version_two; grammar = c.grammar; passes = c.passes; pass = c.read; depth = most_depth; nodes = most_nodes }
 
@@ -33,44 +33,45 @@ pub record IsReadable (s : Source) (content : List ℕ) : Type 0 where
   pub begins : is_tree_file s.version content ≡ true
   pub number : pass_of content ≡ s.pass
 
--- Where trees of some items are to come, bodies leave others: each body is a record of the item that is to come first, whose level
--- is within the limit, and in the place of that item its children are to come, in a direction.
+-- Reading bodies turns a list of children to be read into the list that remains: each body is a record of the
+-- first child, whose level is within the limit, and its own children, in a direction, replace that child.
 abbrev pub Leaves : Source → Direction → ToCome → List (List ℕ) → ToCome → Type 0
 Leaves s d todo [] left = todo ≡ left
 Leaves s d [] (body ∷ bodies) left = ⊥
 Leaves s d (x ∷ xs) (body ∷ bodies) left = (ys : List Child) × (x.0 ≤ s.depth) × IsRecordOf s.version s.grammar s.passes s.pass x.1 body ys × Leaves s d (before_others d (suc x.0) ys xs) bodies left
 
--- The bodies that are read, from the end of a file on, are records of the grammar at their places: of the root first, and each
--- node's before those of its children. Trees of these items are still to come.
+-- The bodies that are read, from the end of a file, are records of the grammar at their places: the root's
+-- first, and each node's before those of its children. The remaining children are still to be read.
 abbrev pub AreRecords : Source → List (List ℕ) → ToCome → Type 0
 AreRecords s bodies todo = Leaves s (other (direction_of s.pass)) (root_to_come s.grammar) bodies todo
 
--- From the end of a content back to an offset there are frames alone, no more than the tree may have nodes, and their bodies are
--- such records.
+-- From the end of a content back to an offset there are only frames, no more than the limit of nodes, and
+-- their bodies are such records.
 pub record ComesTo (s : Source) (content : List ℕ) (at : ℕ) (todo : ToCome) : Type 0 where
   pub bodies : List (List ℕ)
   pub read : ReadsTo s.version content (length content) bodies at
   pub records : AreRecords s bodies todo
   pub few : length bodies ≤ s.nodes
 
--- The item that is to come first after a number of bodies exceeds no limit: its level is within the one, and its record within the
--- other.
+-- The first child to be read after a number of bodies exceeds no limit: neither that of levels nor that of
+-- nodes.
 abbrev pub IsWithin : Source → ToCome → (count : ℕ) → Type 0
 IsWithin s [] count = Unit {0}
 IsWithin s (x ∷ xs) count = (x.0 ≤ s.depth) × (count < s.nodes)
 
--- The way breaks at an offset that it comes to, with no limit exceeded there: what ends there is no frame; or it is one whose body is no record of the item that is
--- to come first; or nothing is to come, and it is left over; or the header ends there, and an item is still to come.
+-- Reading meets damage at an offset that it reaches, and no limit is exceeded there. Either no frame ends
+-- there; or one whose body is not a record of the first child to be read; or no child is to be read, and a
+-- frame is left; or the header ends there, and a child is still to be read.
 abbrev pub BreaksAt : Source → List ℕ → ℕ → Type 0
 BreaksAt s content at = (todo : ToCome) × (way : ComesTo s content at todo) × IsWithin s todo (length way.bodies) × Breaks s.version s.grammar s.passes s.pass todo (next_before s.version content at)
 
--- The offset where it shows that a content is the file of no tree: 0 where it begins as no tree file of the version, 4 where it is
--- that of another pass, and else the one at which the way breaks.
+-- The offset at which a content shows that it is the file of no tree: 0 if it does not begin as a tree file
+-- of the version, 4 if it is that of another pass, and otherwise the one at which reading meets damage.
 abbrev pub ShowsAt : Source → List ℕ → ℕ → Type 0
 ShowsAt s content at =
     ((is_tree_file s.version content ≡ false) × (at ≡ 0)) ⊎ (((is_tree_file s.version content ≡ true) × (pass_of content ≢ s.pass) × (at ≡ 4)) ⊎ (IsReadable s content × BreaksAt s content at))
 
--- The limit of levels is exceeded before a fault is met: the way comes to an item that is to come at a deeper level.
+-- The limit of levels is exceeded before damage is met: reading reaches a child at a deeper level.
 pub record ExceedsDepth (s : Source) (content : List ℕ) : Type 0 where
   pub readable : IsReadable s content
   pub at : ℕ
@@ -80,8 +81,8 @@ pub record ExceedsDepth (s : Source) (content : List ℕ) : Type 0 where
   pub way : ComesTo s content at ((level, next) ∷ others)
   pub deep : s.depth < level
 
--- The limit of nodes is exceeded before a fault is met: as many bodies were read as the tree may have nodes, and an item is still to
--- come, at no deeper level than there may be.
+-- The limit of nodes is exceeded before damage is met: as many bodies were read as the limit allows, and a
+-- child within the limit of levels is still to be read.
 pub record ExceedsNodes (s : Source) (content : List ℕ) : Type 0 where
   pub readable : IsReadable s content
   pub at : ℕ
@@ -92,22 +93,24 @@ pub record ExceedsNodes (s : Source) (content : List ℕ) : Type 0 where
   pub within : level ≤ s.depth
   pub full : length way.bodies ≡ s.nodes
 
--- R1: the content is the file of no tree, and it shows there.
+-- R1: the content is the file of no tree, and shows it at the offset.
 pub record IsDamaged (s : Source) (content : List ℕ) (at : ℕ) : Type 0 where
   pub none : HasNoTree s.version s.grammar s.passes s.pass content
   pub shown : ShowsAt s content at
 
--- P2: the content is the file of no tree of so few levels, however many nodes it has, and the way exceeds that limit.
+-- P2: the content is the file of no tree within the limit of levels, with any number of nodes, and reading
+-- exceeds that limit.
 pub record IsTooDeep (s : Source) (content : List ℕ) : Type 0 where
   pub none : (nodes : ℕ) → HasNoTreeWithin s.depth nodes s.version s.grammar s.passes s.pass content
   pub shown : ExceedsDepth s content
 
--- P3: the content is the file of no tree of so few stored nodes, however deep it is, and the way exceeds that limit.
+-- P3: the content is the file of no tree within the limit of stored nodes, at any depth, and reading exceeds
+-- that limit.
 pub record HasTooManyNodes (s : Source) (content : List ℕ) : Type 0 where
   pub none : (depth : ℕ) → HasNoTreeWithin depth s.nodes s.version s.grammar s.passes s.pass content
   pub shown : ExceedsNodes s content
 
--- What R1, P2 and P3 show of a content. D1 and NoMemory show nothing.
+-- The damage that R1, P2 and P3 show in a content. D1 and NoMemory show none.
 abbrev pub Shows : Source → List ℕ → RunFault → Type 0
 Shows s content (fault.Damaged at) = ShowsAt s content at
 Shows s content fault.TooDeep = ExceedsDepth s content
@@ -115,10 +118,10 @@ Shows s content fault.TooManyNodes = ExceedsNodes s content
 Shows s content fault.Device = ⊥
 Shows s content fault.NoMemory = ⊥
 
--- the file of pass k of a tree of binary fractions
+-- The file of pass k of a tree of binary fractions.
 abbrev pub fractions : ℕ → Source
 fractions k = record { version = version_two; grammar = binary; passes = binary_passes; pass = k; depth = most_depth; nodes = most_nodes }
 
--- the same within limits
+-- The file of pass 0 of a tree of binary fractions within limits.
 abbrev pub fractions_within : (depth nodes : ℕ) → Source
 fractions_within depth nodes = record { version = version_two; grammar = binary; passes = binary_passes; pass = 0; depth = depth; nodes = nodes }

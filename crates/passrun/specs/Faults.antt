@@ -1,4 +1,4 @@
--- Which fault is answered where a part refuses. All of this is this project's.
+-- The faults that the faults of the parts are converted to. All definitions are this project's.
 use Rattle.ag_value.specs.declared.fault.ValueFault.{ValueFault}
 use Rattle.ag_value.specs.declared.fault.ValueFault.TheVariants as value_fault
 use Rattle.backreader.specs.declared.turning.TurnFault.{TurnFault}
@@ -12,24 +12,26 @@ use Rattle.passrun.specs.declared.reading.record.RecordFault.TheVariants as reco
 use Rattle.passrun.specs.declared.run_fault.RunFault.{RunFault}
 use Rattle.passrun.specs.declared.run_fault.RunFault.TheVariants as run_fault
 
--- the fault of reading a record where a value is refused
+-- The fault of reading a record for a fault of reading a value.
 abbrev pub record_fault_of : ValueFault → RecordFault
 record_fault_of value_fault.Malformed = record_fault.Damaged
 record_fault_of value_fault.NoMemory = record_fault.NoMemory
 
--- the fault of a pass where a frame is refused: a content that begins as no tree file is told at 0
+-- The fault of a pass for a fault of reading a frame. If the content does not begin as a tree file, the
+-- offset is 0.
 abbrev pub run_fault_of_frame : FrameFault → RunFault
 run_fault_of_frame frame_fault.NotATreeFile = run_fault.Damaged 0
 run_fault_of_frame (frame_fault.Damaged at) = run_fault.Damaged at
 run_fault_of_frame frame_fault.Device = run_fault.Device
 run_fault_of_frame frame_fault.NoMemory = run_fault.NoMemory
 
--- and where a device that is written refuses
+-- The fault of a pass for a fault of a device that is written.
 abbrev pub run_fault_of_device : DeviceFault → RunFault
 run_fault_of_device device_fault.Failed = run_fault.Device
 run_fault_of_device device_fault.NoMemory = run_fault.NoMemory
 
--- and where a file that was written before can't be turned round, which honest devices never show
+-- The fault of an upgrade for a fault of reversing the intermediate file. With an honest device only D1 and
+-- NoMemory occur: the file can be reversed.
 abbrev pub run_fault_of_turn : TurnFault → RunFault
 run_fault_of_turn turn_fault.NotATreeFile = run_fault.Damaged 0
 run_fault_of_turn (turn_fault.Damaged at) = run_fault.Damaged at

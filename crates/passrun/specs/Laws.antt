@@ -1,4 +1,4 @@
--- What the laws state.
+-- The statements of the laws. All definitions are this project's.
 use Rattle.std.specs.Prelude.{ℕ, suc, ◌≤◌, ◌≡◌, ◌-◌, List}
 use Rattle.ag_grammar.specs.grammars.Accepted.{IsAccepted}
 use Rattle.ag_grammar.specs.grammars.AttributeGrammar.{Grammar}
@@ -27,34 +27,34 @@ use Rattle.passrun.specs.Rounds.{HasRunAll}
 -- A pass of a plan of an accepted grammar can run, with a table that has the slots of each rule.
 abbrev pub PlansCanRun : Type 0
 PlansCanRun = (job : Job) (passes : ℕ) → IsAccepted job.grammar.now → IsPlan job.grammar.now job.plan.now.0 job.plan.now.1 → IsGreatest passes job.plan.now.0 → 1 ≤ job.pass → job.pass ≤ passes
-    → IsLayout (setting_of job.grammar.now job.plan.now job.pass) job.layout.now.productions → CanRun job
+    → IsLayout (setting_of job.grammar.now job.plan.now job.pass) job.rows.now → CanRun job
 
--- A content shows at most one of R1 with an offset, P2 and P3.
+-- At most one of R1 with an offset, P2 and P3 shows in a content.
 abbrev pub ShowsOnce : Type 0
 ShowsOnce = (s : Source) (content : List ℕ) (one another : RunFault) → IsAccepted s.grammar → Shows s content one → Shows s content another → one ≡ another
 
--- Pass k + 1 counted so over whichever tree has the content as its file of pass k.
+-- The counts of pass k + 1 hold for every tree that has the content as its file of pass k.
 abbrev pub CountsPass : Grammar → Passes → ℕ → (from : List ℕ) → (count evals : ℕ) → Type 0
 CountsPass g m k from count evals = (t : Tree) (u : Valuation) → IsTreeOf g t → IsFileOfTree version_two g m k t u from → (count ≡ node_count t) × (evals ≡ rules_of_pass m (suc k) g t)
 
--- What a pass tells of some tree is so of whichever tree has the file that it read: there is only one.
+-- The result of a pass for some tree holds for every tree that has the file it read: there is only one.
 abbrev pub PassesAreTold : Type 0
 PassesAreTold =
     (g : Grammar) (plan : List (List ℕ) × Lists) (k : ℕ) (from to : List ℕ) (count evals : ℕ) → IsAccepted g → IsLegal g (passes_of plan.0) → 1 ≤ k
     → IsPassed (setting_of g plan k) from to count evals → RunsPass version_two g (passes_of plan.0) (k - 1) from to × CountsPass g (passes_of plan.0) (k - 1) from count evals
 
--- All passes from the first one on evaluate the rules of the tree, each once.
+-- All passes from the first one on evaluate each rule of the tree exactly once.
 abbrev pub AllRulesAreRun : Type 0
 AllRulesAreRun =
     (g : Grammar) (m : Passes) (last : ℕ) (start : List ℕ) (which : Last) (a b : List ℕ) (evals : ℕ) (sum : Passed) → IsAccepted g → IsLegal g m → IsLastPass last m
     → HasRunAll g m 0 last start which a b evals sum → (t : Tree) (u : Valuation) → IsTreeOf g t → IsFileOfTree version_two g m 0 t u start → evals ≡ rules_of g t
 
--- The values that they leave meet all equations, and no others do.
+-- The values after all passes satisfy all equations, and no others do.
 abbrev pub ValuesAreTheSolution : Type 0
 ValuesAreTheSolution =
     (g : Grammar) (m : Passes) (last : ℕ) (start : List ℕ) (which : Last) (a b : List ℕ) (evals : ℕ) (sum : Passed) → IsAccepted g → IsLegal g m → IsLastPass last m
     → (h : HasRunAll g m 0 last start which a b evals sum) (t : Tree) (u : Valuation) (tree : IsTreeOf g t) (file : IsFileOfTree version_two g m 0 t u start) → IsTheSolution g m t (h.runs t u tree file).values
 
--- The greatest number of the rows of an assignment is its last pass.
+-- The greatest number in the rows of an assignment is its last pass.
 abbrev pub GreatestIsLast : Type 0
 GreatestIsLast = (last : ℕ) (rows : List (List ℕ)) → IsGreatest last rows → IsLastPass last (passes_of rows)

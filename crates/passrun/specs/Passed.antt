@@ -1,5 +1,6 @@
--- What a pass over a tree file gives: it reads the file of the pass before from its end, and leaves its own, of the same tree
--- (after Jazayeri and Walter 1975). How it is told here, and the limits and counts, are this project's.
+-- The result of a pass over a tree file: it reads the file of the previous pass backward, and writes its own
+-- file of the same tree (after Jazayeri and Walter 1975). The form of the definitions, the limits and the
+-- counts are this project's.
 use Rattle.std.specs.Prelude.{ℕ, ◌≡◌, ◌≤◌, Bool, List, ◌++◌, length, All, false, None}
 use Rattle.std.specs.List.{flat_map}
 use Rattle.ag_value.specs.declared.value.Value.{Value}
@@ -19,9 +20,10 @@ use Rattle.passrun.specs.declared.passing.open_node.OpenNode.{OpenNode}
 use Rattle.passrun.specs.Damage.{AreRecords, IsReadable, source}
 use Rattle.passrun.specs.passing.Passing.{Passing, Tapes}
 
--- A pass ran from one content to another: there are a tree and values such that the one is the file of the pass before, the other
--- that of the pass, and the values meet each equation whose target is of the pass (Knuth 1968). The tree is within the limits; it
--- has so many nodes, and so many rules of the pass.
+-- A pass ran from one content to another: there are a tree and values such that the one is the file of the
+-- previous pass and the other that of the pass, and the values satisfy each equation whose target is of the
+-- pass (Knuth 1968). The tree is within the limits, and the counts are its number of nodes and of rules of
+-- the pass.
 pub record IsPassed (c : Setting) (content to : List ℕ) (count evals : ℕ) : Type 0 where
   pub tree : Tree
   pub values : Valuation
@@ -33,8 +35,8 @@ pub record IsPassed (c : Setting) (content to : List ℕ) (count evals : ℕ) : 
   pub nodes : count ≡ node_count tree
   pub rules : evals ≡ rules_of_pass c.passes c.write c.grammar tree
 
--- A pass runs between two devices: what it has read and put is what the reader and the writer have. What was read are records of
--- the grammar at their places, and of the open nodes these trees are still to come.
+-- A pass runs between two devices: its transcript agrees with the reader and the writer. The bodies that were
+-- read are records of the grammar at their places, and the open nodes still have these children to read.
 pub record IsRunning (c : Setting) (root : ℕ) (honest : Bool) (content : List ℕ) (to_honest : Bool) (to : List ℕ) (state : BackState) (out : writing.Progress) (values : List Value) (stack : List OpenNode) (evals : ℕ) : Type 0 where
   pub tapes : Tapes
   pub todo : ToCome

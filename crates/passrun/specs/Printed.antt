@@ -1,9 +1,9 @@
--- How faults are printed: this project's.
+-- How faults are printed. All definitions are this project's.
 use Rattle.std.specs.Prelude.{ℕ, List, ◌++◌, codes, decimal}
 use Rattle.passrun.specs.declared.run_fault.RunFault.{RunFault}
 use Rattle.passrun.specs.declared.run_fault.RunFault.TheVariants as fault
 
--- how a refusal of a pass is printed: its number, and the offset in decimal
+-- A fault of a pass is printed as its number, and R1 with the offset in decimal.
 abbrev pub printed : RunFault → List ℕ
 printed (fault.Damaged at) = codes "R1 at " ++ decimal at
 printed fault.TooDeep = codes "P2"

@@ -1,5 +1,5 @@
--- Passes one after the other, to and fro between two devices (after Jazayeri and Walter 1975). How it is told here, and the counts,
--- are this project's.
+-- Passes in sequence, alternating between two devices (after Jazayeri and Walter 1975). The form of the
+-- definitions and the counts are this project's.
 use Rattle.std.specs.Prelude.{ℕ, suc, ◌≡◌, ◌+◌, ◌*◌, ◌-◌, ◌<◌, ◌≤◌, List}
 use Rattle.ag_grammar.specs.grammars.AttributeGrammar.{Grammar}
 use Rattle.ag_grammar.specs.grammars.Counts.{rules_of_pass, sum_of_passes}
@@ -17,32 +17,33 @@ use Rattle.passrun.specs.declared.last.Last.{Last}
 use Rattle.passrun.specs.declared.last.Last.TheVariants.{A, B}
 use Rattle.passrun.specs.Passed.{IsPassed}
 
--- the content of the device that has the last file,
+-- The content of the device that has the last file.
 abbrev pub last_content : Last → (a b : List ℕ) → List ℕ
 last_content A a b = a
 last_content B a b = b
 
--- and that of the other one
+-- The content of the other device.
 abbrev pub other_content : Last → (a b : List ℕ) → List ℕ
 other_content A a b = b
 other_content B a b = a
 
--- the other device
+-- The other device.
 abbrev pub other_last : Last → Last
 other_last A = B
 other_last B = A
 
--- A pass ran from the device that has the last file to the other one, and left the content of the first as it was.
+-- A pass ran from the device that has the last file to the other one, and did not change the content of the
+-- first.
 pub record IsPassedOn (c : Setting) (last : Last) (a b a_new b_new : List ℕ) (count evals : ℕ) : Type 0 where
   pub passed : IsPassed c (last_content last a b) (other_content last a_new b_new) count evals
   pub kept : last_content last a_new b_new ≡ last_content last a b
 
--- what was counted before, and in one pass more: the nodes are those of the pass
+-- The sums of the counts with one more pass: the number of nodes is that of the pass.
 abbrev pub one_more : Passed → Passed → Passed
 one_more sum passed = record { nodes = passed.nodes; read = sum.read + passed.read; written = sum.written + passed.written }
 
--- What so many passes behind pass k counted over a tree: the rules of each of them were evaluated, each once, and each pass read and
--- wrote the record of each node. The nodes are told where a pass ran.
+-- The counts of `count` passes after pass k over a tree: they evaluated each of their rules once, and each
+-- pass read and wrote the record of each node. The number of nodes is 0 if no pass ran.
 pub record HasCounted (g : Grammar) (m : Passes) (t : Tree) (k count evals : ℕ) (sum : Passed) : Type 0 where
   pub evals_are : evals ≡ sum_of_passes (λ p. rules_of_pass m p g t) k count
   pub none : count ≡ 0 → sum.nodes ≡ 0
@@ -50,7 +51,7 @@ pub record HasCounted (g : Grammar) (m : Passes) (t : Tree) (k count evals : ℕ
   pub read : sum.read ≡ count * node_count t
   pub written : sum.written ≡ count * node_count t
 
--- they counted so over whichever tree has the start as its file of pass k
+-- The counts hold for every tree that has the start as its file of pass k.
 abbrev pub CountsPasses : Grammar → Passes → (k count : ℕ) → (start : List ℕ) → (evals : ℕ) → Passed → Type 0
 CountsPasses g m k count start evals sum = (t : Tree) (u : Valuation) → IsTreeOf g t → IsFileOfTree version_two g m k t u start → HasCounted g m t k count evals sum
 
@@ -62,9 +63,10 @@ pub record HoldsTree (g : Grammar) (m : Passes) (k : ℕ) (content : List ℕ) :
   pub within : IsWithinLimits most_depth most_nodes tree
   pub file : IsFileOfTree version_two g m k tree values content
 
--- All passes behind pass k ran, up to the last one. They left two contents: that of the device that has the last file, and that of
--- the other. They counted so. Where one ran, the start is the file of a tree within the limits; where none did, it is the last file, and
--- still on the first device, and nothing was counted.
+-- All passes after pass k ran, up to the last one. They left two contents: that of the device that has the
+-- last file, and that of the other. The counts are those of these passes. If at least one ran, the start is
+-- the file of a tree within the limits. If none ran, the start is the last file, still on the first device,
+-- and all counts are 0.
 pub record HasRunAll (g : Grammar) (m : Passes) (k last : ℕ) (start : List ℕ) (which : Last) (a b : List ℕ) (evals : ℕ) (sum : Passed) : Type 0 where
   pub runs : RunsPasses version_two g m k last start (last_content which a b) (other_content which a b)
   pub counts : CountsPasses g m k (last - k) start evals sum
@@ -72,25 +74,27 @@ pub record HasRunAll (g : Grammar) (m : Passes) (k last : ℕ) (start : List ℕ
   pub fresh : last ≡ k → last_content which a b ≡ start
   pub nothing : last ≡ k → (which ≡ A) × (evals ≡ 0) × (sum ≡ record { nodes = 0; read = 0; written = 0 })
 
--- The solution of a tree is left: one content is the file of its last pass, and the other that of the pass before it, of values
--- that meet each equation at each node, as no others do (Knuth 1968; Jazayeri and Walter 1975).
+-- The solution of a tree was computed: one content is the file of its last pass, and the other that of the
+-- pass before it, with the only values that satisfy each equation at each node (Knuth 1968; Jazayeri and
+-- Walter 1975).
 pub record LeavesSolution (g : Grammar) (m : Passes) (passes : ℕ) (t : Tree) (v : Valuation) (now before : List ℕ) : Type 0 where
   pub solution : IsTheSolution g m t v
   pub file : IsFileOfTree version_two g m passes t v now
   pub other : (k : ℕ) → passes ≡ suc k → IsFileOfTree version_two g m k t v before
 
--- It is left of whichever tree has the start as its file of pass 0.
+-- The solution was computed for every tree that has the start as its file of pass 0.
 abbrev pub LeavesSolutions : Grammar → Passes → (passes : ℕ) → (start now before : List ℕ) → Type 0
 LeavesSolutions g m passes start now before = (t : Tree) (u : Valuation) → IsTreeOf g t → IsFileOfTree version_two g m 0 t u start → (v : Valuation) × LeavesSolution g m passes t v now before
 
--- What a call leaves on a device that it may fill: what the device had, or a prefix of a tree file of some pass.
+-- The content of a device that a call may write to: the old content, or a prefix of a tree file of some pass.
 abbrev pub LeavesSomeFile : (old new : List ℕ) → Type 0
 LeavesSomeFile old new = (pass : ℕ) × LeavesBeginning pass old new
 
--- What a refusal leaves of passes behind pass k, from what the first device (a) and the second one (b) had: some of them ran, maybe
--- none, up to one whose file is still on the device that the next one read; and the other device has what it had then, or a beginning
--- of a file of the next one. Where one ran, the first content is the file of a tree within the limits; where none did, the first
--- device is the one that was read, with what it had, whatever that is.
+-- The contents after a failure in the passes after pass k; a and b are the old contents of the first and the
+-- second device. Some passes ran, possibly none, and the file of the last of them is still on the device that
+-- the next one read. The other device has its content from before that pass, or a prefix of the file of that
+-- pass. If at least one pass ran, a is the file of a tree within the limits. If none ran, the first device
+-- was read and is unchanged, whatever its content.
 pub record LeavesRound (g : Grammar) (m : Passes) (k : ℕ) (a b a_new b_new : List ℕ) : Type 0 where
   pub done : ℕ
   pub which : Last

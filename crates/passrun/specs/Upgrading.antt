@@ -1,4 +1,4 @@
--- Bringing a tree file of version 1 over to version 2. All of this is this project's.
+-- Converting a tree file of version 1 to version 2. All definitions are this project's.
 use Rattle.std.specs.Prelude.{ℕ, suc, ◌≡◌, ◌+◌, ◌-◌, ◌<◌, ◌≤◌, Bool, false, List, [], ◌∷◌, ◌++◌, length, reverse, slice_get, Option, Some, None, Ok}
 use Rattle.std.specs.Option.{option_map}
 use Rattle.std.specs.List.{flat_map}
@@ -27,13 +27,13 @@ use Rattle.passrun.specs.declared.reading.old_record.OldRecord.TheVariants as ol
 use Rattle.passrun.specs.declared.run_fault.RunFault.{RunFault}
 use Rattle.passrun.specs.declared.run_fault.RunFault.TheVariants as fault
 
--- what an old file is read as: the file of version 1 and pass 0 of a tree
+-- How an old file is read: as the file of version 1 and pass 0 of a tree.
 abbrev pub old_file : Grammar → Source
 old_file g = record { version = version_one; grammar = g; passes = unassigned; pass = 0; depth = most_levels; nodes = most_records }
 
--- The old content is the file of version 1 and pass 0 of exactly one tree, which is within the limits and has so many nodes; the new
--- one is that of version 2 of the same tree, where an honest device has it; and the one between is a file with the number 1 of its
--- records of version 2, from right to left.
+-- The old content is the file of version 1 and pass 0 of exactly one tree, which is within the limits and has
+-- this number of nodes. The new content, on an honest device, is the file of version 2 of the same tree. The
+-- content in between is a file with pass number 1 of its records of version 2, from right to left.
 pub record IsUpgraded (g : Grammar) (content between : List ℕ) (honest : Bool) (upgraded : List ℕ) (count : ℕ) : Type 0 where
   pub tree : Tree
   pub fits : IsTreeOf g tree
@@ -44,9 +44,10 @@ pub record IsUpgraded (g : Grammar) (content between : List ℕ) (honest : Bool)
   pub to : WhenHonest honest (IsFirstFile version_two g tree upgraded)
   pub nodes : count ≡ node_count tree
 
--- R1: the content is the file of version 1 and pass 0 of no tree, and it shows at the offset. P2: it is that of none of so few
--- levels, however many nodes it has, and the way exceeds these before it meets a fault. P3: of none of so few stored nodes, however
--- deep it is, likewise. The other refusals say nothing of it.
+-- R1: the content is the file of version 1 and pass 0 of no tree, and the damage shows at the offset. P2: it
+-- is the file of no tree within the limit of levels, with any number of nodes, and reading exceeds that limit
+-- before it meets any damage. P3: the same for the limit of stored nodes, with any number of levels. D1 and
+-- NoMemory say nothing about the content.
 abbrev pub IsUpgradeFault : Grammar → List ℕ → RunFault → Type 0
 IsUpgradeFault g content (fault.Damaged at) = HasNoFirstTree version_one g content × ShowsAt (old_file g) content at
 IsUpgradeFault g content fault.TooDeep = ((nodes : ℕ) → HasNoFirstTreeWithin most_levels nodes version_one g content) × ExceedsDepth (old_file g) content
@@ -54,37 +55,38 @@ IsUpgradeFault g content fault.TooManyNodes = ((levels : ℕ) → HasNoFirstTree
 IsUpgradeFault g content fault.Device = Unit {0}
 IsUpgradeFault g content fault.NoMemory = Unit {0}
 
--- a record of version 1 and pass 0 is one of an item: a node of its symbol, or a token of its class
+-- A record of version 1 and pass 0 is one of an item: a node of its symbol, or a token of its class.
 abbrev pub IsOf : Grammar → Item → OldRecord → Type 0
 IsOf g (item.Symbol s) (old.Node p) = (q : Production) × IsProduction g p q × (q.left ≡ s)
 IsOf g (item.Terminal (Class c)) (old.Token d v) = (d ≡ c) × ((text : List ℕ) × IsTokenText text × (v ≡ Text text))
 IsOf g x r = ⊥
 
--- its body
+-- The body of a record.
 abbrev pub body_in : OldRecord → List ℕ
 body_in (old.Node p) = body_of Node p []
 body_in (old.Token d v) = body_of Token d (v ∷ [])
 
--- the items with a place of a right side, as they are to come
+-- The children of a right side that are to be read.
 abbrev pub to_come : Grammar → List Item → List Child
 to_come g xs = told false g unassigned 0 (stored_items xs) []
 
--- those at a level, from right to left, before others
+-- The children of some items to be read at a level, from right to left, before others.
 abbrev pub coming : Grammar → ℕ → List Item → ToCome → ToCome
 coming g level xs others = before_others RightToLeft level (to_come g xs) others
 
--- A reader has come so far in an old file: what it lent are records of the grammar at their places, and these are still to come.
+-- The progress of a reader in an old file: it returned records of the grammar at their places, and these
+-- children are still to be read.
 pub record IsAt (g : Grammar) (content : List ℕ) (progress : Progress) (todo : ToCome) : Type 0 where
   pub readable : IsReadable (old_file g) content
   pub way : ComesTo (old_file g) content progress.at todo
   pub counted : progress.records ≡ length way.bodies
 
--- why trees of items at a level could not be brought over, whatever was to come behind them
+-- The reason why the trees of items at a level could not be converted, whatever is to be read after them.
 abbrev pub IsUnbrought : Grammar → List ℕ → List Item → (level : ℕ) → Progress → RunFault → Type 0
 IsUnbrought g content xs level progress f = (others : ToCome) → IsAt g content progress (coming g level xs others) → IsUpgradeFault g content f
 
--- The reader is one of an old file, and no refusal is answered for good; not more records were written than read, and not more read
--- than may be.
+-- The reader is one of an old file, and has not failed for good. No more records were written than read, and
+-- no more were read than the limit.
 pub record IsReady (honest : Bool) (content : List ℕ) (state : BackState) (out : writing.Progress) : Type 0 where
   pub over : WhenHonest honest (IsOver content state)
   pub version : state.progress.version ≡ version_one
@@ -93,7 +95,7 @@ pub record IsReady (honest : Bool) (content : List ℕ) (state : BackState) (out
   pub few : state.progress.records ≤ most_records
   pub written : out.written ≤ state.progress.records
 
--- a record of an item was read, whose tree stands at a level
+-- A record of an item was read, whose tree is at a level.
 pub record HasTaken (g : Grammar) (x : Item) (level : ℕ) (honest : Bool) (content : List ℕ) (before now : BackState) (r : OldRecord) : Type 0 where
   pub is : IsOf g x r
   pub found : WhenHonest honest (next_before version_one content before.progress.at ≡ Ok (Some (body_in r)))
@@ -102,8 +104,9 @@ pub record HasTaken (g : Grammar) (x : Item) (level : ℕ) (honest : Bool) (cont
   pub deep : level ≤ most_levels
   pub few : before.progress.records < most_records
 
--- Trees of the last items of a right side were brought over, from right to left: their records were read, and those of version 2
--- were put; those of the items in front of them are still to come. The texts are those of their tokens, the last one first.
+-- Trees of the last items of a right side were converted, from right to left: their records were read, and
+-- those of version 2 were written. Those of the items before them are still to be read. The texts are those
+-- of the tokens, the last one first.
 pub record Brought (g : Grammar) (content : List ℕ) (front xs : List Item) (level : ℕ) (before now : Progress) (honest : Bool) (out_old out_now : List ℕ) (texts : List Value) : Type 0 where
   pub trees : Forest
   pub fits : FitsAll g (stored_items xs) trees
@@ -114,13 +117,13 @@ pub record Brought (g : Grammar) (content : List ℕ) (front xs : List Item) (le
   pub written : WhenHonest honest (out_now ≡ out_old ++ flat_map frame (postfix_all RightToLeft (first_bodies_all version_two trees)))
   pub texts_are : texts ≡ reverse (leaf_texts trees)
 
--- the text of a token, none of a node
+-- The text of a token; none for a node.
 abbrev pub text_list : Option Value → List Value
 text_list None = []
 text_list (Some v) = v ∷ []
 
--- The content is the file of version 1 and pass 0 of a tree within the limits; the other one, where an honest device has it, is a
--- file with the number 1 of its records of version 2, from right to left.
+-- The content is the file of version 1 and pass 0 of a tree within the limits. The other content, on an
+-- honest device, is a file with pass number 1 of its records of version 2, from right to left.
 pub record IsBrought (g : Grammar) (content : List ℕ) (honest : Bool) (mid : List ℕ) : Type 0 where
   pub tree : Tree
   pub fits : IsTreeOf g tree
@@ -128,7 +131,8 @@ pub record IsBrought (g : Grammar) (content : List ℕ) (honest : Bool) (mid : L
   pub from : IsFirstFile version_one g tree content
   pub to : WhenHonest honest (mid ≡ file version_two 1 (postfix RightToLeft (first_bodies version_two tree)))
 
--- how many children the node of a production has, and a token: as many as it has items with a place
+-- The number of children of a production's node, which is the number of items that are children; 0 for a
+-- token.
 abbrev pub stored_count : Grammar → Kind → ℕ → Option ℕ
 stored_count g Node p = option_map (λ (q : Production). length (stored_items q.items)) (slice_get g.productions p)
 stored_count g Token d = Some 0

@@ -1,4 +1,4 @@
--- What a pass asks of each production.
+-- The layout of each production in a pass.
 pub mod Jobs
 pub mod Laid
 pub mod Layouts

@@ -1,4 +1,4 @@
--- A pass in the middle of its run.
+-- A running pass.
 pub mod Ahead
 pub mod Change
 pub mod Ends

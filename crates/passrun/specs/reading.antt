@@ -1,3 +1,3 @@
--- What is read from a tree file.
+-- Reading records from a tree file.
 pub mod Fetching
 pub mod Reading

@@ -1,10 +1,10 @@
-//! How the refusals of a pass are printed.
+//! Prints the faults of a pass.
 
 use crate::run_fault::RunFault;
 use std::error::Error;
 use std::fmt;
 
-/// The number of the fault, and where it has one its offset: `R1 at 20`, `P2`.
+/// Prints the number of the fault, and its offset if it has one: `R1 at 20`, `P2`.
 impl fmt::Display for RunFault {
     ghost use Rattle.std.specs.Prelude.{Some};
     ghost use Rattle.passrun.specs.Printed.{printed};

@@ -1,4 +1,4 @@
-//! What a pass asks of each production, laid out before it runs.
+//! The layout of each production in a pass, computed before the pass runs.
 
 pub mod hints;
 pub mod job;

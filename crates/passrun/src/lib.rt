@@ -1,8 +1,8 @@
-//! Runs the passes of a plan over a tree file. One pass reads the file of the pass before from its
-//! end, computes the attributes of the pass, and writes the file of the pass (after Jazayeri and
-//! Walter 1975); all passes run one after the other, to and fro between two devices. The tree never
-//! stands in memory as a whole: there are only the values of the nodes on the way from the root to
-//! the one in which the pass is, and of their children that were read.
+//! Runs the passes of a plan over a tree file. One pass reads the file of the previous pass
+//! backward, computes the attributes of the pass, and writes the file of the pass (after Jazayeri
+//! and Walter 1975). All passes run in sequence, alternating between two devices. The tree is never
+//! in memory as a whole: only the values of the nodes on the path from the root to the current node
+//! are, and those of their children read so far.
 #![tactic(auto)]
 
 mod display;

@@ -1,4 +1,4 @@
-//! All passes over a tree file, one after the other, to and fro between two devices.
+//! All passes over a tree file in sequence, alternating between two devices.
 
 ghost use Rattle.std.specs.Prelude.{◌≡◌, ◌+◌, ◌-◌, ◌^◌, ◌<◌, ◌≤◌, ℕ, IfErr, IfOk, IsErrOf};
 ghost use Rattle.std.specs.Prelude.{OnErr, OnOk};
@@ -24,7 +24,7 @@ use planchecker::Plan;
 use std::alloc::Global;
 use treefile::Device;
 
-/// The other device.
+/// Returns the other device.
 fn other(last: Last) -> Last
     ensures { result ≡ other_last last }
 {
@@ -34,14 +34,15 @@ fn other(last: Last) -> Last
     }
 }
 
-/// The last pass of a plan.
+/// Returns the number of the last pass of a plan.
 fn last_pass(plan: &Plan) -> u16
     ensures { IsGreatest result plan.now.0 }
 {
     plan.assignment().passes()
 }
 
-/// Runs the pass behind pass `done`, from the device that has the last file to the other one.
+/// Runs the pass after pass `done`, from the device with the last file to the other one. Fails as
+/// `run_pass` does.
 fn next_pass<D: Device>(
     alloc: Global,
     grammar: &Grammar,
@@ -77,7 +78,7 @@ fn next_pass<D: Device>(
     ensures few { IfOk result (λ p. p.nodes ≤ most_nodes) }
     ensures rises { meter.old ≤ meter.new }
     ensures meter { OnOk result (meter.new ≤ meter.old + 2 ^ 36) }
-    // D1 only where the number of failures rose on one of the two
+    // D1 only if the number of failures rose on one of the two
     ensures devices { BothLast D.is_honest D.failures a.old a.new
         D.is_honest D.failures b.old b.new (IsErrOf result RunFault.Device) }
 {
@@ -87,7 +88,7 @@ fn next_pass<D: Device>(
     }
 }
 
-/// The counts of one pass more, with the sums of those before it.
+/// Returns the counts after one more pass: its number of nodes, and the sums of the records.
 fn one_more(sum: Passed, passed: Passed) -> Passed
     requires read { sum.read + passed.read < 2 ^ 64 }
     requires written { sum.written + passed.written < 2 ^ 64 }
@@ -100,29 +101,28 @@ fn one_more(sum: Passed, passed: Passed) -> Passed
     }
 }
 
-/// Runs the passes of a plan for a grammar from pass `first` to the greatest, one after the other
-/// and to and fro between two devices: the device `a` has the file of pass `first` - 1, pass `first`
-/// writes its own onto `b`, the pass behind it reads that and writes onto `a`, and so on. Each rule
-/// of these passes is evaluated once at each node of its production, and the meter counts these
-/// evaluations; it asks for a meter of at most 2^62. `first` is a number from 1 to one more than the
-/// greatest pass.
+/// Runs the passes of a plan for a grammar from pass `first` to the greatest, in sequence. `first`
+/// is a number from 1 to one more than the greatest pass. The passes alternate between two devices:
+/// `a` has the file of pass `first` - 1, pass `first` writes its own file to `b`, the next pass
+/// reads that and writes to `a`, and so on. Evaluates each rule of these passes once at each node
+/// of its production. The meter counts these evaluations, and may be at most 2^62 before the call.
 ///
-/// The answer tells which device has the file of the last pass; how many stored nodes the tree has;
-/// and how many records were read, and how many written, in all passes together. Where `first` is
-/// one more than the greatest pass nothing is run, read or written: the answer is `Last::A` with
-/// three zeros.
+/// Returns the device that has the file of the last pass, with the number of stored nodes of the
+/// tree, and the numbers of records read and written in all passes together. If `first` is one more
+/// than the greatest pass, runs, reads and writes nothing, and returns `Last::A` with three zeros.
 ///
-/// The first pass that is refused ends the run, with the refusal of `run_pass`. R1 Damaged where the
-/// file on `a` is one that pass `first` - 1 leaves of no tree of the grammar, with the offset of
-/// what tells it. P2 TooDeep where it is that of no tree of at most `MOST_DEPTH`
-/// levels, P3 TooManyNodes where it is that of none of at most `MOST_NODES` stored nodes. D1 Device
-/// where a call of one of the devices failed. NoMemory where a growth was refused.
+/// Stops at the first pass that fails, and returns its fault, as `run_pass` does. Fails with R1
+/// (`Damaged`) and an offset if the file on `a` is not one that pass `first` - 1 writes for a tree
+/// of the grammar. Fails with P2 (`TooDeep`) if it encodes no tree of at most `MOST_DEPTH` levels,
+/// and with P3 (`TooManyNodes`) if it encodes no tree of at most `MOST_NODES` stored nodes. Fails
+/// with D1 (`Device`) if a call of one of the devices failed, and with `NoMemory` if memory cannot
+/// be allocated.
 ///
-/// What `b` has is overwritten by the first pass, and the file on `a` by the second one: it is kept
-/// where one pass runs at most. After a refusal the device that the refused pass reads from still
-/// has what it read, which for each pass behind the first is the file of the pass before; the other
-/// device has what it had when that pass began, or a beginning of a tree file. Takes the memory of
-/// one pass at a time.
+/// The first pass overwrites the content of `b`, and the second one the file on `a`, which is kept
+/// if at most one pass runs. After a failure the device that the failed pass reads still has its
+/// content: the file of the pass before, for each pass after the first. The other device has the
+/// content from before that pass, or a prefix of a tree file. Uses the memory of one pass at a
+/// time.
 pub fn run_all<D: Device>(
     alloc: Global,
     grammar: &Grammar,
@@ -140,32 +140,33 @@ pub fn run_all<D: Device>(
         WhenHonest (D.is_honest a.new) (WhenHonest (D.is_honest b.new)
         (IfOk result (λ r. HasRunAll grammar.now (passes_of plan.now.0) (first - 1) passes
         (D.content a.old) r.0 (D.content a.new) (D.content b.new) (meter.new - meter.old) r.1))) }
-    // from pass 1 on: the values that are left meet all equations, and no others do
+    // from pass 1 on: the values in the last file satisfy all equations, and no others do
     ensures solution { first ≡ 1 → (passes : ℕ) → IsGreatest passes plan.now.0 →
         WhenHonest (D.is_honest a.new) (WhenHonest (D.is_honest b.new)
         (IfOk result (λ r. LeavesSolutions grammar.now (passes_of plan.now.0) passes
         (D.content a.old) (last_content r.0 (D.content a.new) (D.content b.new))
         (other_content r.0 (D.content a.new) (D.content b.new))))) }
-    // R1, P2 and P3 only where they are true of the first file
+    // R1, P2 and P3 only if they are true of the first file
     ensures refused { IfErr result (λ f. WhenHonest (D.is_honest a.new)
         (WhenHonest (D.is_honest b.new)
         (IsRunFault (setting_of grammar.now plan.now first) (D.content a.old) f))) }
-    // what the refused pass read still stands; the other device has what it had, or a beginning
+    // the input of the failed pass is kept; the other device is unchanged, or has a prefix of a
+    // file
     ensures left { OnErr result (WhenHonest (D.is_honest a.new) (WhenHonest (D.is_honest b.new)
         (LeavesRound grammar.now (passes_of plan.now.0) (first - 1) (D.content a.old)
         (D.content b.old) (D.content a.new) (D.content b.new)))) }
-    // each honest device has what it had, or a prefix of a tree file, whatever the other gives back
+    // each honest device has its old content, or a prefix of a tree file, for any other device
     ensures a_left { WhenHonest (D.is_honest a.new)
         (LeavesSomeFile (D.content a.old) (D.content a.new)) }
     ensures b_left { WhenHonest (D.is_honest b.new)
         (LeavesSomeFile (D.content b.old) (D.content b.new)) }
-    // whatever the devices give back
+    // for any devices, honest or not
     ensures few { IfOk result (λ r. (r.1.nodes ≤ most_nodes)
         × (r.1.read ≤ 2 ^ 36) × (r.1.written ≤ 2 ^ 36)) }
-    // whatever the devices give back
+    // for any devices, honest or not
     ensures rises { meter.old ≤ meter.new }
     ensures meter { OnOk result (meter.new ≤ meter.old + 2 ^ 52) }
-    // D1 only where the number of failures rose on one of the two
+    // D1 only if the number of failures rose on one of the two
     ensures devices { BothLast D.is_honest D.failures a.old a.new
         D.is_honest D.failures b.old b.new (IsErrOf result RunFault.Device) }
 {

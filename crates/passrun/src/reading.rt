@@ -1,5 +1,6 @@
 //! Reading the records of a tree file.
 
 pub mod fetching;
+pub mod lent;
 pub mod old_record;
 pub mod record;

@@ -1,4 +1,4 @@
-//! Why a pass did not run to its end.
+//! The reasons for which a pass fails.
 
 ghost use Rattle.std.specs.Prelude.{◌≡◌};
 ghost use Rattle.passrun.specs.Faults.{run_fault_of_device, run_fault_of_frame, run_fault_of_turn};
@@ -8,23 +8,24 @@ use ag_value::NoMemory;
 use backreader::TurnFault;
 use treefile::{DeviceFault, FrameFault};
 
-/// Why a pass, all passes or an upgrade did not go to the end. Each call tells what its devices have
-/// then.
+/// The reason why a pass, all passes or an upgrade failed. Each call documents what its devices
+/// contain after a failure.
 #[derive(Clone, Copy, Debug, PartialEq, Eq)]
 pub enum RunFault {
-    /// R1: the file is one that the pass before leaves of no tree of the grammar. The offset in
-    /// bytes is 0 where it begins as no tree file, 4 where it is that of another pass, else the end
-    /// of the frame that tells it, or the place at which one should end.
+    /// R1: the file is not one that the previous pass writes for a tree of the grammar. The offset
+    /// in bytes is 0 if the content does not begin as a tree file, and 4 if it is the file of
+    /// another pass. Otherwise it is the end of the frame that shows the damage, or the offset at
+    /// which a frame should end.
     Damaged(u64),
-    /// P2: it is that of no tree of at most `MOST_DEPTH` levels, of `upgrade` `MOST_TURNED_DEPTH`: a
-    /// record would stand one level deeper.
+    /// P2: the file encodes no tree of at most `MOST_DEPTH` levels (`MOST_TURNED_DEPTH` for
+    /// `upgrade`): the next record would be one level deeper.
     TooDeep,
-    /// P3: it is that of no tree of at most `MOST_NODES` stored nodes, of `upgrade` `MOST_TURNED_NODES`:
-    /// a record would be one more.
+    /// P3: the file encodes no tree of at most `MOST_NODES` stored nodes (`MOST_TURNED_NODES` for
+    /// `upgrade`): the next record would be one too many.
     TooManyNodes,
     /// D1: a call of one of the devices failed.
     Device,
-    /// A growth was refused.
+    /// Memory could not be allocated.
     NoMemory,
 }
 

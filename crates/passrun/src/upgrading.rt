@@ -1,4 +1,4 @@
-//! Bringing a tree file of version 1 over to version 2.
+//! Converts a tree file of version 1 to version 2.
 
 ghost use Rattle.std.specs.Prelude.{◌≡◌, ◌+◌, ◌-◌, ◌<◌, ◌≤◌, ◌^◌, All, false, length, Bool, IfErr, IfOk, IfSome, IsErrOf, List};
 ghost use Rattle.std.specs.Prelude.{OnErr, OnOk, [], ◌∷◌, ◌++◌, ℕ};
@@ -26,14 +26,13 @@ use std::alloc::Global;
 use std::slice;
 use treefile::{Device, Kind, Writer};
 
-/// The offset in bytes of the number of the pass in a header.
+/// The offset of the pass number in a header, in bytes.
 const PASS_OFFSET: u64 = 4;
 
-/// The number of the pass in the file between: it has the records from right to left, as pass 1 leaves
-/// them.
+/// The pass number of the intermediate file, whose records are from right to left as in pass 1.
 const BETWEEN: u16 = 1;
 
-/// Reads a tree file of version 1 from its end, and writes the same tree's records of version 2.
+/// Reads a tree file of version 1 backward, and writes the records of version 2 of the same tree.
 #[derive(Drop)]
 struct Upgrading {
     back: Back,
@@ -41,8 +40,11 @@ struct Upgrading {
 }
 
 impl Upgrading {
-    /// Reads the record of an item whose tree stands at a level: the one before the record that was
-    /// read last.
+    /// Reads the record of an item whose subtree is at depth `level`: the record before the one
+    /// read last. Fails with P2 if the level exceeds `MOST_LEVELS`, with P3 if `MOST_RECORDS`
+    /// records were read already, and with R1 and the offset at which the record should end if a
+    /// record of the item does not end there. Fails with D1 if the device fails, and with
+    /// `NoMemory` if memory cannot be allocated.
     fn record<D: Device>(
         &mut self,
         alloc: Global,
@@ -83,8 +85,9 @@ impl Upgrading {
         }
     }
 
-    /// Brings the tree of an item over, where it has a place, which stands at a level: reads its
-    /// records, and writes each of them behind those of its children. The text of a token.
+    /// Converts the subtree of `item` at depth `level`, if the item is a child: reads its records
+    /// and writes them in postfix order. Returns the text if it is a token. Fails as `upgrade` does
+    /// for the first device.
     fn tree<D: Device, E: Device>(
         &mut self,
         alloc: Global,
@@ -107,11 +110,11 @@ impl Upgrading {
         ensures ready { OnOk result (IsReady (D.is_honest from.new) (D.content from.old)
             self.new.back self.new.writer) }
         ensures well { IfOk result (λ text. IfSome text IsWell) }
-        // As many records were written as were read
+        // The number of records written is the number of records read
         ensures balanced { OnOk result
             (self.new.writer.written + self.old.back.progress.records
             ≡ self.old.writer.written + self.new.back.progress.records) }
-        // The second device has the frames of some records more, or after a refusal a prefix of these
+        // The second device has more frames than before, or after a failure a prefix of them
         ensures added { OnOk result (AddsFrames (E.is_honest to.new)
             (E.content to.old) (E.content to.new)) }
         ensures left { IfErr result (LeavesFrames (E.is_honest to.new)
@@ -155,7 +158,7 @@ impl Upgrading {
     }
 }
 
-/// Adds a text, where there is one.
+/// Appends a text, if there is one. Fails with `NoMemory` if memory cannot be allocated.
 fn add_text(texts: &mut Vec<Value>, text: Option<Value>) -> Result<(), NoMemory>
     ensures { OnOk result (texts.new.items ≡ texts.old.items ++ text_list text) }
 {
@@ -165,8 +168,8 @@ fn add_text(texts: &mut Vec<Value>, text: Option<Value>) -> Result<(), NoMemory>
     Ok(())
 }
 
-/// Reads the file of version 1 and pass 0 of a tree, and writes the tree's records of version 2, from
-/// right to left.
+/// Reads the file of version 1 and pass 0 of a tree backward, and writes the tree's records of
+/// version 2 from right to left.
 fn bring<D: Device, E: Device>(
     alloc: Global,
     grammar: &Grammar,
@@ -200,7 +203,7 @@ fn bring<D: Device, E: Device>(
     Ok(())
 }
 
-/// How many children the nodes of a grammar's trees have.
+/// The number of children of each node in a grammar's trees.
 #[derive(Drop)]
 struct Stored<'a> {
     grammar: &'a Grammar,
@@ -220,7 +223,7 @@ impl Arity for Stored<'_> {
     }
 }
 
-/// How many of some items have a place.
+/// Returns the number of items that are children.
 fn stored_among(items: &[Item]) -> u32
     requires { length items.now < 2 ^ 32 }
     ensures { result ≡ length (stored_items items.now) }
@@ -234,22 +237,24 @@ fn stored_among(items: &[Item]) -> u32
     count
 }
 
-/// Brings a tree file of version 1 over: reads the file of pass 0 of a tree of the grammar from the end
-/// of the first device, and leaves on the third one the file of version 2 and pass 0 of the same tree,
-/// the one that `parse` writes of a sentence with this tree. The second device has then the same
-/// records from right to left. Answers the number of stored nodes. It recurses over at most
-/// `MOST_LEVELS` levels, 256. The first device keeps its content, also on a
-/// refusal; on an answer what the others had is taken away.
+/// Converts a tree file of version 1. Reads the file of pass 0 of a tree of the grammar backward
+/// from the first device, and writes to the third one the file of version 2 and pass 0 of the same
+/// tree: the file that `parse` writes for a sentence with this tree. Writes the same records from
+/// right to left to the second device in between. Returns the number of stored nodes. The call
+/// recurses over at most `MOST_LEVELS` (256) levels. The first device always keeps its content.
+/// After a success the old content of the other two is lost.
 ///
-/// R1 Damaged where the content is the file of version 1 and pass 0 of no tree of the grammar, with the
-/// offset in it where that shows, as a pass tells it. P2 TooDeep where it is that of no tree of at most
-/// `MOST_LEVELS` levels (256), P3 TooManyNodes where it is that of none of at most `MOST_RECORDS` stored
-/// nodes (65,536). D1 Device where a call of a device failed. NoMemory where a growth was refused. What
-/// can't be read back of the second device, which an honest one never shows, is R1 with the offset in
-/// it, or P2. After a refusal the second and the third device have what they had, or a prefix of a file.
+/// Fails with R1 (`Damaged`) if the content is not the file of version 1 and pass 0 of a tree of
+/// the grammar; the offset is as for `run_pass`. Fails with P2 (`TooDeep`) if it encodes no tree
+/// of at most `MOST_LEVELS` (256) levels, and with P3 (`TooManyNodes`) if it encodes no tree of at
+/// most `MOST_RECORDS` (65,536) stored nodes. Fails with D1 (`Device`) if a call of a device
+/// failed, and with `NoMemory` if memory cannot be allocated. Fails with R1 and an offset in the
+/// content of the second device, or with P2, if that does not return the bytes written to it; an
+/// honest device does. After a failure the second and the third device have their old content, or a
+/// prefix of a file.
 ///
-/// Takes memory for two buffers, for the texts of the tokens of each node on the way, and for a body on
-/// each level.
+/// Allocates memory for two buffers, for the texts of the tokens of each node on the path, and for
+/// a body at each level.
 pub fn upgrade<D: Device, E: Device, F: Device>(
     alloc: Global,
     grammar: &Grammar,
@@ -257,21 +262,22 @@ pub fn upgrade<D: Device, E: Device, F: Device>(
     mid: &mut E,
     to: &mut F,
 ) -> Result<u32, RunFault>
-    // an answer: the tree is brought over, by way of its records from right to left
+    // on success the tree is converted, by way of its records from right to left
     ensures upgraded { IfOk result (λ count. WhenHonest (D.is_honest old.new)
         (WhenHonest (E.is_honest mid.new) (IsUpgraded grammar.now (D.content old.old)
         (E.content mid.new) (F.is_honest to.new) (F.content to.new) count))) }
-    // a refusal: what it says of the old content is true
+    // on failure the fault is true of the old content
     ensures refused { IfErr result (λ f. WhenHonest (D.is_honest old.new)
         (WhenHonest (E.is_honest mid.new) (IsUpgradeFault grammar.now (D.content old.old) f))) }
-    // what the third device had, or a beginning of a file of pass 0
+    // the content of the third device is unchanged, or a prefix of a file of pass 0
     ensures left { IfErr result (λ _. WhenHonest (F.is_honest to.new)
         (LeavesBeginning 0 (F.content to.old) (F.content to.new))) }
-    // what the second device had, or a prefix of a file with the number 1, also where it was brought over
+    // the content of the second device is unchanged, or a prefix of a file of pass 1, even on
+    // success
     ensures mid_left { WhenHonest (E.is_honest mid.new)
         (LeavesBeginning 1 (E.content mid.old) (E.content mid.new)) }
     ensures content { LeavesContent (D.is_honest old.new) (D.content old.old) (D.content old.new) }
-    // D1 only where the number of failures rose on one of the three
+    // D1 only if the number of failures rose on one of the three
     ensures devices { ThreeLast D.is_honest D.failures old.old old.new
         E.is_honest E.failures mid.old mid.new F.is_honest F.failures to.old to.new
         (IsErrOf result RunFault.Device) }
@@ -281,7 +287,7 @@ pub fn upgrade<D: Device, E: Device, F: Device>(
     Ok(count)
 }
 
-/// Puts the record of a node or token that was read from a file of version 1.
+/// Writes the record of a node or token that was read from a file of version 1.
 #[inline(always)]
 fn put_record<E: Device>(
     kind: Kind,

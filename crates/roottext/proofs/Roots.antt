@@ -63,15 +63,15 @@ out_pass g m a legal out =
 some_out : (g : Grammar) → IsAccepted g → (a : ℕ) × IsOut g a
 some_out g accepted = let start = accepted.start in (start.out.0, (start.symbol, start.declared, start.out.1))
 
--- a fault is the same, whatever would have been answered without it
+-- equal faults are equal as results of another type
 pub same_fault : {A B F : Type 0} (e f : F) → ◌≡◌ {A = Result A F} (Err e) (Err f) → ◌≡◌ {A = Result B F} (Err e) (Err f)
 same_fault e f is = let same : e ≡ f = cc in ap Err same
 
--- what was read of the start symbol into no values
+-- the values of the start symbol read into an empty row
 pub started : (c : Setting) (s p : ℕ) (body : List ℕ) (old new : List Value) → s ≡ c.grammar.start → old ≡ [] → IsNodeRead c s p body old new → IsNodeRead c c.grammar.start p body [] new
 started c s p body old new start empty read = subst (λ xs. IsNodeRead c c.grammar.start p body xs new) empty (subst (λ n. IsNodeRead c n p body old new) start read)
 
--- in a row that was read of the root's record the value of `out` is at its number
+-- in the row read from the root's record the value of `out` is at its number
 pub out_in_row : (g : Grammar) (rows : List (List ℕ)) (code : Lists) (last a p : ℕ) (body : List ℕ) (new : List Value) → IsPlan g rows code → IsGreatest last rows → IsOut g a → (read : IsNodeRead (setting_of g (rows, code) (last + 1)) g.start p body [] new) → slice_get new a ≡ Some (read.values a)
 out_in_row g rows code last a p body new plan greatest out read =
     let pass = out_pass g (passes_of rows) a plan.legal out in
@@ -83,14 +83,14 @@ out_in_row g rows code last a p body new plan greatest out read =
 pub out_within : (g : Grammar) (rows : List (List ℕ)) (code : Lists) (last a p : ℕ) (body : List ℕ) (new : List Value) → IsPlan g rows code → IsGreatest last rows → IsOut g a → IsNodeRead (setting_of g (rows, code) (last + 1)) g.start p body [] new → a < length new
 out_within g rows code last a p body new plan greatest out read = slice_get_within new a (read.values a) (out_in_row g rows code last a p body new plan greatest out read)
 
--- what was read is a record of the pass before
+-- the record that was read is one of the pass before
 record_of : (g : Grammar) (rows : List (List ℕ)) (code : Lists) (last p : ℕ) (body : List ℕ) (new : List Value) → (read : IsNodeRead (setting_of g (rows, code) (last + 1)) g.start p body [] new) → IsNodeRecord version_two g (passes_of rows) (last + 1 - 1) g.start body p read.production read.values
 record_of g rows code last p body new read =
     let c = setting_of g (rows, code) (last + 1) in
     let xs = stored_items read.production.items in
     record { production = read.there; left = read.left; well = λ i n e le. read.well i; copies = copies c (last + 1 - 1) xs read.table; are_copies = (copies_counted c (last + 1 - 1) xs read.table, copies_well c (last + 1 - 1) xs read.table read.table_well); stands = read.same }
 
--- what was read is the root's record, with the value at the number of `out`
+-- the record that was read is the root's, with the value at the number of `out`
 pub root_read : (g : Grammar) (rows : List (List ℕ)) (code : Lists) (last a p : ℕ) (body : List ℕ) (new : List Value) (x : Value) → IsPlan g rows code → IsGreatest last rows → IsOut g a → IsNodeRead (setting_of g (rows, code) (last + 1)) g.start p body [] new → x ≡ get_or new a x → IsRootRecord g rows body x
 root_read g rows code last a p body new x plan greatest out read is =
     let here = out_in_row g rows code last a p body new plan greatest out read in
@@ -110,7 +110,7 @@ root_read g rows code last a p body new x plan greatest out read is =
       value = same ∙ sym is;
     }
 
--- where no record of the start symbol was read, the body is not the root's
+-- if no record of the start symbol was read, the body is not the root's
 pub no_root : (g : Grammar) (rows : List (List ℕ)) (code : Lists) (last : ℕ) (body : List ℕ) → IsGreatest last rows → IsNoNode (setting_of g (rows, code) (last + 1)) g.start body → (x : Value) → IsRootRecord g rows body x → ⊥
 no_root g rows code last body greatest nothing x root =
     let m = passes_of rows in
@@ -165,7 +165,7 @@ tree_is_found g rows code last t v content accepted plan greatest fits is =
       record { body = tree.0; last = tree.3; root = record { last = last; greatest = greatest; number = tree.1; production = tree.2; values = v []; node = tree.4; attribute = out.0; out = out.1; value = refl } },
     )
 
--- What is found of any content tells the translation where it is the file of a tree.
+-- The result for any content is the translation if it is the file of a tree.
 pub found_tells_root : (g : Grammar) (rows : List (List ℕ)) (code : Lists) (content : List ℕ) (r : Result (List ℕ) OutFault) → IsAccepted g → IsPlan g rows code → FindsText g rows content r → TellsRoot g rows content r
 found_tells_root g rows code content (Ok text) accepted plan found last greatest t v fits is = found_is_translation g rows code last t v content (Text text) accepted plan greatest fits is found
 found_tells_root g rows code content (Err (out_fault.NoText x)) accepted plan found last greatest t v fits is = (found_is_translation g rows code last t v content x accepted plan greatest fits is found.0, found.1)
@@ -179,7 +179,7 @@ found_tells_root g rows code content (Err (out_fault.Damaged at)) accepted plan 
 found_tells_root g rows code content (Err out_fault.Device) accepted plan found last greatest t v fits is = tt
 found_tells_root g rows code content (Err out_fault.NoMemory) accepted plan found last greatest t v fits is = tt
 
--- Where a content gives no body, this is what is found of it,
+-- The fault if a content has no last body,
 pub body_refused : {A : Type 0} (g : Grammar) (rows : List (List ℕ)) (content : List ℕ) (view : A → List ℕ) (e : FrameFault) → Told view (Err e) (last_body_of version_two content) → FindsValue g rows content (Err e)
 body_refused g rows content view frame_fault.NotATreeFile told = told
 body_refused g rows content view (frame_fault.Damaged at) told = record {
@@ -190,7 +190,7 @@ body_refused g rows content view (frame_fault.Damaged at) told = record {
 body_refused g rows content view frame_fault.Device told = tt
 body_refused g rows content view frame_fault.NoMemory told = tt
 
--- and where its last body is not the root's record.
+-- and if its last body is not the root's record.
 pub no_root_at_end : (g : Grammar) (rows : List (List ℕ)) (content body : List ℕ) (at : ℕ) → at ≡ length content → last_body_of version_two content ≡ Ok body → ((x : Value) → IsRootRecord g rows body x → ⊥) → EndsWithNoRoot g rows content at
 no_root_at_end g rows content body at end last nothing = record {
   end = end;
@@ -198,7 +198,7 @@ no_root_at_end g rows content body at end last nothing = record {
   none = λ x found. let both : Ok found.body ≡ Ok body = sym found.last ∙ last in let same : found.body ≡ body = cc in nothing x (subst (λ b. IsRootRecord g rows b x) same found.root);
 }
 
--- a fault of reading says the same as the fault of the text
+-- a fault of reading has the same meaning as the fault of the text
 pub fault_found : (g : Grammar) (rows : List (List ℕ)) (content : List ℕ) (e : FrameFault) → FindsValue g rows content (Err e) → FindsText g rows content (Err (out_fault_of e))
 fault_found g rows content frame_fault.NotATreeFile found = found
 fault_found g rows content (frame_fault.Damaged at) found = found

@@ -1,4 +1,4 @@
--- What the last file tells of the translation, which is the value of the root's `out`. All of this is this project's.
+-- The translation in the last file, which is the value of the root's `out`. All of this is this project's.
 use Rattle.std.specs.Prelude.{ℕ, ◌≡◌, ◌≢◌, List, Result, Ok, Err, length}
 use Rattle.ag_value.specs.Well.{IsWell}
 use Rattle.ag_value.specs.declared.value.Value.{Value, Text}
@@ -36,14 +36,15 @@ pub record EndsWithRoot (g : Grammar) (rows : List (List ℕ)) (content : List �
   pub last : last_body_of version_two content ≡ Ok body
   pub root : IsRootRecord g rows body x
 
--- A content that begins as a tree file has no root's record at its end, which is the offset that is told.
+-- A content that begins as a tree file has no root's record at its end, which is the offset of the fault.
 pub record EndsWithNoRoot (g : Grammar) (rows : List (List ℕ)) (content : List ℕ) (at : ℕ) : Type 0 where
   pub end : at ≡ length content
   pub begins : last_body_of version_two content ≢ Err frame_fault.NotATreeFile
   pub none : (x : Value) → EndsWithRoot g rows content x → ⊥
 
--- What is found at the end of a content: the value of the root's `out`, B1 where it begins as no tree file, and B2 where it does but
--- has no root's record there. A failed device and want of memory say nothing.
+-- The meaning of the value found at the end of a content: the value of the root's `out`; B1 if the content
+-- does not begin as a tree file, and B2 if it does but has no root's record there. A device failure and
+-- NoMemory have no meaning.
 abbrev pub FindsValue : Grammar → List (List ℕ) → List ℕ → Result Value FrameFault → Type 0
 FindsValue g rows content (Ok x) = EndsWithRoot g rows content x
 FindsValue g rows content (Err frame_fault.NotATreeFile) = last_body_of version_two content ≡ Err frame_fault.NotATreeFile
@@ -51,15 +52,15 @@ FindsValue g rows content (Err (frame_fault.Damaged at)) = EndsWithNoRoot g rows
 FindsValue g rows content (Err frame_fault.Device) = Unit {0}
 FindsValue g rows content (Err frame_fault.NoMemory) = Unit {0}
 
--- a text is well as a value is: it is UTF-8, and has at most 1,048,571 bytes
+-- a text is a well value: it is UTF-8, and has at most 1,048,571 bytes
 abbrev pub IsWellText : List ℕ → Type 0
 IsWellText text = IsWell (Text text)
 
--- a value is no text
+-- a value is not a text
 abbrev pub IsNoText : Value → Type 0
 IsNoText x = (text : List ℕ) → x ≢ Text text
 
--- The same of the text that is answered: O1 has the value that is no text.
+-- The same for the returned text: O1 has the value that is not a text.
 abbrev pub FindsText : Grammar → List (List ℕ) → List ℕ → Result (List ℕ) OutFault → Type 0
 FindsText g rows content (Ok text) = FindsValue g rows content (Ok (Text text))
 FindsText g rows content (Err (out_fault.NoText x)) = FindsValue g rows content (Ok x) × IsNoText x
@@ -68,8 +69,8 @@ FindsText g rows content (Err (out_fault.Damaged at)) = FindsValue g rows conten
 FindsText g rows content (Err out_fault.Device) = Unit {0}
 FindsText g rows content (Err out_fault.NoMemory) = Unit {0}
 
--- What is answered of a tree with its values: the translation where that is a text, and O1 with it where it is none; the file is
--- not damaged. A failed device and want of memory say nothing.
+-- The result for a tree with its values: the translation if that is a text, else O1 with it; the file is not
+-- damaged. A device failure and NoMemory have no meaning.
 abbrev pub IsRootText : Grammar → Valuation → Result (List ℕ) OutFault → Type 0
 IsRootText g v (Ok text) = IsTranslation g v (Text text)
 IsRootText g v (Err (out_fault.NoText x)) = IsTranslation g v x × IsNoText x
@@ -78,6 +79,6 @@ IsRootText g v (Err (out_fault.Damaged at)) = ⊥
 IsRootText g v (Err out_fault.Device) = Unit {0}
 IsRootText g v (Err out_fault.NoMemory) = Unit {0}
 
--- so it is for each tree and values whose file of the last pass the content is
+-- this holds for each tree and values whose file of the last pass the content is
 abbrev pub TellsRoot : Grammar → List (List ℕ) → List ℕ → Result (List ℕ) OutFault → Type 0
 TellsRoot g rows content result = (last : ℕ) → IsGreatest last rows → (t : Tree) (v : Valuation) → IsTreeOf g t → IsFileOfTree version_two g (passes_of rows) last t v content → IsRootText g v result

@@ -1,4 +1,4 @@
-//! Why the last file gave no text.
+//! The reasons why the last file has no text.
 
 ghost use Rattle.std.specs.Prelude.{◌≡◌};
 ghost use Rattle.roottext.specs.Faults.{out_fault_of};
@@ -6,10 +6,10 @@ ghost use Rattle.roottext.specs.Faults.{out_fault_of};
 use ag_value::Value;
 use treefile::FrameFault;
 
-/// Why the last file gave no text.
+/// The reasons why the last file has no text.
 #[derive(Debug, Drop)]
 pub enum OutFault {
-    /// O1: the translation is this value, which is no text.
+    /// O1: the translation is this value, which is not a text.
     NoText(Value),
     /// B1: there are fewer than 6 bytes, or the first four are not `AGT2`.
     NotATreeFile,
@@ -18,7 +18,7 @@ pub enum OutFault {
     Damaged(u64),
     /// D1: a call of the device failed.
     Device,
-    /// A growth was refused.
+    /// The allocator refused memory.
     NoMemory,
 }
 

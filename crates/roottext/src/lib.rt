@@ -1,4 +1,4 @@
-//! The translation, taken out of the last file.
+//! Reading the translation from the last file.
 #![tactic(auto)]
 
 mod fault;

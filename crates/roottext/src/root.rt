@@ -1,4 +1,4 @@
-//! The translation, taken out of the last file.
+//! Reading the translation from the last file.
 
 ghost use Rattle.std.specs.Prelude.{◌≡◌, IfOk, IfSome, IsErrOf, None, Some, slice_get};
 ghost use Rattle.ag_value.specs.Well.{IsWell};
@@ -19,7 +19,7 @@ use planchecker::Plan;
 use std::alloc::Global;
 use treefile::{Device, FrameFault, last_body};
 
-/// The index of `out` among names.
+/// Returns the index of `out` among names.
 fn out_among(names: &[Text]) -> Option<usize>
     ensures some { IfSome result (λ a. slice_get names.now a ≡ Some out_name) }
     ensures none { result ≡ None → Has names.now out_name → ⊥ }
@@ -32,7 +32,7 @@ fn out_among(names: &[Text]) -> Option<usize>
     None
 }
 
-/// The number of the start symbol's `out`.
+/// Returns the number of the start symbol's `out`.
 fn out_number(grammar: &Grammar) -> usize
     ensures out { IsOut grammar.now result }
     ensures accepted { IsAccepted grammar.now }
@@ -90,14 +90,14 @@ fn out_value(
     ensures well { IfOk result IsWell }
 {
     let carried = read_out(alloc, grammar, plan, out, body)?;
-    // the only owner, so this takes no memory
+    // The value has one owner, so this takes no memory.
     let Ok(value) = carried.into_value(alloc) else {
         return Err(RecordFault::NoMemory);
     };
     Ok(value)
 }
 
-/// The value of the root's `out`, by its number, in the last file.
+/// Returns the value of the root's `out`, by its number, in the last file.
 fn last_value<D: Device>(
     alloc: Global,
     grammar: &Grammar,
@@ -126,18 +126,17 @@ fn last_value<D: Device>(
     }
 }
 
-/// The translation: the value of the root's `out`, where it is a text, in the file of the last pass
-/// that a device has. It is the last record of the file, and no other is read.
+/// Returns the translation: the value of the root's `out`, if it is a text, in the file of the last
+/// pass on a device. It is in the last record of the file; no other record is read.
 ///
-/// O1 NoText with the value where it is no text, as a number, a list, a table or an error. B1
-/// NotATreeFile where there are fewer than 6 bytes or the first four are not `AGT2`. Else B2
-/// Damaged, with the number of bytes as its offset, where no frame ends there, or where its body is
-/// not the record of a production of the start symbol with a well value for each attribute, behind
-/// these the copies of its children's, and nothing more. D1 Device where a call of the device failed. NoMemory where a growth was
-/// refused.
+/// Fails with O1 NoText and the value if it is a number, a list, a table or an error. Fails with B1
+/// NotATreeFile if there are fewer than 6 bytes or the first four are not `AGT2`; else with B2
+/// Damaged and the number of bytes as its offset, if no frame ends there, or if its body is not the
+/// record of a production of the start symbol with a well value for each attribute, then the copies
+/// of its children's, and no more bytes. Fails with D1 Device if a call of the device failed, and
+/// with NoMemory if memory was refused.
 ///
-/// The number of the pass in the header is not looked at. Takes memory for the record and for its
-/// values.
+/// The number of the pass in the header is ignored. Takes memory for the record and for its values.
 pub fn root_text<D: Device>(
     alloc: Global,
     grammar: &Grammar,
@@ -145,17 +144,17 @@ pub fn root_text<D: Device>(
     device: &mut D,
 ) -> Result<Text, OutFault>
     requires plan { IsPlan grammar.now plan.now.0 plan.now.1 }
-    // the text, O1, B1 and B2, exactly as the content has them
+    // The text, O1, B1 and B2 agree with the content.
     ensures found { WhenHonest (D.is_honest device.new)
         (FindsText grammar.now plan.now.0 (D.content device.old) result) }
-    // of a tree's file the translation, or O1 with it
+    // For the file of a tree: the translation, or O1 with it.
     ensures root { WhenHonest (D.is_honest device.new)
         (TellsRoot grammar.now plan.now.0 (D.content device.old) result) }
-    // whatever the device gives back
+    // on any device
     ensures well { IfOk result IsWellText }
     ensures content { LeavesContent (D.is_honest device.new)
         (D.content device.old) (D.content device.new) }
-    // D1 only where the number of failures rose
+    // D1 only if the number of failures rose
     ensures persists { Persists (D.is_honest device.old) (D.is_honest device.new)
         (D.failures device.old) (D.failures device.new) (IsErrOf result OutFault.Device) }
 {

@@ -1,4 +1,5 @@
-//! The tree of a file is evaluated: pass 1 runs from that file, and the others to and fro.
+//! Evaluating the tree of a file: pass 1 runs from that file, and the others alternate between the
+//! two devices.
 
 ghost use Rattle.std.specs.Prelude.{◌≡◌, IfErr, IfOk, IsErrOf};
 ghost use Rattle.aggen.specs.Building.{IsLeastPlan};
@@ -16,7 +17,7 @@ use planchecker::Plan;
 use std::alloc::Global;
 use treefile::Device;
 
-/// The other device.
+/// Returns the other device.
 fn other(last: Last) -> Last
     ensures { result ≡ other_last last }
 {
@@ -26,8 +27,8 @@ fn other(last: Last) -> Last
     }
 }
 
-/// All passes of the plan run over the tree whose file a device has: pass 1 from there to `b`, and
-/// the others to and fro between `b` and `a`.
+/// Runs all passes of the plan over the tree whose file a device has: pass 1 from there to `b`, and
+/// the others alternately from `b` to `a` and back.
 pub(crate) fn run_tree<T: Device, D: Device>(
     alloc: Global,
     translator: &Translator,

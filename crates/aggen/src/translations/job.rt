@@ -1,4 +1,4 @@
-//! A job is translated: its grammar makes a translator, which translates its sentence.
+//! Translating a job: its grammar makes a translator, which translates its sentence.
 
 ghost use Rattle.std.specs.Prelude.{◌≡◌, ◌≢◌, IfErr, IfOk, IsErrOf};
 ghost use Rattle.aggen.specs.Jobs.{IsBeforePasses, IsBeforeTrees, IsJobRefusal};
@@ -19,14 +19,14 @@ use std::alloc::Global;
 use std::io::{Read, Write};
 use treefile::Device;
 
-/// Translates a job: what a reader gives is the text of a grammar, the first line that is exactly
-/// `%%`, and a sentence. The grammar makes a translator, and that translates the sentence, by way of
-/// the devices `a` and `b`, as `Translator::translate` does.
+/// Translates a job. The bytes of the reader are the text of a grammar, the first line that is
+/// exactly `%%`, and a sentence. The grammar makes a translator, which translates the sentence by
+/// way of the devices `a` and `b`, as `Translator::translate` does.
 ///
-/// J2 where the reader fails; J3 above 2,097,156 bytes; J1 where no line is `%%`; then what
-/// `Translator::build` refuses the grammar for, before a device is touched, and what
-/// `Translator::translate` refuses the sentence for. On every refusal but O2 the writer is as
-/// before, and the devices are as `Translator::translate` leaves them.
+/// Fails with J2 if the reader fails, with J3 above 2,097,156 bytes, and with J1 if no line is
+/// `%%`; then as `Translator::build` does for the grammar, before a device is used, and as
+/// `Translator::translate` does for the sentence. After every fault except O2 the writer is
+/// unchanged, and the devices are as `Translator::translate` leaves them.
 #[tactic(auto, using(crate::proofs::Begun::begun))]
 pub fn run_job<R: Read + Drop, D: Device, W: Write>(
     alloc: Global,
@@ -35,22 +35,23 @@ pub fn run_job<R: Read + Drop, D: Device, W: Write>(
     a: &mut D,
     b: &mut D,
 ) -> Result<Report, Fault>
-    // the translation theorem, for the grammar and the sentence of the job
+    // The translation theorem, for the grammar and the sentence of the job
     ensures translates { IfOk result (λ report. TranslatesJob (R.remaining reader)
         (D.is_honest a.new) (D.is_honest b.new) (D.content a.new) (D.content b.new)
         (W.contents out.old) (W.contents out.new) report) }
 
-    // a refusal: what it says of the bytes, the grammar or the sentence is true
+    // Err: the fault is true of the bytes, the grammar or the sentence.
     ensures refused { IfErr result (λ e. IsJobRefusal (R.remaining reader)
         (D.is_honest a.new) (D.is_honest b.new)
         (W.contents out.old) (W.contents out.new) e) }
     ensures kept { IfErr result (λ e. e ≢ Fault.Write → out.new ≡ out.old) }
-    // O2, whatever the devices gave back
+    // O2, on any devices
     ensures begins { IsErrOf result Fault.Write →
         BeginsText (W.contents out.old) (W.contents out.new) }
     ensures untouched { IfErr result (λ e. IsBeforeTrees e → a.new ≡ a.old) }
     ensures b_untouched { IfErr result (λ e. IsBeforePasses e → b.new ≡ b.old) }
-    // each honest device has what it had, or a prefix of a tree file, whatever the other gives back
+    // An honest device has its old content, or a prefix of a tree file, whatever the other device
+    // is.
     ensures a_left { WhenHonest (D.is_honest a.new)
         (LeavesSomeFile (D.content a.old) (D.content a.new)) }
     ensures b_left { WhenHonest (D.is_honest b.new)
@@ -61,7 +62,7 @@ pub fn run_job<R: Read + Drop, D: Device, W: Write>(
     ensures files { IfErr result (λ e. IsAfterPasses e →
         LeavesLastFilesOfJob (R.remaining reader) (D.is_honest a.new) (D.is_honest b.new)
         (D.content a.new) (D.content b.new)) }
-    // D1 only where the number of failures rose on one of the two
+    // D1 only if the number of failures rose on one of the two
     ensures devices { BothLast D.is_honest D.failures a.old a.new
         D.is_honest D.failures b.old b.new (IsErrOf result Fault.Device) }
 {

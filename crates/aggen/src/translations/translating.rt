@@ -1,5 +1,5 @@
-//! A sentence is translated: its tree goes into a file, all passes run over it, and the text of the
-//! root is taken out of the last file.
+//! Translating a sentence: its tree is written to a file, all passes run over it, and the text of
+//! the root is read from the last file.
 
 ghost use Rattle.std.specs.Prelude.{◌≡◌, IfErr, IfOk, IsErrOf};
 ghost use Rattle.aggen.specs.Building.{IsLeastPlan};
@@ -24,7 +24,7 @@ use roottext::{OutFault, root_text};
 use std::alloc::Global;
 use treefile::Device;
 
-/// The tree of a sentence goes into `a`, and all passes of the plan run over it.
+/// Writes the tree of a sentence to `a`, and runs all passes of the plan over it.
 pub(crate) fn leave_files<D: Device>(
     alloc: Global,
     translator: &Translator,
@@ -62,7 +62,7 @@ pub(crate) fn leave_files<D: Device>(
     })
 }
 
-/// The text of the root, out of the file of the last pass.
+/// Returns the text of the root from the file of the last pass.
 pub(crate) fn last_text<D: Device>(
     alloc: Global,
     grammar: &Grammar,

@@ -21,14 +21,15 @@ use std::alloc::Global;
 use std::io::Write;
 use treefile::Device;
 
-/// Evaluates an expression without occurrences, puts its value as the one record of a tree file of
-/// pass 0 on the device, a token of number 0, reads the record back, and writes the text of the
-/// value that it read, and LF.
+/// Evaluates an expression without occurrences, writes its value to the device as the one record of
+/// a tree file of pass 0, a token with number 0, reads the record again, and writes the text of the
+/// value that it read, and LF, to `out`.
 ///
-/// The text is refused before the device is touched: X1 to X4 where it is no expression, X2 at its
-/// first `$` where it has occurrences. D1 Device where the device failed; B1 and B2 where it does
-/// not give back what was written. Only then is anything written: O2 Write where a write fails or
-/// takes no byte. After each refusal but X the device has what it had, or a prefix of the file.
+/// Fails before the device is used with X1 to X4 if the text is not an expression, and with X2 at
+/// its first `$` if it has occurrences. Fails with D1 Device if the device failed, and with B1 or
+/// B2 if it does not return the bytes that were written. The text is written after these; O2 Write
+/// if a write fails or takes no byte. After each fault except X the device has its old content, or
+/// a prefix of the file.
 pub fn show_value<D: Device, W: Write>(
     alloc: Global,
     text: &str,
@@ -38,32 +39,31 @@ pub fn show_value<D: Device, W: Write>(
     ensures shows { OnOk result (WhenHonest (D.is_honest device.new)
         (Shows text.now (W.contents out.old) (W.contents out.new) (D.content device.new))) }
 
-    // X exactly where no expression without occurrences is related to the text, and the device is
-    // untouched then
+    // X exactly if the text is not an expression without occurrences; the device is unchanged then
     ensures refused { IfErr result (λ e. IsExprFault e → HasNone text.now) }
     ensures only { HasNone text.now → IsErrAnd result IsTextFault }
     ensures untouched { IfErr result (λ e. IsExprFault e → device.new ≡ device.old) }
 
-    // what X1 to X4 tell is true, and for occurrences it is X2 at the first `$`
+    // X1 to X4 are true; for occurrences it is X2 at the first `$`
     ensures offsets { IfErr result (IsExplained text.now) }
     ensures occurs { (at : ℕ) → OccursAt text.now at → IsErrAnd result (IsUnexpectedAt at) }
 
-    // an honest device gives back what was written; D1 only where it failed
+    // An honest device returns the bytes that were written; D1 only if it failed.
     ensures undamaged { WhenHonest (D.is_honest device.new) (IfErr result (λ e. ¬ (IsDamage e))) }
     ensures persists { Persists (D.is_honest device.old) (D.is_honest device.new)
         (D.failures device.old) (D.failures device.new) (IsErrOf result Fault.Device) }
 
-    // what the device had, or a prefix of the file, maybe all of it
+    // The old content of the device, or a prefix of the file, possibly all of it
     ensures left { WhenHonest (D.is_honest device.new)
         (LeavesBeginning 0 (D.content device.old) (D.content device.new)) }
 
-    // nothing is written before all is known, and no refusal but O2 comes after something was
+    // Nothing is written before the line is complete, and only O2 is possible after a write.
     ensures kept { IfErr result (λ e. e ≢ Fault.Write → out.new ≡ out.old) }
     ensures write { IsErrOf result Fault.Write → WhenHonest (D.is_honest device.new)
         (ShowsBeginning text.now (W.contents out.old) (W.contents out.new)) }
     ensures kinds { IfErr result IsShowFault }
 
-    // whatever the device gives back, the line of some well value is written, or a beginning of it
+    // On any device, the line of some well value is written, or a prefix of it.
     ensures line { OnOk result (WritesLine (W.contents out.old) (W.contents out.new)) }
     ensures begins { IsErrOf result Fault.Write →
         BeginsLine (W.contents out.old) (W.contents out.new) }
@@ -76,8 +76,8 @@ pub fn show_value<D: Device, W: Write>(
     Ok(())
 }
 
-/// The value of an expression without occurrences. X1 to X4 where the text is none; X2 at its first
-/// `$` where it has occurrences.
+/// Returns the value of an expression without occurrences. Fails with X1 to X4 if the text is not
+/// an expression, and with X2 at its first `$` if it has occurrences.
 fn value_of(alloc: Global, text: &str) -> Result<Value, Fault>
     ensures value { IfOk result (λ value. HasValue text.now value) }
     ensures well { IfOk result (λ value. IsWell value) }
@@ -94,7 +94,7 @@ fn value_of(alloc: Global, text: &str) -> Result<Value, Fault>
     Ok(eval(alloc, &expr, &env, &mut meter)?)
 }
 
-/// The expression without occurrences that the text is.
+/// Returns the expression of a text without occurrences. Fails with X1 to X4.
 fn read_closed(alloc: Global, text: &str) -> Result<Expr, Fault>
     ensures reads { IfOk result (λ expr. ReadsAsExpr text.now expr) }
     ensures closed { IfOk result (λ expr. expr.1 ≡ []) }
@@ -110,7 +110,7 @@ fn read_closed(alloc: Global, text: &str) -> Result<Expr, Fault>
     }
 }
 
-/// The offset of the first occurrence in an expression.
+/// Returns the offset in bytes of the first occurrence in an expression.
 fn first_occurrence(expr: &Expr) -> Option<usize>
     ensures { result ≡ first_offset expr.now.1 }
 {
@@ -120,8 +120,7 @@ fn first_occurrence(expr: &Expr) -> Option<usize>
     }
 }
 
-/// The environment of an expression without occurrences: it lends a number, and nothing asks for
-/// it.
+/// The environment of an expression without occurrences: it lends a number, which is never used.
 #[derive(Drop)]
 struct Unasked {
     number: Value,

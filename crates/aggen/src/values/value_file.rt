@@ -1,4 +1,4 @@
-//! The tree file with one record that a value goes through.
+//! The tree file with one record for a value.
 
 ghost use Rattle.std.specs.Prelude.{◌≡◌, ◌+◌, ◌∷◌, ℕ, [], true, Ok, length, IfErr};
 ghost use Rattle.std.specs.Prelude.{IfOk, IsErrOf, MatchResult, OnOk};
@@ -15,8 +15,8 @@ use ag_value::{Value, ValueFault, decode};
 use std::alloc::Global;
 use treefile::{Device, Kind, Writer, last_body, split_body};
 
-/// Makes the device a tree file of pass 0 whose one record is a token of number 0 with this value.
-/// D1 Device where the device failed.
+/// Writes a tree file of pass 0 to the device, whose one record is a token with number 0 and this
+/// value. Fails with D1 Device if the device failed.
 pub fn write_file<D: Device>(alloc: Global, device: &mut D, value: Value) -> Result<(), Fault>
     requires { IsWell value }
     ensures ok { OnOk result
@@ -32,8 +32,9 @@ pub fn write_file<D: Device>(alloc: Global, device: &mut D, value: Value) -> Res
     Ok(())
 }
 
-/// The value in the last record of a tree file. B2 Damaged at the file's end where that record is
-/// no token of number 0 with exactly one value; B1, B2 and D1 as `last_body` answers them.
+/// Returns the value in the last record of a tree file. Fails with B2 Damaged at the file's end if
+/// that record is not a token with number 0 and exactly one value, and with B1, B2 or D1 as
+/// `last_body` does.
 pub fn read_file<D: Device>(alloc: Global, device: &mut D) -> Result<Value, Fault>
     ensures found { WhenHonest (D.is_honest device.new) (IfOk result
         (λ value. last_body_of version_two (D.content device.old)
@@ -55,7 +56,7 @@ pub fn read_file<D: Device>(alloc: Global, device: &mut D) -> Result<Value, Faul
     value_in(alloc, body.as_slice(), end)
 }
 
-/// The value in the body of the last record of a file that ends at an offset.
+/// Returns the value in the body of the last record of a file that ends at offset `end`.
 fn value_in(alloc: Global, body: &[u8], end: u64) -> Result<Value, Fault>
     ensures found { IfOk result (λ value. body.now ≡ body_of Kind.Token 0 (value ∷ [])) }
     ensures well { IfOk result (λ value. IsWell value) }

@@ -1,4 +1,4 @@
--- What is to come at each step.
+-- The children still to be read at each step.
 use Rattle.std.proofs.Common.{ℕ, suc, ◌≡◌, ◌<◌, ◌≤◌, true, List, [], ◌∷◌, ◌++◌, Option, Some, None, Result, Ok, Err, Bor, slice_get, length, refl, ap, ◌∙◌, sym, subst, arith}
 use Rattle.ag_value.specs.declared.value.Value.{Value}
 use Rattle.ag_grammar.specs.declared.grammar.Item.{Item}
@@ -24,7 +24,8 @@ use Rattle.treefile.proofs.ways.Backward.{damage_is_there, never_no_file}
 use Rattle.treefile.proofs.records.Fitting.{fits_version_two}
 use Rattle.treefile.proofs.records.Spelled.{one_token, same_node}
 use Rattle.backreader.specs.BackState.{BackState}
-use Rattle.planchecker.specs.courses.Settings.{Setting, arity, place, way}
+use Rattle.passcode.specs.Course.{arity, place_of}
+use Rattle.planchecker.specs.courses.Settings.{Setting, way}
 use Rattle.planchecker.specs.courses.Sound.{IsSound}
 use Rattle.passrun.specs.declared.run_fault.RunFault.{RunFault}
 use Rattle.passrun.specs.declared.run_fault.RunFault.TheVariants as fault
@@ -40,13 +41,14 @@ use Rattle.passrun.proofs.Recorded.{copies_counted, copies_well, mended, tabled}
 use Rattle.passrun.proofs.places.Slots.{copied_is}
 use Rattle.passrun.proofs.places.Tables.{same_values, text_row}
 
--- the children of what was read for an item
+-- The children of the record that was read for an item.
 abbrev pub children_read : (c : Setting) (x : Item) (p : ℕ) (body : List ℕ) (old new : List Value) → IsRead c x p body old new → List Child
 children_read c (item.Symbol s) p body old new h = told true c.grammar c.passes c.read (stored_items h.production.items) (copies c c.read (stored_items h.production.items) h.table)
 children_read c (item.Terminal (Class d)) p body old new h = []
 children_read c (item.Terminal (Literal l)) p body old new h = []
 
--- a record that was read is one of its item, and as the record of its parent told where it agrees with it
+-- A record that was read is one of its item, and matches the copy in its parent's record if it agrees with
+-- it.
 pub is_record : (c : Setting) (x : Item) (p : ℕ) (body : List ℕ) (old new : List Value) (h : IsRead c x p body old new) (copy : Option (List Value)) → IsAsTold copy (values_up_to c.read (copied_passes c x) (read_values c x p body old new h))
     → IsRecordOf version_two c.grammar c.passes c.read (x, copy) body (children_read c x p body old new h)
 is_record c (item.Symbol s) p body old new h copy as_told = (
@@ -67,7 +69,7 @@ is_record c (item.Symbol s) p body old new h copy as_told = (
 is_record c (item.Terminal (Class d)) p body old new h copy as_told = (h.1.text, h.1.fits, h.1.same, refl, subst (IsAsTold copy) (text_row c.read h.1.text) as_told)
 is_record c (item.Terminal (Literal l)) p body old new h copy as_told = elim h [ ]
 
--- a body that is no record with values that are all well is none at all
+-- A body that is not a record with well values is not a record.
 pub no_record : (c : Setting) (x : Item) (body : List ℕ) (copy : Option (List Value)) → IsNoRecord c x body → awaited.IsNoRecord version_two c.grammar c.passes c.read (x, copy) body
 no_record c (item.Symbol s) body copy none ys (p, q, e, is, same, as_told) =
     let own = mended c.read (c.passes s) e is.well in
@@ -79,12 +81,12 @@ no_record c (item.Symbol s) body copy none ys (p, q, e, is, same, as_told) =
 no_record c (item.Terminal (Class d)) body copy none ys (text, fits, is, same, as_told) = none text fits is
 no_record c (item.Terminal (Literal l)) body copy none ys h = elim h [ ]
 
--- the children that are to come at a node, one after the other
-pub behind_next : (c : Setting) (q : Production) (e : Table) (i level : ℕ) (others : ToCome) (x : Item) → i < arity q → item_at q (place (way c) (arity q) i) ≡ Some x
-    → behind c q e i level others ≡ (level, (x, Some (values_up_to c.read (copied_passes c x) (e (place (way c) (arity q) i))))) ∷ behind c q e (suc i) level others
+-- The children still to be read at a node, one after the other.
+pub behind_next : (c : Setting) (q : Production) (e : Table) (i level : ℕ) (others : ToCome) (x : Item) → i < arity q → item_at q (place_of q c.write i) ≡ Some x
+    → behind c q e i level others ≡ (level, (x, Some (values_up_to c.read (copied_passes c x) (e (place_of q c.write i))))) ∷ behind c q e (suc i) level others
 behind_next c q e i level others x within stands =
     let long = told_length c c.read (stored_items q.items) (copies c c.read (stored_items q.items) (in_children e)) in
-    let copy = values_up_to c.read (copied_passes c x) (e (place (way c) (arity q) i)) in
+    let copy = values_up_to c.read (copied_passes c x) (e (place_of q c.write i)) in
     let child = told_at c c.read (stored_items q.items) (in_children e) (nth (way c) (arity q) i) x stands in
     next_to_come (way c) level i (children_of c q e) (x, Some copy) others (omega arith) (subst (λ n. slice_get (children_of c q e) (nth (way c) n i) ≡ Some (x, Some copy)) (sym long) child)
 
@@ -93,7 +95,7 @@ behind_last c q e i level others full =
     let long = told_length c c.read (stored_items q.items) (copies c c.read (stored_items q.items) (in_children e)) in
     ap (λ n. behind c q e n level others) (full ∙ sym long) ∙ (all_to_come (way c) level (children_of c q e) others).1
 
--- they are the same where a table has the same copies of earlier passes
+-- They are the same for a table with the same copies of earlier passes.
 pub behind_same : (c : Setting) (q : Production) (e h : Table) (i level : ℕ) (others : ToCome) → copies c c.read (stored_items q.items) (in_children e) ≡ copies c c.read (stored_items q.items) (in_children h) → behind c q e i level others ≡ behind c q h i level others
 behind_same c q e h i level others same = ap (λ cs. before_others (way c) level (awaited.unvisited (way c) (told true c.grammar c.passes c.read (stored_items q.items) cs) i) others) same
 
@@ -101,13 +103,13 @@ module _ (c : Setting) (sound : IsSound c) where
   dir : way c ≡ other (direction_of c.read)
   dir = ap direction_of sound.next
 
-  -- all children of a node whose record was read
+  -- All children of a node whose record was read.
   pub of_node_is : (p : ℕ) (q : Production) (e : Table) (level : ℕ) (others : ToCome) → IsProduction c.grammar p q → of_node c (slice_get c.grammar.productions p) e level others ≡ before_others (other (direction_of c.read)) level (children_of c q e) others
   of_node_is p q e level others there =
       ap (λ o. of_node c o e level others) there ∙ ap (λ (xs : List Child). before_others (way c) level xs others) (all_to_come (way c) level (children_of c q e) others).0
       ∙ ap (λ d. before_others d level (children_of c q e) others) dir
 
-  -- a record that does not agree with what its parent's told is none of that child
+  -- A record that does not agree with the copy in its parent's record is not a record of that child.
   pub differs : (x : Item) (p : ℕ) (body : List ℕ) (old new : List Value) (h : IsRead c x p body old new) (f : ℕ → Value) → (AgreeAt c x f (read_values c x p body old new h) → ⊥)
       → awaited.IsNoRecord version_two c.grammar c.passes c.read (x, Some (values_up_to c.read (copied_passes c x) f)) body
   differs (item.Symbol s) p body old new h f apart ys (r, w, e, is, same, as_told) =
@@ -146,14 +148,14 @@ module _ (c : Setting) (sound : IsSound c) where
   unfetched x copy n content state todo fault.Device readable h count u = tt
   unfetched x copy n content state todo fault.NoMemory readable h count u = tt
 
-  -- a record that was read and does not agree breaks the way
+  -- A record that was read and does not agree is damage.
   pub disagreed : (x : Item) (p level : ℕ) (content body : List ℕ) (at : ℕ) (todo : ToCome) (old new : List Value) (h : IsRead c x p body old new) (f : ℕ → Value) → (AgreeAt c x f (read_values c x p body old new h) → ⊥) → IsReadable (source c) content
       → (here : ComesTo (source c) content at ((level, (x, Some (values_up_to c.read (copied_passes c x) f))) ∷ todo)) → level ≤ most_depth → length here.bodies < most_nodes → next_before version_two content at ≡ Ok (Some body) → IsDamaged (source c) content at
   disagreed x p level content body at todo old new h f apart readable here deep few found =
       let first : ToCome = (level, (x, Some (values_up_to c.read (copied_passes c x) f))) ∷ todo in
       broken (source c) (tellable c sound) content at readable (first, here, (deep, few), subst (awaited.Breaks version_two c.grammar c.passes c.read first) (sym found) (differs x p body old new h f apart))
 
--- no frame is found
+-- No frame was found.
 pub frame_unfetched : (c : Setting) (x : Item) (open_count : ℕ) (content : List ℕ) (state : BackState) (view : Option (Bor (List ℕ)) → Option (List ℕ)) (f : FrameFault) → open_count < most_depth → state.progress.records < most_nodes → Told view (Err f) (next_before version_two content state.progress.at) → IsUnfetched c x open_count content state (run_fault_of_frame f)
 frame_unfetched c x n content state view frame_fault.NotATreeFile deep few told = absurd (never_no_file version_two content state.progress.at told)
 frame_unfetched c x n content state view (frame_fault.Damaged at) deep few told = (damage_is_there version_two content state.progress.at at told, subst (IsMissing c x) (sym told) tt, deep, few)

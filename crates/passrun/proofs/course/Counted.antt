@@ -1,5 +1,6 @@
--- How many bodies were read and put, and how many rules were run.
-use Rattle.std.proofs.Common.{ℕ, suc, ◌≡◌, ◌+◌, ◌*◌, ◌<◌, ◌≤◌, List, [], ◌∷◌, Option, Some, None, slice_get, length, drop, refl, ap, ◌∙◌, arith, length-append}
+-- The number of bodies read and written, and of rules run.
+use Rattle.std.proofs.Common.{ℕ, suc, ◌≡◌, ◌+◌, ◌*◌, ◌<◌, ◌≤◌, List, [], ◌∷◌, Option, Some, None, slice_get, length, refl, ap, ◌∙◌, arith, length-append}
+use Rattle.std.proofs.lemmas.List.Sums.{count_by-le-length}
 use Rattle.ag_value.specs.declared.value.Value.{Value}
 use Rattle.ag_grammar.specs.declared.grammar.Production.{Production}
 use Rattle.ag_grammar.specs.declared.direction.Direction.{Direction}
@@ -8,24 +9,25 @@ use Rattle.ag_grammar.specs.grammars.AttributeGrammar.{Grammar, stored_items}
 use Rattle.ag_grammar.specs.grammars.Passes.{Passes}
 use Rattle.ag_grammar.specs.grammars.Solution.{Valuation, children}
 use Rattle.ag_grammar.specs.grammars.Tree.{Tree, Forest, leaf, node, none, more, node_count, node_counts}
-use Rattle.ag_grammar.specs.grammars.Counts.{pass_rule_count, rules_of_pass, totals}
+use Rattle.ag_grammar.specs.grammars.Counts.{is_of_pass, pass_rule_count, rules_of_pass, totals}
 use Rattle.treefile.specs.records.Orders.{postfix, postfix_all, prefix, prefix_all}
 use Rattle.treefile.specs.ways.Awaited.{ToCome}
 use Rattle.treefile.specs.records.Records.{bodies_of, bodies_of_all, node_body}
 use Rattle.treefile.specs.records.TreeFile.{version_two}
-use Rattle.passcode.specs.declared.instr.Instr.{Instr}
-use Rattle.passcode.specs.declared.instr.Instr.TheVariants as instr
-use Rattle.planchecker.specs.courses.Course.{Phase, Between, Got, Gone, after_get, Follows}
-use Rattle.planchecker.specs.courses.Settings.{Setting, arity, list_at, place, way}
+use Rattle.passcode.specs.declared.phase.Phase.{Phase}
+use Rattle.passcode.specs.declared.phase.Phase.TheVariants.{Between, Got, Gone, Ended}
+use Rattle.passcode.specs.Course.{State, place_of}
+use Rattle.planchecker.specs.courses.Settings.{Setting, way}
 use Rattle.planchecker.specs.courses.Sound.{IsSound}
+use Rattle.passassign.proofs.slots.Few.{few_rules}
 use Rattle.passrun.specs.declared.passing.open_node.OpenNode.{OpenNode}
-use Rattle.passrun.specs.passing.Passing.{Tapes, Awaits, IsCurrent, Passing, IsRootReady, Stays, below, met, put_of}
+use Rattle.passrun.specs.passing.Passing.{Tapes, Awaits, IsCurrent, Passing, IsRootReady, Stays, below, met, put_of, rules_at, state_of}
 use Rattle.passrun.specs.passing.Places.{Table, copies, in_children}
 use Rattle.treefile.proofs.records.Orders.{length-postfix, length-postfix_all, length-prefix_all}
 use Rattle.treefile.proofs.records.Records.{bodies_count, bodies_counts}
 use Rattle.passrun.proofs.course.Finish.{count_of}
 
--- a body is read for each node, and one is put
+-- One body is read and one is written for each node.
 count_of_all : (d : Direction) (g : Grammar) (m : Passes) (k : ℕ) (ts : Forest) (vs : ℕ → Valuation) → length (prefix_all d (bodies_of_all version_two g m k ts vs)) ≡ node_counts ts
 count_of_all d g m k ts vs = length-prefix_all d (bodies_of_all version_two g m k ts vs) ∙ bodies_counts version_two g m k ts vs
 
@@ -35,45 +37,15 @@ post_of d g m k t v = length-postfix d (bodies_of version_two g m k t v) ∙ bod
 post_of_all : (d : Direction) (g : Grammar) (m : Passes) (k : ℕ) (ts : Forest) (vs : ℕ → Valuation) → length (postfix_all d (bodies_of_all version_two g m k ts vs)) ≡ node_counts ts
 post_of_all d g m k ts vs = length-postfix_all d (bodies_of_all version_two g m k ts vs) ∙ bodies_counts version_two g m k ts vs
 
--- the list of a tree without its root's body has one body fewer
+-- The list of a tree without its root's body has one body fewer.
 below_count : (d : Direction) (g : Grammar) (m : Passes) (k : ℕ) (t : Tree) (v : Valuation) → suc (length (below d (bodies_of version_two g m k t v))) ≡ node_count t
 below_count d g m k (leaf c x) v = refl
 below_count d g m k (node p ts) v = ap suc (post_of_all d g m k ts (children v))
 
--- each rule of the pass is run on the way to the end
-abbrev FewRules : Setting → Production → List ℕ → Type 0
-FewRules c q done = (length done ≤ pass_rule_count c.passes c.write (Some q)) × (length done ≤ most_rules → pass_rule_count c.passes c.write (Some q) ≤ most_rules)
-
-one_more : (c : Setting) (q : Production) (r : ℕ) (done : List ℕ) → length done < most_rules → FewRules c q (r ∷ done) → FewRules c q done
-one_more c q r done few on = let m = on.0 in (omega arith, λ h. on.1 (omega arith))
-
-few_rules : (c : Setting) (q : Production) (ph : Phase) (i : ℕ) (done : List ℕ) (xs : List Instr) → Follows c q ph i done xs → FewRules c q done
-few_rules c q Between i done [] h = elim h [ ]
-few_rules c q Got i done [] h = elim h [ ]
-few_rules c q Gone i done [] h = elim h [ ]
-few_rules c q Between i done (instr.Get j ∷ xs) h = few_rules c q (after_get h.2) i done xs h.4
-few_rules c q Got i done (instr.Get j ∷ xs) h = elim h [ ]
-few_rules c q Gone i done (instr.Get j ∷ xs) h = elim h [ ]
-few_rules c q Between i done (instr.Go j ∷ xs) h = elim h [ ]
-few_rules c q Got i done (instr.Go j ∷ xs) h = few_rules c q Gone i done xs h.4
-few_rules c q Gone i done (instr.Go j ∷ xs) h = elim h [ ]
-few_rules c q Between i done (instr.Put j ∷ xs) h = elim h [ ]
-few_rules c q Got i done (instr.Put j ∷ xs) h = elim h [ ]
-few_rules c q Gone i done (instr.Put j ∷ xs) h = few_rules c q Between (suc i) done xs h.2
-few_rules c q Between i done (instr.Set j a r ∷ xs) h = elim h [ ]
-few_rules c q Got i done (instr.Set j a r ∷ xs) h = one_more c q r done h.2.few (few_rules c q Got i (r ∷ done) xs h.3)
-few_rules c q Gone i done (instr.Set j a r ∷ xs) h = elim h [ ]
-few_rules c q Between i done (instr.Def a r ∷ xs) h = one_more c q r done h.0.few (few_rules c q Between i (r ∷ done) xs h.1)
-few_rules c q Got i done (instr.Def a r ∷ xs) h = one_more c q r done h.0.few (few_rules c q Got i (r ∷ done) xs h.1)
-few_rules c q Gone i done (instr.Def a r ∷ xs) h = one_more c q r done h.0.few (few_rules c q Gone i (r ∷ done) xs h.1)
-few_rules c q Between i done (instr.End ∷ xs) h = let n = h.1.counted in (omega arith, λ few. omega arith)
-few_rules c q Got i done (instr.End ∷ xs) h = elim h [ ]
-few_rules c q Gone i done (instr.End ∷ xs) h = elim h [ ]
-
 module _ (c : Setting) (sound : IsSound c) where
   few_of : (p : ℕ) (o : Option Production) → slice_get c.grammar.productions p ≡ o → pass_rule_count c.passes c.write o ≤ most_rules
   few_of p None e = omega arith
-  few_of p (Some q) e = (few_rules c q Between 0 [] (list_at c p) (sound.course p q e)).1 (omega arith)
+  few_of p (Some q) e = omega (arith, few_rules c.grammar sound.accepted p q e, count_by-le-length (is_of_pass c.passes c.write q) q.rules)
 
   mutual
     pub rules_bound : (t : Tree) → rules_of_pass c.passes c.write c.grammar t ≤ 65536 * node_count t
@@ -90,23 +62,21 @@ module _ (c : Setting) (sound : IsSound c) where
         let b = rules_bound_all ts in
         omega arith
 
-  -- behind the visited children of a node that was met
-  stays_counted : (s : ℕ) (f : ℕ → Value) (level : ℕ) (x : OpenNode) (q : Production) (ph next : Phase) (i : ℕ) (done : List ℕ) (e : Table) (ts : Forest) (ws : ℕ → Valuation) (old new : Tapes) (before now opened : ℕ)
-      → Stays c s f level x q ph next i done e ts ws old new before now
+  -- The counts after the visited children of a node whose record was read.
+  stays_counted : (s : ℕ) (f : ℕ → Value) (level p : ℕ) (q : Production) (state : State) (e : Table) (ts : Forest) (ws : ℕ → Valuation) (old new : Tapes) (before opened : ℕ)
+      → Stays c s f level p q state e ts ws old new
       → length old.put + opened ≡ length old.read → before ≤ 65536 * length old.read
-      → (length new.put + suc opened ≡ length new.read) × (now ≤ 65536 * length new.read)
-  stays_counted s f level x q ph next i done e ts ws old new before now opened stays balanced few =
+      → (length new.put + suc opened ≡ length new.read) × (before + rules_at c q ts ≤ 65536 * length new.read)
+  stays_counted s f level p q state e ts ws old new before opened stays balanced few =
       let pre = count_of_all (way c) c.grammar c.passes c.read ts ws in
       let post = post_of_all (way c) c.grammar c.passes c.write ts ws in
       let a = ap length stays.visits.read in
-      let b = length-append (met c x.production f (copies c c.read (stored_items q.items) (in_children e)) old).read (prefix_all (way c) (bodies_of_all version_two c.grammar c.passes c.read ts ws)) in
-      let d = length-append old.read (node_body version_two c.grammar c.passes c.read x.production f (copies c c.read (stored_items q.items) (in_children e)) ∷ []) in
+      let b = length-append (met c p f (copies c c.read (stored_items q.items) (in_children e)) old).read (prefix_all (way c) (bodies_of_all version_two c.grammar c.passes c.read ts ws)) in
+      let d = length-append old.read (node_body version_two c.grammar c.passes c.read p f (copies c c.read (stored_items q.items) (in_children e)) ∷ []) in
       let e' = ap length stays.visits.put in
       let f' = length-append old.put (postfix_all (way c) (bodies_of_all version_two c.grammar c.passes c.write ts ws)) in
       let rules = rules_bound_all ts in
-      let own = (few_rules c q next i done (drop x.at (list_at c x.production)) stays.follows).0 in
-      let most = few_of x.production (Some q) stays.there in
-      let n = stays.counted in
+      let most = few_of p (Some q) stays.there in
       (omega arith, omega arith)
 
   waits_counted : (root : ℕ) (xs : List OpenNode) (s p : ℕ) (f : ℕ → Value) (under : List Value) (old : Tapes) (before : ℕ) (others : ToCome) → Awaits c root xs s p f under old before others → (length old.put + length xs ≡ length old.read) × (before ≤ 65536 * length old.read)
@@ -117,7 +87,10 @@ module _ (c : Setting) (sound : IsSound c) where
       (omega arith, omega arith)
   waits_counted root (x ∷ xs) s p f under old before others (s', f', under', old', before', others', waits, z) =
       let h = waits_counted root xs s' x.production f' under' old' before' others' waits in
-      stays_counted s' f' (suc (length xs)) x z.production Got Gone z.i z.done z.table z.trees z.values old' old before' before (length xs) z.stays h.0 h.1
+      let k = stays_counted s' f' (suc (length xs)) x.production z.production (state_of Got z.i z.done) z.table z.trees z.values old' old before' (length xs) z.stays h.0 h.1 in
+      let n = z.counted in
+      let m = k.1 in
+      (k.0, omega arith)
 
   current_counted : (q : Production) (ph : Phase) (i level p : ℕ) (e of_child : Table) (row : List Value) (old new : Tapes) (count : ℕ) → IsCurrent c q ph i level p e of_child row old new count → (length new.put + length old.read ≤ length new.read + length old.put) × (count + 65536 * length old.read ≤ 65536 * length new.read)
   current_counted q Between i level p e of_child row old new count h =
@@ -125,8 +98,9 @@ module _ (c : Setting) (sound : IsSound c) where
       let b = ap (λ z. length z.read) h.0 in
       let n = h.1 in
       (omega arith, omega arith)
+  current_counted q Ended i level p e of_child row old new count h = absurd h
   current_counted q Got i level p e of_child row old new count h =
-      let body = node_body version_two c.grammar c.passes c.read p (e (place (way c) (arity q) i)) (copies c c.read (stored_items h.0.production.items) (in_children of_child)) in
+      let body = node_body version_two c.grammar c.passes c.read p (e (place_of q c.write i)) (copies c c.read (stored_items h.0.production.items) (in_children of_child)) in
       let a = ap (λ z. length z.put) h.0.tapes in
       let b = ap (λ z. length z.read) h.0.tapes in
       let d = length-append old.read (body ∷ []) in
@@ -149,11 +123,12 @@ module _ (c : Setting) (sound : IsSound c) where
       put_few (leaf d text) w = omega arith
       put_few (node p ts) w = let n = post_of (way c) c.grammar c.passes c.write (node p ts) w in omega arith
 
-  -- while nodes are open, fewer bodies were put than read, and no more rules run than the bodies that were read allow
+  -- While nodes are open, fewer bodies were written than read, and no more rules were run than the bodies
+  -- that were read allow.
   pub passing_counted : (root : ℕ) (x : OpenNode) (xs : List OpenNode) (values : List Value) (t : Tapes) (now : ℕ) (todo : ToCome) → Passing c root (x ∷ xs) values t now todo → (length t.put < length t.read) × (now ≤ 65536 * length t.read)
   passing_counted root x xs values t now todo (s, f, under, old, before, others, waits, ph, o) =
       let h = waits_counted root xs s x.production f under old before others waits in
-      let m = stays_counted s f (suc (length xs)) x o.production ph ph o.i o.done o.table o.trees o.valuations old o.mid before o.sofar (length xs) o.stays h.0 h.1 in
+      let m = stays_counted s f (suc (length xs)) x.production o.production (state_of ph o.i o.done) o.table o.trees o.valuations old o.mid before (length xs) o.stays h.0 h.1 in
       let k = current_counted o.production ph o.i (suc (length xs)) x.child o.table o.of_child o.row o.mid t o.count o.current in
       let n = o.counted in
       let a = m.0 in

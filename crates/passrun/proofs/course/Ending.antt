@@ -1,4 +1,4 @@
--- How a pass begins, and how it ends.
+-- The beginning and the end of a pass.
 use Rattle.std.specs.Global.{Vec}
 use Rattle.std.specs.Option.{option_map}
 use Rattle.std.proofs.Common.{ℕ, ◌≡◌, ◌+◌, ◌-◌, ◌^◌, ◌<◌, ◌≤◌, Bool, true, false, List, [], ◌∷◌, ◌++◌, Option, Some, None, Result, Ok, All, length, reverse, is_some, Bor, refl, ap, ◌∙◌, sym, subst, arith, append-nil}
@@ -22,7 +22,7 @@ use Rattle.treefile.proofs.ways.Backward.{none_at_header}
 use Rattle.treefile.proofs.records.Values.{values_well}
 use Rattle.backreader.specs.BackState.{HasRead, BackState, IsOver, lent_body, progress_after}
 use Rattle.backreader.proofs.Standing.{all_bytes}
-use Rattle.planchecker.specs.courses.Course.{Between}
+use Rattle.passcode.specs.declared.phase.Phase.TheVariants.{Between}
 use Rattle.planchecker.specs.courses.Settings.{Setting}
 use Rattle.planchecker.specs.courses.Sound.{IsSound}
 use Rattle.passrun.specs.declared.passing.machine.Machine.{Machine}
@@ -46,12 +46,12 @@ use Rattle.passrun.proofs.steps.Steps.{opened}
 abbrev empty : Tapes
 empty = record { read = []; put = [] }
 
--- nothing was lent
+-- No body was returned.
 pub none_lent : (found : Option (Bor (List ℕ))) → is_some found ≡ false → option_map (λ (b : Bor (List ℕ)). b.now) found ≡ None
 none_lent (Some body) e = absurd cc
 none_lent None e = refl
 
--- and the reader is where it was
+-- The reader's position did not change.
 pub reader_kept : (honest : Bool) (content : List ℕ) (old now : BackState) (answer : Result (Option (Bor (List ℕ))) FrameFault) (found : Option (Bor (List ℕ))) → HasRead honest content old (lent_body (λ (b : Bor (List ℕ)). b.now) answer) now → answer ≡ Ok found → is_some found ≡ false → now.progress ≡ old.progress
 reader_kept honest content old now answer found h was none = h.progress ∙ ap (λ z. progress_after old.progress (lent_body (λ (b : Bor (List ℕ)). b.now) z)) was ∙ ap (λ z. progress_after old.progress (Ok z)) (none_lent found none)
 
@@ -118,7 +118,7 @@ module _ (c : Setting) (sound : IsSound c) where
       let w = r.running.written in
       (h.few, r.running.well, omega arith, r.running.whole)
 
-  -- as many records were put as read
+  -- The number of records written is the number of records read.
   pub as_many : (honest : Bool) (content : List ℕ) (to_honest : Bool) (to : List ℕ) (m : Machine) → RunsBetween c honest content to_honest to m None → (m.writer.written + 1 ≡ m.back.progress.records) × (m.back.progress.records ≤ most_nodes)
   as_many honest content to_honest to m (meter, r) =
       let k = ready_counted c sound m.root m.values.items r.running.tapes (meter - m.begun) r.running.todo r.running.passing in

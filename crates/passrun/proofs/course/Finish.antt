@@ -1,4 +1,4 @@
--- What a pass has done when its root is put and nothing is left to read.
+-- The result of a pass whose root is written and which has no frame left to read.
 use Rattle.std.specs.List.{flat_map}
 use Rattle.std.proofs.Common.{ℕ, ◌≡◌, ◌≤◌, List, [], ◌∷◌, ◌++◌, None, Ok, length, reverse, true, refl, ap, ◌∙◌, sym, arith}
 use Rattle.std.proofs.lemmas.List.{reverse-reverse}
@@ -23,14 +23,14 @@ use Rattle.passrun.specs.Passed.{IsPassed}
 use Rattle.treefile.specs.ways.Awaited.{ToCome}
 use Rattle.passrun.specs.passing.Passing.{Tapes, IsRootReady, below, root_body}
 
--- a body is read for each node
+-- One body is read for each node.
 pub count_of : (d : Direction) (g : Grammar) (m : Passes) (k : ℕ) (t : Tree) (v : Valuation) → length (prefix d (bodies_of version_two g m k t v)) ≡ node_count t
 count_of d g m k t v = length-prefix d (bodies_of version_two g m k t v) ∙ bodies_count version_two g m k t v
 
 whole : (d : Direction) (b : BodyTree) → below d b ++ root_body b ∷ [] ≡ postfix d b
 whole d (branch body ts) = refl
 
--- the pass is done
+-- The pass is done.
 pub finished : (c : Setting) → IsSound c → (root : ℕ) (content to : List ℕ) (values : List Value) (tapes : Tapes) (place count evals : ℕ) (body : List ℕ) (todo : ToCome)
     → (ready : IsRootReady c root values tapes evals todo) → body ≡ root_body (bodies_of version_two c.grammar c.passes c.write ready.tree ready.valuation)
     → IsBytes content → is_tree_file version_two content ≡ true → pass_of content ≡ c.read

@@ -1,4 +1,4 @@
--- The trees of the children that were visited, one more at a time.
+-- The trees of the visited children, extended by one tree at a time.
 use Rattle.std.proofs.Common.{ℕ, zero, suc, ◌≡◌, ◌+◌, ◌-◌, ◌<◌, ◌≤◌, List, [], ◌∷◌, ◌++◌, Some, slice_get, length, take, drop, get_or, refl, ap, ◌∙◌, sym, subst, arith, append_assoc, append-nil, length-take, inl, inr}
 use Rattle.std.proofs.lemmas.List.{take_more, take_all, drop_all}
 use Rattle.std.proofs.lemmas.Option.{get_or_from_slice_get}
@@ -17,10 +17,10 @@ use Rattle.ag_grammar.specs.grammars.Counts.{pass_rule_count, rules_of_pass, tot
 use Rattle.treefile.specs.records.Orders.{prefix, prefix_all, postfix, postfix_all}
 use Rattle.treefile.specs.records.Records.{bodies_of, bodies_of_all}
 use Rattle.treefile.specs.records.TreeFile.{version_two}
-use Rattle.planchecker.specs.courses.Settings.{Setting, place}
+use Rattle.planchecker.specs.courses.Settings.{Setting}
 use Rattle.passrun.specs.passing.Places.{Table, visited, Roots}
 
--- a tree more at the end
+-- A forest with one more tree at the end.
 abbrev pub snoc : Forest → Tree → Forest
 snoc none t = more t none
 snoc (more s ts) t = more s (snoc ts t)
@@ -34,7 +34,7 @@ abbrev pub cons_values : Valuation → (ℕ → Valuation) → ℕ → Valuation
 cons_values w ws zero = w
 cons_values w ws (suc i) = ws i
 
--- a tree more, at the end that the direction visits
+-- A forest with one more tree, at the end that the direction visits next.
 abbrev pub add_tree : Direction → Forest → Tree → Forest
 add_tree LeftToRight ts t = snoc ts t
 add_tree RightToLeft ts t = more t ts
@@ -134,7 +134,7 @@ snoc_new none ws w i h = refl
 snoc_new (more s ts) ws w zero h = absurd (omega arith)
 snoc_new (more s ts) ws w (suc i) h = snoc_new ts (rest ws) w i (omega arith)
 
-pub roots_add : (d : Direction) (g : Grammar) (xs : List Item) (i : ℕ) (ts : Forest) (ws : ℕ → Valuation) (w : Valuation) (e : Table) → i < length xs → FitsAll g (visited d xs i) ts → Roots d (length xs) i ws e → ((a : ℕ) → w [] a ≡ e (place d (length xs) i) a) → Roots d (length xs) (suc i) (add_values d ts ws w) e
+pub roots_add : (d : Direction) (g : Grammar) (xs : List Item) (i : ℕ) (ts : Forest) (ws : ℕ → Valuation) (w : Valuation) (e : Table) → i < length xs → FitsAll g (visited d xs i) ts → Roots d (length xs) i ws e → ((a : ℕ) → w [] a ≡ e (suc (nth d (length xs) i)) a) → Roots d (length xs) (suc i) (add_values d ts ws w) e
 roots_add LeftToRight g xs i ts ws w e h f roots here b a l =
     let n : size ts ≡ i = fits_size g (take i xs) ts f ∙ length-take i xs ∙ omega arith in
     elim (cases_lt b i) [

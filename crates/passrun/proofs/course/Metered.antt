@@ -1,4 +1,4 @@
--- A pass that is done has run no more rules than its records allow, whatever the devices gave back.
+-- A finished pass ran no more rules than its records allow, for any devices.
 use Rattle.std.proofs.Common.{ℕ, ◌+◌, ◌^◌, ◌≤◌, Bool, List, None, Result, Ok, Err, length, ap, arith}
 use Rattle.std.specs.Prelude.{IfErr, OnErr, OnOk}
 use Rattle.planchecker.specs.courses.Settings.{Setting, way}

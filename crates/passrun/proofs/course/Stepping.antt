@@ -1,4 +1,4 @@
--- One pass more, to and fro between two devices.
+-- One more pass, alternating between two devices.
 use Rattle.std.proofs.Common.{◌≡◌, ℕ, suc, ◌+◌, ◌-◌, ◌<◌, ◌≤◌, Bool, inl, inr, List, Result, Ok, Err, refl, sym, subst, ◌∙◌, arith}
 use Rattle.std.specs.Prelude.{IfErr, IfOk, OnErr, OnOk}
 use Rattle.std.proofs.lemmas.Bool.{cases_lt}
@@ -25,7 +25,7 @@ use Rattle.passrun.specs.Laws.{CountsPass}
 use Rattle.passrun.specs.Rounds.{CountsPasses, HasRunAll, HoldsTree, IsPassedOn, LeavesSomeFile, last_content, one_more, other_content, other_last}
 use Rattle.passrun.proofs.Telling.{passes_are_told, refused_back}
 
--- from which of two devices the pass ran
+-- The device from which the pass ran.
 module _ (c : Setting) (a b : List ℕ) where
   pub passed_from_a : (a_new b_new : List ℕ) (evals : ℕ) (last : Last) → last ≡ A → (result : Result Passed RunFault) → IfOk result (λ p. IsPassed c a b_new p.nodes evals) → a_new ≡ a → IfOk result (λ p. IsPassedOn c last a b a_new b_new p.nodes evals)
   passed_from_a a_new b_new evals last is (Ok p) passed kept =
@@ -47,7 +47,7 @@ module _ (c : Setting) (a b : List ℕ) where
   refused_from_b honest other last is (Ok p) refused = tt
   refused_from_b honest other last is (Err f) refused = λ o h. subst (λ (l : Last). IsRunFault c (last_content l a b) f) (sym is) (refused h)
 
--- the device that has the last file is then the other one
+-- After the pass, the other device has the last file.
 turned_last : (which : Last) (a b : List ℕ) → last_content (other_last which) a b ≡ other_content which a b
 turned_last A a b = refl
 turned_last B a b = refl
@@ -96,7 +96,7 @@ all_starts g m k n a b evals same fresh =
     } in
     subst (λ e. HasRunAll g m k n a A a b e (record { nodes = 0; read = 0; written = 0 })) (sym fresh) (subst (λ n. HasRunAll g m k n a A a b 0 (record { nodes = 0; read = 0; written = 0 })) (sym same) whole)
 
--- behind `last` passes one more ran, pass n, from the device with the last file to the other
+-- After `last` passes one more ran, pass n, from the device with the last file to the other.
 module _ (g : Grammar) (plan : List (List ℕ) × Lists) (k last n : ℕ) (start a b a_new b_new : List ℕ) (which : Last) (evals more : ℕ) (sum passed : Passed) (accepted : IsAccepted g) (legal : IsLegal g (passes_of plan.0)) (le : k ≤ last) (is : n ≡ suc last) (before : HasRunAll g (passes_of plan.0) k last start which a b evals sum)
     (step : IsPassedOn (setting_of g plan n) which a b a_new b_new passed.nodes more) (read : passed.read ≡ passed.nodes) (written : passed.written ≡ passed.nodes) where
   told : RunsPass version_two g (passes_of plan.0) last (last_content which a b) (other_content which a_new b_new) × CountsPass g (passes_of plan.0) last (last_content which a b) passed.nodes more
@@ -158,7 +158,7 @@ greatest_most rows a b f h = elim f.there [
   | inr at ↦ h.most at.1.0 at.0 at.1.1 at.2.0 a at.2.1
 ]
 
--- a device that nothing was done to, and one on which something more was done
+-- A device that was not used persists, and persisting is transitive.
 pub persists_still : (honest : Bool) (failures : ℕ) → Persists honest honest failures failures ⊥
 persists_still honest failures = record { honest = λ h. h; kept = omega arith; bounded = λ few. few; cause = λ f. absurd f }
 
@@ -168,22 +168,22 @@ persists_on h0 h1 h2 f0 f1 f2 old new =
     let b = new.kept in
     record { honest = λ h. old.honest (new.honest h); kept = omega arith; bounded = λ few. new.bounded (old.bounded few); cause = λ f. absurd f }
 
--- a failure that has risen since a later moment has risen since an earlier one
+-- A failure that occurred after a later moment occurred after an earlier one.
 pub risen_since : (before now later : ℕ) → before ≤ now → HasRisen now later → HasRisen before later
 risen_since before now later le (inl less) = inl (omega arith)
 risen_since before now later le (inr full) = inr full
 
--- a pass leaves its file, a prefix of it, or what was there
+-- A pass leaves its file, a prefix of it, or the old content.
 pub some_left : (pass : ℕ) (honest : Bool) (old new : List ℕ) (r : Result Passed RunFault) → OnOk r (WhenHonest honest (BeginsFile pass new)) → OnErr r (WhenHonest honest (LeavesBeginning pass old new)) → WhenHonest honest (LeavesSomeFile old new)
 some_left pass honest old new (Ok p) begun left h = (pass, inr (begun h))
 some_left pass honest old new (Err f) begun left h = (pass, left h)
 
--- what one pass leaves, and then the next
+-- The content after one pass, and then the next.
 pub left_again : (old between new : List ℕ) → LeavesSomeFile old between → LeavesSomeFile between new → LeavesSomeFile old new
 left_again old between new first (pass, inl same) = subst (LeavesSomeFile old) (sym same) first
 left_again old between new first (pass, inr begun) = (pass, inr begun)
 
--- what a refusal leaves leads to something else that it leaves
+-- What holds after a failure implies something else.
 pub err_more : (P Q : Type 0) (r : Result Passed RunFault) → (P → Q) → OnErr r P → OnErr r Q
 err_more P Q (Ok p) go h = h
 err_more P Q (Err f) go h = go h

@@ -1,4 +1,4 @@
--- Each instruction makes the work less that is left.
+-- Each instruction reduces the remaining work.
 use Rattle.std.specs.Global.{Vec}
 use Rattle.std.specs.Option.{option_to_list}
 use Rattle.std.specs.Prelude.{slice_index_or}
@@ -23,12 +23,13 @@ use Rattle.passrun.specs.passing.Running.{GivesNext, RunsSomehow, stack_of}
 use Rattle.passrun.specs.passing.Working.{all_of, bulk, going, left_of, work}
 use Rattle.passrun.proofs.steps.Facts.{put_stays, waits_stay}
 use Rattle.passrun.proofs.steps.Going.{child_of}
-use Rattle.passrun.proofs.steps.Stays.{between_stays}
+use Rattle.passcode.specs.Course.{start}
+use Rattle.passrun.proofs.steps.Stays.{goes_nowhere}
 use Rattle.passrun.specs.passing.Nodes.{left_at, stepped}
 use Rattle.passrun.proofs.steps.Steps.{next_is}
 use Rattle.passrun.proofs.steps.Turning.{popped}
 
--- no list is longer than all
+-- No list is longer than all lists together.
 list_within : (rows : Lists) (p k : ℕ) → length (slice_index_or (slice_index_or rows p []) k []) ≤ all_of rows k
 list_within [] p k = none k
   where
@@ -37,7 +38,7 @@ list_within [] p k = none k
 list_within (row ∷ rows) zero k = omega arith
 list_within (row ∷ rows) (suc p) k = let h = list_within rows p k in omega arith
 
--- one instruction fewer is left
+-- One instruction fewer remains.
 fewer : (c : Setting) (x : OpenNode) (z : Instr) → slice_get (list_at c x.production) x.at ≡ Some z → length (rest_of c x) ≡ suc (length (drop (x.at + 1) (list_at c x.production)))
 fewer c x z at = ap length (next_is (list_at c x.production) x.at z at)
 
@@ -104,7 +105,7 @@ module _ (c : Setting) (sound : IsSound c) where
       let here : going c (Some x) ≡ bulk c = ap (λ xs. if goes_next xs then bulk c else 0) (next_is (list_at c x.production) x.at (instr.Go j) at) in
       let h = child_of c sound x (reverse m.waiting.items) m.values.items j at (m.root, r.running.tapes, meter - m.begun, r.running.todo, r.running.passing) in
       let rest : rest_of c child ≡ list_at c x.child = ap (λ p. drop child.at (list_at c p)) is ∙ ap (λ n. drop n (list_at c x.child)) first in
-      let g = going_none c child (ap goes_next rest ∙ between_stays c h.production 0 [] (list_at c x.child) (sound.course x.child h.production h.there)) in
+      let g = going_none c child (ap goes_next rest ∙ goes_nowhere c h.production start (list_at c x.child) (λ e. let bad : ⊥ = cc in bad) (sound.course x.child h.production h.there)) in
       let w = list_within c.code x.child c.read in
       let k = ap length rest in
       omega arith

@@ -1,8 +1,8 @@
--- Whether two rows begin with the same values of earlier passes.
+-- Comparing the values of earlier passes in two rows.
 use Rattle.std.proofs.Common.{ℕ, ◌≡◌, ◌-◌, ◌↔◌, List, ◌++◌}
 use Rattle.ag_value.specs.declared.value.Value.{Value}
 use Rattle.treefile.specs.records.Records.{values_up_to}
 
--- rows with values of attributes of these passes in front agree
+-- Rows that begin with values of attributes of these passes agree.
 abbrev pub Agree : (passes : List ℕ) (k : ℕ) (ours theirs : List Value) → Type 0 → Type 0
 Agree passes k ours theirs same = (f h : ℕ → Value) (rest others : List Value) → ours ≡ values_up_to k passes f ++ rest → theirs ≡ values_up_to k passes h ++ others → same ↔ (values_up_to (k - 1) passes f ≡ values_up_to (k - 1) passes h)

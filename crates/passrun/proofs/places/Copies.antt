@@ -1,4 +1,4 @@
--- The copies of the values at a node's children: what they tell, and what changes them.
+-- The copies of the values at a node's children: their use in reading, and their changes.
 use Rattle.std.proofs.Common.{ℕ, zero, suc, ◌≡◌, ◌≢◌, ◌<◌, ◌≤◌, inl, inr, if◌then◌else◌, true, List, [], ◌∷◌, ◌++◌, Some, Option, slice_get, length, drop, refl, ap, ◌∙◌, sym, subst, arith}
 use Rattle.std.proofs.lemmas.Bool.{cases_eq, le-leb}
 use Rattle.std.proofs.lemmas.List.{drop_at, take_at}
@@ -15,10 +15,9 @@ use Rattle.ag_grammar.specs.grammars.Tree.{Tree, Forest, leaf, node, none, more,
 use Rattle.treefile.specs.ways.Awaited.{Child, told}
 use Rattle.treefile.specs.records.Records.{copies_of, copy_of, left_synthesized, synthesized_passes, values_up_to}
 use Rattle.treefile.proofs.records.Values.{count_of_values}
-use Rattle.planchecker.specs.courses.Course.{IsKnown}
 use Rattle.planchecker.specs.courses.Settings.{Setting}
 use Rattle.passrun.specs.passing.Change.{set, with_row}
-use Rattle.passrun.specs.passing.Places.{IsShown, Table, copied_passes, copies, in_children}
+use Rattle.passrun.specs.passing.Places.{IsKnown, IsShown, Table, copied_passes, copies, in_children}
 use Rattle.passrun.specs.reading.Reading.{AgreeAt}
 use Rattle.passrun.proofs.Recorded.{count_copied}
 use Rattle.passrun.proofs.places.Slots.{copied_is, copies_same, same_at}
@@ -28,7 +27,7 @@ pub told_length : (c : Setting) (k : ℕ) (xs : List Item) (vs : List Value) →
 told_length c k [] vs = refl
 told_length c k (x ∷ xs) vs = ap suc (told_length c k xs (drop _ vs))
 
--- what the record of a node tells of a child
+-- The copy of a child's values in the record of its parent.
 pub told_at : (c : Setting) (k : ℕ) (xs : List Item) (e : Table) (j : ℕ) (x : Item) → slice_get xs j ≡ Some x → slice_get (told true c.grammar c.passes k xs (copies c k xs e)) j ≡ Some (x, Some (values_up_to k (copied_passes c x) (e j)))
 told_at c k [] e j x at = let bad : ⊥ = cc in absurd bad
 told_at c k (y ∷ xs) e zero x at =
@@ -44,7 +43,7 @@ told_at c k (y ∷ xs) e (suc j) x at =
     let long = count_of_values k (copied_passes c y) (e 0) ∙ sym (count_copied c k y) in
     ap (λ vs. slice_get (told true c.grammar c.passes k xs vs) j) (drop_at front (copies c k xs (λ j. e (suc j))) _ long) ∙ told_at c k xs (λ j. e (suc j)) j x at
 
--- the copy of a tree is made of the values at its root
+-- The copy of a tree consists of the values at its root.
 copy_is : (c : Setting) (W : Production → Rule → Type 0) (k : ℕ) (x : Item) (t : Tree) (w : Valuation) → Fits c.grammar x t → Solves W c.grammar t w → copy_of c.grammar c.passes k t w ≡ values_up_to k (copied_passes c x) (w [])
 copy_is c W k (item.Symbol s) (leaf d text) w fits solved = elim fits [ ]
 copy_is c W k (item.Terminal (Literal l)) (leaf d text) w fits solved = elim fits [ ]
@@ -52,7 +51,7 @@ copy_is c W k (item.Terminal a) (node p ts) w fits solved = elim fits [ ]
 copy_is c W k (item.Terminal (Class d)) (leaf e text) w fits solved = ap (λ v. v ∷ []) (sym solved) ∙ sym (ap (λ b. (if b then w [] 0 ∷ [] else []) ++ []) (le-leb 0 k (omega arith)))
 copy_is c W k (item.Symbol s) (node p ts) w fits solved = ap (λ ps. values_up_to k ps (w [])) (ap (left_synthesized c.grammar c.passes) fits.1 ∙ ap (synthesized_passes c.grammar c.passes) fits.2)
 
--- and the copies of the children of those at their roots
+-- The copies of the children consist of the values at their roots.
 pub copies_are : (c : Setting) (W : Production → Rule → Type 0) (k : ℕ) (xs : List Item) (ts : Forest) (ws : ℕ → Valuation) (e : Table) → FitsAll c.grammar xs ts → SolvesAll W c.grammar ts ws
     → ((b a p : ℕ) (x : Item) → slice_get xs b ≡ Some x → slice_get (copied_passes c x) a ≡ Some p → p ≤ k → ws b [] a ≡ e b a) → copies_of c.grammar c.passes k ts ws ≡ copies c k xs e
 copies_are c W k [] none ws e fits solved roots = refl
@@ -62,21 +61,21 @@ copies_are c W k (x ∷ xs) (more t ts) ws e fits solved roots =
     ap (λ vs. vs ++ copies_of c.grammar c.passes k ts (rest ws)) (copy_is c W k x t (ws 0) fits.0 solved.0 ∙ same_values k (copied_passes c x) (ws 0 []) (e 0) (λ a p is le. roots 0 a p x refl is le))
     ∙ ap (λ vs. values_up_to k (copied_passes c x) (e 0) ++ vs) (copies_are c W k xs ts (rest ws) (λ j. e (suc j)) fits.1 solved.1 (λ b a p y at is le. roots (suc b) a p y at is le))
 
--- where an attribute of the pass that is written stands there is no copy of an earlier pass
+-- An attribute of the pass that is written has no copy of an earlier pass.
 written_there : (c : Setting) (q : Production) (b n p j a : ℕ) (x : Item) → HasPass c.passes q (record { place = j; attr = a }) c.write → slice_get (stored_items q.items) b ≡ Some x → slice_get (copied_passes c x) n ≡ Some p → suc b ≡ j → n ≡ a → p ≡ c.write
 written_there c q b n p j a x pass at is bj na =
     let w : slice_get (item_passes c.passes (item_at q (suc b))) n ≡ Some c.write = subst (λ j. slice_get (item_passes c.passes (item_at q j)) n ≡ Some c.write) (sym bj) (subst (λ a. slice_get (item_passes c.passes (item_at q j)) a ≡ Some c.write) (sym na) pass) in
     let e : Some p ≡ Some c.write = sym (copied_is c x n p is) ∙ ap (λ z. slice_get (item_passes c.passes z) n) (sym at) ∙ w in
     cc
 
--- a value of the pass that is written changes no copy of an earlier one,
+-- A value of the pass that is written does not change the copies of earlier passes.
 pub copies_set : (c : Setting) (q : Production) (e : Table) (j a : ℕ) (v : Value) → c.write ≡ suc c.read → HasPass c.passes q (record { place = j; attr = a }) c.write
     → copies c c.read (stored_items q.items) (in_children (set e j a v)) ≡ copies c c.read (stored_items q.items) (in_children e)
 copies_set c q e j a v next pass = copies_same c c.read (stored_items q.items) (in_children (set e j a v)) (in_children e) (λ b n p x at is le. set_other e j a v (suc b) n (λ both.
     let w = written_there c q b n p j a x pass at is both.0 both.1 in
     omega arith))
 
--- nor do other values at a child that agree with its copy
+-- Other values at a child that agree with its copy do not change the copies.
 pub copies_row : (c : Setting) (q : Production) (e : Table) (j : ℕ) (x : Item) (h : ℕ → Value) → slice_get (stored_items q.items) j ≡ Some x → AgreeAt c x (e (suc j)) h
     → copies c c.read (stored_items q.items) (in_children (with_row e (suc j) h)) ≡ copies c c.read (stored_items q.items) (in_children e)
 copies_row c q e j x h at agree = copies_same c c.read (stored_items q.items) (in_children (with_row e (suc j) h)) (in_children e) same
@@ -91,7 +90,7 @@ copies_row c q e j x h at agree = copies_same c c.read (stored_items q.items) (i
       | inr apart ↦ with_other e (suc j) h (suc b) n (λ z. apart (omega arith))
     ]
 
--- what the copies show stays so where a rule gives a value that they don't show yet,
+-- A rule whose value is not known in the copies yet does not change the known copies.
 pub shown_set : (c : Setting) (q : Production) (n : ℕ) (e s : Table) (j a : ℕ) (v : Value) → HasPass c.passes q (record { place = j; attr = a }) c.write → (IsKnown c q n j → j ≡ 0) → IsShown c q n e s → IsShown c q n (set e j a v) s
 shown_set c q n e s j a v pass unless shown b m p x at is le when = shown b m p x at is le when ∙ sym (set_other e j a v (suc b) m (λ both.
     let w = written_there c q b m p j a x pass at is both.0 both.1 in
@@ -100,7 +99,7 @@ shown_set c q n e s j a v pass unless shown b m p x at is le when = shown b m p 
       | inr known ↦ (let z = unless (subst (IsKnown c q n) both.0 known) in let bj = both.0 in omega arith)
     ]))
 
--- where the record of a child is read that agrees with them,
+-- Reading a child's record that agrees with the copies does not change the known copies.
 pub shown_row : (c : Setting) (q : Production) (n n' : ℕ) (e s : Table) (j : ℕ) (x : Item) (h : ℕ → Value) → slice_get (stored_items q.items) j ≡ Some x → AgreeAt c x (s (suc j)) h → c.write ≡ suc c.read
     → ((b : ℕ) → b ≢ j → IsKnown c q n' (suc b) → IsKnown c q n (suc b)) → ((a p : ℕ) → slice_get (copied_passes c x) a ≡ Some p → IsKnown c q n' (suc j) → p < c.write)
     → IsShown c q n e s → IsShown c q n' (with_row e (suc j) h) s
@@ -114,13 +113,13 @@ shown_row c q n n' e s j x h at agree next others never shown b m p y at' is le 
   | inr apart ↦ shown b m p y at' is le (elim when [ inl l ↦ inl l | inr k ↦ inr (others b apart k) ]) ∙ sym (with_other e (suc j) h (suc b) m (λ z. apart (omega arith)))
 ]
 
--- and where both have what the pass left at a child
+-- The known copies stay known if both tables have the values that the pass computed at a child.
 pub shown_both : (c : Setting) (q : Production) (n n' : ℕ) (e s : Table) (j : ℕ) (h : ℕ → Value) → ((b : ℕ) → b ≢ j → IsKnown c q n' (suc b) → IsKnown c q n (suc b)) → IsShown c q n e s → IsShown c q n' (with_row e (suc j) h) (with_row s (suc j) h)
 shown_both c q n n' e s j h others shown b m p y at is le when = elim (cases_eq b j) [
   | inl here ↦ ap (λ b. with_row s (suc j) h (suc b) m) here ∙ with_here s (suc j) h m ∙ sym (ap (λ b. with_row e (suc j) h (suc b) m) here ∙ with_here e (suc j) h m)
   | inr apart ↦ with_other s (suc j) h (suc b) m (λ z. apart (omega arith)) ∙ shown b m p y at is le (elim when [ inl l ↦ inl l | inr k ↦ inr (others b apart k) ]) ∙ sym (with_other e (suc j) h (suc b) m (λ z. apart (omega arith)))
 ]
 
--- what agrees with the copy agrees with the table
+-- Values that agree with the copy agree with the table.
 pub agree_table : (c : Setting) (q : Production) (n : ℕ) (e s : Table) (j : ℕ) (x : Item) (h : ℕ → Value) → slice_get (stored_items q.items) j ≡ Some x → c.write ≡ suc c.read → IsShown c q n e s → AgreeAt c x (s (suc j)) h → AgreeAt c x (e (suc j)) h
 agree_table c q n e s j x h at next shown agree = same_values c.read (copied_passes c x) (e (suc j)) (s (suc j)) (λ a p is le. sym (shown j a p x at is (omega arith) (inl (omega arith)))) ∙ agree

@@ -29,7 +29,7 @@ row_from c p (r ∷ qs) zero q e =
     ap (λ (q : Production). Some (production_row c p q)) same ∙ ap (λ n. Some (production_row c n q)) n
 row_from c p (r ∷ qs) (suc i) q e = let n : suc p + i ≡ p + suc i = omega arith in row_from c (suc p) qs i q e ∙ ap (λ n. Some (production_row c n q)) n
 
--- a row that was computed has what the pass asks of its production
+-- A computed row is the layout of its production.
 is_row : (c : Setting) (p : ℕ) (q : Production) → IsRowOf c p q (production_row c p q)
 is_row c p q = record {
   list = refl;
@@ -61,7 +61,7 @@ some_at [] k h = absurd (omega arith)
 some_at (x ∷ xs) zero h = (x, refl)
 some_at (x ∷ xs) (suc k) h = some_at xs k (omega arith)
 
--- the row that an index of a table gives
+-- The row at an index of a table.
 pub row_less : (c : Setting) (rows xs : List ProductionRow) (p : ℕ) → IsLayout c rows → xs ≡ rows → p < length c.grammar.productions → p < length xs
 row_less c rows xs p layout same less =
     let q = some_at c.grammar.productions p less in
@@ -78,7 +78,7 @@ row_found c rows xs p row layout same is q there =
     let one : found.0 ≡ row = cc in
     subst (IsRowOf c p q) one found.2
 
--- the slots that an index of a row gives
+-- The slots at an index of a row.
 pub slots_less : (c : Setting) (p r : ℕ) (q : Production) (u : Rule) (row : ProductionRow) (xs : List RuleSlots) → IsRowOf c p q row → slice_get q.rules r ≡ Some u → xs ≡ row.rules → r < length xs
 slots_less c p r q u row xs is num same =
     let s = is.slots r u num in
@@ -93,7 +93,7 @@ slots_found c p r q u row xs slots is num same at =
     let one : s.0 ≡ slots = cc in
     subst (AreSlotsOf c q u) one s.2
 
--- what stands at a place, and where its copies begin
+-- The item at a place, and where its copies begin.
 row_behind : (c : Setting) (start : ℕ) (xs : List Item) (b : ℕ) (x : Item) → slice_get xs b ≡ Some x → slice_get (rows_behind c start xs) b ≡ Some (record { item = x; start = start + copied_before c xs b; width = copied_width c x; known = known_width c x })
 row_behind c start [] b x at = let bad : ⊥ = cc in absurd bad
 row_behind c start (y ∷ xs) zero x at =
@@ -113,7 +113,7 @@ row_behind c start (y ∷ xs) (suc b) x at =
 pub place_found : (c : Setting) (q : Production) (b : ℕ) (x : Item) → slice_get (stored_items q.items) b ≡ Some x → slice_get (place_rows c q) (suc b) ≡ Some (record { item = x; start = copy_start c q (suc b); width = copied_width c x; known = known_width c x })
 place_found c q b x at = row_behind c (own_width c q) (stored_items q.items) b x at
 
--- a row that was found at the place of a child is its row
+-- The row found at the place of a child is the child's.
 pub place_is : (c : Setting) (q : Production) (j : ℕ) (row : PlaceRow) (x : Item) → 0 < j → Some row ≡ slice_get (place_rows c q) j → item_at q j ≡ Some x → (row.item ≡ x) × (row.start ≡ copy_start c q j) × (row.width ≡ copied_width c x) × (row.known ≡ known_width c x)
 place_is c q zero row x some found at = absurd (omega arith)
 place_is c q (suc b) row x some found at =
@@ -121,7 +121,7 @@ place_is c q (suc b) row x some found at =
     let r : row ≡ record { item = x; start = copy_start c q (suc b); width = copied_width c x; known = known_width c x } = cc in
     (ap (λ r. r.item) r, ap (λ r. r.start) r, ap (λ r. r.width) r, ap (λ r. r.known) r)
 
--- and there is one
+-- There is a row at the place of a child.
 pub place_there : (c : Setting) (q : Production) (j : ℕ) (x : Item) → item_at q j ≡ Some x → (answer : Option PlaceRow) → answer ≡ slice_get (place_rows c q) j → answer ≡ None → ⊥
 place_there c q zero x at answer found none = let e : ◌≡◌ {A = Option PlaceRow} None (Some (record { item = item.Symbol q.left; start = 0; width = 0; known = 0 })) = sym none ∙ found in let bad : ⊥ = cc in bad
 place_there c q (suc b) x at answer found none = let e : ◌≡◌ {A = Option PlaceRow} None (Some (record { item = x; start = copy_start c q (suc b); width = copied_width c x; known = known_width c x })) = sym none ∙ found ∙ place_found c q b x at in let bad : ⊥ = cc in bad

@@ -1,4 +1,4 @@
--- What is found in the rows of the places.
+-- Entries in the rows of the places.
 use Rattle.std.proofs.Common.{ℕ, zero, suc, ◌≡◌, ◌<◌, List, [], ◌∷◌, Some, get_or, length, refl, arith}
 use Rattle.passrun.specs.declared.laid.laying.PlaceRow.{PlaceRow}
 use Rattle.passrun.specs.laid.Laid.{item_in, start_in}

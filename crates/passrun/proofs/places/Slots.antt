@@ -1,4 +1,4 @@
--- Where the values of a node stand.
+-- The slots of a node's values.
 use Rattle.std.proofs.Common.{ℕ, zero, suc, ◌≡◌, ◌≢◌, ◌+◌, ◌<◌, ◌≤◌, Bool, true, false, nat_le, if◌then◌else◌, List, [], ◌∷◌, ◌++◌, Some, None, Option, slice_get, length, take, drop, set, map, refl, ap, ◌∙◌, sym, arith, append_assoc, length-append}
 use Rattle.std.proofs.lemmas.Bool.{le-leb}
 use Rattle.std.proofs.lemmas.List.{drop_at, set-append_left}
@@ -66,20 +66,20 @@ row_set k (x ∷ ps) f h (suc a) p v is le here other = go (nat_le x k) (row_set
         ap (λ i. set (f 0 ∷ values_up_to k ps (λ a. f (suc a))) i v) n ∙ ap (λ xs. f 0 ∷ xs) rest ∙ ap (λ x. x ∷ values_up_to k ps (λ a. h (suc a))) (sym (other 0 (λ z. omega arith)))
     go false rest = let n : 0 + rank k ps a ≡ rank k ps a = omega arith in ap (λ i. set (values_up_to k ps (λ a. f (suc a))) i v) n ∙ rest
 
--- values that make the same row are the same up to the pass
+-- Values that make the same row are equal up to the pass.
 pub same_at : (k : ℕ) (ps : List ℕ) (f h : ℕ → Value) → values_up_to k ps f ≡ values_up_to k ps h → (a p : ℕ) → slice_get ps a ≡ Some p → p ≤ k → f a ≡ h a
 same_at k ps f h same a p is le =
     let e : Some (f a) ≡ Some (h a) = sym (row_at k ps f a p is le) ∙ ap (λ vs. slice_get vs (rank k ps a)) same ∙ row_at k ps h a p is le in
     cc
 
--- what stands among the first members of a list
+-- An element among the first n of a list.
 pub get_taken : (n : ℕ) (ps : List ℕ) (a p : ℕ) → a < n → slice_get ps a ≡ Some p → slice_get (take n ps) a ≡ Some p
 get_taken zero ps a p less is = absurd (omega arith)
 get_taken (suc n) [] a p less is = is
 get_taken (suc n) (q ∷ ps) zero p less is = is
 get_taken (suc n) (q ∷ ps) (suc a) p less is = get_taken n ps a p (omega arith) is
 
--- stands at the same rank there,
+-- An attribute among the first n has the same rank there.
 pub rank_taken : (k n : ℕ) (ps : List ℕ) (a p : ℕ) → slice_get (take n ps) a ≡ Some p → rank k ps a ≡ rank k (take n ps) a
 rank_taken k zero [] a p is = refl
 rank_taken k zero (q ∷ ps) a p is = absurd (let bad : ⊥ = cc in bad)
@@ -87,7 +87,7 @@ rank_taken k (suc n) [] a p is = refl
 rank_taken k (suc n) (q ∷ ps) zero p is = refl
 rank_taken k (suc n) (q ∷ ps) (suc a) p is = ap (λ r. (if nat_le q k then 1 else 0) + r) (rank_taken k n ps a p is)
 
--- and their row begins the row of all
+-- The row of the first n attributes is a prefix of the row of all.
 pub begins_row : (k n : ℕ) (ps : List ℕ) (h : ℕ → Value) → (others : List Value) × (values_up_to k ps h ≡ values_up_to k (take n ps) h ++ others)
 begins_row k zero [] h = ([], refl)
 begins_row k zero (p ∷ ps) h = (values_up_to k (p ∷ ps) h, refl)
@@ -97,7 +97,7 @@ begins_row k (suc n) (p ∷ ps) h =
     let first = if nat_le p k then h 0 ∷ [] else [] in
     (r.0, ap (λ vs. first ++ vs) r.1 ∙ sym (append_assoc first (values_up_to k (take n ps) (λ a. h (suc a))) r.0))
 
--- the copies of an item begin the row of its tree's root
+-- The copies of an item are a prefix of the row of its tree's root.
 pub begins_with_copy : (c : Setting) (x : Item) (h : ℕ → Value) → (others : List Value) × (values_up_to c.write (item_passes c.passes (Some x)) h ≡ values_up_to c.write (copied_passes c x) h ++ others)
 begins_with_copy c (item.Symbol s) h = begins_row c.write (synthesized_count (slice_get c.grammar.symbols s)) (c.passes s) h
 begins_with_copy c (item.Terminal (Class d)) h = ([], sym (append_nothing (values_up_to c.write (0 ∷ []) h)))
@@ -107,7 +107,7 @@ begins_with_copy c (item.Terminal (Class d)) h = ([], sym (append_nothing (value
     append_nothing (x ∷ xs) = ap (λ ys. x ∷ ys) (append_nothing xs)
 begins_with_copy c (item.Terminal (Literal l)) h = ([], refl)
 
--- how many copies there are
+-- The number of copies.
 pub length_copies : (c : Setting) (xs : List Item) (e : Table) → length (copies c c.write xs e) ≡ copied_all c xs
 length_copies c [] e = refl
 length_copies c (x ∷ xs) e =
@@ -123,14 +123,15 @@ length_stored c q f s =
     let d = length-append (values_up_to c.write (c.passes q.left) f) (copies c c.write (stored_items q.items) (in_children s)) in
     omega arith
 
--- the same values make the same copies
+-- Equal values make equal copies.
 pub copies_same : (c : Setting) (k : ℕ) (xs : List Item) (e h : Table) → ((j a p : ℕ) (x : Item) → slice_get xs j ≡ Some x → slice_get (copied_passes c x) a ≡ Some p → p ≤ k → e j a ≡ h j a) → copies c k xs e ≡ copies c k xs h
 copies_same c k [] e h same = refl
 copies_same c k (x ∷ xs) e h same =
     ap (λ vs. vs ++ copies c k xs (λ j. e (suc j))) (same_values k (copied_passes c x) (e 0) (h 0) (λ a p is le. same 0 a p x refl is le))
     ∙ ap (λ vs. values_up_to k (copied_passes c x) (h 0) ++ vs) (copies_same c k xs (λ j. e (suc j)) (λ j. h (suc j)) (λ j a p y at is le. same (suc j) a p y at is le))
 
--- The copies of one item stand between others, which don't change where another table has the same values at the other items.
+-- The copies of one item come between other values, which are the same for another table with the same values
+-- at the other items.
 pub shares : (c : Setting) (xs : List Item) (b : ℕ) (x : Item) → slice_get xs b ≡ Some x → (e : Table) → (before : List Value) × (after : List Value) × (length before ≡ copied_before c xs b)
     × ((h : Table) → ((j a : ℕ) → j ≢ b → h j a ≡ e j a) → copies c c.write xs h ≡ before ++ (values_up_to c.write (copied_passes c x) (h b) ++ after))
 shares c [] b x at e = absurd (let bad : ⊥ = cc in bad)
@@ -155,7 +156,7 @@ shares c (y ∷ xs) (suc b) x at e =
           ∙ ap (λ vs. first ++ vs) (r.3 (λ j. h (suc j)) (λ j a z. other (suc j) a (λ w. z (omega arith)))) ∙ sym (append_assoc first r.0 (values_up_to c.write (copied_passes c x) (h (suc b)) ++ r.1)),
     )
 
--- what stands from the copies of an item on
+-- The values of a row from the copies of an item on.
 pub share_at : (c : Setting) (q : Production) (f : ℕ → Value) (s : Table) (row : List Value) (b : ℕ) (x : Item) → slice_get (stored_items q.items) b ≡ Some x → (rest : List Value) × (drop (copy_start c q (suc b)) (stored c q f s ++ row) ≡ values_up_to c.write (copied_passes c x) (s (suc b)) ++ rest)
 share_at c q f s row b x at =
     let xs = stored_items q.items in
@@ -170,7 +171,7 @@ share_at c q f s row b x at =
     let l = length-append own r.0 in
     (r.1 ++ row, ap (drop (copy_start c q (suc b))) front ∙ drop_at (own ++ r.0) (share ++ (r.1 ++ row)) (copy_start c q (suc b)) (omega arith))
 
--- where an argument stands
+-- The slot of an argument at a child has its value.
 pub argument_at : (c : Setting) (q : Production) (f : ℕ → Value) (s : Table) (row : List Value) (b a p : ℕ) (x : Item) → slice_get (stored_items q.items) b ≡ Some x → slice_get (copied_passes c x) a ≡ Some p → p ≤ c.write → slice_get (stored c q f s ++ row) (argument_slot c q (suc b) a) ≡ Some (s (suc b) a)
 argument_at c q f s row b a p x at is le =
     let xs = stored_items q.items in
@@ -193,7 +194,7 @@ argument_at c q f s row b a p x at is le =
     rank_copied (item.Terminal (Class d)) at is = ap (λ z. rank c.write (item_passes c.passes z) a) at
     rank_copied (item.Terminal (Literal l)) at is = ap (λ z. rank c.write (item_passes c.passes z) a) at
 
--- and one at the left side
+-- The slot of an argument at the left side has its value.
 pub own_at : (c : Setting) (q : Production) (f : ℕ → Value) (s : Table) (row : List Value) (a p : ℕ) → slice_get (c.passes q.left) a ≡ Some p → p ≤ c.write → slice_get (stored c q f s ++ row) (argument_slot c q 0 a) ≡ Some (f a)
 own_at c q f s row a p is le =
     let own = values_up_to c.write (c.passes q.left) f in
@@ -201,7 +202,7 @@ own_at c q f s row a p is le =
     let n : argument_slot c q 0 a ≡ rank c.write (c.passes q.left) a = omega arith in
     ap (slice_get (stored c q f s ++ row)) n ∙ get_left (own ++ copied) row (rank c.write (c.passes q.left) a) (f a) (get_left own copied (rank c.write (c.passes q.left) a) (f a) (row_at c.write (c.passes q.left) f a p is le))
 
--- a value in the place of another one of the node's own
+-- Replacing one of the node's own values in its row.
 pub own_set : (c : Setting) (q : Production) (f h : ℕ → Value) (s : Table) (a p : ℕ) (v : Value) → slice_get (c.passes q.left) a ≡ Some p → p ≤ c.write → h a ≡ v → ((b : ℕ) → b ≢ a → h b ≡ f b) → set (stored c q f s) (rank c.write (c.passes q.left) a) v ≡ stored c q h s
 own_set c q f h s a p v is le here other =
     let own = values_up_to c.write (c.passes q.left) f in
@@ -210,7 +211,7 @@ own_set c q f h s a p v is le here other =
     set-append_left own copied r v (slice_get_within own r (f a) (row_at c.write (c.passes q.left) f a p is le))
     ∙ ap (λ vs. vs ++ copied) (row_set c.write (c.passes q.left) f h a p v is le here other)
 
--- A synthesized attribute of an item has copies.
+-- A synthesized attribute of an item has a copy.
 syn_below : (syn inh : List (List ℕ)) (a : ℕ) → slice_get (map (λ (n : List ℕ). Synthesized) syn ++ map (λ (n : List ℕ). Inherited) inh) a ≡ Some Synthesized → a < length syn
 syn_below [] inh a is = absurd (no_synthesized inh a is)
   where
@@ -230,7 +231,7 @@ has_copy c (item.Symbol s) a p kind pass = get_taken (synthesized_count (slice_g
 has_copy c (item.Terminal (Class d)) a p kind pass = pass
 has_copy c (item.Terminal (Literal l)) a p kind pass = absurd (let bad : ⊥ = cc in bad)
 
--- and what has copies is one, of the same pass
+-- A copied value is that of an attribute of the same pass.
 pub copied_is : (c : Setting) (x : Item) (a p : ℕ) → slice_get (copied_passes c x) a ≡ Some p → slice_get (item_passes c.passes (Some x)) a ≡ Some p
 copied_is c (item.Symbol s) a p is = get_take (synthesized_count (slice_get c.grammar.symbols s)) (c.passes s) a p is
   where

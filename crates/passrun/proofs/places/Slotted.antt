@@ -1,4 +1,4 @@
--- The slots by the rows of the places are the slots.
+-- The slots according to the rows of the places are the slots of the rules.
 use Rattle.std.proofs.Common.{ℕ, zero, suc, ◌≡◌, ◌+◌, ◌*◌, ◌<◌, ◌≤◌, List, [], ◌∷◌, map, slice_get, length, refl, ap, ap₂, ◌∙◌, arith, length-take}
 use Rattle.ag_grammar.specs.declared.grammar.Item.{Item}
 use Rattle.ag_grammar.specs.declared.grammar.Item.TheVariants as item
@@ -39,13 +39,13 @@ length_behind c start (x ∷ xs) = ap suc (length_behind c (start + copied_width
 pub rows_long : (c : Setting) (q : Production) → length (place_rows c q) ≡ length (places_of q)
 rows_long c q = ap suc (length_behind c (own_width c q) (stored_items q.items))
 
--- an item has no more copies than a symbol has attributes
+-- An item has no more copies than a symbol has attributes.
 pub copied_few : (c : Setting) (x : Item) → AreSmall c.passes → length (copied_passes c x) ≤ most_attributes
 copied_few c (item.Symbol s) small = let a = small s in let n = length-take (synthesized_count (slice_get c.grammar.symbols s)) (c.passes s) in omega arith
 copied_few c (item.Terminal (Class d)) small = omega arith
 copied_few c (item.Terminal (Literal l)) small = omega arith
 
--- so no copies begin late
+-- There are at most 16 copies for each item.
 before_few : (c : Setting) (xs : List Item) (b : ℕ) → AreSmall c.passes → copied_before c xs b ≤ 16 * length xs
 before_few c [] b small = omega arith
 before_few c (x ∷ xs) zero small = omega arith
@@ -104,12 +104,12 @@ module _ (c : Setting) (q : Production) where
   rules_same [] within = refl
   rules_same (u ∷ us) within = ap₂ (λ (x : RuleSlots) (xs : List RuleSlots). x ∷ xs) (rule_same u (within 0 u refl)) (rules_same us (λ i x e. within (suc i) x e))
 
--- by whatever is the rows of the places and the width
+-- The slots are the same for equal rows of the places and an equal width.
 pub slots_same : (c : Setting) (q : Production) (places : List PlaceRow) (width : ℕ) (slots : List RuleSlots) → places ≡ place_rows c q → width ≡ stored_width c q → AreWithin (length (places_of q)) q.rules
     → slots ≡ map (rule_slots_by c.passes c.write width places) q.rules → slots ≡ production_slots c q
 slots_same c q places width slots same wide within is = is ∙ ap (λ xs. map (rule_slots_by c.passes c.write width xs) q.rules) same ∙ ap (λ n. map (rule_slots_by c.passes c.write n (place_rows c q)) q.rules) wide ∙ rules_same c q q.rules within
 
--- a row whose parts are those that the pass asks for
+-- A row with equal parts is the layout of the production.
 pub row_is : (c : Setting) (p : ℕ) (q : Production) (list : List Instr) (width : ℕ) (passes : List ℕ) (places : List PlaceRow) (rules : List RuleSlots) → list ≡ list_at c p → width ≡ stored_width c q → passes ≡ row_passes c q → places ≡ place_rows c q → rules ≡ production_slots c q
     → ◌≡◌ {A = ProductionRow} (record { list = list; width = width; passes = passes; places = places; rules = rules }) (production_row c p q)
 row_is c p q list width passes places rules a b f d e =

@@ -40,13 +40,13 @@ value_same p k x y xs ys h e = go (nat_le p k) refl
     go false z = e
     go true z = let s : x ≡ y = h (leb-true p k z) in cc
 
--- the values of the passes up to k alone make a row
+-- Only the values of passes up to k determine a row.
 pub same_values : (k : ℕ) (ps : List ℕ) (f h : ℕ → Value) → ((a p : ℕ) → slice_get ps a ≡ Some p → p ≤ k → f a ≡ h a) → values_up_to k ps f ≡ values_up_to k ps h
 same_values k [] f h e = refl
 same_values k (p ∷ ps) f h e = value_same p k (f 0) (h 0) (values_up_to k ps (λ a. f (suc a))) (values_up_to k ps (λ a. h (suc a))) (e 0 p refl)
     (same_values k ps (λ a. f (suc a)) (λ a. h (suc a)) (λ a. e (suc a)))
 
--- the table with other values at a place
+-- The table with the values at one place replaced.
 pub with_is : (e : Table) (j : ℕ) (f : ℕ → Value) → with_row e j f j ≡ f
 with_is e j f = ap (λ b. cond b f (e j)) (eq-eqb j j refl)
 
@@ -60,7 +60,7 @@ with_other e j f i a h = go (nat_eq i j) refl
     go false z = refl
     go true z = absurd (h (eqb-true i j z))
 
--- what stands in a row has the property that all of the row has
+-- A value in a row has the property that all values of the row have.
 value_has : (P : Value → Type 0) (p k : ℕ) (x : Value) (xs : List Value) → All P ((if nat_le p k then x ∷ [] else []) ++ xs) → (p ≤ k → P x) × All P xs
 value_has P p k x xs h = go (nat_le p k) refl h
   where
@@ -73,11 +73,11 @@ in_row P k [] f h a p at le = cc
 in_row P k (x ∷ ps) f h zero p at le = let e : x ≡ p = cc in (value_has P x k (f 0) (values_up_to k ps (λ a. f (suc a))) h).0 (subst (λ p. p ≤ k) (sym e) le)
 in_row P k (x ∷ ps) f h (suc a) p at le = in_row P k ps (λ a. f (suc a)) (value_has P x k (f 0) (values_up_to k ps (λ a. f (suc a))) h).1 a p at le
 
--- the same values of the passes so far make the same record
+-- Equal values of passes up to k make the same record.
 pub body_same : (k : ℕ) (g : Grammar) (m : Passes) (p s : ℕ) (f h : ℕ → Value) (cs : List Value) → left_passes m (slice_get g.productions p) ≡ m s → ((a n : ℕ) → slice_get (m s) a ≡ Some n → n ≤ k → f a ≡ h a) → node_body version_two g m k p f cs ≡ node_body version_two g m k p h cs
 body_same k g m p s f h cs is same = ap (λ vs. body_of Node p (vs ++ cs)) (same_values k (left_passes m (slice_get g.productions p)) f h (λ a n at le. same a n (subst (λ ps. slice_get ps a ≡ Some n) is at) le))
 
--- the row of a token
+-- The row of a token.
 pub text_row : (k : ℕ) (text : List ℕ) → values_up_to k (0 ∷ []) (λ a. Text text) ≡ Text text ∷ []
 text_row k text = ap (λ b. (if b then Text text ∷ [] else []) ++ []) (le-leb 0 k (omega arith))
 

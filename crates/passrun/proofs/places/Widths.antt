@@ -1,4 +1,4 @@
--- What an accepted grammar and a legal assignment tell of the places and the attributes of a production.
+-- Bounds on the places and attributes of a production, by an accepted grammar and a legal assignment.
 use Rattle.std.proofs.Common.{ℕ, zero, suc, ◌≡◌, ◌+◌, ◌<◌, ◌≤◌, List, [], ◌∷◌, Option, Some, None, slice_get, length, refl, subst, arith}
 use Rattle.std.proofs.lemmas.Option.{slice_get_within}
 use Rattle.ag_grammar.specs.declared.grammar.Item.{Item}
@@ -20,14 +20,14 @@ use Rattle.passrun.specs.laid.Slots.{copied_all, copied_width, stored_width}
 use Rattle.passrun.specs.laid.Laid.{AreWithin}
 use Rattle.passrun.specs.laid.Starts.{AreSmall}
 
--- no symbol has more attributes than a grammar allows
+-- No symbol has more attributes than a grammar allows.
 pub are_small : (g : Grammar) (m : Passes) → IsAccepted g → IsLegal g m → AreSmall m
 are_small g m accepted legal s = few_passes g m s accepted legal
 
 pub few_places : (g : Grammar) (p : ℕ) (q : Production) → IsAccepted g → IsProduction g p q → length (places_of q) ≤ most_stored + 1
 few_places g p q accepted is = let few = accepted.limits.stored_count p q is in omega arith
 
--- an attribute that is there is at a place that is there
+-- An existing attribute is at an existing place.
 place_within : (g : Grammar) (q : Production) (o : Target) (k : Kind) → HasKind g q o k → o.place < length (places_of q)
 place_within g q o k is = go o.place (item_at q o.place) refl (there (item_at q o.place) refl)
   where
@@ -45,7 +45,7 @@ are_within g p q accepted is r u at = record {
   args = λ i o arg. place_within g q o (found_kind o.place) (accepted.normal p q is r u at i o arg);
 }
 
--- no row has more values than a record may have
+-- No row has more values than a record may have.
 pub few_values : (c : Setting) → IsSound c → (p : ℕ) (q : Production) → IsProduction c.grammar p q → stored_width c q ≤ version_two.most_values
 few_values c sound p q there =
     let fits = (fits_version_two c.grammar c.passes sound.accepted sound.legal).1.nodes p q there in

@@ -1,4 +1,4 @@
--- What a rule gives is no argument of a rule, and no two rules give the same.
+-- The target of a rule is not an argument of a rule, and no two rules have the same target.
 use Rattle.std.proofs.Common.{ℕ, zero, suc, ◌≡◌, Some, slice_get, ◌∙◌, sym, subst}
 use Rattle.ag_grammar.specs.declared.grammar.Production.{Production}
 use Rattle.ag_grammar.specs.declared.grammar.Rule.{Rule}

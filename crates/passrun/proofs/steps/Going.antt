@@ -1,12 +1,12 @@
--- Going into a child.
+-- Entering a child.
 use Rattle.std.proofs.Common.{ℕ, ◌≡◌, ◌-◌, ◌≤◌, List, [], ◌∷◌, ◌++◌, Some, slice_get, length, reverse, ap, ◌∙◌, sym, subst, arith, length-append}
 use Rattle.std.proofs.lemmas.List.{reverse-append}
 use Rattle.ag_value.specs.declared.value.Value.{Value}
 use Rattle.ag_grammar.specs.declared.grammar.Production.{Production}
 use Rattle.ag_grammar.specs.grammars.AttributeGrammar.{IsProduction}
 use Rattle.passcode.specs.declared.instr.Instr.TheVariants as instr
-use Rattle.planchecker.specs.courses.Course.{Between, Got, Gone}
-use Rattle.planchecker.specs.courses.Settings.{Setting, list_at, way, arity, place}
+use Rattle.passcode.specs.Course.{place_of}
+use Rattle.planchecker.specs.courses.Settings.{Setting, list_at}
 use Rattle.planchecker.specs.courses.Sound.{IsSound}
 use Rattle.passrun.specs.declared.passing.open_node.OpenNode.{OpenNode}
 use Rattle.passrun.specs.passing.Nodes.{first_at, left_at}
@@ -14,22 +14,21 @@ use Rattle.passrun.specs.passing.Passing.{Passing, IsPassing, GoesOn}
 use Rattle.passrun.specs.passing.Places.{stored}
 use Rattle.passrun.specs.laid.Slots.{stored_width}
 use Rattle.passrun.proofs.places.Slots.{length_stored}
-use Rattle.passrun.proofs.steps.Steps.{follows_next, step_go}
+use Rattle.passrun.proofs.steps.Steps.{at_go, step_go}
 
--- the child whose record was read, with the last row of all
+-- The row of the child whose record was read is the last one.
 pub record HasChild (c : Setting) (p : ℕ) (values : List Value) : Type 0 where
   pub production : Production
   pub there : IsProduction c.grammar p production
   pub width : stored_width c production ≤ length values
 
 pub child_of : (c : Setting) → IsSound c → (x : OpenNode) (xs : List OpenNode) (values : List Value) (j : ℕ) → slice_get (list_at c x.production) x.at ≡ Some (instr.Go j) → IsPassing c (x ∷ xs) values → HasChild c x.child values
-child_of c sound x xs values j at (root, t, now, todo, (s, f, under, old, before, others, waits, Between, o)) = elim (follows_next c sound o.production Between o.i o.done x (instr.Go j) at o.stays.follows) [ ]
-child_of c sound x xs values j at (root, t, now, todo, (s, f, under, old, before, others, waits, Gone, o)) = elim (follows_next c sound o.production Gone o.i o.done x (instr.Go j) at o.stays.follows) [ ]
-child_of c sound x xs values j at (root, t, now, todo, (s, f, under, old, before, others, waits, Got, o)) =
+child_of c sound x xs values j at (root, t, now, todo, (s, f, under, old, before, others, waits, ph, here)) =
+    let o = at_go here j at in
     let q = o.production in
     let g = o.current.0 in
-    let row = stored c g.production (o.table (place (way c) (arity q) o.i)) o.of_child in
-    let n = length_stored c g.production (o.table (place (way c) (arity q) o.i)) o.of_child in
+    let row = stored c g.production (o.table (place_of q c.write o.i)) o.of_child in
+    let n = length_stored c g.production (o.table (place_of q c.write o.i)) o.of_child in
     let m = ap length o.current.2 in
     let a = length-append under (stored c q (o.table 0) o.copied ++ o.row) in
     let b = length-append (stored c q (o.table 0) o.copied) o.row in

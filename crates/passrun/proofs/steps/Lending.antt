@@ -1,4 +1,4 @@
--- The values that are lent are well.
+-- The values that are lent to a rule are well.
 use Rattle.std.proofs.Common.{ℕ, zero, suc, List, [], ◌∷◌, All, get_or, slice_index}
 use Rattle.std.proofs.lemmas.List.Elements.{All-head, All-tail}
 use Rattle.ag_value.specs.declared.value.Value.{Value}

@@ -1,5 +1,5 @@
--- What the steps of a pass do at one node.
-use Rattle.std.proofs.Common.{ℕ, zero, suc, ◌≡◌, ◌≢◌, ◌+◌, ◌<◌, ◌≤◌, ◌⊎◌, inl, inr, List, [], ◌∷◌, ◌++◌, Option, Some, None, All, slice_get, drop, refl, ap, ◌∙◌, sym, subst, arith, append_assoc}
+-- The effect of the steps of a pass on one node.
+use Rattle.std.proofs.Common.{ℕ, zero, suc, ◌≡◌, ◌≢◌, ◌+◌, ◌<◌, ◌≤◌, ◌⊎◌, inl, inr, List, [], ◌∷◌, ◌++◌, Option, Some, None, All, slice_get, refl, ap, ◌∙◌, sym, subst, arith, append_assoc}
 use Rattle.std.proofs.lemmas.Bool.{cases_eq}
 use Rattle.std.proofs.lemmas.Option.{slice_get_within}
 use Rattle.ag_value.specs.declared.value.Value.{Value}
@@ -11,105 +11,98 @@ use Rattle.ag_grammar.specs.declared.grammar.Rule.{Rule}
 use Rattle.ag_grammar.specs.declared.grammar.Target.{Target}
 use Rattle.ag_grammar.specs.declared.direction.Direction.{Direction}
 use Rattle.ag_grammar.specs.declared.direction.Direction.TheVariants.{LeftToRight, RightToLeft}
-use Rattle.ag_grammar.specs.grammars.AttributeGrammar.{IsProduction, IsArgument, HasKind, Synthesized, Inherited, found_kind, given_kind, item_at, item_kinds, stored_items}
+use Rattle.ag_grammar.specs.grammars.AttributeGrammar.{IsArgument, HasKind, Synthesized, Inherited, found_kind, given_kind, item_at, item_kinds, stored_items}
 use Rattle.ag_grammar.specs.grammars.Passes.{HasPass, item_passes, nth}
 use Rattle.ag_grammar.specs.grammars.Solution.{Valuation, at, graft, RulesHold, OfPass, WellAt, left_passes}
 use Rattle.ag_grammar.specs.grammars.Tree.{Tree, Forest, node, FitsAll, depth_of, most_depth}
-use Rattle.ag_grammar.specs.grammars.Counts.{pass_rule_count, rules_of_pass}
 use Rattle.treefile.specs.records.Orders.{BodyTree, prefix, prefix_all, postfix, postfix_all}
 use Rattle.treefile.specs.declared.body.Kind.TheVariants.{Node}
 use Rattle.treefile.specs.records.Records.{bodies_of, bodies_of_all, copies_of, node_body, values_up_to}
 use Rattle.treefile.specs.records.TreeFile.{body_of, version_two}
-use Rattle.planchecker.specs.courses.Course.{Phase, Between, Got, Gone, got, Follows, IsKnown, IsFinal, AreDone}
-use Rattle.planchecker.specs.courses.Settings.{Setting, way, arity, place, list_at}
+use Rattle.passcode.specs.declared.phase.Phase.{Phase}
+use Rattle.passcode.specs.declared.phase.Phase.TheVariants.{Between, Got, Gone}
+use Rattle.passcode.specs.Course.{AreGiven, IsFinal, arity, place_of, read_count}
+use Rattle.passcode.proofs.Turns.{one_turn, turn_of}
+use Rattle.planchecker.specs.courses.Settings.{Setting, way}
 use Rattle.planchecker.specs.courses.Sound.{IsSound}
-use Rattle.passrun.specs.declared.passing.open_node.OpenNode.{OpenNode}
 use Rattle.passrun.specs.passing.Change.{with_row}
-use Rattle.passrun.specs.passing.Passing.{Tapes, Keeps, Visited, IsHeld, Stays, IsReady, IsGone, met, root_body}
-use Rattle.passrun.specs.passing.Places.{IsShown, Table, copied_passes, copies, in_children, leftmost, Roots, stored, visited}
+use Rattle.passrun.specs.passing.Passing.{Tapes, Keeps, Visited, IsHeld, Stays, IsReady, IsGone, met, root_body, state_of}
+use Rattle.passrun.specs.passing.Places.{IsKnown, IsShown, Table, copied_passes, copies, in_children, leftmost, Roots, stored, visited}
 use Rattle.passrun.specs.reading.Reading.{AgreeAt}
-use Rattle.passrun.proofs.course.Forests.{add_tree, add_values, fits_add, solves_add, each_add, prefix_add, postfix_add, deepest_add, rules_add, roots_add, all_visited}
+use Rattle.passrun.proofs.course.Forests.{add_tree, add_values, fits_add, solves_add, each_add, prefix_add, postfix_add, deepest_add, roots_add, all_visited}
 use Rattle.passrun.proofs.steps.Giving.{holds_same, seen_differs}
 use Rattle.passrun.proofs.places.Copies.{copies_are, copies_row}
 use Rattle.passrun.proofs.places.Slots.{copied_is, has_copy, same_at}
 use Rattle.passrun.proofs.places.Tables.{with_here, with_other, same_values, in_row, body_same}
 use Rattle.passrun.proofs.steps.Given.{argument_kind, target_kind}
 
-pub place_differs : (d : Direction) (n b i : ℕ) → b < i → i < n → place d n b ≢ place d n i
-place_differs LeftToRight n b i h l e = omega arith
-place_differs RightToLeft n b i h l e = omega arith
-
-pub known_differs : (c : Setting) (q : Production) (i j : ℕ) → i < arity q → IsKnown c q i j → j ≢ place (way c) (arity q) i
-known_differs c q i j h k z = elim k [ inl x ↦ omega arith | inr x ↦ place_differs (way c) (arity q) x.0 i x.1 h (sym x.2 ∙ z) ]
+pub known_differs : (c : Setting) (q : Production) (i j : ℕ) → i < arity q → IsKnown c q i j → j ≢ place_of q c.write i
+known_differs c q i j h k z = elim k [
+  | inl x ↦ omega arith
+  | inr x ↦ (let less = x.1 in let same = one_turn q c.write x.0 i (omega arith) h (sym x.2 ∙ z) in omega arith)
+]
 
 pub known_more : (c : Setting) (q : Production) (i j : ℕ) → IsKnown c q i j → IsKnown c q (suc i) j
 known_more c q i j k = elim k [ inl x ↦ inl x | inr x ↦ inr (x.0, (let l = x.1 in omega arith), x.2) ]
 
-pub known_here : (c : Setting) (q : Production) (i j : ℕ) → j ≡ place (way c) (arity q) i → IsKnown c q (suc i) j
-known_here c q i j e = inr (i, omega arith, e)
-
-pub known_last : (c : Setting) (q : Production) (i j : ℕ) → IsKnown c q (suc i) j → IsKnown c q i j ⊎ (j ≡ place (way c) (arity q) i)
+pub known_last : (c : Setting) (q : Production) (i j : ℕ) → IsKnown c q (suc i) j → IsKnown c q i j ⊎ (j ≡ place_of q c.write i)
 known_last c q i j k = elim k [ inl x ↦ inl (inl x) | inr x ↦ last x.0 x.1 x.2 ]
   where
     split : (b i : ℕ) → b < suc i → (b < i) ⊎ (b ≡ i)
     split b i h = grind arith
 
-    last : (b : ℕ) → b < suc i → j ≡ place (way c) (arity q) b → IsKnown c q i j ⊎ (j ≡ place (way c) (arity q) i)
-    last b l e = elim (split b i l) [ inl x ↦ inl (inr (b, x, e)) | inr x ↦ inr (e ∙ ap (place (way c) (arity q)) x) ]
+    last : (b : ℕ) → b < suc i → j ≡ place_of q c.write b → IsKnown c q i j ⊎ (j ≡ place_of q c.write i)
+    last b l e = elim (split b i l) [ inl x ↦ inl (inr (b, x, e)) | inr x ↦ inr (e ∙ ap (place_of q c.write) x) ]
 
 module _ (c : Setting) (sound : IsSound c) where
-  -- other values in the table of a node
-  changed : (s : ℕ) (f : ℕ → Value) (level : ℕ) (x y : OpenNode) (q : Production) (ph ph' next next' : Phase) (i : ℕ) (done : List ℕ) (e e' : Table) (ts : Forest) (ws : ℕ → Valuation) (old new : Tapes) (before sofar : ℕ)
-      → y.production ≡ x.production → got ph' i ≤ arity q → Follows c q next' i done (drop y.at (list_at c y.production))
+  -- The table of a node has other values, and the phase changes.
+  changed : (s : ℕ) (f : ℕ → Value) (level p : ℕ) (q : Production) (ph ph' : Phase) (i : ℕ) (done : List ℕ) (e e' : Table) (ts : Forest) (ws : ℕ → Valuation) (old new : Tapes)
       → ((a : ℕ) → e' 0 a ≡ e 0 a) → ((b a : ℕ) → b < i → e' (suc (leftmost (way c) (arity q) i + b)) a ≡ e (suc (leftmost (way c) (arity q) i + b)) a)
       → copies c c.read (stored_items q.items) (in_children e') ≡ copies c c.read (stored_items q.items) (in_children e)
-      → ((r : ℕ) (u : Rule) → slice_get q.rules r ≡ Some u → IsHeld c q ph i e u → IsHeld c q ph' i e' u)
-      → Stays c s f level x q ph next i done e ts ws old new before sofar → Stays c s f level y q ph' next' i done e' ts ws old new before sofar
-  changed s f level x y q ph ph' next next' i done e e' ts ws old new before sofar same inside follows own roots copied held stays =
+      → ((r : ℕ) (u : Rule) → slice_get q.rules r ≡ Some u → IsHeld c q (state_of ph i done) e u → IsHeld c q (state_of ph' i done) e' u)
+      → Stays c s f level p q (state_of ph i done) e ts ws old new → Stays c s f level p q (state_of ph' i done) e' ts ws old new
+  changed s f level p q ph ph' i done e e' ts ws old new own roots copied held stays =
       record {
-        there = subst (λ p. IsProduction c.grammar p q) (sym same) stays.there;
+        there = stays.there;
         left = stays.left;
-        within = inside;
-        follows = follows;
-        entered = λ b p is le other. own b ∙ stays.entered b p is le other;
-        visits = subst (λ cs. Visited c q i level ts ws (met c y.production f cs old) new) (sym copied) (subst (λ p. Visited c q i level ts ws (met c p f (copies c c.read (stored_items q.items) (in_children e)) old) new) (sym same) stays.visits);
+        entered = λ b n is le other. own b ∙ stays.entered b n is le other;
+        visits = subst (λ cs. Visited c q i level ts ws (met c p f cs old) new) (sym copied) stays.visits;
         roots = λ b a l. stays.roots b a l ∙ sym (roots b a l);
         held = λ r u has num. held r u num (stays.held r u has num);
-        counted = stays.counted;
       }
 
-  -- what a child keeps of its row agrees with its copy
+  -- The values that a child keeps in its row agree with its copy.
   pub kept_copy : (s : ℕ) (f h : ℕ → Value) → Keeps c s f h → AgreeAt c (item.Symbol s) f h
   kept_copy s f h keeps = same_values c.read (copied_passes c (item.Symbol s)) f h (λ a p is le. let n = sound.next in sym (keeps a p (copied_is c (item.Symbol s) a p is) (omega arith) (λ z. let w = z.0 in omega arith)))
 
-  -- the row of a child comes in, which agrees with its copy
-  pub met_child : (s : ℕ) (f : ℕ → Value) (level : ℕ) (x y : OpenNode) (q : Production) (ph' : Phase) (i : ℕ) (done : List ℕ) (e : Table) (ts : Forest) (ws : ℕ → Valuation) (old new : Tapes) (before sofar : ℕ) (x' : Item) (h : ℕ → Value)
-      → i < arity q → item_at q (place (way c) (arity q) i) ≡ Some x' → AgreeAt c x' (e (place (way c) (arity q) i)) h → got ph' i ≡ suc i → ((j p : ℕ) → IsFinal c q Between i j p → IsFinal c q ph' i j p)
-      → y.production ≡ x.production → Follows c q ph' i done (drop y.at (list_at c y.production))
-      → Stays c s f level x q Between Between i done e ts ws old new before sofar
-      → Stays c s f level y q ph' ph' i done (with_row e (place (way c) (arity q) i) h) ts ws old new before sofar
-  met_child s f level x y q ph' i done e ts ws old new before sofar x' h within stands agree gots finals same follows stays =
-      changed s f level x y q Between ph' Between ph' i done e (with_row e pl h) ts ws old new before sofar same (omega arith) follows
+  -- The row of a child was read, and agrees with its copy.
+  pub met_child : (s : ℕ) (f : ℕ → Value) (level p : ℕ) (q : Production) (ph' : Phase) (i : ℕ) (done : List ℕ) (e : Table) (ts : Forest) (ws : ℕ → Valuation) (old new : Tapes) (x' : Item) (h : ℕ → Value)
+      → i < arity q → item_at q (place_of q c.write i) ≡ Some x' → AgreeAt c x' (e (place_of q c.write i)) h → read_count ph' i ≡ suc i
+      → ((j n : ℕ) → IsFinal q c.write (state_of Between i done) j n → IsFinal q c.write (state_of ph' i done) j n)
+      → Stays c s f level p q (state_of Between i done) e ts ws old new
+      → Stays c s f level p q (state_of ph' i done) (with_row e (place_of q c.write i) h) ts ws old new
+  met_child s f level p q ph' i done e ts ws old new x' h within stands agree reads finals stays =
+      changed s f level p q Between ph' i done e (with_row e pl h) ts ws old new
       (λ a. with_other e pl h 0 a (λ z. omega arith))
       (λ b a l. with_other e pl h (suc (leftmost (way c) (arity q) i + b)) a (seen_differs (way c) (arity q) i b l within))
       (copies_row c q e (nth (way c) (arity q) i) x' h stands agree)
       held stays
     where
       pl : ℕ
-      pl = place (way c) (arity q) i
+      pl = place_of q c.write i
 
       other : (j a : ℕ) → j ≢ pl → e j a ≡ with_row e pl h j a
       other j a apart = sym (with_other e pl h j a apart)
 
-      -- an argument is at another place, or an earlier pass left it, and it agrees
-      argument : (r : ℕ) (u : Rule) (o : Target) → slice_get q.rules r ≡ Some u → IsArgument u o → IsHeld c q Between i e u → e o.place o.attr ≡ with_row e pl h o.place o.attr
+      -- An argument is at another place, or an earlier pass computed it and it agrees with the copy.
+      argument : (r : ℕ) (u : Rule) (o : Target) → slice_get q.rules r ≡ Some u → IsArgument u o → IsHeld c q (state_of Between i done) e u → e o.place o.attr ≡ with_row e pl h o.place o.attr
       argument r u o num arg x = elim (cases_eq o.place pl) [
         | inr apart ↦ other o.place o.attr apart
         | inl here ↦ (
             let z = x.at_hand o arg in
             let less : z.0 < c.write = elim z.3 [ inl l ↦ l | inr k ↦ absurd (known_differs c q i o.place within k here) ] in
             let item : item_at q o.place ≡ Some x' = ap (item_at q) here ∙ stands in
-            let kind : slice_get (item_kinds c.grammar (Some x')) o.attr ≡ Some Synthesized = ap (λ w. slice_get (item_kinds c.grammar w) o.attr) (sym item) ∙ argument_kind c.grammar sound.accepted y.production q (subst (λ p. IsProduction c.grammar p q) (sym same) stays.there) r u o num arg ∙ ap Some (found o.place here) in
+            let kind : slice_get (item_kinds c.grammar (Some x')) o.attr ≡ Some Synthesized = ap (λ w. slice_get (item_kinds c.grammar w) o.attr) (sym item) ∙ argument_kind c.grammar sound.accepted p q stays.there r u o num arg ∙ ap Some (found o.place here) in
             let pass : slice_get (item_passes c.passes (Some x')) o.attr ≡ Some z.0 = ap (λ w. slice_get (item_passes c.passes w) o.attr) (sym item) ∙ z.1 in
             let next = sound.next in
             ap (λ j. e j o.attr) here ∙ same_at c.read (copied_passes c x') (e pl) h agree o.attr z.0 (has_copy c x' o.attr z.0 kind pass) (omega arith) ∙ sym (ap (λ j. with_row e pl h j o.attr) here ∙ with_here e pl h o.attr))
@@ -119,56 +112,56 @@ module _ (c : Setting) (sound : IsSound c) where
           found zero z = absurd (omega arith)
           found (suc j) z = refl
 
-      held : (r : ℕ) (u : Rule) → slice_get q.rules r ≡ Some u → IsHeld c q Between i e u → IsHeld c q ph' i (with_row e pl h) u
+      held : (r : ℕ) (u : Rule) → slice_get q.rules r ≡ Some u → IsHeld c q (state_of Between i done) e u → IsHeld c q (state_of ph' i done) (with_row e pl h) u
       held r u num x =
           record {
             holds = holds_same u e (with_row e pl h) (other u.target.place u.target.attr (known_differs c q i u.target.place within x.target)) (λ o arg. argument r u o num arg x) x.holds;
             passed = x.passed;
-            target = subst (λ n. IsKnown c q n u.target.place) (sym gots) (known_more c q i u.target.place x.target);
+            target = subst (λ n. IsKnown c q n u.target.place) (sym reads) (known_more c q i u.target.place x.target);
             at_hand = λ o arg. let z = x.at_hand o arg in (z.0, z.1, z.2, finals o.place z.0 z.3);
           }
 
-  -- the child's node is done
-  pub returned : (s : ℕ) (f : ℕ → Value) (level : ℕ) (x : OpenNode) (q : Production) (i : ℕ) (done : List ℕ) (e : Table) (ts : Forest) (ws : ℕ → Valuation) (old new : Tapes) (before sofar s' : ℕ) (h : ℕ → Value)
-      → i < arity q → item_at q (place (way c) (arity q) i) ≡ Some (item.Symbol s') → Keeps c s' (e (place (way c) (arity q) i)) h
-      → Stays c s f level x q Got Gone i done e ts ws old new before sofar
-      → Stays c s f level x q Gone Gone i done (with_row e (place (way c) (arity q) i) h) ts ws old new before sofar
-  returned s f level x q i done e ts ws old new before sofar s' h within stands keeps stays =
-      changed s f level x x q Got Gone Gone Gone i done e (with_row e pl h) ts ws old new before sofar refl stays.within stays.follows
+  -- The child's node is done.
+  pub returned : (s : ℕ) (f : ℕ → Value) (level p : ℕ) (q : Production) (i : ℕ) (done : List ℕ) (e : Table) (ts : Forest) (ws : ℕ → Valuation) (old new : Tapes) (s' : ℕ) (h : ℕ → Value)
+      → i < arity q → item_at q (place_of q c.write i) ≡ Some (item.Symbol s') → Keeps c s' (e (place_of q c.write i)) h
+      → Stays c s f level p q (state_of Got i done) e ts ws old new
+      → Stays c s f level p q (state_of Gone i done) (with_row e (place_of q c.write i) h) ts ws old new
+  returned s f level p q i done e ts ws old new s' h within stands keeps stays =
+      changed s f level p q Got Gone i done e (with_row e pl h) ts ws old new
       (λ a. with_other e pl h 0 a (λ z. omega arith))
       (λ b a l. with_other e pl h (suc (leftmost (way c) (arity q) i + b)) a (seen_differs (way c) (arity q) i b l within))
       (copies_row c q e (nth (way c) (arity q) i) (item.Symbol s') h stands (kept_copy s' (e pl) h keeps))
       held stays
     where
       pl : ℕ
-      pl = place (way c) (arity q) i
+      pl = place_of q c.write i
 
       other : (j a : ℕ) → j ≢ pl → e j a ≡ with_row e pl h j a
       other j a apart = sym (with_other e pl h j a apart)
 
-      -- what the child keeps of its row
-      kept : (o : Target) (p : ℕ) → o.place ≡ pl → HasPass c.passes q o p → p ≤ c.write → ((p ≡ c.write) × HasKind c.grammar q o Synthesized → ⊥) → e o.place o.attr ≡ with_row e pl h o.place o.attr
-      kept o p is pass le unless =
-          let pass' : slice_get (c.passes s') o.attr ≡ Some p = subst (λ z. slice_get (item_passes c.passes z) o.attr ≡ Some p) (ap (item_at q) is ∙ stands) pass in
-          let k = keeps o.attr p pass' le (λ z. unless (z.0, subst (λ w. slice_get (item_kinds c.grammar w) o.attr ≡ Some Synthesized) (sym (ap (item_at q) is ∙ stands)) z.1)) in
+      -- The values that the child keeps in its row.
+      kept : (o : Target) (n : ℕ) → o.place ≡ pl → HasPass c.passes q o n → n ≤ c.write → ((n ≡ c.write) × HasKind c.grammar q o Synthesized → ⊥) → e o.place o.attr ≡ with_row e pl h o.place o.attr
+      kept o n is pass le unless =
+          let pass' : slice_get (c.passes s') o.attr ≡ Some n = subst (λ z. slice_get (item_passes c.passes z) o.attr ≡ Some n) (ap (item_at q) is ∙ stands) pass in
+          let k = keeps o.attr n pass' le (λ z. unless (z.0, subst (λ w. slice_get (item_kinds c.grammar w) o.attr ≡ Some Synthesized) (sym (ap (item_at q) is ∙ stands)) z.1)) in
           ap (λ j. e j o.attr) is ∙ sym k ∙ sym (with_here e pl h o.attr) ∙ sym (ap (λ j. with_row e pl h j o.attr) is)
 
       inherited : (j : ℕ) → j ≡ pl → given_kind j ≡ Inherited
       inherited zero z = absurd (omega arith)
       inherited (suc j) z = refl
 
-      target : (r : ℕ) (u : Rule) → slice_get q.rules r ≡ Some u → IsHeld c q Got i e u → e u.target.place u.target.attr ≡ with_row e pl h u.target.place u.target.attr
+      target : (r : ℕ) (u : Rule) → slice_get q.rules r ≡ Some u → IsHeld c q (state_of Got i done) e u → e u.target.place u.target.attr ≡ with_row e pl h u.target.place u.target.attr
       target r u num z' = elim (cases_eq u.target.place pl) [
         | inr apart ↦ other u.target.place u.target.attr apart
         | inl is ↦ kept u.target c.write is z'.passed (omega arith) (λ z.
-            let k = target_kind c.grammar sound.accepted x.production q stays.there r u num in
+            let k = target_kind c.grammar sound.accepted p q stays.there r u num in
             let y : Some (given_kind u.target.place) ≡ Some Synthesized = sym k ∙ z.1 in
             let w : given_kind u.target.place ≡ Synthesized = cc in
             let v : Inherited ≡ Synthesized = sym (inherited u.target.place is) ∙ w in
             absurd (cc))
       ]
 
-      argument : (u : Rule) (o : Target) → IsArgument u o → IsHeld c q Got i e u → e o.place o.attr ≡ with_row e pl h o.place o.attr
+      argument : (u : Rule) (o : Target) → IsArgument u o → IsHeld c q (state_of Got i done) e u → e o.place o.attr ≡ with_row e pl h o.place o.attr
       argument u o arg x =
           let z = x.at_hand o arg in
           elim z.3 [
@@ -179,10 +172,10 @@ module _ (c : Setting) (sound : IsSound c) where
             ]
           ]
 
-      final : (j p : ℕ) → IsFinal c q Got i j p → IsFinal c q Gone i j p
-      final j p k = elim k [ inl y ↦ inl y | inr y ↦ inr (known_more c q i j y) ]
+      final : (j n : ℕ) → IsFinal q c.write (state_of Got i done) j n → IsFinal q c.write (state_of Gone i done) j n
+      final j n k = elim k [ inl y ↦ inl y | inr y ↦ inr (known_more c q i j y) ]
 
-      held : (r : ℕ) (u : Rule) → slice_get q.rules r ≡ Some u → IsHeld c q Got i e u → IsHeld c q Gone i (with_row e pl h) u
+      held : (r : ℕ) (u : Rule) → slice_get q.rules r ≡ Some u → IsHeld c q (state_of Got i done) e u → IsHeld c q (state_of Gone i done) (with_row e pl h) u
       held r u num x =
           record {
             holds = holds_same u e (with_row e pl h) (target r u num x) (λ o arg. argument u o arg x) x.holds;
@@ -191,34 +184,30 @@ module _ (c : Setting) (sound : IsSound c) where
             at_hand = λ o arg. let z = x.at_hand o arg in (z.0, z.1, z.2, final o.place z.0 z.3);
           }
 
-  -- the tree at the next place is left behind: all of it was put
-  pub put_child : (s : ℕ) (f : ℕ → Value) (level : ℕ) (x y : OpenNode) (q : Production) (i : ℕ) (done : List ℕ) (e : Table) (ts : Forest) (ws : ℕ → Valuation) (old mid cur new : Tapes) (before sofar count : ℕ)
-      → i < arity q → y.production ≡ x.production → Follows c q Between (suc i) done (drop y.at (list_at c y.production))
-      → (gone : IsGone c q i level x.child e mid cur count)
+  -- The pass leaves the tree at the next place: all of it was written.
+  pub put_child : (s : ℕ) (f : ℕ → Value) (level p child : ℕ) (q : Production) (i : ℕ) (done : List ℕ) (e : Table) (ts : Forest) (ws : ℕ → Valuation) (old mid cur new : Tapes) (count : ℕ)
+      → i < arity q → (gone : IsGone c q i level child e mid cur count)
       → new.read ≡ cur.read → new.put ≡ mid.put ++ postfix (way c) (bodies_of version_two c.grammar c.passes c.write gone.tree gone.values)
-      → Stays c s f level x q Gone Gone i done e ts ws old mid before sofar
-      → Stays c s f level y q Between Between (suc i) done e (add_tree (way c) ts gone.tree) (add_values (way c) ts ws gone.values) old new before (sofar + count)
-  put_child s f level x y q i done e ts ws old mid cur new before sofar count within same follows gone reads puts stays =
+      → Stays c s f level p q (state_of Gone i done) e ts ws old mid
+      → Stays c s f level p q (state_of Between (suc i) done) e (add_tree (way c) ts gone.tree) (add_values (way c) ts ws gone.values) old new
+  put_child s f level p child q i done e ts ws old mid cur new count within gone reads puts stays =
       record {
-        there = subst (λ p. IsProduction c.grammar p q) (sym same) stays.there;
+        there = stays.there;
         left = stays.left;
-        within = within;
-        follows = follows;
         entered = stays.entered;
-        visits = subst (λ p. Visited c q (suc i) level (add_tree d ts t) (add_values d ts ws w) (met c p f copied old) new) (sym same) (record {
+        visits = record {
           fits = fits_add d c.grammar (stored_items q.items) i ts gone.item t gone.stands within stays.visits.fits gone.took.fits;
           solved = solves_add d (OfPass c.passes c.write) c.grammar ts ws t w stays.visits.solved gone.took.solved;
-          well = each_add d (WellAt (λ p. p ≤ c.write)) c.grammar c.passes ts ws t w stays.visits.well gone.took.well;
+          well = each_add d (WellAt (λ n. n ≤ c.write)) c.grammar c.passes ts ws t w stays.visits.well gone.took.well;
           read = reads ∙ gone.read ∙ ap (λ xs. xs ++ prefix d (bodies_of version_two c.grammar c.passes c.read t w)) stays.visits.read
-              ∙ append_assoc (met c x.production f copied old).read (prefix_all d (bodies_of_all version_two c.grammar c.passes c.read ts ws)) (prefix d (bodies_of version_two c.grammar c.passes c.read t w))
-              ∙ ap (λ xs. (met c x.production f copied old).read ++ xs) (sym (prefix_add d c.grammar c.passes c.read ts ws t w));
+              ∙ append_assoc (met c p f copied old).read (prefix_all d (bodies_of_all version_two c.grammar c.passes c.read ts ws)) (prefix d (bodies_of version_two c.grammar c.passes c.read t w))
+              ∙ ap (λ xs. (met c p f copied old).read ++ xs) (sym (prefix_add d c.grammar c.passes c.read ts ws t w));
           put = puts ∙ ap (λ xs. xs ++ postfix d bt) stays.visits.put ∙ append_assoc old.put (postfix_all d (bodies_of_all version_two c.grammar c.passes c.write ts ws)) (postfix d bt)
               ∙ ap (λ xs. old.put ++ xs) (sym (postfix_add d c.grammar c.passes c.write ts ws t w));
           deep = deepest_add d most_depth ts t level stays.visits.deep gone.deep;
-        });
+        };
         roots = roots_add d c.grammar (stored_items q.items) i ts ws w e within stays.visits.fits stays.roots gone.root;
         held = λ r u has num. let h = stays.held r u has num in record { holds = h.holds; passed = h.passed; target = h.target; at_hand = h.at_hand };
-        counted = let n = stays.counted in let m = gone.counted in let k = rules_add d c ts t in omega arith;
       }
     where
       d : Direction
@@ -236,27 +225,26 @@ module _ (c : Setting) (sound : IsSound c) where
       copied : List Value
       copied = copies c c.read (stored_items q.items) (in_children e)
 
-  -- a node is done, and its row makes its record
-  pub ended : (s : ℕ) (f : ℕ → Value) (level : ℕ) (x : OpenNode) (q : Production) (i : ℕ) (done : List ℕ) (e shows : Table) (ts : Forest) (ws : ℕ → Valuation) (old new : Tapes) (before sofar : ℕ)
-      → i ≡ arity q → AreDone c q done → All IsWell (values_up_to c.write (c.passes q.left) (e 0)) → IsShown c q i e shows
-      → Stays c s f (suc level) x q Between Between i done e ts ws old new before sofar
-      → IsReady c (item.Symbol s) x.production (e 0) (node x.production ts) (graft (e 0) ws) old new × (sofar ≡ before + rules_of_pass c.passes c.write c.grammar (node x.production ts)) × (depth_of (node x.production ts) + level ≤ most_depth)
-      × (root_body (bodies_of version_two c.grammar c.passes c.write (node x.production ts) (graft (e 0) ws)) ≡ body_of Node x.production (stored c q (e 0) shows))
-  ended s f level x q i done e shows ts ws old new before sofar full dones well shown stays = (
+  -- A node is done, and its row makes its record.
+  pub ended : (s : ℕ) (f : ℕ → Value) (level p : ℕ) (q : Production) (i : ℕ) (done : List ℕ) (e shows : Table) (ts : Forest) (ws : ℕ → Valuation) (old new : Tapes)
+      → i ≡ arity q → ((j : ℕ) → AreGiven c.passes q c.write (state_of Between i done) j) → All IsWell (values_up_to c.write (c.passes q.left) (e 0)) → IsShown c q i e shows
+      → Stays c s f (suc level) p q (state_of Between i done) e ts ws old new
+      → IsReady c (item.Symbol s) p (e 0) (node p ts) (graft (e 0) ws) old new × (depth_of (node p ts) + level ≤ most_depth)
+      × (root_body (bodies_of version_two c.grammar c.passes c.write (node p ts) (graft (e 0) ws)) ≡ body_of Node p (stored c q (e 0) shows))
+  ended s f level p q i done e shows ts ws old new full given well shown stays = (
     record {
       took = record {
         fits = (q, stays.there, stays.left, fits);
         solved = (subst (λ o. RulesHold (OfPass c.passes c.write) o (at (graft (e 0) ws))) (sym stays.there) rules, stays.visits.solved);
-        well = (subst (λ o. WellAt (λ p. p ≤ c.write) (left_passes c.passes o) (e 0) (e 0)) (sym stays.there) (in_row IsWell c.write (c.passes q.left) (e 0) well), stays.visits.well);
+        well = (subst (λ o. WellAt (λ n. n ≤ c.write) (left_passes c.passes o) (e 0) (e 0)) (sym stays.there) (in_row IsWell c.write (c.passes q.left) (e 0) well), stays.visits.well);
       };
       number = refl;
       root = λ a. refl;
-      read = stays.visits.read ∙ append_assoc old.read (node_body version_two c.grammar c.passes c.read x.production f before_copies ∷ []) below ∙ ap (λ b. old.read ++ b ∷ below) body;
+      read = stays.visits.read ∙ append_assoc old.read (node_body version_two c.grammar c.passes c.read p f before_copies ∷ []) below ∙ ap (λ b. old.read ++ b ∷ below) body;
       put = stays.visits.put;
     },
-    counts,
     (let h = stays.visits.deep in omega arith),
-    ap (body_of Node x.production) (ap (λ ps. values_up_to c.write ps (e 0) ++ copies_of c.grammar c.passes c.write ts ws) (ap (left_passes c.passes) stays.there) ∙ ap (λ vs. values_up_to c.write (c.passes q.left) (e 0) ++ vs) written),
+    ap (body_of Node p) (ap (λ ps. values_up_to c.write ps (e 0) ++ copies_of c.grammar c.passes c.write ts ws) (ap (left_passes c.passes) stays.there) ∙ ap (λ vs. values_up_to c.write (c.passes q.left) (e 0) ++ vs) written),
   )
     where
       fits : FitsAll c.grammar (stored_items q.items) ts
@@ -281,13 +269,9 @@ module _ (c : Setting) (sound : IsSound c) where
           let n : suc (leftmost (way c) (arity q) (arity q) + b) ≡ suc b = omega arith in
           roots b a less ∙ ap (λ j. e j a) n
 
-      -- each child was visited
-      turned : (d : Direction) (n b : ℕ) → b < n → (nth d n b < n) × (suc b ≡ place d n (nth d n b))
-      turned LeftToRight n b less = (less, refl)
-      turned RightToLeft n b less = (omega arith, omega arith)
-
-      all_known : (b : ℕ) → b < arity q → IsKnown c q i (suc b)
-      all_known b less = let z = turned (way c) (arity q) b less in inr (nth (way c) (arity q) b, (let l = z.0 in omega arith), z.1)
+      -- Every child was visited.
+      all_known : (b : ℕ) (y : Item) → slice_get (stored_items q.items) b ≡ Some y → IsKnown c q i (suc b)
+      all_known b y is = let z = turn_of q c.write (suc b) (y, (omega arith, is)) in let less = z.1 in inr (z.0, omega arith, z.2)
 
       read_copies : before_copies ≡ copies_of c.grammar c.passes c.read ts ws
       read_copies = sym (copies_are c (OfPass c.passes c.write) c.read (stored_items q.items) ts ws (in_children e) fits stays.visits.solved (λ b a p y is of le. at_root b a (slice_get_within (stored_items q.items) b y is)))
@@ -295,7 +279,7 @@ module _ (c : Setting) (sound : IsSound c) where
       written : copies_of c.grammar c.passes c.write ts ws ≡ copies c c.write (stored_items q.items) (in_children shows)
       written = copies_are c (OfPass c.passes c.write) c.write (stored_items q.items) ts ws (in_children shows) fits stays.visits.solved (λ b a p y is of le.
           let less = slice_get_within (stored_items q.items) b y is in
-          at_root b a less ∙ sym (shown b a p y is of le (inr (all_known b less))))
+          at_root b a less ∙ sym (shown b a p y is of le (inr (all_known b y is))))
 
       in_right : (b a p : ℕ) → slice_get (item_passes c.passes (slice_get (stored_items q.items) b)) a ≡ Some p → b < arity q
       in_right b a p h = go (slice_get (stored_items q.items) b) refl h
@@ -310,20 +294,13 @@ module _ (c : Setting) (sound : IsSound c) where
 
       rules : RulesHold (OfPass c.passes c.write) (Some q) (at (graft (e 0) ws))
       rules u (r, num) pass =
-          let h = stays.held r u (dones.all r u num pass) num in
+          let h = stays.held r u (given u.target.place r u num refl pass) num in
           holds_same u e (at (graft (e 0) ws)) (value u.target.place u.target.attr c.write h.passed) (λ o arg. let z = h.at_hand o arg in value o.place o.attr z.0 z.1) h.holds
 
-      passes_are : left_passes c.passes (slice_get c.grammar.productions x.production) ≡ c.passes s
+      passes_are : left_passes c.passes (slice_get c.grammar.productions p) ≡ c.passes s
       passes_are = ap (left_passes c.passes) stays.there ∙ ap c.passes stays.left
 
-      body : node_body version_two c.grammar c.passes c.read x.production f before_copies ≡ node_body version_two c.grammar c.passes c.read x.production (e 0) (copies_of c.grammar c.passes c.read ts ws)
+      body : node_body version_two c.grammar c.passes c.read p f before_copies ≡ node_body version_two c.grammar c.passes c.read p (e 0) (copies_of c.grammar c.passes c.read ts ws)
       body =
-          body_same c.read c.grammar c.passes x.production s f (e 0) before_copies passes_are (λ a p is le. sym (stays.entered a p is (let n = sound.next in omega arith) (λ z. let n = sound.next in let w = z.0 in omega arith)))
-          ∙ ap (node_body version_two c.grammar c.passes c.read x.production (e 0)) read_copies
-
-      counts : sofar ≡ before + rules_of_pass c.passes c.write c.grammar (node x.production ts)
-      counts =
-          let n = stays.counted in
-          let m = dones.counted in
-          let k : pass_rule_count c.passes c.write (slice_get c.grammar.productions x.production) ≡ pass_rule_count c.passes c.write (Some q) = ap (pass_rule_count c.passes c.write) stays.there in
-          omega arith
+          body_same c.read c.grammar c.passes p s f (e 0) before_copies passes_are (λ a p is le. sym (stays.entered a p is (let n = sound.next in omega arith) (λ z. let n = sound.next in let w = z.0 in omega arith)))
+          ∙ ap (node_body version_two c.grammar c.passes c.read p (e 0)) read_copies

@@ -1,5 +1,6 @@
--- A rule is run: what is lent, and where the value goes.
-use Rattle.std.proofs.Common.{ℕ, zero, suc, ◌≡◌, ◌≢◌, ◌+◌, ◌-◌, ◌<◌, ◌⊎◌, inl, inr, Bool, List, [], ◌∷◌, ◌++◌, Option, Some, None, All, slice_get, slice_index, get_or, length, drop, set, refl, ap, ◌∙◌, sym, subst, arith}
+-- Running a rule: the values of its arguments, and the slot of its value.
+use Rattle.std.specs.Prelude.{cond}
+use Rattle.std.proofs.Common.{ℕ, zero, suc, ◌≡◌, ◌≢◌, ◌+◌, ◌-◌, ◌<◌, ◌⊎◌, inl, inr, true, Bool, List, [], ◌∷◌, ◌++◌, Option, Some, None, All, slice_get, slice_index, get_or, length, drop, set, refl, ap, ◌∙◌, sym, subst, arith}
 use Rattle.std.proofs.lemmas.List.{drop_at, set-append_left, set-append_right}
 use Rattle.std.proofs.lemmas.List.Elements.{All-set}
 use Rattle.std.proofs.lemmas.Option.{get_or_from_slice_get, slice_get_within}
@@ -19,8 +20,11 @@ use Rattle.treefile.specs.records.Records.{values_up_to}
 use Rattle.treefile.specs.ways.Writing as writing
 use Rattle.backreader.specs.BackState.{BackState}
 use Rattle.passcode.specs.declared.instr.Instr.{Instr}
-use Rattle.planchecker.specs.courses.Course.{Phase, Between, Got, Gone, Follows, Gives, got, went, IsAtHand, IsFinal, IsKnown}
-use Rattle.planchecker.specs.courses.Settings.{Setting, arity, list_at, place, way}
+use Rattle.passcode.specs.Counts.{is_giving}
+use Rattle.passcode.specs.declared.phase.Phase.{Phase}
+use Rattle.passcode.specs.declared.phase.Phase.TheVariants.{Between, Got, Gone, Ended}
+use Rattle.passcode.specs.Course.{IsAtHand, IsFinal, MayGive, Runs, State, place_of, run_count}
+use Rattle.planchecker.specs.courses.Settings.{Setting, list_at}
 use Rattle.planchecker.specs.courses.Sound.{IsSound}
 use Rattle.passrun.specs.declared.laid.laying.RuleSlots.{RuleSlots}
 use Rattle.passrun.specs.declared.passing.open_node.OpenNode.{OpenNode}
@@ -29,38 +33,39 @@ use Rattle.passrun.specs.passing.Change as change
 use Rattle.passrun.specs.laid.Layouts.{AreSlotsOf}
 use Rattle.passrun.specs.passing.Nodes.{stepped}
 use Rattle.passrun.specs.Passed.{IsRunning}
-use Rattle.passrun.specs.passing.Passing.{IsCurrent, Opens, Passing, Tapes}
-use Rattle.passrun.specs.passing.Places.{IsShown, Table, copies, in_children, place_passes, stored}
+use Rattle.passrun.specs.passing.Passing.{IsCurrent, Opens, Passing, Tapes, state_of}
+use Rattle.passrun.specs.passing.Places.{IsKnown, IsShown, Table, copies, in_children, place_passes, stored}
 use Rattle.passrun.specs.laid.Slots.{argument_slot, rank, stored_width, target_slot}
 use Rattle.passrun.proofs.course.Ahead.{behind_same}
 use Rattle.passrun.proofs.places.Copies.{copies_set, shown_set}
 use Rattle.passrun.proofs.places.Entries.{some_at}
 use Rattle.passrun.proofs.steps.Given.{argument_kind}
-use Rattle.passrun.proofs.steps.Giving.{given}
+use Rattle.passrun.proofs.steps.Giving.{IsPlaced, given}
 use Rattle.passrun.proofs.steps.Moves.{known_differs}
 use Rattle.passrun.proofs.places.Slots.{argument_at, has_copy, length_row, length_stored, own_at, own_set, row_at}
-use Rattle.passrun.proofs.steps.Steps.{IsGivingOf, IsPlaced, at_open, follows_next, give_next, place_known, same_production, stored_same}
+use Rattle.passrun.proofs.steps.Steps.{IsGivingOf, give_next, rules_next, runs_next, same_production, stored_same}
 use Rattle.passrun.proofs.places.Tables.{body_same, set_here, set_other}
 
--- a rule has as many occurrences as arguments, and its expression names no other
+-- A rule has as many occurrences as arguments, and its expression names no others.
 pub rule_named : (c : Setting) → IsSound c → (p r : ℕ) (q : Production) (u : Rule) → IsProduction c.grammar p q → slice_get q.rules r ≡ Some u → (length u.expr.1 ≡ length u.args)
 rule_named c sound p r q u there num = (sound.accepted.named.rules_named p q there r u num).arguments.equally_long
 
--- what a target is of
+-- The pass of a target.
 passed_at : (c : Setting) (q : Production) (j a : ℕ) (u : Rule) → u.target ≡ record { place = j; attr = a } → HasPass c.passes q u.target c.write → HasPass c.passes q (record { place = j; attr = a }) c.write
 passed_at c q j a u is h = subst (λ t. HasPass c.passes q t c.write) is h
 
--- the row of the child that was got, behind a value of it
-abbrev IsRowNow : Setting → Production → Phase → ℕ → ℕ → ℕ → Value → List Value → List Value → Type 0
-IsRowNow c q ph i j a v row now = ((j ≡ 0) × (now ≡ row)) ⊎ ((j ≢ 0) × (now ≡ set row (rank c.write (place_passes c q j) a) v))
+-- The row of the child that was read last, after one of its values was replaced.
+abbrev IsRowNow : Setting → Production → ℕ → ℕ → Value → List Value → List Value → Type 0
+IsRowNow c q j a v row now = ((j ≡ 0) × (now ≡ row)) ⊎ ((j ≢ 0) × (now ≡ set row (rank c.write (place_passes c q j) a) v))
 
--- A value of the pass is changed where it belongs: what stands at the next place is as before, but for that value in the child's row.
-current_stays : (c : Setting) (q : Production) (ph : Phase) (i level p : ℕ) (e of_child : Table) (row now : List Value) (j a : ℕ) (v : Value) (old new : Tapes) (count : ℕ) → c.write ≡ suc c.read → HasPass c.passes q (record { place = j; attr = a }) c.write → IsPlaced c q ph i j → IsRowNow c q ph i j a v row now
+-- Replacing a value of the pass at its target does not change the state at the next place, except for that
+-- value in the child's row.
+current_stays : (c : Setting) (q : Production) (ph : Phase) (i : ℕ) (done : List ℕ) (level p : ℕ) (e of_child : Table) (row now : List Value) (j a : ℕ) (v : Value) (old new : Tapes) (count : ℕ) → c.write ≡ suc c.read → HasPass c.passes q (record { place = j; attr = a }) c.write → IsPlaced c q (state_of ph i done) j → IsRowNow c q j a v row now
     → IsCurrent c q ph i level p e of_child row old new count → IsCurrent c q ph i level p (change.set e j a v) of_child now old new count
-current_stays c q Between i level p e of_child row now j a v old new count next pass placed (inl k) h = (h.0, h.1, k.1 ∙ h.2)
-current_stays c q Between i level p e of_child row now j a v old new count next pass placed (inr k) h = absurd (elim placed [ inl x ↦ k.0 x | inr x ↦ (let y = x.0 in let bad : ⊥ = cc in bad) ])
-current_stays c q Gone i level p e of_child row now j a v old new count next pass placed (inr k) h = absurd (elim placed [ inl x ↦ k.0 x | inr x ↦ (let y = x.0 in let bad : ⊥ = cc in bad) ])
-current_stays c q Gone i level p e of_child row now j a v old new count next pass placed (inl k) (g, nothing) = (
+current_stays c q Between i done level p e of_child row now j a v old new count next pass placed (inl k) h = (h.0, h.1, k.1 ∙ h.2)
+current_stays c q Between i done level p e of_child row now j a v old new count next pass placed (inr k) h = absurd (elim placed [ inl x ↦ k.0 x | inr x ↦ (let y = x.phase_is in let bad : ⊥ = cc in bad) ])
+current_stays c q Gone i done level p e of_child row now j a v old new count next pass placed (inr k) h = absurd (elim placed [ inl x ↦ k.0 x | inr x ↦ (let y = x.phase_is in let bad : ⊥ = cc in bad) ])
+current_stays c q Gone i done level p e of_child row now j a v old new count next pass placed (inl k) (g, nothing) = (
   record {
     item = g.item;
     stands = g.stands;
@@ -68,7 +73,7 @@ current_stays c q Gone i level p e of_child row now j a v old new count next pas
     values = g.values;
     took = g.took;
     number = g.number;
-    root = λ b. g.root b ∙ sym (set_other e j a v (place (way c) (arity q) i) b (λ both. let x = both.0 in let y = k.0 in omega arith));
+    root = λ b. g.root b ∙ sym (set_other e j a v (place_of q c.write i) b (λ both. let x = both.0 in let y = k.0 in omega arith));
     read = g.read;
     put = g.put;
     counted = g.counted;
@@ -76,7 +81,8 @@ current_stays c q Gone i level p e of_child row now j a v old new count next pas
   },
   k.1 ∙ nothing,
 )
-current_stays c q Got i level p e of_child row now j a v old new count next pass placed now_is (g, none, is) = (
+current_stays c q Ended i done level p e of_child row now j a v old new count next pass placed now_is h = absurd h
+current_stays c q Got i done level p e of_child row now j a v old new count next pass placed now_is (g, none, is) = (
   record {
     symbol = g.symbol;
     stands = g.stands;
@@ -93,7 +99,7 @@ current_stays c q Got i level p e of_child row now j a v old new count next pass
 )
   where
     pl : ℕ
-    pl = place (way c) (arity q) i
+    pl = place_of q c.write i
 
     there : item_passes c.passes (item_at q pl) ≡ c.passes g.symbol
     there = ap (item_passes c.passes) g.stands
@@ -104,22 +110,22 @@ current_stays c q Got i level p e of_child row now j a v old new count next pass
         let w3 : Some n ≡ Some c.write = sym is' ∙ ap (λ ps. slice_get ps b) (sym there) ∙ w in
         cc
 
-    row_is : IsRowNow c q Got i j a v row now → now ≡ stored c g.production (change.set e j a v pl) of_child
+    row_is : IsRowNow c q j a v row now → now ≡ stored c g.production (change.set e j a v pl) of_child
     row_is (inl k) = k.1 ∙ is ∙ stored_same c g.production (e pl) (change.set e j a v pl) of_child (λ b. sym (set_other e j a v pl b (λ both. let x = both.0 in let y = k.0 in omega arith)))
     row_is (inr k) =
-        let here : j ≡ pl = elim placed [ inl x ↦ absurd (k.0 x) | inr x ↦ x.2 ] in
+        let here : j ≡ pl = elim placed [ inl x ↦ absurd (k.0 x) | inr x ↦ x.place ] in
         let ps : place_passes c q j ≡ c.passes g.production.left = ap (λ j. item_passes c.passes (item_at q j)) here ∙ there ∙ ap c.passes (sym g.left) in
         let at : slice_get (c.passes g.production.left) a ≡ Some c.write = ap (λ ps. slice_get ps a) (sym ps) ∙ pass in
         k.1 ∙ ap (λ ps. set row (rank c.write ps a) v) ps ∙ ap (λ vs. set vs (rank c.write (c.passes g.production.left) a) v) is
         ∙ own_set c g.production (e pl) (change.set e j a v pl) of_child a c.write v at (omega arith) (ap (λ j. change.set e j a v pl a) here ∙ set_here e pl a v) (λ b apart. set_other e j a v pl b (λ both. apart both.1))
 
 module _ (c : Setting) (sound : IsSound c) where
-  -- an argument stands where its slot says
-  argument_there : (p : ℕ) (q : Production) (ph : Phase) (i r : ℕ) (u : Rule) (e s : Table) (row : List Value) → IsProduction c.grammar p q → slice_get q.rules r ≡ Some u → IsShown c q (went ph i) e s → (o : Target) → IsArgument u o → IsAtHand c q ph i o
+  -- An argument is in its slot.
+  argument_there : (p : ℕ) (q : Production) (state : State) (r : ℕ) (u : Rule) (e s : Table) (row : List Value) → IsProduction c.grammar p q → slice_get q.rules r ≡ Some u → IsShown c q (run_count state.phase state.turn) e s → (o : Target) → IsArgument u o → IsAtHand c.passes q c.write state o
       → slice_get (stored c q (e 0) s ++ row) (argument_slot c q o.place o.attr) ≡ Some (e o.place o.attr)
-  argument_there p q ph i r u e s row there num shown o arg (n, pass, le, final) = go o.place pass final (argument_kind c.grammar sound.accepted p q there r u o num arg)
+  argument_there p q state r u e s row there num shown o arg (n, pass, le, final) = go o.place pass final (argument_kind c.grammar sound.accepted p q there r u o num arg)
     where
-      go : (j : ℕ) → slice_get (item_passes c.passes (item_at q j)) o.attr ≡ Some n → IsFinal c q ph i j n → slice_get (item_kinds c.grammar (item_at q j)) o.attr ≡ Some (found_kind j) → slice_get (stored c q (e 0) s ++ row) (argument_slot c q j o.attr) ≡ Some (e j o.attr)
+      go : (j : ℕ) → slice_get (item_passes c.passes (item_at q j)) o.attr ≡ Some n → IsFinal q c.write state j n → slice_get (item_kinds c.grammar (item_at q j)) o.attr ≡ Some (found_kind j) → slice_get (stored c q (e 0) s ++ row) (argument_slot c q j o.attr) ≡ Some (e j o.attr)
       go zero pass final kind = own_at c q (e 0) s row o.attr n pass le
       go (suc b) pass final kind = child (item_at q (suc b)) refl pass kind
         where
@@ -129,17 +135,17 @@ module _ (c : Setting) (sound : IsSound c) where
               let copy = has_copy c x o.attr n kind pass in
               argument_at c q (e 0) s row b o.attr n x is copy le ∙ ap Some (shown b o.attr n x is copy le final)
 
-  -- what is lent of a node's values is what the occurrences stand for
-  lent_is : (p : ℕ) (q : Production) (ph : Phase) (i r : ℕ) (u : Rule) (e s : Table) (row : List Value) (slots : RuleSlots) (spare : Value) → IsProduction c.grammar p q → slice_get q.rules r ≡ Some u → IsShown c q (went ph i) e s → AreSlotsOf c q u slots
-      → ((o : Target) → IsArgument u o → IsAtHand c q ph i o) → (k : ℕ) (o : Target) → slice_get u.args k ≡ Some o → get_or (stored c q (e 0) s ++ row) (slice_index slots.args k) spare ≡ e o.place o.attr
-  lent_is p q ph i r u e s row slots spare there num shown are at_hand k o at =
+  -- The values that are lent are those of the occurrences.
+  lent_is : (p : ℕ) (q : Production) (state : State) (r : ℕ) (u : Rule) (e s : Table) (row : List Value) (slots : RuleSlots) (spare : Value) → IsProduction c.grammar p q → slice_get q.rules r ≡ Some u → IsShown c q (run_count state.phase state.turn) e s → AreSlotsOf c q u slots
+      → ((o : Target) → IsArgument u o → IsAtHand c.passes q c.write state o) → (k : ℕ) (o : Target) → slice_get u.args k ≡ Some o → get_or (stored c q (e 0) s ++ row) (slice_index slots.args k) spare ≡ e o.place o.attr
+  lent_is p q state r u e s row slots spare there num shown are at_hand k o at =
       let less : k < length slots.args = let l = slice_get_within u.args k o at in let m = are.args.equally_long in omega arith in
       let z = some_at slots.args k less in
       let is : z.0 ≡ argument_slot c q o.place o.attr = are.args.each k o z.0 at z.1 in
       let index : slice_index slots.args k ≡ argument_slot c q o.place o.attr = get_or_from_slice_get slots.args k z.0 0 z.1 ∙ is in
-      ap (λ i. get_or (stored c q (e 0) s ++ row) i spare) index ∙ get_or_from_slice_get (stored c q (e 0) s ++ row) (argument_slot c q o.place o.attr) (e o.place o.attr) spare (argument_there p q ph i r u e s row there num shown o (k, at) (at_hand o (k, at)))
+      ap (λ i. get_or (stored c q (e 0) s ++ row) i spare) index ∙ get_or_from_slice_get (stored c q (e 0) s ++ row) (argument_slot c q o.place o.attr) (e o.place o.attr) spare (argument_there p q state r u e s row there num shown o (k, at) (at_hand o (k, at)))
 
-  -- where the value goes among a node's values
+  -- The slot of the value among a node's values.
   put_own : (q : Production) (e s : Table) (row : List Value) (a : ℕ) (v : Value) → HasPass c.passes q (record { place = 0; attr = a }) c.write → set (stored c q (e 0) s ++ row) (target_slot c q 0 a) v ≡ stored c q (change.set e 0 a v 0) s ++ row
   put_own q e s row a v pass =
       let own = values_up_to c.write (c.passes q.left) (e 0) in
@@ -159,7 +165,7 @@ module _ (c : Setting) (sound : IsSound c) where
       set-append_right (stored c q (e 0) s) row (stored_width c q) (target_slot c q (suc b) a) v m (omega arith) ∙ ap (λ i. stored c q (e 0) s ++ set row i v) minus
       ∙ ap (λ vs. vs ++ set row r v) (stored_same c q (e 0) (change.set e (suc b) a v 0) s (λ n. sym (set_other e (suc b) a v 0 n (λ both. omega arith))))
 
-  -- a rule was run at the innermost open node, whose values are these
+  -- A rule was run at the innermost open node, which has these values.
   given_in : (s : ℕ) (f : ℕ → Value) (level : ℕ) (x : OpenNode) (under : List Value) (old : Tapes) (before : ℕ) (others : ToCome) (ph : Phase) (values new : List Value) (t : Tapes) (now : ℕ) (todo : ToCome) (j a r : ℕ) (v spare : Value) (z : Instr) (q0 : Production) (u0 : Rule) (slots : RuleSlots)
       → IsGivingOf j a r z → slice_get (list_at c x.production) x.at ≡ Some z → IsProduction c.grammar x.production q0 → slice_get q0.rules r ≡ Some u0 → AreSlotsOf c q0 u0 slots
       → v ≡ value_of u0.expr.0 (λ k. get_or (drop x.base values) (slice_index slots.args k) spare) → new ≡ set values (x.base + slots.target) v
@@ -176,12 +182,12 @@ module _ (c : Setting) (sound : IsSound c) where
         trees = o.trees;
         valuations = o.valuations;
         mid = o.mid;
-        sofar = o.sofar + 1;
         count = o.count;
-        stays = given c sound s f level x (stepped x x.child) q ph o.i o.done e o.trees o.valuations old o.mid before o.sofar j a r v g value_is (at_open c q ph o.i j next.1) known refl next.2 o.stays;
-        shown = shown_set c q (went ph o.i) e o.copied j a v pass (unless ph next.1) o.shown;
-        current = current_stays c q ph o.i level x.child e o.of_child o.row row_now j a v o.mid t o.count sound.next pass next.1 (both j refl).1 o.current;
-        counted = let n = o.counted in omega arith;
+        stays = given c sound s f level x.production q (state_of ph o.i o.done) e o.trees o.valuations old o.mid j a r v g value_is next.1 o.stays;
+        runs = next.3;
+        shown = shown_set c q (run_count ph o.i) e o.copied j a v pass (unless next.1) o.shown;
+        current = current_stays c q ph o.i o.done level x.child e o.of_child o.row row_now j a v o.mid t o.count sound.next pass next.1 (both j refl).1 o.current;
+        counted = let n = o.counted in let l = rules_next c x z at in let one : ◌≡◌ {A = ℕ} (cond (is_giving z) 1 0) 1 = ap (λ b. cond b 1 0) next.2 in omega arith;
         values_are =
             written ∙ ap (λ vs. set vs (x.base + slots.target) v) o.values_are ∙ ap (λ i. set (under ++ front) i v) sum ∙ set-append_right under front (length under) (length under + target_slot c q j a) v refl (omega arith)
             ∙ ap (λ i. under ++ set front i v) (let minus : length under + target_slot c q j a - length under ≡ target_slot c q j a = omega arith in minus) ∙ ap (λ vs. under ++ vs) (both j refl).0;
@@ -198,14 +204,11 @@ module _ (c : Setting) (sound : IsSound c) where
       front : List Value
       front = stored c q (e 0) o.copied ++ o.row
 
-      next : Gives c q ph o.i o.done j a r × IsPlaced c q ph o.i j × Follows c q ph o.i (r ∷ o.done) (drop (x.at + 1) (list_at c x.production))
-      next = give_next c sound q ph o.i o.done j a r z (drop (x.at + 1) (list_at c x.production)) giving (follows_next c sound q ph o.i o.done x z at o.stays.follows)
+      next : MayGive c.passes q c.write (state_of ph o.i o.done) j a r × IsPlaced c q (state_of ph o.i o.done) j × (is_giving z ≡ true) × Runs c.passes q c.write (state_of ph o.i (r ∷ o.done)) (drop (x.at + 1) (list_at c x.production))
+      next = give_next c q ph o.i o.done j a r z (drop (x.at + 1) (list_at c x.production)) giving (runs_next c x z at q ph o.i o.done o.runs)
 
-      g : Gives c q ph o.i o.done j a r
+      g : MayGive c.passes q c.write (state_of ph o.i o.done) j a r
       g = next.0
-
-      known : IsKnown c q (got ph o.i) j
-      known = place_known c q ph o.i j next.1
 
       pass : HasPass c.passes q (record { place = j; attr = a }) c.write
       pass = passed_at c q j a g.rule g.target g.passed
@@ -232,7 +235,7 @@ module _ (c : Setting) (sound : IsSound c) where
           let lent : ℕ → Value = λ k. get_or front (slice_index slots.args k) spare in
           let dropped : drop x.base values ≡ front = ap (drop x.base) o.values_are ∙ drop_at under front x.base (sym o.base) in
           is0 ∙ ap (λ u. value_of u.expr.0 (λ k. get_or (drop x.base values) (slice_index slots.args k) spare)) rules_same ∙ ap (λ vs. value_of g.rule.expr.0 (λ k. get_or vs (slice_index slots.args k) spare)) dropped
-          ∙ rule_has_one_value c.grammar q g.rule e lent env (sound.accepted.named.rules_named x.production q o.stays.there r g.rule g.numbered) (λ k o' at'. lent_is x.production q ph o.i r g.rule e o.copied o.row slots spare o.stays.there g.numbered o.shown are g.at_hand k o' at') lends
+          ∙ rule_has_one_value c.grammar q g.rule e lent env (sound.accepted.named.rules_named x.production q o.stays.there r g.rule g.numbered) (λ k o' at'. lent_is x.production q (state_of ph o.i o.done) r g.rule e o.copied o.row slots spare o.stays.there g.numbered o.shown are g.at_hand k o' at') lends
 
       row_of : ℕ → List Value
       row_of zero = o.row
@@ -241,7 +244,7 @@ module _ (c : Setting) (sound : IsSound c) where
       row_now : List Value
       row_now = row_of j
 
-      both : (n : ℕ) → n ≡ j → (set front (target_slot c q j a) v ≡ stored c q (change.set e j a v 0) o.copied ++ row_now) × IsRowNow c q ph o.i j a v o.row row_now
+      both : (n : ℕ) → n ≡ j → (set front (target_slot c q j a) v ≡ stored c q (change.set e j a v 0) o.copied ++ row_now) × IsRowNow c q j a v o.row row_now
       both zero is = (
         ap (λ n. set front (target_slot c q n a) v) (sym is) ∙ put_own q e o.copied o.row a v (subst (λ n. HasPass c.passes q (record { place = n; attr = a }) c.write) (sym is) pass) ∙ ap (λ n. stored c q (change.set e n a v 0) o.copied ++ row_of n) is,
         inl (sym is, ap row_of (sym is)),
@@ -251,11 +254,9 @@ module _ (c : Setting) (sound : IsSound c) where
         inr ((λ none. omega arith), ap row_of (sym is) ∙ ap (λ n. set o.row (rank c.write (place_passes c q n) a) v) is),
       )
 
-      unless : (ph : Phase) → IsPlaced c q ph o.i j → IsKnown c q (went ph o.i) j → j ≡ 0
-      unless ph (inl none) k = none
-      unless Between (inr x) k = absurd (let y = x.0 in let bad : ⊥ = cc in bad)
-      unless Gone (inr x) k = absurd (let y = x.0 in let bad : ⊥ = cc in bad)
-      unless Got (inr x) k = absurd (known_differs c q o.i j x.1 k x.2)
+      unless : IsPlaced c q (state_of ph o.i o.done) j → IsKnown c q (run_count ph o.i) j → j ≡ 0
+      unless (inl own) k = own
+      unless (inr turn) k = absurd (known_differs c q o.i j turn.within (subst (λ ph. IsKnown c q (run_count ph o.i) j) turn.phase_is k) turn.place)
 
       copied_same : copies c c.read (stored_items q.items) (in_children e) ≡ copies c c.read (stored_items q.items) (in_children (change.set e j a v))
       copied_same = sym (copies_set c q e j a v sound.next pass)
@@ -264,6 +265,7 @@ module _ (c : Setting) (sound : IsSound c) where
       coming_same Between = behind_same c q e (change.set e j a v) o.i (suc level) others copied_same
       coming_same Got = ap (of_node c (slice_get c.grammar.productions x.child) o.of_child (suc (suc level))) (behind_same c q e (change.set e j a v) (suc o.i) (suc level) others copied_same)
       coming_same Gone = behind_same c q e (change.set e j a v) (suc o.i) (suc level) others copied_same
+      coming_same Ended = refl
 
   pub step_give : (root : ℕ) (x : OpenNode) (xs : List OpenNode) (values new : List Value) (t : Tapes) (now : ℕ) (todo : ToCome) (j a r : ℕ) (v spare : Value) (z : Instr) (q : Production) (u : Rule) (slots : RuleSlots)
       → IsGivingOf j a r z → slice_get (list_at c x.production) x.at ≡ Some z → IsProduction c.grammar x.production q → slice_get q.rules r ≡ Some u → AreSlotsOf c q u slots

@@ -1,4 +1,4 @@
--- What each kind of step does to a pass in the middle of its run.
+-- The effect of each kind of step on a running pass.
 use Rattle.std.specs.List.{flat_map}
 use Rattle.std.proofs.Common.{ℕ, suc, ◌≡◌, ◌+◌, Bool, List, [], ◌∷◌, ◌++◌, Some, All, slice_get, length, take, drop, refl, ap, ◌∙◌, sym, subst, arith, append_assoc, append-nil, length-append}
 use Rattle.std.proofs.lemmas.Grind.{flat_map-append}
@@ -38,7 +38,7 @@ use Rattle.passrun.proofs.Recorded.{copies_well}
 use Rattle.passrun.proofs.steps.Steps.{HasAgreed, step_end, step_end_root, step_got, step_leaf, step_put_leaf, step_put_node}
 
 module _ (c : Setting) (sound : IsSound c) where
-  -- the bookkeeping of a body that was read
+  -- The reader's state after a body was read.
   pub read_more : (root : ℕ) (honest honest' to_honest : Bool) (content content' to : List ℕ) (state state' : BackState) (out : writing.Progress) (values read kept : List Value) (xs ys : List OpenNode) (evals p n : ℕ) (x : Item) (todo : ToCome)
       → (h : HasFetched c x p n honest content state state' values read) → honest' ≡ honest → LeavesContent honest content content' → All IsWell kept
       → (r : IsRunning c root honest content to_honest to state out values xs evals) → Passing c root ys kept (record { read = r.tapes.read ++ h.body ∷ []; put = r.tapes.put }) evals todo
@@ -87,7 +87,7 @@ module _ (c : Setting) (sound : IsSound c) where
       (subst (λ n. Passing c root (stepped x n ∷ xs) values (record { read = r.tapes.read ++ h.body ∷ []; put = r.tapes.put }) evals on.0) number on.2) (on.1 r.ahead)
   got_runs root honest honest' to_honest content content' to state state' out values read x xs evals j p q (item.Terminal (Literal l)) at there stands h agreed same leaves r = elim h.taken [ ]
 
-  -- the bookkeeping of a body that was put
+  -- The writer's state after a body was written.
   pub put_more : (honest honest' : Bool) (to to' : List ℕ) (out out' : writing.Progress) (kind : Kind) (number : ℕ) (values : List Value) (put : List (List ℕ))
       → HasPut kind number values honest to to' out out' → honest' ≡ honest
       → WhenHonest honest (to ≡ header version_two c.write ++ flat_map frame put) → WhenHonest honest' (to' ≡ header version_two c.write ++ flat_map frame (put ++ body_of kind number values ∷ []))
@@ -97,7 +97,7 @@ module _ (c : Setting) (sound : IsSound c) where
       h.there w ∙ ap (λ bytes. bytes ++ frame body) (before w) ∙ append_assoc (header version_two c.write) (flat_map frame put) (frame body)
       ∙ ap (λ bytes. header version_two c.write ++ bytes) (ap (λ bytes. flat_map frame put ++ bytes) (sym (append-nil (frame body))) ∙ sym (flat_map-append frame put (body ∷ [])))
 
-  -- a record was put, and the pass goes on
+  -- A record was written, and the pass continues.
   put_on : (root : ℕ) (honest to_honest to_honest' : Bool) (content to to' : List ℕ) (state : BackState) (out out' : writing.Progress) (values new : List Value) (xs ys : List OpenNode) (evals : ℕ) (kind : Kind) (number : ℕ) (put : List Value)
       → HasPut kind number put to_honest to to' out out' → to_honest' ≡ to_honest → All IsWell new → (r : IsRunning c root honest content to_honest to state out values xs evals)
       → Passing c root ys new (record { read = r.tapes.read; put = r.tapes.put ++ body_of kind number put ∷ [] }) evals r.todo → IsRunning c root honest content to_honest' to' state out' new ys evals
@@ -131,7 +131,7 @@ module _ (c : Setting) (sound : IsSound c) where
   put_runs root honest to_honest to_honest' content to to' state out out' values x xs evals j d q text at there stands is h same r =
       put_on root honest to_honest to_honest' content to to' state out out' values values (x ∷ xs) (stepped x x.child ∷ xs) evals Token x.child text h same r.well r (step_put_leaf c sound root x xs values r.tapes evals r.todo j d q text at there stands is r.passing)
 
-  -- nothing was read, put or run
+  -- Nothing was read, written or evaluated.
   pub gone_runs : (root : ℕ) (honest to_honest : Bool) (content to : List ℕ) (state : BackState) (out : writing.Progress) (values : List Value) (xs ys : List OpenNode) (evals : ℕ) → GoesOn c xs values ys values
       → IsRunning c root honest content to_honest to state out values xs evals → IsRunning c root honest content to_honest to state out values ys evals
   gone_runs root honest to_honest content to state out values xs ys evals goes r = record { tapes = r.tapes; todo = r.todo; passing = goes root r.tapes evals r.todo r.passing; over = r.over; read = r.read; records = r.records; few = r.few; put = r.put; written = r.written; version = r.version; unbroken = r.unbroken; whole = r.whole; well = r.well; readable = r.readable; ahead = r.ahead }

@@ -1,27 +1,20 @@
--- Where the pass does not go into a child next.
-use Rattle.std.proofs.Common.{ℕ, ◌≡◌, false, List, [], ◌∷◌, refl}
+-- The states in which the pass does not enter a child next.
+use Rattle.std.proofs.Common.{◌≡◌, false, List, [], ◌∷◌, refl}
 use Rattle.ag_grammar.specs.declared.grammar.Production.{Production}
 use Rattle.passcode.specs.declared.instr.Instr.{Instr}
 use Rattle.passcode.specs.declared.instr.Instr.TheVariants as instr
-use Rattle.planchecker.specs.courses.Course.{Between, Gone, Follows}
+use Rattle.passcode.specs.declared.phase.Phase.TheVariants.{Got}
+use Rattle.passcode.specs.Course.{Runs, State, after}
 use Rattle.planchecker.specs.courses.Settings.{Setting}
 use Rattle.passrun.specs.passing.Ahead.{goes_next}
 
--- nothing goes into a child before the next record is read, or behind the child
-pub between_stays : (c : Setting) (q : Production) (i : ℕ) (done : List ℕ) (xs : List Instr) → Follows c q Between i done xs → goes_next xs ≡ false
-between_stays c q i done [] h = refl
-between_stays c q i done (instr.Get j ∷ xs) h = refl
-between_stays c q i done (instr.Set j a r ∷ xs) h = elim h [ ]
-between_stays c q i done (instr.Go j ∷ xs) h = elim h [ ]
-between_stays c q i done (instr.Put j ∷ xs) h = refl
-between_stays c q i done (instr.Def a r ∷ xs) h = between_stays c q i (r ∷ done) xs h.1
-between_stays c q i done (instr.End ∷ xs) h = refl
-
-pub gone_stays : (c : Setting) (q : Production) (i : ℕ) (done : List ℕ) (xs : List Instr) → Follows c q Gone i done xs → goes_next xs ≡ false
-gone_stays c q i done [] h = refl
-gone_stays c q i done (instr.Get j ∷ xs) h = refl
-gone_stays c q i done (instr.Set j a r ∷ xs) h = elim h [ ]
-gone_stays c q i done (instr.Go j ∷ xs) h = elim h [ ]
-gone_stays c q i done (instr.Put j ∷ xs) h = refl
-gone_stays c q i done (instr.Def a r ∷ xs) h = gone_stays c q i (r ∷ done) xs h.1
-gone_stays c q i done (instr.End ∷ xs) h = refl
+-- If no record was read since the pass left a child, or since the node's own record was read, the pass enters
+-- no child before it reads the next record.
+pub goes_nowhere : (c : Setting) (q : Production) (state : State) (xs : List Instr) → (state.phase ≡ Got → ⊥) → Runs c.passes q c.write state xs → goes_next xs ≡ false
+goes_nowhere c q state [] apart runs = refl
+goes_nowhere c q state (instr.Get j ∷ xs) apart runs = refl
+goes_nowhere c q state (instr.Set j a r ∷ xs) apart runs = absurd (apart runs.0.0.phase_is)
+goes_nowhere c q state (instr.Go j ∷ xs) apart runs = absurd (apart runs.0.0.phase_is)
+goes_nowhere c q state (instr.Put j ∷ xs) apart runs = refl
+goes_nowhere c q state (instr.Def a r ∷ xs) apart runs = goes_nowhere c q (after q state (instr.Def a r)) xs apart runs.1
+goes_nowhere c q state (instr.End ∷ xs) apart runs = refl

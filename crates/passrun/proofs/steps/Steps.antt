@@ -1,7 +1,9 @@
 -- The steps of a pass.
-use Rattle.std.proofs.Common.{ℕ, zero, suc, ◌≡◌, ◌+◌, ◌<◌, ◌≤◌, ◌⊎◌, inl, inr, List, [], ◌∷◌, ◌++◌, Some, All, if◌then◌else◌, slice_get, length, take, drop, refl, ap, ◌∙◌, sym, subst, arith, append_assoc, append-nil, length-append}
+use Rattle.std.proofs.Common.{ℕ, zero, suc, ◌≡◌, ◌+◌, ◌<◌, ◌≤◌, ◌⊎◌, inl, inr, List, [], ◌∷◌, ◌++◌, Some, All, if◌then◌else◌, true, slice_get, length, take, drop, refl, ap, ◌∙◌, sym, subst, arith, append_assoc, append-nil, length-append}
+use Rattle.std.specs.Prelude.{cond}
+use Rattle.std.specs.List.{count_by}
 use Rattle.std.proofs.lemmas.Bool.{le-leb}
-use Rattle.std.proofs.lemmas.List.{drop_at, take_at}
+use Rattle.std.proofs.lemmas.List.{drop_all, drop_at, take_at}
 use Rattle.ag_value.specs.declared.value.Value.{Value, Text}
 use Rattle.ag_value.specs.Well.{IsWell}
 use Rattle.ag_grammar.specs.declared.direction.Direction.{Direction}
@@ -12,8 +14,9 @@ use Rattle.ag_grammar.specs.declared.grammar.Production.{Production}
 use Rattle.ag_grammar.specs.grammars.AttributeGrammar.{IsProduction, item_at, stored_items}
 use Rattle.ag_grammar.specs.grammars.Passes.{direction_of, nth, other}
 use Rattle.ag_grammar.specs.grammars.Solution.{Valuation, graft}
-use Rattle.ag_grammar.specs.grammars.Tree.{Tree, Forest, leaf, node, none, depth_of, most_depth}
-use Rattle.ag_grammar.specs.grammars.Counts.{rules_of_pass}
+use Rattle.ag_grammar.specs.grammars.Tree.{Tree, leaf, node, none, depth_of, most_depth}
+use Rattle.ag_grammar.specs.grammars.Counts.{pass_rule_count, rules_of_pass}
+use Rattle.ag_grammar.proofs.grammars.Counting.{count_more}
 use Rattle.treefile.specs.declared.body.Kind.TheVariants.{Node, Token}
 use Rattle.treefile.specs.ways.Awaited.{Child, ToCome, before_others, root_to_come}
 use Rattle.treefile.specs.records.Orders.{BodyTree, branch, postfix}
@@ -21,30 +24,35 @@ use Rattle.treefile.specs.records.Records.{bodies_of, values_up_to}
 use Rattle.treefile.specs.records.TreeFile.{body_of, version_two}
 use Rattle.passcode.specs.declared.instr.Instr.{Instr}
 use Rattle.passcode.specs.declared.instr.Instr.TheVariants as instr
-use Rattle.planchecker.specs.courses.Course.{Phase, Between, Got, Gone, got, after_get, Follows, Gives, AreDone, IsKnown}
-use Rattle.planchecker.specs.courses.Settings.{Setting, way, arity, place, list_at}
+use Rattle.passcode.specs.Counts.{is_giving}
+use Rattle.passcode.specs.declared.phase.Phase.{Phase}
+use Rattle.passcode.specs.declared.phase.Phase.TheVariants.{Between, Got, Gone}
+use Rattle.passcode.specs.Course.{MayGive, MayRun, Runs, after_get, arity, place_of}
+use Rattle.passcode.proofs.Agreeing.{agrees}
+use Rattle.passcode.proofs.lists.Counting.{lists_evaluate_rules}
+use Rattle.planchecker.specs.courses.Settings.{Setting, way, list_at}
 use Rattle.planchecker.specs.courses.Sound.{IsSound}
 use Rattle.passrun.specs.declared.passing.open_node.OpenNode.{OpenNode}
 use Rattle.passrun.specs.passing.Ahead.{behind, children_of, of_node}
 use Rattle.passrun.specs.passing.Change.{over, with_row}
 use Rattle.passrun.specs.Damage.{AreRecords, source}
 use Rattle.passrun.specs.passing.Nodes.{first_at, left_at, stepped}
-use Rattle.passrun.specs.passing.Passing.{Tapes, Keeps, Took, Stays, IsReady, Opens, Awaits, Passing, below, met, put_of, root_body, root_number}
-use Rattle.passrun.specs.passing.Places.{IsShown, Table, copied_passes, copies, in_children, stored}
+use Rattle.passrun.specs.passing.Passing.{Tapes, Keeps, Took, Stays, IsReady, Opens, Awaits, Passing, below, met, put_of, root_body, root_number, rules_left, state_of}
+use Rattle.passrun.specs.passing.Places.{Table, copied_passes, copies, in_children, rest_of, stored}
 use Rattle.passrun.specs.reading.Reading.{AgreeAt, IsNodeRead, IsTokenRead}
 use Rattle.passrun.specs.laid.Slots.{copied_width, copy_start, stored_width}
 use Rattle.passrun.proofs.course.Ahead.{behind_last, behind_next, behind_same, is_record, of_node_is}
 use Rattle.passrun.proofs.places.Copies.{agree_table, copies_row, shown_both, shown_row}
 use Rattle.passrun.proofs.Damage.{leaves_on}
-use Rattle.passrun.proofs.course.Forests.{add_tree, add_values, fits_none}
-use Rattle.passrun.proofs.steps.Moves.{met_child, returned, put_child, ended, kept_copy, known_here, known_last, known_more, known_differs}
+use Rattle.passrun.proofs.course.Forests.{add_tree, add_values, fits_none, rules_add}
+use Rattle.passrun.proofs.steps.Moves.{met_child, returned, put_child, ended, kept_copy, known_last, known_more, known_differs}
 use Rattle.passrun.proofs.Recorded.{first_row}
-use Rattle.passrun.proofs.steps.Giving.{IsOpenPlace}
+use Rattle.passrun.proofs.steps.Giving.{IsPlaced, known_here}
 use Rattle.passrun.proofs.places.Slots.{begins_with_copy, length_row, length_stored, share_at, shares}
 use Rattle.passrun.proofs.places.Widths.{few_values}
 use Rattle.passrun.proofs.places.Tables.{with_is, with_here, with_other, same_values, All-before, All-after}
 
--- the instruction at an index, and those behind it
+-- The instruction at an index, and those after it.
 pub next_is : (xs : List Instr) (n : ℕ) (x : Instr) → slice_get xs n ≡ Some x → drop n xs ≡ x ∷ drop (n + 1) xs
 next_is xs n x at = let m : n + 1 ≡ suc n = omega arith in go xs n at ∙ ap (λ m. x ∷ drop m xs) (sym m)
   where
@@ -59,41 +67,21 @@ same_production c p q r a b = let e : Some q ≡ Some r = sym a ∙ b in cc
 abbrev pub IsGivingOf : ℕ → ℕ → ℕ → Instr → Type 0
 IsGivingOf j a r z = (z ≡ instr.Set j a r) ⊎ ((z ≡ instr.Def a r) × (j ≡ 0))
 
--- where a rule gives a value in a phase: at the node itself, or at the child whose record was read
-abbrev pub IsPlaced : Setting → Production → Phase → ℕ → ℕ → Type 0
-IsPlaced c q ph i j = (j ≡ 0) ⊎ ((ph ≡ Got) × (i < arity q) × (j ≡ place (way c) (arity q) i))
-
-give_def : (c : Setting) (q : Production) (ph : Phase) (i : ℕ) (done : List ℕ) (a r : ℕ) (xs : List Instr) → Follows c q ph i done (instr.Def a r ∷ xs) → Gives c q ph i done 0 a r × Follows c q ph i (r ∷ done) xs
-give_def c q Between i done a r xs h = h
-give_def c q Got i done a r xs h = h
-give_def c q Gone i done a r xs h = h
-
-give_set : (c : Setting) (q : Production) (ph : Phase) (i : ℕ) (done : List ℕ) (j a r : ℕ) (xs : List Instr) → Follows c q ph i done (instr.Set j a r ∷ xs) → Gives c q ph i done j a r × IsPlaced c q ph i j × Follows c q ph i (r ∷ done) xs
-give_set c q Between i done j a r xs h = elim h [ ]
-give_set c q Got i done j a r xs h = (h.2, inr (refl, h.0, h.1), h.3)
-give_set c q Gone i done j a r xs h = elim h [ ]
-
-pub place_known : (c : Setting) (q : Production) (ph : Phase) (i j : ℕ) → IsPlaced c q ph i j → IsKnown c q (got ph i) j
-place_known c q ph i j h = elim h [ inl x ↦ inl x | inr x ↦ subst (λ ph. IsKnown c q (got ph i) j) (sym x.0) (known_here c q i j x.2) ]
-
-pub at_open : (c : Setting) (q : Production) (ph : Phase) (i j : ℕ) → IsPlaced c q ph i j → IsOpenPlace c q i j
-at_open c q ph i j h = elim h [ inl x ↦ inl x | inr x ↦ inr (x.2, x.1) ]
-
--- a node's own values in its row are those at place 0
+-- A node's own values in its row are those at place 0.
 pub stored_same : (c : Setting) (q : Production) (f h : ℕ → Value) (s : Table) → ((a : ℕ) → f a ≡ h a) → stored c q f s ≡ stored c q h s
 stored_same c q f h s same = ap (λ vs. vs ++ copies c c.write (stored_items q.items) (in_children s)) (same_values c.write (c.passes q.left) f h (λ a p is le. same a))
 
--- where the row of a child at a place begins with these values, they agree with those that were read
+-- If the row of a child at a place begins with these values, they agree with those that were read.
 abbrev pub HasAgreed : Setting → Production → OpenNode → ℕ → Item → List Value → (ℕ → Value) → Type 0
 HasAgreed c q x j x' values h = (f : ℕ → Value) (rest : List Value) → drop (x.base + copy_start c q j) values ≡ values_up_to c.write (copied_passes c x') f ++ rest → AgreeAt c x' f h
 
--- a node goes on behind a record that was read
+-- A node continues after a record that was read.
 pub record Arrives (c : Setting) (s : ℕ) (f : ℕ → Value) (level : ℕ) (x : OpenNode) (under : List Value) (old : Tapes) (before : ℕ) (others : ToCome) (phase : Phase) (values : List Value) (t : Tapes) (body : List ℕ) (now : ℕ) (todo : ToCome) : Type 0 where
   pub next : ToCome
   pub records : AreRecords (source c) t.read todo → AreRecords (source c) (t.read ++ body ∷ []) next
   pub opens : Opens c s f level x under old before others phase values (record { read = t.read ++ body ∷ []; put = t.put }) now next
 
--- the copies at a place of what stands behind other values
+-- The copies at a place, in a row that comes after other values.
 pub copies_there : (c : Setting) (q : Production) (f : ℕ → Value) (s : Table) (under row : List Value) (b base : ℕ) (x : Item) → base ≡ length under → slice_get (stored_items q.items) b ≡ Some x
     → (rest : List Value) × (drop (base + copy_start c q (suc b)) (under ++ (stored c q f s ++ row)) ≡ values_up_to c.write (copied_passes c x) (s (suc b)) ++ rest)
 copies_there c q f s under row b base x is at =
@@ -106,42 +94,106 @@ copies_there c q f s under row b base x is at =
     beyond [] ys n = let z : 0 + n ≡ n = omega arith in ap (λ n. drop n ys) z
     beyond (x ∷ xs) ys n = let z : suc (length xs) + n ≡ suc (length xs + n) = omega arith in ap (λ n. drop n (x ∷ (xs ++ ys))) z ∙ beyond xs ys n
 
-module _ (c : Setting) (sound : IsSound c) where
-  pub follows_next : (q : Production) (ph : Phase) (i : ℕ) (done : List ℕ) (x : OpenNode) (z : Instr) → slice_get (list_at c x.production) x.at ≡ Some z → Follows c q ph i done (drop x.at (list_at c x.production)) → Follows c q ph i done (z ∷ drop (x.at + 1) (list_at c x.production))
-  follows_next q ph i done x z at h = subst (Follows c q ph i done) (next_is (list_at c x.production) x.at z at) h
+module _ (c : Setting) (x : OpenNode) (z : Instr) (at : slice_get (list_at c x.production) x.at ≡ Some z) where
+  -- An instruction may run if the rest of a list that begins with it may run.
+  pub runs_next : (q : Production) (ph : Phase) (i : ℕ) (done : List ℕ) → Runs c.passes q c.write (state_of ph i done) (rest_of c x)
+      → Runs c.passes q c.write (state_of ph i done) (z ∷ drop (x.at + 1) (list_at c x.production))
+  runs_next q ph i done runs = subst (Runs c.passes q c.write (state_of ph i done)) (next_is (list_at c x.production) x.at z at) runs
 
-  -- the record of a node comes in
+  -- If the instruction runs a rule, one rule fewer is left after it.
+  pub rules_next : rules_left c x ≡ cond (is_giving z) 1 0 + count_by is_giving (drop (x.at + 1) (list_at c x.production))
+  rules_next = ap (count_by is_giving) (next_is (list_at c x.production) x.at z at) ∙ count_more is_giving z (drop (x.at + 1) (list_at c x.production))
+
+-- The innermost open node is in the phase in which its next instruction may run.
+module _ {c : Setting} {s : ℕ} {f : ℕ → Value} {level : ℕ} {x : OpenNode} {under : List Value} {old : Tapes} {before : ℕ} {others : ToCome} {ph : Phase} {values : List Value} {t : Tapes} {now : ℕ} {todo : ToCome}
+    (o : Opens c s f level x under old before others ph values t now todo) where
+  abbrev pub IsIn : Phase → Type 0
+  IsIn ph = Opens c s f level x under old before others ph values t now todo
+
+  may_run : (z : Instr) → slice_get (list_at c x.production) x.at ≡ Some z → MayRun c.passes o.production c.write (state_of ph o.i o.done) z
+  may_run z at = (runs_next c x z at o.production ph o.i o.done o.runs).0
+
+  pub at_get : (j : ℕ) → slice_get (list_at c x.production) x.at ≡ Some (instr.Get j) → IsIn Between
+  at_get j at = subst IsIn (may_run (instr.Get j) at).phase_is o
+
+  pub at_go : (j : ℕ) → slice_get (list_at c x.production) x.at ≡ Some (instr.Go j) → IsIn Got
+  at_go j at = subst IsIn (may_run (instr.Go j) at).0.phase_is o
+
+  pub at_put : (j : ℕ) → slice_get (list_at c x.production) x.at ≡ Some (instr.Put j) → IsIn Gone
+  at_put j at = subst IsIn (may_run (instr.Put j) at).phase_is o
+
+  pub at_end : slice_get (list_at c x.production) x.at ≡ Some instr.End → IsIn Between
+  at_end at = subst IsIn (may_run instr.End at).0 o
+
+  -- The node is done: its tree was read, and written except for its own record, which its row makes. The
+  -- others are still to be read.
+  pub record IsDone : Type 0 where
+    pub ready : IsReady c (item.Symbol s) x.production (o.table 0) (node x.production o.trees) (graft (o.table 0) o.valuations) old t
+    pub deep : depth_of (node x.production o.trees) + level ≤ suc most_depth
+    pub record_is : root_body (bodies_of version_two c.grammar c.passes c.write (node x.production o.trees) (graft (o.table 0) o.valuations)) ≡ body_of Node x.production (stored c o.production (o.table 0) o.copied)
+    pub whole : values ≡ under ++ stored c o.production (o.table 0) o.copied
+    pub counted : now ≡ before + rules_of_pass c.passes c.write c.grammar (node x.production o.trees)
+    pub todo_is : todo ≡ others
+
+-- The target of an instruction that runs a rule is at the node itself, or at the child whose record was read.
+pub give_next : (c : Setting) (q : Production) (ph : Phase) (i : ℕ) (done : List ℕ) (j a r : ℕ) (z : Instr) (xs : List Instr) → IsGivingOf j a r z → Runs c.passes q c.write (state_of ph i done) (z ∷ xs)
+    → MayGive c.passes q c.write (state_of ph i done) j a r × IsPlaced c q (state_of ph i done) j × (is_giving z ≡ true) × Runs c.passes q c.write (state_of ph i (r ∷ done)) xs
+give_next c q ph i done j a r z xs giving runs = elim giving [
+  | inl is ↦ let g = subst (λ z. Runs c.passes q c.write (state_of ph i done) (z ∷ xs)) is runs in (g.0.1, inr g.0.0, ap is_giving is, g.1)
+  | inr is ↦ (
+      let g = subst (λ z. Runs c.passes q c.write (state_of ph i done) (z ∷ xs)) is.0 runs in
+      (subst (λ j. MayGive c.passes q c.write (state_of ph i done) j a r) (sym is.1) g.0.1, inl is.1, ap is_giving is.0, g.1))
+]
+
+module _ (c : Setting) (sound : IsSound c) where
+  -- The list of a production has an instruction for each of its rules of the pass.
+  rules_first : (p : ℕ) (q : Production) → IsProduction c.grammar p q → count_by is_giving (list_at c p) ≡ pass_rule_count c.passes c.write (Some q)
+  rules_first p q there =
+      let n = sound.next in
+      lists_evaluate_rules c.passes q c.write (list_at c p) (agrees c.passes q c.write (list_at c p) (omega arith) (sound.course p q there))
+
+  -- The list of a production ends with `End`.
+  rules_last : (x : OpenNode) (q : Production) → IsProduction c.grammar x.production q → slice_get (list_at c x.production) x.at ≡ Some instr.End → rules_left c x ≡ 0
+  rules_last x q there at =
+      let n = sound.next in
+      let xs = list_at c x.production in
+      let last = (agrees c.passes q c.write xs (omega arith) (sound.course x.production q there)).ends.last x.at at in
+      let none = ap (count_by is_giving) (drop_all (x.at + 1) xs (omega arith)) in
+      let rest = rules_next c x instr.End at in
+      omega arith
+
+  -- The record of a node was read.
   got_in : (s : ℕ) (f : ℕ → Value) (level : ℕ) (x : OpenNode) (under : List Value) (old : Tapes) (before : ℕ) (others : ToCome) (ph : Phase) (values new : List Value) (t : Tapes) (now : ℕ) (todo : ToCome) (j p s' : ℕ) (q0 : Production) (body : List ℕ) (read : IsNodeRead c s' p body values new)
       → slice_get (list_at c x.production) x.at ≡ Some (instr.Get j) → IsProduction c.grammar x.production q0 → item_at q0 j ≡ Some (item.Symbol s') → level < most_depth → HasAgreed c q0 x j (item.Symbol s') new read.values
       → Opens c s f level x under old before others ph values t now todo → Arrives c s f level (stepped x p) under old before others Got new t body now todo
-  got_in s f level x under old before others Got values new t now todo j p s' q0 body read at there0 stands0 deep agreed o = elim (follows_next o.production Got o.i o.done x (instr.Get j) at o.stays.follows) [ ]
-  got_in s f level x under old before others Gone values new t now todo j p s' q0 body read at there0 stands0 deep agreed o = elim (follows_next o.production Gone o.i o.done x (instr.Get j) at o.stays.follows) [ ]
-  got_in s f level x under old before others Between values new t now todo j p s' q0 body read at there0 stands0 deep agreed o =
+  got_in s f level x under old before others ph values new t now todo j p s' q0 body read at there0 stands0 deep agreed here =
+      let o = at_get here j at in
       let q = o.production in
-      let next = follows_next q Between o.i o.done x (instr.Get j) at o.stays.follows in
+      let next = runs_next c x (instr.Get j) at q Between o.i o.done o.runs in
+      let within = next.0.within in
+      let place = next.0.place in
       let b = nth (way c) (arity q) o.i in
-      let pl = place (way c) (arity q) o.i in
+      let pl = place_of q c.write o.i in
       let h = read.values in
       let e = with_row o.table pl h in
       let of_child = first_row h read.table in
       let same : q0 ≡ q = same_production c x.production q0 q there0 o.stays.there in
-      let stands : item_at q pl ≡ Some (item.Symbol s') = ap (item_at q) (sym next.1) ∙ ap (λ q. item_at q j) (sym same) ∙ stands0 in
-      let is : Some next.2 ≡ Some (item.Symbol s') = sym next.3 ∙ ap (item_at q) next.1 ∙ stands in
-      let is' : next.2 ≡ item.Symbol s' = cc in
+      let item_is : item_at q j ≡ Some (item.Symbol s') = ap (λ q. item_at q j) (sym same) ∙ stands0 in
+      let stands : item_at q pl ≡ Some (item.Symbol s') = ap (item_at q) (sym place) ∙ item_is in
       let child_row = stored c read.production h of_child in
       let row : child_row ≡ values_up_to c.write (c.passes s') h ++ copies c c.write (stored_items read.production.items) read.table = ap (λ s. values_up_to c.write (c.passes s) h ++ copies c c.write (stored_items read.production.items) read.table) read.left in
       let whole : new ≡ under ++ (stored c q (o.table 0) o.copied ++ child_row) =
       read.row ∙ ap (λ vs. vs ++ (values_up_to c.write (c.passes s') h ++ copies c c.write (stored_items read.production.items) read.table)) (o.values_are ∙ ap (λ r. under ++ (stored c q (o.table 0) o.copied ++ r)) o.current.2 ∙ ap (λ vs. under ++ vs) (append-nil (stored c q (o.table 0) o.copied)))
       ∙ ap (λ vs. (under ++ stored c q (o.table 0) o.copied) ++ vs) (sym row) ∙ append_assoc under (stored c q (o.table 0) o.copied) child_row in
       let found = copies_there c q (o.table 0) o.copied under child_row b x.base (item.Symbol s') o.base stands in
-      let slot : copy_start c q0 j ≡ copy_start c q pl = ap (λ q. copy_start c q j) same ∙ ap (copy_start c q) next.1 in
+      let slot : copy_start c q0 j ≡ copy_start c q pl = ap (λ q. copy_start c q j) same ∙ ap (copy_start c q) place in
       let agree = agreed (o.copied pl) found.0 (ap (λ n. drop (x.base + n) new) slot ∙ ap (drop (x.base + copy_start c q pl)) whole ∙ found.1) in
       let agree' = agree_table c q o.i o.table o.copied b (item.Symbol s') h stands sound.next o.shown agree in
       let copied = copies_row c q o.table b (item.Symbol s') h stands agree' in
       let copy = values_up_to c.read (copied_passes c (item.Symbol s')) (o.table pl) in
       let rest = behind c q o.table (suc o.i) (suc level) others in
       let ys : List Child = children_of c read.production of_child in
-      let first : todo ≡ (suc level, (item.Symbol s', Some copy)) ∷ rest = o.todo_is ∙ behind_next c q o.table o.i (suc level) others (item.Symbol s') next.0 stands in
+      let first : todo ≡ (suc level, (item.Symbol s', Some copy)) ∷ rest = o.todo_is ∙ behind_next c q o.table o.i (suc level) others (item.Symbol s') within stands in
       let next_todo = before_others (other (direction_of c.read)) (suc (suc level)) ys rest in
       record {
         next = next_todo;
@@ -157,10 +209,10 @@ module _ (c : Setting) (sound : IsSound c) where
           trees = o.trees;
           valuations = o.valuations;
           mid = o.mid;
-          sofar = o.sofar;
           count = 0;
-          stays = met_child c sound s f level x (stepped x p) q Got o.i o.done o.table o.trees o.valuations old o.mid before o.sofar (item.Symbol s') h next.0 stands agree' refl (λ j p k. k) refl (subst (λ x'. Follows c q (after_get x') o.i o.done (drop (x.at + 1) (list_at c x.production))) is' next.4) o.stays;
-          shown = shown_row c q o.i o.i o.table o.copied b (item.Symbol s') h stands agree sound.next (λ b apart k. k) (λ a n at k. absurd (known_differs c q o.i pl next.0 k refl)) o.shown;
+          stays = met_child c sound s f level x.production q Got o.i o.done o.table o.trees o.valuations old o.mid (item.Symbol s') h within stands agree' refl (λ j n k. k) o.stays;
+          runs = subst (λ x'. Runs c.passes q c.write (state_of (after_get x') o.i o.done) (drop (x.at + 1) (list_at c x.production))) item_is next.1;
+          shown = shown_row c q o.i o.i o.table o.copied b (item.Symbol s') h stands agree sound.next (λ b apart k. k) (λ a n at k. absurd (known_differs c q o.i pl within k refl)) o.shown;
           current = (
             record {
               symbol = s';
@@ -174,41 +226,41 @@ module _ (c : Setting) (sound : IsSound c) where
             refl,
             ap (λ f. stored c read.production f of_child) (sym (with_is o.table pl h)),
           );
-          counted = let n = o.counted in let m = o.current.1 in omega arith;
+          counted = let n = o.counted in let m = o.current.1 in let l = rules_next c x (instr.Get j) at in omega arith;
           values_are = whole ∙ ap (λ vs. under ++ (vs ++ child_row)) (stored_same c q (o.table 0) (e 0) o.copied (λ a. sym (with_other o.table pl h 0 a (λ z. omega arith))));
           base = o.base;
           todo_is = ap (before_others (other (direction_of c.read)) (suc (suc level)) ys) (sym (behind_same c q e o.table (suc o.i) (suc level) others copied)) ∙ sym (of_node_is c sound p read.production of_child (suc (suc level)) (behind c q e (suc o.i) (suc level) others) read.there);
         };
       }
 
-  -- that of a token does
+  -- The record of a token was read.
   leaf_in : (s : ℕ) (f : ℕ → Value) (level : ℕ) (x : OpenNode) (under : List Value) (old : Tapes) (before : ℕ) (others : ToCome) (ph : Phase) (values new : List Value) (t : Tapes) (now : ℕ) (todo : ToCome) (j d : ℕ) (q0 : Production) (body : List ℕ) (read : IsTokenRead d body values new)
       → slice_get (list_at c x.production) x.at ≡ Some (instr.Get j) → IsProduction c.grammar x.production q0 → item_at q0 j ≡ Some (item.Terminal (Class d)) → level < most_depth → HasAgreed c q0 x j (item.Terminal (Class d)) new (λ a. Text read.text)
       → Opens c s f level x under old before others ph values t now todo → Arrives c s f level (stepped x d) under old before others Gone values t body now todo
-  leaf_in s f level x under old before others Got values new t now todo j d q0 body read at there0 stands0 deep agreed o = elim (follows_next o.production Got o.i o.done x (instr.Get j) at o.stays.follows) [ ]
-  leaf_in s f level x under old before others Gone values new t now todo j d q0 body read at there0 stands0 deep agreed o = elim (follows_next o.production Gone o.i o.done x (instr.Get j) at o.stays.follows) [ ]
-  leaf_in s f level x under old before others Between values new t now todo j d q0 body read at there0 stands0 deep agreed o =
+  leaf_in s f level x under old before others ph values new t now todo j d q0 body read at there0 stands0 deep agreed here =
+      let o = at_get here j at in
       let q = o.production in
-      let next = follows_next q Between o.i o.done x (instr.Get j) at o.stays.follows in
+      let next = runs_next c x (instr.Get j) at q Between o.i o.done o.runs in
+      let within = next.0.within in
+      let place = next.0.place in
       let b = nth (way c) (arity q) o.i in
-      let pl = place (way c) (arity q) o.i in
+      let pl = place_of q c.write o.i in
       let x' = item.Terminal (Class d) in
       let h : ℕ → Value = λ a. Text read.text in
       let e = with_row o.table pl h in
       let same : q0 ≡ q = same_production c x.production q0 q there0 o.stays.there in
-      let stands : item_at q pl ≡ Some (item.Terminal (Class d)) = ap (item_at q) (sym next.1) ∙ ap (λ q. item_at q j) (sym same) ∙ stands0 in
-      let is : Some next.2 ≡ Some (item.Terminal (Class d)) = sym next.3 ∙ ap (item_at q) next.1 ∙ stands in
-      let is' : next.2 ≡ item.Terminal (Class d) = cc in
+      let item_is : item_at q j ≡ Some x' = ap (λ q. item_at q j) (sym same) ∙ stands0 in
+      let stands : item_at q pl ≡ Some x' = ap (item_at q) (sym place) ∙ item_is in
       let whole : new ≡ under ++ (stored c q (o.table 0) o.copied ++ Text read.text ∷ []) =
       read.row ∙ ap (λ vs. vs ++ Text read.text ∷ []) (o.values_are ∙ ap (λ r. under ++ (stored c q (o.table 0) o.copied ++ r)) o.current.2 ∙ ap (λ vs. under ++ vs) (append-nil (stored c q (o.table 0) o.copied))) ∙ append_assoc under (stored c q (o.table 0) o.copied) (Text read.text ∷ []) in
       let found = copies_there c q (o.table 0) o.copied under (Text read.text ∷ []) b x.base x' o.base stands in
-      let slot : copy_start c q0 j ≡ copy_start c q pl = ap (λ q. copy_start c q j) same ∙ ap (copy_start c q) next.1 in
+      let slot : copy_start c q0 j ≡ copy_start c q pl = ap (λ q. copy_start c q j) same ∙ ap (copy_start c q) place in
       let agree = agreed (o.copied pl) found.0 (ap (λ n. drop (x.base + n) new) slot ∙ ap (drop (x.base + copy_start c q pl)) whole ∙ found.1) in
       let agree' = agree_table c q o.i o.table o.copied b x' h stands sound.next o.shown agree in
       let copied = copies_row c q o.table b x' h stands agree' in
       let copy = values_up_to c.read (copied_passes c x') (o.table pl) in
       let rest = behind c q o.table (suc o.i) (suc level) others in
-      let first : todo ≡ (suc level, (x', Some copy)) ∷ rest = o.todo_is ∙ behind_next c q o.table o.i (suc level) others x' next.0 stands in
+      let first : todo ≡ (suc level, (x', Some copy)) ∷ rest = o.todo_is ∙ behind_next c q o.table o.i (suc level) others x' within stands in
       record {
         next = rest;
         records = λ here. leaves_on (source c) (other (direction_of c.read)) t.read body (suc level) (x', Some copy) [] (root_to_come c.grammar) rest (subst (AreRecords (source c) t.read) first here) (omega arith) (is_record c x' d body values new (refl, read) (Some copy) (sym agree'));
@@ -223,9 +275,9 @@ module _ (c : Setting) (sound : IsSound c) where
           trees = o.trees;
           valuations = o.valuations;
           mid = o.mid;
-          sofar = o.sofar;
           count = 0;
-          stays = met_child c sound s f level x (stepped x d) q Gone o.i o.done o.table o.trees o.valuations old o.mid before o.sofar x' h next.0 stands agree' refl (λ j p k. elim k [ inl l ↦ inl l | inr l ↦ inr (known_more c q o.i j l) ]) refl (subst (λ x'. Follows c q (after_get x') o.i o.done (drop (x.at + 1) (list_at c x.production))) is' next.4) o.stays;
+          stays = met_child c sound s f level x.production q Gone o.i o.done o.table o.trees o.valuations old o.mid x' h within stands agree' refl (λ j n k. elim k [ inl l ↦ inl l | inr l ↦ inr (known_more c q o.i j l) ]) o.stays;
+          runs = subst (λ x'. Runs c.passes q c.write (state_of (after_get x') o.i o.done) (drop (x.at + 1) (list_at c x.production))) item_is next.1;
           shown = shown_row c q o.i (suc o.i) o.table o.copied b x' h stands agree sound.next (λ b' apart k. elim (known_last c q o.i (suc b') k) [ inl l ↦ l | inr here ↦ absurd (apart (omega arith)) ]) (λ a n at k. zero_pass a n at) o.shown;
           current = (
             record {
@@ -243,7 +295,7 @@ module _ (c : Setting) (sound : IsSound c) where
             },
             refl,
           );
-          counted = let n = o.counted in let m = o.current.1 in omega arith;
+          counted = let n = o.counted in let m = o.current.1 in let l = rules_next c x (instr.Get j) at in omega arith;
           values_are = o.values_are ∙ ap (λ r. under ++ (stored c q (o.table 0) o.copied ++ r)) o.current.2 ∙ ap (λ vs. under ++ (vs ++ [])) (stored_same c q (o.table 0) (e 0) o.copied (λ a. sym (with_other o.table pl h 0 a (λ z. omega arith))));
           base = o.base;
           todo_is = sym (behind_same c q e o.table (suc o.i) (suc level) others copied);
@@ -268,7 +320,7 @@ module _ (c : Setting) (sound : IsSound c) where
       let on = leaf_in s f (suc (length xs)) x under old before others ph values new t now todo j d q0 body read at there0 stands0 deep agreed o in
       (on.next, on.records, (s, f, under, old, before, others, waits, Gone, on.opens))
 
-  -- a node whose record was read, and that nothing was done in yet
+  -- A node whose record was just read.
   pub opened : (p s : ℕ) (q : Production) (f : ℕ → Value) (e : Table) (level base : ℕ) (under : List Value) (old : Tapes) (before : ℕ) (others : ToCome) → IsProduction c.grammar p q → q.left ≡ s → level ≤ most_depth → base ≡ length under
       → Opens c s f level (first_at p base) under old before others Between (under ++ stored c q f e) (met c p f (copies c c.read (stored_items q.items) (in_children e)) old) before (behind c q e 0 (suc level) others)
   opened p s q f e level base under old before others there left deep is =
@@ -283,13 +335,10 @@ module _ (c : Setting) (sound : IsSound c) where
         trees = none;
         valuations = λ i path a. f a;
         mid = met c p f (copies c c.read (stored_items q.items) (in_children e)) old;
-        sofar = before;
         count = 0;
         stays = record {
           there = there;
           left = left;
-          within = omega arith;
-          follows = sound.course p q there;
           entered = λ a p at le other. refl;
           visits = record {
             fits = fits_none (way c) c.grammar (stored_items q.items);
@@ -301,11 +350,11 @@ module _ (c : Setting) (sound : IsSound c) where
           };
           roots = λ b a l. absurd (omega arith);
           held = λ r u has num. let z = has.1 in absurd (cc);
-          counted = omega arith;
         };
+        runs = sound.course p q there;
         shown = λ j a p x at is le when. refl;
         current = (refl, refl, refl);
-        counted = omega arith;
+        counted = let n = rules_first p q there in omega arith;
         values_are = ap (λ vs. under ++ vs) (sym (append-nil (stored c q f e)));
         base = is;
         todo_is = refl;
@@ -315,12 +364,11 @@ module _ (c : Setting) (sound : IsSound c) where
       → slice_get (list_at c x.production) x.at ≡ Some (instr.Go j) → Awaits c root xs s x.production f under old before others → Opens c s f (suc (length xs)) x under old before others ph values t now todo
       → ((q : Production) → IsProduction c.grammar x.child q → base + stored_width c q ≡ length values)
       → Passing c root (first_at x.child base ∷ left_at x j ∷ xs) values t now todo
-  gone_in root s f x xs under old before others Between values t now todo j base at waits o is = elim (follows_next o.production Between o.i o.done x (instr.Go j) at o.stays.follows) [ ]
-  gone_in root s f x xs under old before others Gone values t now todo j base at waits o is = elim (follows_next o.production Gone o.i o.done x (instr.Go j) at o.stays.follows) [ ]
-  gone_in root s f x xs under old before others Got values t now todo j base at waits o is =
+  gone_in root s f x xs under old before others ph values t now todo j base at waits here is =
+      let o = at_go here j at in
       let q = o.production in
-      let next = follows_next q Got o.i o.done x (instr.Go j) at o.stays.follows in
-      let pl = place (way c) (arity q) o.i in
+      let next = runs_next c x (instr.Go j) at q Got o.i o.done o.runs in
+      let pl = place_of q c.write o.i in
       let g = o.current.0 in
       let h = o.table pl in
       let level = suc (length xs) in
@@ -359,21 +407,13 @@ module _ (c : Setting) (sound : IsSound c) where
             copied = o.copied;
             trees = o.trees;
             values = o.valuations;
-            stays = record {
-              there = o.stays.there;
-              left = o.stays.left;
-              within = o.stays.within;
-              follows = next.4;
-              entered = o.stays.entered;
-              visits = o.stays.visits;
-              roots = o.stays.roots;
-              held = o.stays.held;
-              counted = let n = o.stays.counted in let m = o.counted in let k = o.current.1 in omega arith;
-            };
+            stays = o.stays;
+            runs = next.1;
+            counted = let n = o.counted in let m = o.current.1 in let l = rules_next c x (instr.Go j) at in omega arith;
             shown = o.shown;
-            within = next.0;
+            within = next.0.0.within;
             stands = g.stands;
-            place_is = next.1;
+            place_is = next.0.0.place;
             number = refl;
             row_is = λ a. refl;
             under_is = refl;
@@ -393,14 +433,14 @@ module _ (c : Setting) (sound : IsSound c) where
       → Passing c root (x ∷ xs) values t now todo → Passing c root (first_at x.child base ∷ left_at x j ∷ xs) values t now todo
   step_go root x xs values t now todo j base at is (s, f, under, old, before, others, waits, ph, o) = gone_in root s f x xs under old before others ph values t now todo j base at waits o is
 
-  -- the tree at the next place is left behind, where all of it was put
+  -- The pass leaves the tree at the next place, all of which was written.
   left_in : (s : ℕ) (f : ℕ → Value) (level : ℕ) (x : OpenNode) (under : List Value) (old : Tapes) (before : ℕ) (others : ToCome) (values : List Value) (t new : Tapes) (now : ℕ) (todo : ToCome) (j : ℕ)
       → slice_get (list_at c x.production) x.at ≡ Some (instr.Put j) → (o : Opens c s f level x under old before others Gone values t now todo) → new.read ≡ t.read
       → new.put ≡ o.mid.put ++ postfix (way c) (bodies_of version_two c.grammar c.passes c.write o.current.0.tree o.current.0.values)
       → Opens c s f level (stepped x x.child) under old before others Between values new now todo
   left_in s f level x under old before others values t new now todo j at o reads puts =
       let q = o.production in
-      let next = follows_next q Gone o.i o.done x (instr.Put j) at o.stays.follows in
+      let next = runs_next c x (instr.Put j) at q Gone o.i o.done o.runs in
       let g = o.current.0 in
       record {
         production = q;
@@ -413,29 +453,28 @@ module _ (c : Setting) (sound : IsSound c) where
         trees = add_tree (way c) o.trees g.tree;
         valuations = add_values (way c) o.trees o.valuations g.values;
         mid = new;
-        sofar = o.sofar + o.count;
         count = 0;
-        stays = put_child c sound s f level x (stepped x x.child) q o.i o.done o.table o.trees o.valuations old o.mid t new before o.sofar o.count next.0 refl next.2 g reads puts o.stays;
+        stays = put_child c sound s f level x.production x.child q o.i o.done o.table o.trees o.valuations old o.mid t new o.count next.0.within g reads puts o.stays;
+        runs = next.1;
         shown = o.shown;
         current = (refl, refl, refl);
-        counted = let n = o.counted in omega arith;
+        counted = let n = o.counted in let m = g.counted in let k = rules_add (way c) c o.trees g.tree in let l = rules_next c x (instr.Put j) at in omega arith;
         values_are = o.values_are ∙ ap (λ r. under ++ (stored c q (o.table 0) o.copied ++ r)) o.current.1;
         base = o.base;
         todo_is = o.todo_is;
       }
 
-  -- nothing is put of a node, all of which was put
+  -- Nothing is written for a node, all of which was written.
   put_node_in : (s : ℕ) (f : ℕ → Value) (level : ℕ) (x : OpenNode) (under : List Value) (old : Tapes) (before : ℕ) (others : ToCome) (ph : Phase) (values : List Value) (t : Tapes) (now : ℕ) (todo : ToCome) (j s' : ℕ) (q0 : Production)
       → slice_get (list_at c x.production) x.at ≡ Some (instr.Put j) → IsProduction c.grammar x.production q0 → item_at q0 j ≡ Some (item.Symbol s')
       → Opens c s f level x under old before others ph values t now todo → Opens c s f level (stepped x x.child) under old before others Between values t now todo
-  put_node_in s f level x under old before others Between values t now todo j s' q0 at there0 stands0 o = elim (follows_next o.production Between o.i o.done x (instr.Put j) at o.stays.follows) [ ]
-  put_node_in s f level x under old before others Got values t now todo j s' q0 at there0 stands0 o = elim (follows_next o.production Got o.i o.done x (instr.Put j) at o.stays.follows) [ ]
-  put_node_in s f level x under old before others Gone values t now todo j s' q0 at there0 stands0 o =
+  put_node_in s f level x under old before others ph values t now todo j s' q0 at there0 stands0 here =
+      let o = at_put here j at in
       let q = o.production in
-      let next = follows_next q Gone o.i o.done x (instr.Put j) at o.stays.follows in
+      let place = (runs_next c x (instr.Put j) at q Gone o.i o.done o.runs).0.place in
       let g = o.current.0 in
       let same : q0 ≡ q = same_production c x.production q0 q there0 o.stays.there in
-      let items : Some g.item ≡ Some (item.Symbol s') = sym (ap (item_at q) next.1 ∙ g.stands) ∙ ap (λ q. item_at q j) (sym same) ∙ stands0 in
+      let items : Some g.item ≡ Some (item.Symbol s') = sym (ap (item_at q) place ∙ g.stands) ∙ ap (λ q. item_at q j) (sym same) ∙ stands0 in
       let is : g.item ≡ item.Symbol s' = cc in
       left_in s f level x under old before others values t t now todo j at o refl (g.put ∙ ap (λ xs. o.mid.put ++ xs) (whole g.tree g.values (subst (λ x. Took c x g.tree g.values) is g.took)))
     where
@@ -448,25 +487,24 @@ module _ (c : Setting) (sound : IsSound c) where
   step_put_node root x xs values t now todo j s' q0 at there0 stands0 (s, f, under, old, before, others, waits, ph, o) =
       (s, f, under, old, before, others, waits, Between, put_node_in s f (suc (length xs)) x under old before others ph values t now todo j s' q0 at there0 stands0 o)
 
-  -- the record of a token is put, whose text stands among the copies
+  -- The record of a token is written, whose text is among the copies.
   put_leaf_in : (s : ℕ) (f : ℕ → Value) (level : ℕ) (x : OpenNode) (under : List Value) (old : Tapes) (before : ℕ) (others : ToCome) (ph : Phase) (values : List Value) (t : Tapes) (now : ℕ) (todo : ToCome) (j d : ℕ) (q0 : Production) (text : List Value)
       → slice_get (list_at c x.production) x.at ≡ Some (instr.Put j) → IsProduction c.grammar x.production q0 → item_at q0 j ≡ Some (item.Terminal (Class d)) → text ≡ take 1 (drop (x.base + copy_start c q0 j) values)
       → Opens c s f level x under old before others ph values t now todo → Opens c s f level (stepped x x.child) under old before others Between values (record { read = t.read; put = t.put ++ body_of Token x.child text ∷ [] }) now todo
-  put_leaf_in s f level x under old before others Between values t now todo j d q0 text at there0 stands0 is o = elim (follows_next o.production Between o.i o.done x (instr.Put j) at o.stays.follows) [ ]
-  put_leaf_in s f level x under old before others Got values t now todo j d q0 text at there0 stands0 is o = elim (follows_next o.production Got o.i o.done x (instr.Put j) at o.stays.follows) [ ]
-  put_leaf_in s f level x under old before others Gone values t now todo j d q0 text at there0 stands0 is o =
+  put_leaf_in s f level x under old before others ph values t now todo j d q0 text at there0 stands0 is here =
+      let o = at_put here j at in
       let q = o.production in
-      let next = follows_next q Gone o.i o.done x (instr.Put j) at o.stays.follows in
+      let place = (runs_next c x (instr.Put j) at q Gone o.i o.done o.runs).0.place in
       let g = o.current.0 in
       let b = nth (way c) (arity q) o.i in
-      let pl = place (way c) (arity q) o.i in
+      let pl = place_of q c.write o.i in
       let x' = item.Terminal (Class d) in
       let same : q0 ≡ q = same_production c x.production q0 q there0 o.stays.there in
-      let stands : item_at q pl ≡ Some (item.Terminal (Class d)) = ap (item_at q) (sym next.1) ∙ ap (λ q. item_at q j) (sym same) ∙ stands0 in
+      let stands : item_at q pl ≡ Some (item.Terminal (Class d)) = ap (item_at q) (sym place) ∙ ap (λ q. item_at q j) (sym same) ∙ stands0 in
       let items : Some g.item ≡ Some (item.Terminal (Class d)) = sym g.stands ∙ stands in
       let item_is : g.item ≡ item.Terminal (Class d) = cc in
       let found = copies_there c q (o.table 0) o.copied under o.row b x.base x' o.base stands in
-      let slot : copy_start c q0 j ≡ copy_start c q pl = ap (λ q. copy_start c q j) same ∙ ap (copy_start c q) next.1 in
+      let slot : copy_start c q0 j ≡ copy_start c q pl = ap (λ q. copy_start c q j) same ∙ ap (copy_start c q) place in
       let first : text ≡ o.copied pl 0 ∷ [] = is ∙ ap (λ n. take 1 (drop (x.base + n) values)) slot ∙ ap (λ vs. take 1 (drop (x.base + copy_start c q pl) vs)) o.values_are ∙ ap (take 1) found.1 ∙ ap (λ b. take 1 (((if b then o.copied pl 0 ∷ [] else []) ++ []) ++ found.0)) (le-leb 0 c.write (omega arith)) in
       let shown : o.copied pl 0 ≡ o.table pl 0 = o.shown b 0 0 x' stands refl (omega arith) (inr (known_here c q o.i pl refl)) in
       let took = subst (λ x. Took c x g.tree g.values) item_is g.took in
@@ -485,42 +523,58 @@ module _ (c : Setting) (sound : IsSound c) where
   step_put_leaf root x xs values t now todo j d q0 text at there0 stands0 is (s, f, under, old, before, others, waits, ph, o) =
       (s, f, under, old, before, others, waits, Between, put_leaf_in s f (suc (length xs)) x under old before others ph values t now todo j d q0 text at there0 stands0 is o)
 
-  -- a node is done, whose row is the last
-  node_done : (s : ℕ) (f : ℕ → Value) (level : ℕ) (x : OpenNode) (q : Production) (i : ℕ) (done : List ℕ) (e shows : Table) (ts : Forest) (ws : ℕ → Valuation) (old mid new : Tapes) (before sofar now : ℕ) (under values : List Value)
-      → i ≡ arity q → AreDone c q done → All IsWell values → values ≡ under ++ stored c q (e 0) shows → mid ≡ new → sofar ≡ now → IsShown c q i e shows
-      → Stays c s f (suc level) x q Between Between i done e ts ws old mid before sofar
-      → IsReady c (item.Symbol s) x.production (e 0) (node x.production ts) (graft (e 0) ws) old new × (now ≡ before + rules_of_pass c.passes c.write c.grammar (node x.production ts)) × (depth_of (node x.production ts) + level ≤ most_depth)
-      × (root_body (bodies_of version_two c.grammar c.passes c.write (node x.production ts) (graft (e 0) ws)) ≡ body_of Node x.production (stored c q (e 0) shows))
-  node_done s f level x q i done e shows ts ws old mid new before sofar now under values full dones well whole tapes counted shown stays =
-      let own = values_up_to c.write (c.passes q.left) (e 0) in
-      let copied = copies c c.write (stored_items q.items) (in_children shows) in
-      let own_well : All IsWell own = All-before IsWell own copied (All-after IsWell under (own ++ copied) (subst (All IsWell) whole well)) in
-      ended c sound s f level x q i done e shows ts ws old new before now full dones own_well shown
-      (subst (λ n. Stays c s f (suc level) x q Between Between i done e ts ws old new before n) counted (subst (λ t. Stays c s f (suc level) x q Between Between i done e ts ws old t before sofar) tapes stays))
-
-  -- the root is done
-  pub step_end_root : (root : ℕ) (x : OpenNode) (values : List Value) (t : Tapes) (now : ℕ) (todo : ToCome) → slice_get (list_at c x.production) x.at ≡ Some instr.End → All IsWell values → Passing c root (x ∷ []) values t now todo → Passing c root [] values t now todo
-  step_end_root root x values t now todo at well (s, f, under, old, before, others, waits, Got, o) = elim (follows_next o.production Got o.i o.done x instr.End at o.stays.follows) [ ]
-  step_end_root root x values t now todo at well (s, f, under, old, before, others, waits, Gone, o) = elim (follows_next o.production Gone o.i o.done x instr.End at o.stays.follows) [ ]
-  step_end_root root x values t now todo at well (s, f, under, old, before, others, (start, number, none_under, tapes, none_before, none_left), Between, o) =
+  -- A node is done, whose row is the last one.
+  node_done : (s : ℕ) (f : ℕ → Value) (level : ℕ) (x : OpenNode) (under : List Value) (old : Tapes) (before : ℕ) (others : ToCome) (values : List Value) (t : Tapes) (now : ℕ) (todo : ToCome) → slice_get (list_at c x.production) x.at ≡ Some instr.End → All IsWell values
+      → (o : Opens c s f (suc level) x under old before others Between values t now todo)
+      → IsDone o
+  node_done s f level x under old before others values t now todo at well o =
       let q = o.production in
-      let next = follows_next q Between o.i o.done x instr.End at o.stays.follows in
+      let next = (runs_next c x instr.End at q Between o.i o.done o.runs).0 in
       let row = stored c q (o.table 0) o.copied in
       let whole : values ≡ under ++ row = o.values_are ∙ ap (λ r. under ++ (row ++ r)) o.current.2 ∙ ap (λ vs. under ++ vs) (append-nil row) in
-      let done' = node_done s f 0 x q o.i o.done o.table o.copied o.trees o.valuations old o.mid t before o.sofar now under values next.0 next.1 well whole (sym o.current.0) (let n = o.counted in let m = o.current.1 in omega arith) o.shown o.stays in
+      let own = values_up_to c.write (c.passes q.left) (o.table 0) in
+      let copied = copies c c.write (stored_items q.items) (in_children o.copied) in
+      let own_well : All IsWell own = All-before IsWell own copied (All-after IsWell under (own ++ copied) (subst (All IsWell) whole well)) in
+      let done = ended c sound s f level x.production q o.i o.done o.table o.copied o.trees o.valuations old t next.1 next.2 own_well o.shown
+      (subst (λ t. Stays c s f (suc level) x.production q (state_of Between o.i o.done) o.table o.trees o.valuations old t) (sym o.current.0) o.stays) in
       record {
-        tree = node x.production o.trees;
-        valuation = graft (o.table 0) o.valuations;
-        ready = subst (λ z. IsReady c (item.Symbol c.grammar.start) root (o.table 0) (node x.production o.trees) (graft (o.table 0) o.valuations) z t) tapes
-            (subst (λ p. IsReady c (item.Symbol c.grammar.start) p (o.table 0) (node x.production o.trees) (graft (o.table 0) o.valuations) old t) number (subst (λ s. IsReady c (item.Symbol s) x.production (o.table 0) (node x.production o.trees) (graft (o.table 0) o.valuations) old t) start done'.0));
-        counted = done'.1 ∙ ap (λ n. n + rules_of_pass c.passes c.write c.grammar (node x.production o.trees)) none_before ∙ (let n : 0 + rules_of_pass c.passes c.write c.grammar (node x.production o.trees) ≡ rules_of_pass c.passes c.write c.grammar (node x.production o.trees) = omega arith in n);
-        deep = let d = done'.2 in omega arith;
-        few = let w = few_values c sound x.production q o.stays.there in let n = length_stored c q (o.table 0) o.copied in let l = ap length (whole ∙ ap (λ vs. vs ++ row) none_under) in omega arith;
-        record_is = done'.3 ∙ ap (body_of Node x.production) (sym (whole ∙ ap (λ vs. vs ++ row) none_under)) ∙ ap (λ n. body_of Node n values) number;
-        nothing = o.todo_is ∙ behind_last c q o.table o.i 2 others next.0 ∙ none_left;
+        ready = done.0;
+        deep = let d = done.1 in omega arith;
+        record_is = done.2;
+        whole = whole;
+        counted =
+            let n = o.counted in
+            let m = o.current.1 in
+            let l = rules_last x q o.stays.there at in
+            let k = ap (pass_rule_count c.passes c.write) o.stays.there in
+            omega arith;
+        todo_is = o.todo_is ∙ behind_last c q o.table o.i (suc (suc level)) others next.1;
       }
 
-  -- the values of a node's synthesized attributes stand among the copies of the other that waited
+  -- The root is done.
+  pub step_end_root : (root : ℕ) (x : OpenNode) (values : List Value) (t : Tapes) (now : ℕ) (todo : ToCome) → slice_get (list_at c x.production) x.at ≡ Some instr.End → All IsWell values → Passing c root (x ∷ []) values t now todo → Passing c root [] values t now todo
+  step_end_root root x values t now todo at well (s, f, under, old, before, others, (first, number, none_under, tapes, none_before, none_left), ph, here) =
+      let o = at_end here at in
+      let q = o.production in
+      let row = stored c q (o.table 0) o.copied in
+      let tree = node x.production o.trees in
+      let values_at = graft (o.table 0) o.valuations in
+      let done = node_done s f 0 x under old before others values t now todo at well o in
+      let alone : values ≡ row = done.whole ∙ ap (λ vs. vs ++ row) none_under in
+      record {
+        tree = tree;
+        valuation = values_at;
+        ready = subst (λ z. IsReady c (item.Symbol c.grammar.start) root (o.table 0) tree values_at z t) tapes
+            (subst (λ p. IsReady c (item.Symbol c.grammar.start) p (o.table 0) tree values_at old t) number (subst (λ s. IsReady c (item.Symbol s) x.production (o.table 0) tree values_at old t) first done.ready));
+        counted = let n = done.counted in omega arith;
+        deep = let d = done.deep in omega arith;
+        few = let w = few_values c sound x.production q o.stays.there in let n = length_stored c q (o.table 0) o.copied in let l = ap length alone in omega arith;
+        record_is = done.record_is ∙ ap (body_of Node x.production) (sym alone) ∙ ap (λ n. body_of Node n values) number;
+        nothing = done.todo_is ∙ none_left;
+      }
+
+  -- The values of a node's synthesized attributes were moved to the copies in the row of the node that
+  -- waited.
   handed_over : (q : Production) (f : ℕ → Value) (s : Table) (under row others : List Value) (b : ℕ) (x : Item) (h : ℕ → Value) (to count from : ℕ) (values : List Value)
       → slice_get (stored_items q.items) b ≡ Some x → to ≡ length under + copy_start c q (suc b) → count ≡ copied_width c x → from ≡ length (under ++ stored c q f s) → row ≡ values_up_to c.write (copied_passes c x) h ++ others → values ≡ (under ++ stored c q f s) ++ row
       → take to values ++ (take count (drop from values) ++ drop (to + count) (take from values)) ≡ under ++ stored c q f (with_row s (suc b) h)
@@ -549,31 +603,32 @@ module _ (c : Setting) (sound : IsSound c) where
       let end : drop (to + count) (take from values) ≡ r.1 = ap (drop (to + count)) (ap (take from) values_are ∙ take_at (under ++ stored c q f s) row from (sym from_is) ∙ was ∙ sym (append_assoc front old_share r.1)) ∙ drop_at (front ++ old_share) r.1 (to + count) (omega arith) in
       ap (λ vs. vs ++ (take count (drop from values) ++ drop (to + count) (take from values))) beginning ∙ ap (λ vs. front ++ (vs ++ drop (to + count) (take from values))) middle ∙ ap (λ vs. front ++ (share ++ vs)) end ∙ sym now
 
-  -- the node that waited has its child, whose record was put
-  resumed : (root s p : ℕ) (f : ℕ → Value) (y : OpenNode) (ys : List OpenNode) (under : List Value) (old new : Tapes) (before now : ℕ) (others : ToCome) (q' : Production) (h : ℕ → Value) (shows : Table) (ts : Forest) (ws : ℕ → Valuation) (values result : List Value) (to count from : ℕ)
-      → Awaits c root (y ∷ ys) s p f under old before others → q'.left ≡ s → IsReady c (item.Symbol s) p h (node p ts) (graft h ws) old new → Keeps c s f h → depth_of (node p ts) + suc (length ys) ≤ most_depth → now ≡ before + rules_of_pass c.passes c.write c.grammar (node p ts)
-      → root_body (bodies_of version_two c.grammar c.passes c.write (node p ts) (graft h ws)) ≡ body_of Node p (stored c q' h shows) → values ≡ under ++ stored c q' h shows → from ≡ length under
+  -- A node is done, and another one waits for it.
+  pub step_end : (root : ℕ) (x y : OpenNode) (ys : List OpenNode) (values result : List Value) (t : Tapes) (now : ℕ) (todo : ToCome) (to count : ℕ) → slice_get (list_at c x.production) x.at ≡ Some instr.End → All IsWell values
       → ((q : Production) (x' : Item) → IsProduction c.grammar y.production q → item_at q y.place ≡ Some x' → (to ≡ y.base + copy_start c q y.place) × (count ≡ copied_width c x'))
-      → result ≡ take to values ++ (take count (drop from values) ++ drop (to + count) (take from values))
-      → Passing c root (y ∷ ys) result (record { read = new.read; put = new.put ++ body_of Node p (drop from values) ∷ [] }) now others
-  resumed root s p f y ys under old new before now others q' h shows ts ws values result to count from (s', f', under', old', before', others', waits, z) left ready keeps deep counted is values_are base slots result_is =
+      → result ≡ take to values ++ (take count (drop x.base values) ++ drop (to + count) (take x.base values))
+      → Passing c root (x ∷ y ∷ ys) values t now todo → Passing c root (y ∷ ys) result (record { read = t.read; put = t.put ++ body_of Node x.production (drop x.base values) ∷ [] }) now todo
+  step_end root x y ys values result t now todo to count at well slots result_is (s, f, under, old, before, others, (s', f', under', old', before', others', waits, z), ph, here) =
+      let o = at_end here at in
+      let done = node_done s f (suc (length ys)) x under old before others values t now todo at well o in
+      let h = o.table 0 in
       let q = z.production in
       let b = nth (way c) (arity q) z.i in
-      let pl = place (way c) (arity q) z.i in
+      let pl = place_of q c.write z.i in
       let e = with_row z.table pl h in
-      let tape : Tapes = record { read = new.read; put = new.put ++ body_of Node p (drop from values) ∷ [] } in
+      let tape : Tapes = record { read = t.read; put = t.put ++ body_of Node x.production (drop x.base values) ∷ [] } in
       let at_place : item_at q y.place ≡ Some (item.Symbol s) = ap (item_at q) z.place_is ∙ z.stands in
       let slot = slots q (item.Symbol s) z.stays.there at_place in
       let begins = begins_with_copy c (item.Symbol s) h in
-      let child_row = stored c q' h shows in
-      let copied_rest = copies c c.write (stored_items q'.items) (in_children shows) in
+      let child_row = stored c o.production h o.copied in
+      let copied_rest = copies c c.write (stored_items o.production.items) (in_children o.copied) in
       let share = values_up_to c.write (copied_passes c (item.Symbol s)) h in
-      let row : child_row ≡ share ++ (begins.0 ++ copied_rest) = ap (λ ps. values_up_to c.write ps h ++ copied_rest) (ap c.passes left) ∙ ap (λ vs. vs ++ copied_rest) begins.1 ∙ append_assoc share begins.0 copied_rest in
+      let row : child_row ≡ share ++ (begins.0 ++ copied_rest) = ap (λ ps. values_up_to c.write ps h ++ copied_rest) (ap c.passes o.stays.left) ∙ ap (λ vs. vs ++ copied_rest) begins.1 ∙ append_assoc share begins.0 copied_rest in
       let to_is : to ≡ length under' + copy_start c q pl = slot.0 ∙ ap (λ j. y.base + copy_start c q j) z.place_is ∙ ap (λ n. n + copy_start c q pl) z.base in
-      let keeps' : Keeps c s (z.table pl) h = λ a n is le other. keeps a n is le other ∙ sym (z.row_is a) in
+      let keeps' : Keeps c s (z.table pl) h = λ a n is le other. o.stays.entered a n is le other ∙ sym (z.row_is a) in
       let agree = kept_copy c sound s (z.table pl) h keeps' in
-      let done = ap (λ vs. body_of Node p vs) (ap (drop from) values_are ∙ drop_at under child_row from (sym base)) ∙ sym is in
-      let bt = bodies_of version_two c.grammar c.passes c.write (node p ts) (graft h ws) in (
+      let record_is = ap (λ vs. body_of Node x.production vs) (ap (drop x.base) done.whole ∙ drop_at under child_row x.base (sym o.base)) ∙ sym done.record_is in
+      let bt = bodies_of version_two c.grammar c.passes c.write (node x.production o.trees) (graft h o.valuations) in (
         s',
         f',
         under',
@@ -588,88 +643,65 @@ module _ (c : Setting) (sound : IsSound c) where
           done = z.done;
           table = e;
           copied = with_row z.copied pl h;
-          of_child = shows;
+          of_child = o.copied;
           row = [];
           trees = z.trees;
           valuations = z.values;
           mid = old;
-          sofar = before;
-          count = rules_of_pass c.passes c.write c.grammar (node p ts);
-          stays = returned c sound s' f' (suc (length ys)) y q z.i z.done z.table z.trees z.values old' old before' before s h z.within z.stands keeps' z.stays;
+          count = rules_of_pass c.passes c.write c.grammar (node x.production o.trees);
+          stays = returned c sound s' f' (suc (length ys)) y.production q z.i z.done z.table z.trees z.values old' old s h z.within z.stands keeps' z.stays;
+          runs = z.runs;
           shown = shown_both c q z.i (suc z.i) z.table z.copied b h (λ b' apart k. elim (known_last c q z.i (suc b') k) [ inl l ↦ l | inr here ↦ absurd (apart (omega arith)) ]) z.shown;
           current = (
             record {
               item = item.Symbol s;
               stands = z.stands;
-              tree = node p ts;
-              values = graft h ws;
-              took = ready.took;
+              tree = node x.production o.trees;
+              values = graft h o.valuations;
+              took = done.ready.took;
               number = sym z.number;
               root = λ a. sym (with_here z.table pl h a);
-              read = ready.read;
-              put = ap (λ bs. new.put ++ bs ∷ []) done ∙ ap (λ bs. bs ++ root_body bt ∷ []) ready.put ∙ append_assoc old.put (below (way c) bt) (root_body bt ∷ []) ∙ ap (λ bs. old.put ++ bs) (whole (way c) bt);
+              read = done.ready.read;
+              put = ap (λ bs. t.put ++ bs ∷ []) record_is ∙ ap (λ bs. bs ++ root_body bt ∷ []) done.ready.put ∙ append_assoc old.put (below (way c) bt) (root_body bt ∷ []) ∙ ap (λ bs. old.put ++ bs) (whole (way c) bt);
               counted = refl;
-              deep = deep;
+              deep = let d = done.deep in omega arith;
             },
             refl,
           );
-          counted = counted;
+          counted = let n = z.counted in let m = done.counted in omega arith;
           values_are =
-              result_is ∙ handed_over q (z.table 0) z.copied under' child_row (begins.0 ++ copied_rest) b (item.Symbol s) h to count from values z.stands to_is slot.1 (base ∙ ap length z.under_is) row (values_are ∙ ap (λ vs. vs ++ child_row) z.under_is)
+              result_is ∙ handed_over q (z.table 0) z.copied under' child_row (begins.0 ++ copied_rest) b (item.Symbol s) h to count x.base values z.stands to_is slot.1 (o.base ∙ ap length z.under_is) row (done.whole ∙ ap (λ vs. vs ++ child_row) z.under_is)
               ∙ ap (λ vs. under' ++ vs) (stored_same c q (z.table 0) (e 0) (with_row z.copied pl h) (λ a. sym (with_other z.table pl h 0 a (λ y. omega arith)))) ∙ ap (λ vs. under' ++ vs) (sym (append-nil (stored c q (e 0) (with_row z.copied pl h))));
           base = z.base;
-          todo_is = z.todo_is ∙ sym (behind_same c q e z.table (suc z.i) (suc (suc (length ys))) others' (copies_row c q z.table b (item.Symbol s) h z.stands agree));
+          todo_is = done.todo_is ∙ z.todo_is ∙ sym (behind_same c q e z.table (suc z.i) (suc (suc (length ys))) others' (copies_row c q z.table b (item.Symbol s) h z.stands agree));
         },
       )
     where
       whole : (d : Direction) (b : BodyTree) → below d b ++ root_body b ∷ [] ≡ postfix d b
       whole d (branch body ts) = refl
 
-  -- a node is done for which another one waits
-  pub step_end : (root : ℕ) (x y : OpenNode) (ys : List OpenNode) (values result : List Value) (t : Tapes) (now : ℕ) (todo : ToCome) (to count : ℕ) → slice_get (list_at c x.production) x.at ≡ Some instr.End → All IsWell values
-      → ((q : Production) (x' : Item) → IsProduction c.grammar y.production q → item_at q y.place ≡ Some x' → (to ≡ y.base + copy_start c q y.place) × (count ≡ copied_width c x'))
-      → result ≡ take to values ++ (take count (drop x.base values) ++ drop (to + count) (take x.base values))
-      → Passing c root (x ∷ y ∷ ys) values t now todo → Passing c root (y ∷ ys) result (record { read = t.read; put = t.put ++ body_of Node x.production (drop x.base values) ∷ [] }) now todo
-  step_end root x y ys values result t now todo to count at well slots result_is (s, f, under, old, before, others, waits, Got, o) = elim (follows_next o.production Got o.i o.done x instr.End at o.stays.follows) [ ]
-  step_end root x y ys values result t now todo to count at well slots result_is (s, f, under, old, before, others, waits, Gone, o) = elim (follows_next o.production Gone o.i o.done x instr.End at o.stays.follows) [ ]
-  step_end root x y ys values result t now todo to count at well slots result_is (s, f, under, old, before, others, waits, Between, o) =
-      let q = o.production in
-      let next = follows_next q Between o.i o.done x instr.End at o.stays.follows in
-      let row = stored c q (o.table 0) o.copied in
-      let whole : values ≡ under ++ row = o.values_are ∙ ap (λ r. under ++ (row ++ r)) o.current.2 ∙ ap (λ vs. under ++ vs) (append-nil row) in
-      let done' = node_done s f (suc (length ys)) x q o.i o.done o.table o.copied o.trees o.valuations old o.mid t before o.sofar now under values next.0 next.1 well whole (sym o.current.0) (let n = o.counted in let m = o.current.1 in omega arith) o.shown o.stays in
-      subst (Passing c root (y ∷ ys) result (record { read = t.read; put = t.put ++ body_of Node x.production (drop x.base values) ∷ [] }) now) (sym (o.todo_is ∙ behind_last c q o.table o.i (suc (suc (suc (length ys)))) others next.0))
-      (resumed root s x.production f y ys under old t before now others q (o.table 0) o.copied o.trees o.valuations values result to count x.base waits o.stays.left done'.0 o.stays.entered done'.2 done'.1 done'.3 whole o.base slots result_is)
-
-  pub give_next : (q : Production) (ph : Phase) (i : ℕ) (done : List ℕ) (j a r : ℕ) (z : Instr) (xs : List Instr) → IsGivingOf j a r z → Follows c q ph i done (z ∷ xs) → Gives c q ph i done j a r × IsPlaced c q ph i j × Follows c q ph i (r ∷ done) xs
-  give_next q ph i done j a r z xs giving h = elim giving [
-    | inl is ↦ give_set c q ph i done j a r xs (subst (λ z. Follows c q ph i done (z ∷ xs)) is h)
-    | inr is ↦ let g = give_def c q ph i done a r xs (subst (λ z. Follows c q ph i done (z ∷ xs)) is.0 h) in (subst (λ j. Gives c q ph i done j a r) (sym is.1) g.0, inl is.1, g.1)
-  ]
-
-  -- what comes first at a `Get`, with the copy of its values that stands in the row of the node
+  -- The first child to be read at a `Get`, with the copy of its values in the row of the node.
   pub get_first : (root : ℕ) (x : OpenNode) (xs : List OpenNode) (values : List Value) (t : Tapes) (now : ℕ) (todo : ToCome) (j : ℕ) (q0 : Production) (x' : Item)
       → slice_get (list_at c x.production) x.at ≡ Some (instr.Get j) → IsProduction c.grammar x.production q0 → item_at q0 j ≡ Some x' → Passing c root (x ∷ xs) values t now todo
       → (f : ℕ → Value) × (left : ToCome) × (todo ≡ (suc (suc (length xs)), (x', Some (values_up_to c.read (copied_passes c x') f))) ∷ left)
       × ((row : List Value) → (rest : List Value) × (drop (x.base + copy_start c q0 j) (values ++ row) ≡ values_up_to c.write (copied_passes c x') f ++ rest))
-  get_first root x xs values t now todo j q0 x' at there0 stands0 (s, f, under, old, before, others, waits, Got, o) = elim (follows_next o.production Got o.i o.done x (instr.Get j) at o.stays.follows) [ ]
-  get_first root x xs values t now todo j q0 x' at there0 stands0 (s, f, under, old, before, others, waits, Gone, o) = elim (follows_next o.production Gone o.i o.done x (instr.Get j) at o.stays.follows) [ ]
-  get_first root x xs values t now todo j q0 x' at there0 stands0 (s, f, under, old, before, others, waits, Between, o) =
+  get_first root x xs values t now todo j q0 x' at there0 stands0 (s, f, under, old, before, others, waits, ph, here) =
+      let o = at_get here j at in
       let q = o.production in
       let level = suc (suc (length xs)) in
-      let next = follows_next q Between o.i o.done x (instr.Get j) at o.stays.follows in
+      let turn = (runs_next c x (instr.Get j) at q Between o.i o.done o.runs).0 in
       let b = nth (way c) (arity q) o.i in
-      let pl = place (way c) (arity q) o.i in
+      let pl = place_of q c.write o.i in
       let same : q0 ≡ q = same_production c x.production q0 q there0 o.stays.there in
-      let stands : item_at q pl ≡ Some x' = ap (item_at q) (sym next.1) ∙ ap (λ q. item_at q j) (sym same) ∙ stands0 in
+      let stands : item_at q pl ≡ Some x' = ap (item_at q) (sym turn.place) ∙ ap (λ q. item_at q j) (sym same) ∙ stands0 in
       let n = sound.next in
       let copies_same : values_up_to c.read (copied_passes c x') (o.table pl) ≡ values_up_to c.read (copied_passes c x') (o.copied pl) =
       same_values c.read (copied_passes c x') (o.table pl) (o.copied pl) (λ a p is le. sym (o.shown b a p x' stands is (omega arith) (inl (omega arith)))) in
-      let slot : copy_start c q0 j ≡ copy_start c q pl = ap (λ q. copy_start c q j) same ∙ ap (copy_start c q) next.1 in
+      let slot : copy_start c q0 j ≡ copy_start c q pl = ap (λ q. copy_start c q j) same ∙ ap (copy_start c q) turn.place in
       let kept : values ≡ under ++ stored c q (o.table 0) o.copied = o.values_are ∙ ap (λ r. under ++ (stored c q (o.table 0) o.copied ++ r)) o.current.2 ∙ ap (λ vs. under ++ vs) (append-nil (stored c q (o.table 0) o.copied)) in (
         o.copied pl,
         behind c q o.table (suc o.i) level others,
-        o.todo_is ∙ behind_next c q o.table o.i level others x' next.0 stands ∙ ap (λ vs. first level vs (behind c q o.table (suc o.i) level others)) copies_same,
+        o.todo_is ∙ behind_next c q o.table o.i level others x' turn.within stands ∙ ap (λ vs. first level vs (behind c q o.table (suc o.i) level others)) copies_same,
         (λ row.
             let found = copies_there c q (o.table 0) o.copied under row b x.base x' o.base stands in
             (found.0, ap (λ n. drop (x.base + n) (values ++ row)) slot ∙ ap (λ vs. drop (x.base + copy_start c q pl) (vs ++ row)) kept ∙ ap (drop (x.base + copy_start c q pl)) (append_assoc under (stored c q (o.table 0) o.copied) row) ∙ found.1)),

@@ -1,4 +1,4 @@
--- A pass that runs between two devices runs there too where less is supposed of them.
+-- A pass that runs between two devices also runs under weaker assumptions about them.
 use Rattle.std.proofs.Common.{◌≡◌, ℕ, Bool, true, List}
 use Rattle.planchecker.specs.courses.Settings.{Setting}
 use Rattle.passrun.specs.declared.passing.machine.Machine.{Machine}

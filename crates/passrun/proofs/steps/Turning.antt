@@ -1,4 +1,4 @@
--- The steps of a machine: from what a part of the code does to a machine that runs on.
+-- The steps of a machine: from the effect of a part of the code to a running machine.
 use Rattle.std.specs.Global.{Vec}
 use Rattle.std.specs.Option.{option_to_list}
 use Rattle.std.specs.Prelude.{IfOk, IsTrue, MatchOption}
@@ -53,22 +53,22 @@ use Rattle.passrun.proofs.places.Slots.{begins_with_copy}
 use Rattle.passrun.proofs.steps.Steps.{HasAgreed, same_production}
 use Rattle.passrun.proofs.places.Tables.{text_row}
 
--- what a job answers for what stands at a place
+-- The row of a place that a job returns.
 abbrev pub Answers : Setting → OpenNode → ℕ → Option PlaceRow → Type 0
 Answers c x j answer = (q : Production) → IsProduction c.grammar x.production q → answer ≡ slice_get (place_rows c q) j
 
--- two rows agree by the passes of what is copied,
+-- Two rows agree by the passes of the copies.
 pub agrees_by : (g : Grammar) (plan : List (List ℕ) × Lists) (k : ℕ) (x : Item) (ps : List ℕ) (ours theirs : List Value) (answer : Bool) → ps ≡ copied_passes (setting_of g plan k) x → Agree ps k ours theirs (IsTrue answer) → Agrees (setting_of g plan k) x ours theirs answer
 agrees_by g plan k x ps ours theirs answer is h = subst (λ (ps : List ℕ). Agree ps k ours theirs (IsTrue answer)) is h
 
--- and they do where no earlier pass gave anything of that.
+-- Two rows agree if no earlier pass computed a copied value.
 pub nothing_told : (c : Setting) (x : Item) (ours theirs : List Value) → known_width c x ≡ 0 → Agrees c x ours theirs true
 nothing_told c x ours theirs none f h rest others ours_are theirs_are = ((λ yes. nothing f ∙ sym (nothing h)), (λ same. refl))
   where
     nothing : (f : ℕ → Value) → values_up_to c.read (copied_passes c x) f ≡ []
     nothing f = empty_is (values_up_to c.read (copied_passes c x) f) (let n = count_of_values c.read (copied_passes c x) f in omega arith)
 
--- the row that was read begins with what is copied of it
+-- The row that was read begins with the copied values.
 pub begins_so : (c : Setting) (x : Item) (p : ℕ) (body : List ℕ) (old new : List Value) (h : IsRead c x p body old new) → (others : List Value) × (drop (length old) new ≡ values_up_to c.write (copied_passes c x) (read_values c x p body old new h) ++ others)
 begins_so c (item.Symbol s) p body old new h =
     let begins = begins_with_copy c (item.Symbol s) h.values in
@@ -79,19 +79,19 @@ begins_so c (item.Terminal (Class d)) p body old new h =
     ([], ap (drop (length old)) h.1.row ∙ drop_at old (Text h.1.text ∷ []) (length old) refl ∙ sym (text_row c.write h.1.text) ∙ sym (append-nil (values_up_to c.write (0 ∷ []) (λ a. Text h.1.text))))
 begins_so c (item.Terminal (Literal l)) p body old new h = elim h [ ]
 
--- what agrees
+-- The values that agree.
 pub has_agreed : (c : Setting) (q : Production) (x : OpenNode) (j : ℕ) (x' : Item) (p : ℕ) (body : List ℕ) (old new ours theirs : List Value) (from start : ℕ) (answer : Bool) (h : IsRead c x' p body old new) → Agrees c x' ours theirs answer → IsTrue answer
     → ours ≡ drop from new → theirs ≡ drop start new → from ≡ x.base + copy_start c q j → start ≡ length old → HasAgreed c q x j x' new (read_values c x' p body old new h)
 has_agreed c q x j x' p body old new ours theirs from start answer h agrees true_is ours_are theirs_are from_is start_is f rest front =
     let back = begins_so c x' p body old new h in
     (agrees f (read_values c x' p body old new h) rest back.0 (ours_are ∙ ap (λ n. drop n new) from_is ∙ front) (theirs_are ∙ ap (λ n. drop n new) start_is ∙ back.1)).0 true_is
 
--- what is no terminal is a symbol
+-- An item that is not a terminal is a symbol.
 pub symbol_there : (x : Item) → ((t : Terminal) → x ≡ item.Terminal t → ⊥) → (s : ℕ) × (x ≡ item.Symbol s)
 symbol_there (item.Symbol s) other = (s, refl)
 symbol_there (item.Terminal t) other = absurd (other t refl)
 
--- no literal is stored
+-- No literal is a child.
 class_there : (xs : List Item) (b : ℕ) (t : Terminal) → slice_get (stored_items xs) b ≡ Some (item.Terminal t) → (d : ℕ) × (t ≡ Class d)
 class_there [] b t at = absurd (let bad : ⊥ = cc in bad)
 class_there (item.Symbol s ∷ xs) zero t at = absurd (let bad : ⊥ = cc in bad)
@@ -104,18 +104,18 @@ pub class_at : (q : Production) (j : ℕ) (t : Terminal) → item_at q j ≡ Som
 class_at q zero t at = absurd (let bad : ⊥ = cc in bad)
 class_at q (suc b) t at = class_there q.items b t at
 
--- the production that an index gives
+-- The production at an index.
 pub indexed : (c : Setting) (p : ℕ) (xs : List Production) (q r : Production) → xs ≡ c.grammar.productions → q ≡ get_or xs p q → IsProduction c.grammar p r → IsProduction c.grammar p q
 indexed c p xs q r same is there =
     let less : p < length xs = let l = slice_get_within c.grammar.productions p r there in let m = ap length same in omega arith in
     ap (λ xs. slice_get xs p) (sym same) ∙ slice_get-get_or xs p q less ∙ ap Some (sym is)
 
--- nothing is popped where nothing is left
+-- Popping an empty stack returns nothing.
 pub none_popped : (P Q : Type 0) (R : OpenNode → Type 0) (r : Option OpenNode) → MatchOption r (P × Q) R → r ≡ None → P
 none_popped P Q R None m e = m.0
 none_popped P Q R (Some x) m e = absurd (cc)
 
--- so both lists are empty
+-- If nothing was popped, both lists are empty.
 pub popped_none : (xs ys : List OpenNode) → xs ≡ ys ++ [] → length xs ≡ 0 → (xs ≡ []) × (ys ≡ [])
 popped_none [] [] is none = (refl, refl)
 popped_none [] (y ∷ ys) is none = absurd (let bad : ⊥ = cc in bad)
@@ -124,7 +124,7 @@ popped_none (x ∷ xs) ys is none = absurd (omega arith)
 pub some_is : (x : OpenNode) → Some x ≡ None → ⊥
 some_is x is = let bad : ⊥ = cc in bad
 
--- the same for the rule that an index gives
+-- The rule at an index.
 pub rule_indexed : (xs rules : List Rule) (r : ℕ) (u w : Rule) → xs ≡ rules → u ≡ get_or xs r u → slice_get rules r ≡ Some w → slice_get rules r ≡ Some u
 rule_indexed xs rules r u w same is there =
     let less : r < length xs = let l = slice_get_within rules r w there in let m = ap length same in omega arith in
@@ -135,7 +135,7 @@ popped None [] ys e none = refl
 popped None (x ∷ xs) ys e none = let n = none refl in absurd (omega arith)
 popped (Some x) xs ys e none = ap reverse e ∙ reverse-append ys (x ∷ [])
 
--- what stands at a place, as a job answers it
+-- The item at a place, as a job returns it.
 pub record IsPlace (c : Setting) (x : OpenNode) (j : ℕ) (row : PlaceRow) (values : List Value) : Type 0 where
   pub production : Production
   pub there : IsProduction c.grammar x.production production
@@ -149,7 +149,7 @@ the_place c x j row values h is =
     let z = place_is c h.production j row h.item h.some (is h.production h.there) h.stands in
     record { production = h.production; there = h.there; stands = h.stands ∙ ap Some (sym z.0); start = z.1; known = z.3 ∙ ap (known_width c) (sym z.0); within = subst (λ x'. x.base + (copy_start c h.production j + copied_width c x') ≤ length values) (sym z.0) h.within }
 
--- A node's production and rule, as the code finds them, and where the rule's target stands.
+-- A node's production and rule, as the code finds them, and the slot of the rule's target.
 pub record Giver (c : Setting) (m : Machine) (x : OpenNode) (r : ℕ) (q : Production) (u : Rule) : Type 0 where
   pub there : IsProduction c.grammar x.production q
   pub numbered : slice_get q.rules r ≡ Some u
@@ -163,7 +163,7 @@ module _ (c : Setting) (sound : IsSound c) where
   pub no_item : (honest : Bool) (content : List ℕ) (m : Machine) (x : OpenNode) (j : ℕ) (answer : Option PlaceRow) → RunsFrom c honest content m (Some x) → slice_get (list_at c x.production) x.at ≡ Some (instr.Get j) → Answers c x j answer → answer ≡ None → ⊥
   no_item honest content m x j answer runs at is none = let h = get_at honest content m x j runs at in place_there c h.production j h.item h.stands answer (is h.production h.there) none
 
-  -- the row that was answered is that of the place
+  -- The returned row is that of the place.
   pub got_place : (honest : Bool) (content : List ℕ) (m : Machine) (x : OpenNode) (j : ℕ) (row : PlaceRow) → RunsFrom c honest content m (Some x) → slice_get (list_at c x.production) x.at ≡ Some (instr.Get j) → Answers c x j (Some row) → IsPlace c x j row m.values.items
   got_place honest content m x j row runs at is = let h = get_at honest content m x j runs at in the_place c x j row m.values.items h is
 
@@ -195,7 +195,7 @@ module _ (c : Setting) (sound : IsSound c) where
   pub put_is : (m : Machine) (x : OpenNode) (j : ℕ) (row : PlaceRow) → RunsSomehow c m (Some x) → slice_get (list_at c x.production) x.at ≡ Some (instr.Put j) → Answers c x j (Some row) → IsPlace c x j row m.values.items
   put_is m x j row runs at is = the_place c x j row m.values.items (put_at m x j runs at) is
 
-  -- a token's text is among the values
+  -- A token's text is among the values.
   pub text_within : (m : Machine) (x : OpenNode) (j : ℕ) (row : PlaceRow) (t : Terminal) → RunsSomehow c m (Some x) → slice_get (list_at c x.production) x.at ≡ Some (instr.Put j) → Answers c x j (Some row) → row.item ≡ item.Terminal t → x.base + row.start + 1 ≤ length m.values.items
   text_within m x j row t runs at is token =
       let i = put_is m x j row runs at is in
@@ -260,11 +260,11 @@ module _ (c : Setting) (sound : IsSound c) where
         low = r.low;
       }
 
-  -- at its end a node's row is the last
+  -- When a node ends, its row is the last one.
   pub own_of : (m : Machine) (x : OpenNode) → RunsSomehow c m (Some x) → slice_get (list_at c x.production) x.at ≡ Some instr.End → HasOwn c x m.values.items
   own_of m x (honest, content, to_honest, to, meter, r) at = own_row c sound m.root x (reverse m.waiting.items) m.values.items r.running.tapes (meter - m.begun) r.running.todo at r.running.passing
 
-  -- and the copies of its values stand before it, in the row of the node that waits
+  -- When a node ends, the copies of its values come before its row, in the row of the node that waits.
   pub waited_for : (m : Machine) (waiting : List OpenNode) (x y : OpenNode) → RunsSomehow c m (Some x) → slice_get (list_at c x.production) x.at ≡ Some instr.End → m.waiting.items ≡ waiting ++ y ∷ [] → HasWaited c y x.base m.values.items
   waited_for m waiting x y (honest, content, to_honest, to, meter, r) at is =
       let stack : reverse m.waiting.items ≡ y ∷ reverse waiting = ap reverse is ∙ reverse-append waiting (y ∷ []) in
@@ -311,7 +311,7 @@ module _ (c : Setting) (sound : IsSound c) where
   pub rule_of : (m : Machine) (x : OpenNode) (meter r : ℕ) → RunsAt c meter m (Some x) → (next : GivesNext c x r) → HasRule c x next.0 next.1 r m.values.items
   rule_of m x meter r (honest, content, to_honest, to, runs) (j, a, z, giving, at) = given_rule c sound m.root x (reverse m.waiting.items) m.values.items runs.running.tapes (meter - m.begun) runs.running.todo j a r z giving at runs.running.passing
 
-  -- the same of a production that is known
+  -- The rule and its slot, for a known production.
   pub ruled : (m : Machine) (x : OpenNode) (meter r : ℕ) (q : Production) → RunsAt c meter m (Some x) → GivesNext c x r → IsProduction c.grammar x.production q → (u : Rule) × (slice_get q.rules r ≡ Some u) × (x.base + target_slot c q u.target.place u.target.attr < length m.values.items)
   ruled m x meter r q runs next there =
       let h = rule_of m x meter r runs next in
@@ -343,7 +343,7 @@ module _ (c : Setting) (sound : IsSound c) where
         occurrences = rule_named c sound x.production r q u there numbered;
       }
 
-  -- the value over what is lent
+  -- The value of a rule over the values that are lent.
   pub lent_value : (q : Production) (u : Rule) (slots : RuleSlots) (m : Machine) (base : ℕ) (values lent : List Value) (numbers : List ℕ) (spare v : Value) → values ≡ m.values.items → lent ≡ drop base values → numbers ≡ slots.args
       → v ≡ value_of u.expr.0 (λ k. get_or lent (slice_index numbers k) spare) → v ≡ value_of u.expr.0 (λ k. get_or (drop base m.values.items) (slice_index slots.args k) spare)
   lent_value q u slots m base values lent numbers spare v vs front ns is =

@@ -1,4 +1,4 @@
--- What a pass asks of each production, computed. All of this is this project's.
+-- The computed layout of each production. All definitions are this project's.
 use Rattle.std.specs.Prelude.{ℕ, zero, suc, ◌+◌, ◌<◌, List, [], ◌∷◌, Option, Some, None, map}
 use Rattle.ag_grammar.specs.declared.grammar.Item.{Item}
 use Rattle.ag_grammar.specs.declared.grammar.Item.TheVariants as item
@@ -15,37 +15,37 @@ use Rattle.passrun.specs.declared.laid.laying.ProductionRow.{ProductionRow}
 use Rattle.passrun.specs.declared.laid.laying.RuleSlots.{RuleSlots}
 use Rattle.passrun.specs.laid.Slots.{argument_slot, copied_width, known_width, own_width, rank, row_start, stored_width, target_slot}
 
--- the slots of a rule's target and of its arguments
+-- The slots of a rule's target and of its arguments.
 abbrev pub rule_slots : Setting → Production → Rule → RuleSlots
 rule_slots c q u = record { target = target_slot c q u.target.place u.target.attr; args = map (λ (o : Target). argument_slot c q o.place o.attr) u.args }
 
--- those of each rule of a production
+-- The slots of each rule of a production.
 abbrev pub production_slots : Setting → Production → List RuleSlots
 production_slots c q = map (rule_slots c q) q.rules
 
--- items with the copies of their values, of which the first begin at a number
+-- The rows of places of some items, whose copies begin at a number.
 abbrev pub rows_behind : Setting → ℕ → List Item → List PlaceRow
 rows_behind c start [] = []
 rows_behind c start (x ∷ xs) = record { item = x; start = start; width = copied_width c x; known = known_width c x } ∷ rows_behind c (start + copied_width c x) xs
 
--- what stands at the places of a production, with the copies of its values: the left side has none
+-- The rows of the places of a production. The left side has no copies.
 abbrev pub place_rows : Setting → Production → List PlaceRow
 place_rows c q = record { item = item.Symbol q.left; start = 0; width = 0; known = 0 } ∷ rows_behind c (own_width c q) (stored_items q.items)
 
--- what the pass asks of a production of number p
+-- The layout of a production of number p.
 abbrev pub production_row : Setting → ℕ → Production → ProductionRow
 production_row c p q = record { list = list_at c p; width = stored_width c q; passes = row_passes c q; places = place_rows c q; rules = production_slots c q }
 
--- of some productions, the first of which has number p
+-- The layouts of some productions, the first of which has number p.
 abbrev pub rows_from : Setting → ℕ → List Production → List ProductionRow
 rows_from c p [] = []
 rows_from c p (q ∷ qs) = production_row c p q ∷ rows_from c (suc p) qs
 
--- and of each production of a grammar
+-- The layout of each production of a grammar.
 abbrev pub layout_of : Setting → List ProductionRow
 layout_of c = rows_from c 0 c.grammar.productions
 
--- what a rule takes and gives stands at places below a number
+-- The target and the arguments of a rule are at places below a number.
 pub record IsWithin (count : ℕ) (u : Rule) : Type 0 where
   pub target : u.target.place < count
   pub args : Each (λ (o : Target). o.place < count) u.args
@@ -53,7 +53,7 @@ pub record IsWithin (count : ℕ) (u : Rule) : Type 0 where
 abbrev pub AreWithin : ℕ → List Rule → Type 0
 AreWithin count rules = Each (IsWithin count) rules
 
--- what stands at a place, and where the copies of its values begin, by the rows of the places
+-- The item at a place, and where its copies begin, according to the rows of the places.
 abbrev pub item_in : List PlaceRow → ℕ → Option Item
 item_in [] j = None
 item_in (row ∷ rows) zero = Some row.item
@@ -64,7 +64,7 @@ start_in [] j = 0
 start_in (row ∷ rows) zero = row.start
 start_in (row ∷ rows) (suc j) = start_in rows j
 
--- the slots by them
+-- The slots according to the rows of the places.
 abbrev pub argument_slot_by : Passes → ℕ → List PlaceRow → Target → ℕ
 argument_slot_by m k rows o = start_in rows o.place + rank k (item_passes m (item_in rows o.place)) o.attr
 

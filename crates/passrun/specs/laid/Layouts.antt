@@ -1,4 +1,4 @@
--- What a pass asks of a production at each node of it. All of this is this project's.
+-- The layout of a production in a pass. All definitions are this project's.
 use Rattle.std.specs.Prelude.{ℕ, ◌≡◌, List, Some, slice_get}
 use Rattle.ag_grammar.specs.declared.grammar.Production.{Production}
 use Rattle.ag_grammar.specs.declared.grammar.Rule.{Rule}
@@ -16,8 +16,8 @@ pub record AreSlotsOf (c : Setting) (q : Production) (u : Rule) (slots : RuleSlo
   pub target : slots.target ≡ target_slot c q u.target.place u.target.attr
   pub args : AreRelated (λ o n. n ≡ argument_slot c q o.place o.attr) u.args slots.args
 
--- A row has what the pass asks of a production of number p: its instructions, how many values its nodes have and of which
--- passes, what stands at each place with the copies of its values, and the slots of each rule.
+-- A row is the layout of a production of number p: its instructions, the number of values of its nodes and
+-- their passes, the item at each place with its copies, and the slots of each rule.
 pub record IsRowOf (c : Setting) (p : ℕ) (q : Production) (row : ProductionRow) : Type 0 where
   pub list : row.list ≡ list_at c p
   pub width : row.width ≡ stored_width c q

@@ -1,5 +1,5 @@
--- The instructions that are left at a node, the parts of a right side that were visited, and the values of a node and of its
--- children. All of this is this project's.
+-- The remaining instructions of a node, the visited parts of a right side, and the values of a node and of
+-- its children. All definitions are this project's.
 use Rattle.std.specs.Prelude.{ℕ, suc, ◌≡◌, ◌+◌, ◌-◌, ◌<◌, ◌≤◌, ◌⊎◌, List, [], ◌∷◌, ◌++◌, Some, slice_get, length, take, drop}
 use Rattle.std.specs.List.{flat_map}
 use Rattle.ag_value.specs.declared.value.Value.{Value}
@@ -14,20 +14,20 @@ use Rattle.ag_grammar.specs.grammars.Passes.{item_passes}
 use Rattle.ag_grammar.specs.grammars.Solution.{Valuation}
 use Rattle.treefile.specs.records.Records.{synthesized_passes, values_up_to}
 use Rattle.passcode.specs.declared.instr.Instr.{Instr}
-use Rattle.planchecker.specs.courses.Course.{IsKnown}
+use Rattle.passcode.specs.Course.{IsVisited}
 use Rattle.planchecker.specs.courses.Settings.{Setting, list_at}
 use Rattle.passrun.specs.declared.passing.open_node.OpenNode.{OpenNode}
 
--- the instructions that are left at a node
+-- The remaining instructions of a node.
 abbrev pub rest_of : Setting → OpenNode → List Instr
 rest_of c x = drop x.at (list_at c x.production)
 
--- the parts that are visited first, i of them, from left to right
+-- The first i parts that are visited, from left to right.
 abbrev pub visited {ℓ} : {X : Type ℓ} → Direction → List X → ℕ → List X
 visited LeftToRight xs i = take i xs
 visited RightToLeft xs i = drop (length xs - i) xs
 
--- the index of the leftmost of them
+-- The index of the leftmost of them.
 abbrev pub leftmost : Direction → ℕ → ℕ → ℕ
 leftmost LeftToRight n i = 0
 leftmost RightToLeft n i = n - i
@@ -36,25 +36,26 @@ leftmost RightToLeft n i = n - i
 abbrev pub Table : Type 0
 Table = ℕ → ℕ → Value
 
--- those at the children alone, from left to right
+-- The values at the children only, from left to right.
 abbrev pub in_children : Table → Table
 in_children e j = e (suc j)
 
--- the passes of the attributes at a place
+-- The passes of the attributes at a place.
 abbrev pub place_passes : Setting → Production → ℕ → List ℕ
 place_passes c q j = item_passes c.passes (item_at q j)
 
--- the passes of what a parent has copies of: of a symbol's synthesized attributes, and of a token's text
+-- The passes of the values that the parent's row has copies of: of a symbol's synthesized attributes, and of
+-- a token's text.
 abbrev pub copied_passes : Setting → Item → List ℕ
 copied_passes c (item.Symbol s) = synthesized_passes c.grammar c.passes s
 copied_passes c (item.Terminal (Class d)) = 0 ∷ []
 copied_passes c (item.Terminal (Literal l)) = []
 
--- the passes of the values in the row of a node: of its own attributes, and of those at its items that it has copies of
+-- The passes of the values in the row of a node: of its own attributes, and of the copies at its items.
 abbrev pub row_passes : Setting → Production → List ℕ
 row_passes c q = c.passes q.left ++ flat_map (copied_passes c) q.items
 
--- the copies up to pass k of the values at some items, from left to right
+-- The copies of the values at some items, up to pass k, from left to right.
 abbrev pub copies : Setting → ℕ → List Item → Table → List Value
 copies c k [] e = []
 copies c k (x ∷ xs) e = values_up_to k (copied_passes c x) (e 0) ++ copies c k xs (λ j. e (suc j))
@@ -63,16 +64,21 @@ copies c k (x ∷ xs) e = values_up_to k (copied_passes c x) (e 0) ++ copies c k
 abbrev pub stored : Setting → Production → (ℕ → Value) → Table → List Value
 stored c q f s = values_up_to c.write (c.passes q.left) f ++ copies c c.write (stored_items q.items) (in_children s)
 
--- A table shows what the copies in a node's row have of another one: what earlier passes left at each child, and what the pass gave
--- at those in which it has run, n of them.
+-- A place is that of the left side, or of one of the first n visited children.
+abbrev pub IsKnown : Setting → Production → ℕ → ℕ → Type 0
+IsKnown c q n j = (j ≡ 0) ⊎ IsVisited q c.write n j
+
+-- The table s has the values of the copies in a node's row that are known in the table e: those that earlier
+-- passes computed at each child, and those of this pass at the first n visited children.
 abbrev pub IsShown : Setting → Production → ℕ → Table → Table → Type 0
 IsShown c q n e s = (j a p : ℕ) (x : Item) → slice_get (stored_items q.items) j ≡ Some x → slice_get (copied_passes c x) a ≡ Some p → p ≤ c.write → (p < c.write) ⊎ IsKnown c q n (suc j) → s (suc j) a ≡ e (suc j) a
 
--- the roots of the visited children have the values of the table
+-- The roots of the visited children have the values in the table.
 abbrev pub Roots : Direction → ℕ → ℕ → (ℕ → Valuation) → Table → Type 0
 Roots d n i ws e = (b a : ℕ) → b < i → ws b [] a ≡ e (suc (leftmost d n i + b)) a
 
--- what is kept of the values behind a record: the row of a node, and nothing of a token, whose text stands among the copies
+-- The values that are kept after a record was read: the row of a node, and nothing of a token, whose text is
+-- among the copies.
 abbrev pub kept_values : Item → (old new : List Value) → List Value
 kept_values (item.Symbol s) old new = new
 kept_values (item.Terminal t) old new = old

@@ -1,4 +1,4 @@
--- Putting records. All of this is this project's.
+-- Writing records. All definitions are this project's.
 use Rattle.std.specs.Prelude.{ℕ, ◌≡◌, ◌+◌, Bool, List, ◌++◌, Ok, Err}
 use Rattle.ag_value.specs.declared.value.Value.{Value}
 use Rattle.treefile.specs.declared.body.Kind.{Kind}
@@ -8,15 +8,15 @@ use Rattle.treefile.specs.records.TreeFile.{body_of, frame}
 use Rattle.treefile.specs.ways.Writing as writing
 use Rattle.passrun.specs.declared.run_fault.RunFault.{RunFault}
 
--- A record with these values was put.
+-- A record with these values was written.
 pub record HasPut (kind : Kind) (number : ℕ) (values : List Value) (honest : Bool) (old new : List ℕ) (out now : writing.Progress) : Type 0 where
   pub there : WhenHonest honest (new ≡ old ++ frame (body_of kind number values))
   pub counted : now ≡ record out { written = out.written + 1 }
 
--- Frames were put behind a content that an honest device has,
+-- Some frames were appended to the content of an honest device.
 abbrev pub AddsFrames : Bool → (old new : List ℕ) → Type 0
 AddsFrames honest old new = WhenHonest honest (beginning.AddsFrames {E = RunFault} old new (Ok tt))
 
--- and a refusal leaves some of them, or a beginning.
+-- A fault leaves a prefix of some frames appended to the content of an honest device.
 abbrev pub LeavesFrames : Bool → (old new : List ℕ) → RunFault → Type 0
 LeavesFrames honest old new f = WhenHonest honest (beginning.AddsFrames {E = RunFault} old new (Err f))

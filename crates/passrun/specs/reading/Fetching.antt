@@ -1,4 +1,4 @@
--- Reading the record of an item out of a tree file that is read from its end. All of this is this project's.
+-- Reading the record of an item from a tree file that is read backward. All definitions are this project's.
 use Rattle.std.specs.Prelude.{ℕ, ◌≡◌, ◌+◌, ◌<◌, ◌≤◌, Bool, List, Option, Some, None, Result, Ok, Err}
 use Rattle.ag_value.specs.declared.value.Value.{Value}
 use Rattle.ag_grammar.specs.declared.grammar.Item.{Item}
@@ -13,7 +13,8 @@ use Rattle.passrun.specs.declared.run_fault.RunFault.{RunFault}
 use Rattle.passrun.specs.declared.run_fault.RunFault.TheVariants as fault
 use Rattle.passrun.specs.reading.Reading.{IsRead, IsNoRecord}
 
--- The record of an item was read below so many open nodes: its body stood before the offset, and its row came behind the values.
+-- The record of an item was read below `open_count` open nodes: its body ends at the offset, and its row was
+-- appended to the values.
 pub record HasFetched (c : Setting) (x : Item) (p open_count : ℕ) (honest : Bool) (content : List ℕ) (old new : BackState) (values now : List Value) : Type 0 where
   pub body : List ℕ
   pub found : WhenHonest honest (next_before version_two content old.progress.at ≡ Ok (Some body))
@@ -23,14 +24,14 @@ pub record HasFetched (c : Setting) (x : Item) (p open_count : ℕ) (honest : Bo
   pub deep : open_count < most_depth
   pub few : old.progress.records < most_nodes
 
--- what stands before an offset is no record of an item
+-- Reading before an offset returned no record of an item: a fault, no frame, or another body.
 abbrev pub IsMissing : Setting → Item → Result (Option (List ℕ)) FrameFault → Type 0
 IsMissing c x (Err frame_fault) = Unit {0}
 IsMissing c x (Ok None) = Unit {0}
 IsMissing c x (Ok (Some body)) = IsNoRecord c x body
 
--- Why no record of an item was read: it would be too deep; or one too many, and not too deep; or neither, and none ends where the
--- reader has come to.
+-- The reason why no record of an item was read. R1: none ends at the offset that the reader has reached, and
+-- no limit is exceeded. P2: it would be too deep. P3: it would be one too many, and not too deep.
 abbrev pub IsUnfetched : Setting → Item → ℕ → List ℕ → BackState → RunFault → Type 0
 IsUnfetched c x open_count content old (fault.Damaged at) = (at ≡ old.progress.at) × IsMissing c x (next_before version_two content old.progress.at) × (open_count < most_depth) × (old.progress.records < most_nodes)
 IsUnfetched c x open_count content old fault.TooDeep = most_depth ≤ open_count

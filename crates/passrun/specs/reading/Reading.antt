@@ -1,4 +1,4 @@
--- What is read from the body of a record. All of this is this project's.
+-- Reading the body of a record. All definitions are this project's.
 use Rattle.std.specs.Prelude.{ℕ, ◌≡◌, ◌<◌, ◌^◌, ◌↔◌, Bool, IsTrue, nat_le, List, [], ◌∷◌, ◌++◌, if◌then◌else◌}
 use Rattle.std.specs.List.{flat_map}
 use Rattle.ag_value.specs.declared.value.Value.{Value, Text}
@@ -16,16 +16,16 @@ use Rattle.treefile.specs.declared.body.Kind.TheVariants.{Node}
 use Rattle.planchecker.specs.courses.Settings.{Setting}
 use Rattle.passrun.specs.passing.Places.{Table, copied_passes, copies}
 
--- the value of an attribute of a pass, in a list that has those of the passes up to k
+-- The value of an attribute of a pass, in a list of the values of passes up to k.
 abbrev pub one_value : ℕ → ℕ → Value → List Value
 one_value k pass value = if nat_le pass k then value ∷ [] else []
 
--- The old values still stand in front, and others maybe behind them.
+-- The new list begins with the old values.
 abbrev pub StandInFront : (old new : List Value) → Type 0
 StandInFront old new = (more : List Value) × (new ≡ old ++ more)
 
--- A value was taken for an attribute of a pass, from the bytes where it is of the passes so far; the values in the row are those
--- up to the pass that is written, with anything for an attribute of this one.
+-- A value was taken for an attribute of a pass: from the bytes if the pass is at most `read`. It is in the
+-- row if the pass is at most `write`; if it was not read, it can be any value.
 pub record IsTaken (read write pass : ℕ) (bytes rest : List ℕ) (old new : List Value) : Type 0 where
   pub value : Value
   pub well : IsWell value
@@ -33,11 +33,12 @@ pub record IsTaken (read write pass : ℕ) (bytes rest : List ℕ) (old new : Li
   pub spelled : bytes ≡ flat_map spelling_of (one_value read pass value) ++ rest
   pub only : (w : Value) (others : List ℕ) → IsWell w → bytes ≡ flat_map spelling_of (one_value read pass w) ++ others → others ≡ rest
 
--- no value can be taken
+-- No value can be taken.
 abbrev pub IsUntaken : ℕ → ℕ → List ℕ → Type 0
 IsUntaken read pass bytes = (w : Value) (others : List ℕ) → IsWell w → bytes ≡ flat_map spelling_of (one_value read pass w) ++ others → ⊥
 
--- The values of attributes with these passes were taken from the front of bytes, and went into a row.
+-- The values of attributes with these passes were taken from the beginning of the bytes, and appended to a
+-- row.
 pub record AreTaken (read write : ℕ) (passes : List ℕ) (bytes rest : List ℕ) (old new : List Value) : Type 0 where
   pub values : ℕ → Value
   pub well : (a : ℕ) → IsWell (values a)
@@ -45,19 +46,19 @@ pub record AreTaken (read write : ℕ) (passes : List ℕ) (bytes rest : List �
   pub spelled : bytes ≡ flat_map spelling_of (values_up_to read passes values) ++ rest
   pub only : (h : ℕ → Value) (others : List ℕ) → ((a : ℕ) → IsWell (h a)) → bytes ≡ flat_map spelling_of (values_up_to read passes h) ++ others → others ≡ rest
 
--- none can be taken
+-- No values can be taken.
 abbrev pub AreUntaken : ℕ → List ℕ → List ℕ → Type 0
 AreUntaken read passes bytes = (h : ℕ → Value) (others : List ℕ) → ((a : ℕ) → IsWell (h a)) → bytes ≡ flat_map spelling_of (values_up_to read passes h) ++ others → ⊥
 
--- each value of a table is well
+-- Each value of a table is well.
 abbrev pub AllWell : Table → Type 0
 AllWell e = (j a : ℕ) → IsWell (e j a)
 
--- bytes are the spellings of no values of attributes with these passes
+-- Bytes do not encode values of attributes with these passes.
 abbrev pub IsNoRow : ℕ → List ℕ → List ℕ → Type 0
 IsNoRow read passes bytes = (h : ℕ → Value) → ((a : ℕ) → IsWell (h a)) → bytes ≡ flat_map spelling_of (values_up_to read passes h) → ⊥
 
--- a body has the number of a production of symbol s, and behind it these bytes
+-- A body has the number of a production of symbol s, and these bytes after it.
 pub record IsNodeBody (g : Grammar) (s p : ℕ) (spellings body : List ℕ) : Type 0 where
   pub production : Production
   pub there : IsProduction g p production
@@ -65,7 +66,14 @@ pub record IsNodeBody (g : Grammar) (s p : ℕ) (spellings body : List ℕ) : Ty
   pub same : body ≡ body_from Node p spellings
   pub only : (r : ℕ) (others : List ℕ) → r < 2 ^ 16 → body ≡ body_from Node r others → (p ≡ r) × (spellings ≡ others)
 
--- a body is the record of a node of symbol s with this production, and its row was read
+-- A body has the number of a production of symbol s, and these bytes after it.
+pub record IsBodyOf (g : Grammar) (s p : ℕ) (spellings body : List ℕ) : Type 0 where
+  pub production : Production
+  pub there : IsProduction g p production
+  pub left : production.left ≡ s
+  pub same : body ≡ body_from Node p spellings
+
+-- A body is the record of a node of symbol s with this production, and its row was read.
 pub record IsNodeRead (c : Setting) (s p : ℕ) (body : List ℕ) (old new : List Value) : Type 0 where
   pub production : Production
   pub there : IsProduction c.grammar p production
@@ -77,15 +85,15 @@ pub record IsNodeRead (c : Setting) (s p : ℕ) (body : List ℕ) (old new : Lis
   pub row : new ≡ old ++ (values_up_to c.write (c.passes s) values ++ copies c c.write (stored_items production.items) table)
   pub same : body ≡ node_body version_two c.grammar c.passes c.read p values (copies c c.read (stored_items production.items) table)
 
--- a body is no record of a node of symbol s
+-- A body is not a record of a node of symbol s.
 abbrev pub IsNoNode : Setting → ℕ → List ℕ → Type 0
 IsNoNode c s body = (p : ℕ) (q : Production) (h : ℕ → Value) (e : Table) → IsProduction c.grammar p q → q.left ≡ s → ((a : ℕ) → IsWell (h a)) → AllWell e → body ≡ node_body version_two c.grammar c.passes c.read p h (copies c c.read (stored_items q.items) e) → ⊥
 
--- a body is that of no node of symbol s, whatever stands behind its number
+-- A body is not that of a node of symbol s, with any bytes after its number.
 abbrev pub IsNoNodeBody : Grammar → ℕ → List ℕ → Type 0
 IsNoNodeBody g s body = (p : ℕ) (q : Production) (spellings : List ℕ) → IsProduction g p q → q.left ≡ s → p < 2 ^ 16 → body ≡ body_from Node p spellings → ⊥
 
--- a body is the record of a token of a class, and this is its text
+-- A body is the record of a token of a class, and this is its text.
 pub record IsTextOf (d : ℕ) (body : List ℕ) (value : Value) : Type 0 where
   pub text : List ℕ
   pub fits : IsTokenText text
@@ -93,7 +101,7 @@ pub record IsTextOf (d : ℕ) (body : List ℕ) (value : Value) : Type 0 where
   pub is : value ≡ Text text
   pub same : body ≡ token_body d text
 
--- a body is the record of a token of a class, and its text was read
+-- A body is the record of a token of a class, and its text was read.
 pub record IsTokenRead (d : ℕ) (body : List ℕ) (old new : List Value) : Type 0 where
   pub text : List ℕ
   pub fits : IsTokenText text
@@ -101,11 +109,11 @@ pub record IsTokenRead (d : ℕ) (body : List ℕ) (old new : List Value) : Type
   pub row : new ≡ old ++ Text text ∷ []
   pub same : body ≡ token_body d text
 
--- a body is no record of a token of a class
+-- A body is not a record of a token of a class.
 abbrev pub IsNoToken : ℕ → List ℕ → Type 0
 IsNoToken d body = (text : List ℕ) → IsTokenText text → body ≡ token_body d text → ⊥
 
--- what was read for an item, and that nothing could be
+-- The record of an item was read; a body is not a record of an item.
 abbrev pub IsRead : Setting → Item → ℕ → List ℕ → List Value → List Value → Type 0
 IsRead c (item.Symbol s) p body old new = IsNodeRead c s p body old new
 IsRead c (item.Terminal (Class d)) p body old new = (p ≡ d) × IsTokenRead d body old new
@@ -116,16 +124,16 @@ IsNoRecord c (item.Symbol s) body = IsNoNode c s body
 IsNoRecord c (item.Terminal (Class d)) body = IsNoToken d body
 IsNoRecord c (item.Terminal (Literal l)) body = Unit {0}
 
--- the values at the root of what was read for an item
+-- The values at the root of the record that was read for an item.
 abbrev pub read_values : (c : Setting) (x : Item) (p : ℕ) (body : List ℕ) (old new : List Value) → IsRead c x p body old new → ℕ → Value
 read_values c (item.Symbol s) p body old new h = h.values
 read_values c (item.Terminal (Class d)) p body old new h = λ a. Text h.1.text
 read_values c (item.Terminal (Literal l)) p body old new h = elim h [ ]
 
--- Some values are as a table has them at an item, as far as earlier passes gave them and there are copies.
+-- Values agree with a table at an item: for the values that earlier passes computed and that have copies.
 abbrev pub AgreeAt : Setting → Item → (ℕ → Value) → (ℕ → Value) → Type 0
 AgreeAt c x f h = values_up_to c.read (copied_passes c x) f ≡ values_up_to c.read (copied_passes c x) h
 
--- An answer tells whether two rows, each with what is copied of an item in front, agree so.
+-- The result says whether two rows agree so. Each row begins with the values at an item that have copies.
 abbrev pub Agrees : Setting → Item → (ours theirs : List Value) → Bool → Type 0
 Agrees c x ours theirs answer = (f h : ℕ → Value) (rest others : List Value) → ours ≡ values_up_to c.write (copied_passes c x) f ++ rest → theirs ≡ values_up_to c.write (copied_passes c x) h ++ others → IsTrue answer ↔ AgreeAt c x f h

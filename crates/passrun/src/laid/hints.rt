@@ -1,23 +1,23 @@
 //! Hints for reading: where the value that a pass reads next may be stored already.
 //!
-//! Most values that a pass reads are equal to others that it has read before. The row of a record has
-//! the values of the node's own attributes, the synthesized ones first, and after them copies of its
-//! children's synthesized attributes. While the record of the child at place j is read, the row of its
-//! parent is stored, and so are the values of its own row that come before:
+//! Most values that a pass reads are equal to others that it has read before. The row of a record
+//! has the values of the node's own attributes, the synthesized ones first, and after them copies
+//! of its children's synthesized attributes. While the record of the child at place j is read, the
+//! row of its parent is stored, and so are the values of its own row that come before:
 //!
 //! | Value | Candidate | Equal |
 //! |---|---|---|
-//! | own synthesized `a` | in the parent's row: the copy of `$j.a` | always, or the file is damaged |
+//! | own synthesized `a` | in the parent's row: the copy of `$j.a` | always, unless damaged |
 //! | own inherited `a` | in the parent's row: `$i.b`, if the rule of `$j.a` is `$i.b` | always |
-//! | own inherited `a`, defined by another rule | in its own row: `b`, if a rule is `$0.b = $0.a` | always |
+//! | other own inherited `a` | in its own row: `b`, if a rule is `$0.b = $0.a` | always |
 //! | copy of `$i.b` | in its own row: `a`, if a rule is `$0.a = $i.b` | always |
-//! | another copy of `$i.b` | in its own row: what a rule hands down to that child | if the child hands it back |
+//! | other copy of `$i.b` | in its own row: what a rule passes to `$i` | if `$i` returns it |
 //!
-//! A rule is taken for its occurrence `$i.b` too if that is what a `let`, an `if` or an `orelse` may
-//! return. Only rules of passes before k count, since their values are in the file that is read.
+//! A rule also counts as `$i.b` if its expression is a `let`, an `if` or an `orelse` that may
+//! return that occurrence. Only rules of passes before k count: their values are in the file.
 //!
-//! No contract speaks of hints. `Carried::read_beside` compares the candidate with the bytes that are
-//! read: a wrong hint costs a comparison and changes nothing. A number is read without one.
+//! No contract mentions hints. `Carried::read_beside` compares the candidate with the bytes that
+//! are read: a wrong hint costs a comparison and changes nothing. A number is read without one.
 
 use crate::laid::laying::{Layout, PlaceRow, ProductionRow, RuleSlots};
 use crate::laid::rows::{passes_at, row_length};
@@ -37,7 +37,8 @@ pub(crate) struct RowHints {
 }
 
 impl RowHints {
-    /// Returns the hints for a production in pass k. Takes memory for them.
+    /// Returns the hints for a production in pass k. Fails with `NoMemory` if memory cannot be
+    /// allocated.
     pub(crate) fn new(
         alloc: Global,
         plan: &Plan,
@@ -109,19 +110,53 @@ impl RowHints {
     }
 }
 
-/// Returns the hints for each production of a grammar in pass k, by the rows of its nodes.
-pub(crate) fn hints_of(
-    alloc: Global,
-    grammar: &Grammar,
-    plan: &Plan,
-    k: u16,
-    rows: &[ProductionRow],
-) -> Result<Vec<RowHints>, NoMemory> {
-    let mut hints = Vec::new(alloc);
-    for (production, row) in grammar.productions().iter().zip(rows.iter()) {
-        hints.push(RowHints::new(alloc, plan, k, production, row)?)?;
+/// The hints for the records of all nodes, by the number of their production.
+#[derive(Debug, Drop)]
+pub(crate) struct Hints {
+    rows: Vec<RowHints>,
+}
+
+impl Hints {
+    /// Returns no hints.
+    pub(crate) fn none(alloc: Global) -> Hints {
+        Hints {
+            rows: Vec::new(alloc),
+        }
     }
-    Ok(hints)
+
+    /// Returns the hints for each production of a grammar in pass k, by the rows of its nodes.
+    pub(crate) fn new(
+        alloc: Global,
+        grammar: &Grammar,
+        plan: &Plan,
+        k: u16,
+        rows: &[ProductionRow],
+    ) -> Result<Hints, NoMemory> {
+        let mut hints = Vec::new(alloc);
+        for (production, row) in grammar.productions().iter().zip(rows.iter()) {
+            hints.push(RowHints::new(alloc, plan, k, production, row)?)?;
+        }
+        Ok(Hints { rows: hints })
+    }
+
+    /// Returns the hints for the row of a production's nodes, by slot: slots of the same row.
+    fn own(&self, production: u16) -> &[Option<usize>] {
+        match self.rows.get(production as usize) {
+            Some(row) => row.own.as_slice(),
+            None => &[],
+        }
+    }
+
+    /// Returns the hints for the row of the child at a site, by slot: slots of the parent's row.
+    fn child(&self, site: Site) -> &[Option<usize>] {
+        let Some(row) = self.rows.get(site.production as usize) else {
+            return &[];
+        };
+        match row.children.get(site.place as usize) {
+            Some(hints) => hints.as_slice(),
+            None => &[],
+        }
+    }
 }
 
 /// Returns the hints for the slots of a child's row: the copies of its values, and none for others.
@@ -159,7 +194,7 @@ fn is_earlier(plan: &Plan, k: u16, row: &ProductionRow, target: Target) -> bool 
     }
 }
 
-/// Returns the number of an occurrence whose value an expression may have as it is.
+/// Returns the number of an occurrence whose value an expression may return unchanged.
 fn returned_occurrence(node: &Node) -> Option<usize> {
     match node {
         Node::Occurrence(k) => Some(*k),
@@ -187,44 +222,56 @@ fn set(hints: &mut Vec<Option<usize>>, slot: usize, hint: usize) {
     }
 }
 
-/// The place in an open node whose record is read.
-#[derive(Clone, Copy, Debug)]
+/// The place at which a record is read: a place of an open node of a production. The record of the
+/// root is read at place 0 of production 0, and no row is stored before its own.
+#[derive(Clone, Copy, Debug, Default)]
 pub(crate) struct Site {
-    /// The number of the open node's production.
     pub(crate) production: u16,
-    /// The place in it.
     pub(crate) place: u16,
-    /// Where the open node's row begins among all values.
-    pub(crate) base: usize,
 }
 
-/// What is known of a row that is read: its production, its parent, and where it begins among all
-/// values.
+/// The row that a record is read into: that of a node of a production, read at a site.
+#[derive(Clone, Copy)]
+pub(crate) struct RowSite<'a> {
+    pub(crate) hints: &'a Hints,
+    pub(crate) production: u16,
+    pub(crate) parent: Site,
+}
+
+impl<'a> RowSite<'a> {
+    /// Returns the context of the row, of which `unread` values are still to be read. `stored` is
+    /// the number of all stored values, including those of the row that were read.
+    pub(crate) fn context(self, stored: usize, unread: usize) -> RowContext<'a> {
+        let own = self.hints.own(self.production);
+        let parent_width = self.hints.own(self.parent.production).len();
+        let start = stored.saturating_add(unread).saturating_sub(own.len());
+        RowContext {
+            start,
+            own,
+            parent_start: start.saturating_sub(parent_width),
+            parent: self.hints.child(self.parent),
+        }
+    }
+}
+
+/// The context of a row that is being read. Starts are indices among all stored values; the row of
+/// the parent comes directly before.
 #[derive(Clone, Copy)]
 pub(crate) struct RowContext<'a> {
-    pub(crate) layout: Option<&'a Layout>,
-    pub(crate) production: u16,
-    pub(crate) site: Option<Site>,
-    pub(crate) start: usize,
+    start: usize,
+    own: &'a [Option<usize>],
+    parent_start: usize,
+    parent: &'a [Option<usize>],
 }
 
 impl RowContext<'_> {
-    /// Lends the stored value that the next one of the row may be equal to, if there is a hint.
+    /// Returns the stored value that the next value of the row may be equal to, if there is a hint.
     pub(crate) fn candidate<'v>(&self, values: &'v [Carried]) -> Option<&'v Carried> {
         let slot = values.len().checked_sub(self.start)?;
-        if let Some(index) = self.index_in_parent(slot) {
-            return values.get(index);
+        if let Some(Some(hint)) = self.parent.get(slot) {
+            return values.get(self.parent_start.checked_add(*hint)?);
         }
-        let hints = self.layout?.hints.get(self.production as usize)?;
-        let hint = (*hints.own.get(slot)?)?;
+        let hint = (*self.own.get(slot)?)?;
         values.get(self.start.checked_add(hint)?)
-    }
-
-    /// Returns the index of the hint in the parent's row for a slot.
-    fn index_in_parent(&self, slot: usize) -> Option<usize> {
-        let site = self.site?;
-        let children = &self.layout?.hints.get(site.production as usize)?.children;
-        let hint = (*children.get(site.place as usize)?.get(slot)?)?;
-        site.base.checked_add(hint)
     }
 }

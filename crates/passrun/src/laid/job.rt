@@ -1,4 +1,4 @@
-//! What a pass works by, and what it asks of it at each instruction.
+//! The context of a pass: what it needs to run, and the layout of each production.
 
 ghost use Rattle.std.specs.Prelude.{◌≡◌, ◌<◌, ◌≤◌, ◌+◌, ◌-◌, ◌^◌, Some, length, slice_get};
 ghost use Rattle.ag_grammar.specs.declared.grammar.Production.{Production};
@@ -10,25 +10,27 @@ ghost use Rattle.passrun.specs.passing.Places.{copied_passes};
 ghost use Rattle.passrun.specs.laid.Slots.{stored_width};
 ghost use Rattle.planchecker.specs.courses.Settings.{list_at};
 
-use crate::laid::laying::{Layout, PlaceRow, ProductionRow};
+use crate::laid::hints::Hints;
+use crate::laid::laying::{PlaceRow, ProductionRow};
 use crate::laid::rows::copied_passes;
 use crate::passing::open_node::OpenNode;
 use ag_grammar::{Grammar, Item};
 use passcode::Instr;
 use planchecker::Plan;
 
-/// What a pass works by: a grammar, a plan for it, what it asks of each production, and the number
-/// of the pass.
+/// The context of a pass: a grammar, a plan for it, the layout of each production by its number,
+/// hints for reading, and the number of the pass (from 1).
 #[derive(Clone, Copy)]
 pub(crate) struct Job<'a> {
     pub(crate) grammar: &'a Grammar,
     pub(crate) plan: &'a Plan,
-    pub(crate) layout: &'a Layout,
+    pub(crate) rows: &'a [ProductionRow],
+    pub(crate) hints: &'a Hints,
     pub(crate) pass: u16,
 }
 
 impl Job<'_> {
-    /// The pass before, whose file is read.
+    /// Returns the number of the previous pass, whose file is read.
     pub(crate) fn file_pass(&self) -> u16
         requires { 1 ≤ self.now.pass }
         ensures { result ≡ self.now.pass - 1 }
@@ -36,16 +38,16 @@ impl Job<'_> {
         self.pass - 1
     }
 
-    /// What the pass asks of a production.
+    /// Returns the layout of a production.
     pub(crate) fn row(&self, production: u16) -> &ProductionRow
         requires job { CanRun self.now }
         requires there { production < length self.now.grammar.now.productions }
         ensures { IsRowAt (setting self.now) production result.now }
     {
-        &self.layout.productions.as_slice()[production as usize]
+        &self.rows[production as usize]
     }
 
-    /// The instructions of the pass for an open node, by what the pass asks of its production.
+    /// Returns the instructions of the pass for an open node, whose production has this layout.
     fn list<'r>(&self, asked: &'r ProductionRow, node: OpenNode) -> &'r [Instr]
         requires asked { IsRowAt (setting self.now) node.production asked.now }
         requires there { node.production < length self.now.grammar.now.productions }
@@ -54,7 +56,7 @@ impl Job<'_> {
         asked.list.as_slice()
     }
 
-    /// The instruction that an open node has next, by what the pass asks of its production.
+    /// Returns the next instruction of an open node, whose production has this layout.
     pub(crate) fn instruction(&self, asked: &ProductionRow, node: OpenNode) -> Instr
         requires asked { IsRowAt (setting self.now) node.production asked.now }
         requires there { node.production < length self.now.grammar.now.productions }
@@ -70,8 +72,8 @@ impl Job<'_> {
         unreachable!()
     }
 
-    /// What stands at a place of an open node, with the copies of its values, by what the pass asks
-    /// of its production.
+    /// Returns the item at a place of an open node and the range of its copies, or `None` if the
+    /// production has fewer places. The node's production has this layout.
     pub(crate) fn place(
         &self,
         asked: &ProductionRow,
@@ -85,7 +87,7 @@ impl Job<'_> {
         asked.places.as_slice().get(place as usize).copied()
     }
 
-    /// How many values the row of a node of a production has.
+    /// Returns the number of values in the row of a production's node.
     pub(crate) fn width(&self, production: u16) -> usize
         requires job { CanRun self.now }
         requires there { production < length self.now.grammar.now.productions }
@@ -95,7 +97,7 @@ impl Job<'_> {
         self.row(production).width as usize
     }
 
-    /// The passes of the values at an item that have copies.
+    /// Returns the passes of the values at an item that the parent's row has copies of.
     pub(crate) fn copied_passes(&self, item: Item) -> &[u16]
         ensures { result.now ≡ copied_passes (setting self.now) item }
     {

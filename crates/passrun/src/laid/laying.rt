@@ -1,5 +1,5 @@
-//! What a pass asks of each production: its instructions, how many values its nodes have, what stands
-//! at its places, and the slots of its rules.
+//! Computes the layout of each production in a pass: its instructions, the number of values of its
+//! nodes, its places, and the slots of its rules.
 
 ghost use Rattle.std.specs.Prelude.{◌≡◌, ◌+◌, ◌-◌, ◌≤◌, ◌<◌, [], IfOk, length, map};
 ghost use Rattle.std.specs.Prelude.{slice_index_or};
@@ -16,7 +16,7 @@ ghost use Rattle.passrun.specs.laid.Starts.{AreLow, AreSmall, most_width};
 ghost use Rattle.planchecker.specs.Plans.{IsPlan};
 ghost use Rattle.planchecker.specs.courses.Settings.{list_at, setting_of};
 
-use crate::laid::hints::{RowHints, hints_of};
+use crate::laid::hints::Hints;
 use crate::laid::rows::{copied_width, known_width, passes_at, rank_of, row_length, row_passes};
 use ag_grammar::{Grammar, Item, Production, Rule, Target};
 use ag_value::{Items, NoMemory};
@@ -24,52 +24,52 @@ use passcode::Instr;
 use planchecker::Plan;
 use std::alloc::Global;
 
-/// Where a rule's values stand among the stored values of a node, counted from the first of the
-/// node's own row.
+/// The slots of a rule: indices among the stored values, counted from the first value of the node's
+/// own row.
 #[derive(Debug, Drop)]
 pub(crate) struct RuleSlots {
-    /// Where the rule puts its value.
+    /// The slot of the target.
     pub(crate) target: u16,
-    /// Where the values of its arguments stand, in their order.
+    /// The slots of the arguments, in their order.
     pub(crate) args: Items<u16>,
 }
 
-/// What stands at a place of a production, and the copies of its values in the row of a node.
+/// The item at a place of a production, and the range of its copies in the row of a node.
 #[derive(Clone, Copy, Debug)]
 pub(crate) struct PlaceRow {
     pub(crate) item: Item,
-    /// Where they begin.
+    /// The index of the first copy.
     pub(crate) start: u16,
-    /// How many there are.
+    /// The number of copies.
     pub(crate) width: u16,
-    /// How many of them an earlier pass gave.
+    /// The number of copies that an earlier pass computed.
     pub(crate) known: u16,
 }
 
-/// What a pass asks of a production at each node of it.
+/// The layout of a production in a pass.
 #[derive(Debug, Drop)]
 pub(crate) struct ProductionRow {
-    /// The instructions of the pass for it, none where it has none.
+    /// The instructions of the pass for it; empty if it has none.
     pub(crate) list: Items<Instr>,
-    /// How many values the row of a node has: its own, and the copies of its children's.
+    /// The number of values in the row of a node: its own, and the copies of its children's.
     pub(crate) width: u16,
-    /// The passes of these, and of those that only later passes give.
+    /// The passes of these values, and of those that only later passes compute.
     pub(crate) passes: Items<u16>,
-    /// What stands at its places, from that of the left side on.
+    /// The places, beginning with that of the left side.
     pub(crate) places: Items<PlaceRow>,
-    /// Where the values of its rules stand, by the rule's number.
+    /// The slots of its rules, by the rule's number.
     pub(crate) rules: Items<RuleSlots>,
 }
 
-/// What a pass asks of each production, by its number.
+/// The layout of each production, by its number, and the hints for reading.
 #[derive(Debug, Drop)]
 pub(crate) struct Layout {
     pub(crate) productions: Items<ProductionRow>,
-    /// Hints for reading, by the production's number.
-    pub(crate) hints: Vec<RowHints>,
+    pub(crate) hints: Hints,
 }
 
-/// What stands at the places of a production, and how many values the row of a node has.
+/// Returns the rows of the places of a production, and the number of values in the row of a node.
+/// Fails with `NoMemory` if memory cannot be allocated.
 fn rows_of_places(
     alloc: Global,
     grammar: &Grammar,
@@ -109,7 +109,7 @@ fn rows_of_places(
     Ok((Items::from_vec(rows), start))
 }
 
-/// Where the value of an argument stands.
+/// Returns the slot of an argument.
 #[tactic(auto, using(crate::proofs::places::Found::item_found, crate::proofs::places::Found::start_found))]
 fn argument_slot(plan: &Plan, k: u16, places: &[PlaceRow], argument: Target) -> u16
     requires small { AreSmall (passes_of plan.now.0) }
@@ -121,7 +121,8 @@ fn argument_slot(plan: &Plan, k: u16, places: &[PlaceRow], argument: Target) -> 
     row.start + rank_of(plan, k, row.item, argument.attr)
 }
 
-/// Where the value of a target goes, where the row of a node has so many values.
+/// Returns the slot of a target. The row of a node has `width` values; the row of a child begins
+/// after them.
 #[tactic(auto, using(crate::proofs::places::Found::item_found))]
 fn target_slot(plan: &Plan, k: u16, width: u16, places: &[PlaceRow], target: Target) -> u16
     requires small { AreSmall (passes_of plan.now.0) }
@@ -136,7 +137,7 @@ fn target_slot(plan: &Plan, k: u16, width: u16, places: &[PlaceRow], target: Tar
     width + rank
 }
 
-/// Where the values of a rule's arguments stand.
+/// Returns the slots of a rule's arguments. Fails with `NoMemory` if memory cannot be allocated.
 fn argument_slots(
     alloc: Global,
     plan: &Plan,
@@ -157,7 +158,7 @@ fn argument_slots(
     Ok(Items::from_vec(slots))
 }
 
-/// The slots of each of some rules.
+/// Returns the slots of each rule. Fails with `NoMemory` if memory cannot be allocated.
 fn slots_of_rules(
     alloc: Global,
     plan: &Plan,
@@ -182,7 +183,7 @@ fn slots_of_rules(
     Ok(Items::from_vec(slots))
 }
 
-/// The list of a pass among those of a production, none where there is none.
+/// Returns the instructions of pass k among those of a production; empty if there are none.
 fn list_of_row(row: &[Vec<Instr>], k: u16) -> &[Instr]
     requires { 1 ≤ k }
     ensures { result.now ≡ slice_index_or (row_of row.now) (k - 1) [] }
@@ -194,7 +195,7 @@ fn list_of_row(row: &[Vec<Instr>], k: u16) -> &[Instr]
     &[]
 }
 
-/// The instructions of a pass for a production, none where it has none.
+/// Returns the instructions of pass k for a production; empty if there are none.
 fn list_of(plan: &Plan, k: u16, production: usize) -> &[Instr]
     requires { 1 ≤ k }
     ensures { (g : Plain) → result.now ≡ list_at (setting_of g plan.now k) production }
@@ -206,7 +207,8 @@ fn list_of(plan: &Plan, k: u16, production: usize) -> &[Instr]
     &[]
 }
 
-/// What a pass asks of a production of this number.
+/// Returns the layout of the production with this number. Fails with `NoMemory` if memory cannot be
+/// allocated.
 fn row_of_production(
     alloc: Global,
     grammar: &Grammar,
@@ -241,10 +243,11 @@ fn row_of_production(
     })
 }
 
-/// What pass k of a plan asks of each production of a grammar.
+/// Returns the layout of each production of a grammar in pass k of a plan.
 ///
-/// NoMemory where a growth was refused. Each place of a production is looked at once, and for each
-/// target and argument of its rules the passes of one symbol's attributes, which are at most 16.
+/// Fails with `NoMemory` if memory cannot be allocated. Visits each place of a production once and,
+/// for each target and argument of its rules, the passes of one symbol's attributes, which are at
+/// most 16.
 pub(crate) fn lay_out(
     alloc: Global,
     grammar: &Grammar,
@@ -261,7 +264,7 @@ pub(crate) fn lay_out(
     for (number, production) in grammar.productions().iter().enumerate() {
         rows.push(row_of_production(alloc, grammar, plan, k, number, production)?)?;
     }
-    let hints = hints_of(alloc, grammar, plan, k, rows.as_slice())?;
+    let hints = Hints::new(alloc, grammar, plan, k, rows.as_slice())?;
     Ok(Layout {
         productions: Items::from_vec(rows),
         hints,

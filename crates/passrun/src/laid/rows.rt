@@ -1,4 +1,4 @@
-//! The rows of stored values at the places of a node.
+//! The rows of values of nodes: which attributes have a value there, and at which index.
 
 ghost use Rattle.std.specs.Prelude.{◌≡◌, ◌≤◌, ℕ, IfOk, Some, length};
 ghost use Rattle.ag_grammar.specs.grammars.Accepted.{most_attributes};
@@ -16,7 +16,7 @@ use ag_value::{Items, NoMemory};
 use planchecker::Plan;
 use std::alloc::Global;
 
-/// The passes of the attributes of a symbol, none where there is no such symbol.
+/// Returns the passes of a symbol's attributes; empty if the symbol does not exist.
 pub(crate) fn passes_at(plan: &Plan, symbol: u16) -> &[u16]
     ensures { result.now ≡ passes_of plan.now.0 symbol }
 {
@@ -28,7 +28,7 @@ pub(crate) fn passes_at(plan: &Plan, symbol: u16) -> &[u16]
     }
 }
 
-/// Those of its synthesized attributes, which come first.
+/// Returns the passes of a symbol's synthesized attributes, which come before its inherited ones.
 pub(crate) fn synthesized_at<'a>(grammar: &Grammar, plan: &'a Plan, symbol: u16) -> &'a [u16]
     ensures { result.now ≡ synthesized_passes grammar.now (passes_of plan.now.0) symbol }
 {
@@ -41,7 +41,8 @@ pub(crate) fn synthesized_at<'a>(grammar: &Grammar, plan: &'a Plan, symbol: u16)
     &passes[..count.min(passes.len())]
 }
 
-/// How many values a row has in pass k of attributes with these passes: those of passes up to k.
+/// Returns the number of values in a row in pass k of attributes with these passes: the number of
+/// passes up to k.
 pub(crate) fn row_length(passes: &[u16], k: u16) -> usize
     ensures length { result ≡ count_up_to k passes.now }
     ensures room { result ≤ length passes.now }
@@ -58,8 +59,8 @@ pub(crate) fn row_length(passes: &[u16], k: u16) -> usize
     }
 }
 
-/// The index in such a row at which the value of an attribute stands: how many of those before it
-/// have one.
+/// Returns the index of an attribute's value in such a row: the number of attributes before it that
+/// have a value there.
 #[tactic(auto, using(crate::proofs::places::Ranks::rank_counted, crate::proofs::places::Ranks::rank_passed))]
 fn rank(passes: &[u16], k: u16, attr: u16) -> u16
     requires few { length passes.now ≤ most_attributes }
@@ -81,8 +82,8 @@ fn rank(passes: &[u16], k: u16, attr: u16) -> u16
     }
 }
 
-/// The passes of the values at an item that a node's row has copies of: of a symbol's synthesized
-/// attributes, and of a token's text; none of a literal.
+/// Returns the passes of the values at an item that the parent's row has copies of: of a symbol's
+/// synthesized attributes, and of a token's text. A literal has no copies.
 pub(crate) fn copied_passes<'a>(grammar: &Grammar, plan: &'a Plan, item: Item) -> &'a [u16]
     ensures { (k : ℕ) → result.now ≡ copied_passes (setting_of grammar.now plan.now k) item }
 {
@@ -93,8 +94,9 @@ pub(crate) fn copied_passes<'a>(grammar: &Grammar, plan: &'a Plan, item: Item) -
     }
 }
 
-/// The passes of the values in the row of a production's node, later ones among them: of its own
-/// attributes, and of those at its items of which the row has copies.
+/// Returns the passes of the values in the row of a production's node, including values of later
+/// passes: first those of its own attributes, then those of the copies at its items. Fails with
+/// `NoMemory` if memory cannot be allocated.
 pub(crate) fn row_passes(
     alloc: Global,
     grammar: &Grammar,
@@ -111,7 +113,7 @@ pub(crate) fn row_passes(
     Ok(Items::from_vec(passes))
 }
 
-/// How many copies a node's row has in pass k of the values at an item.
+/// Returns the number of copies that the parent's row has in pass k of the values at an item.
 pub(crate) fn copied_width(grammar: &Grammar, plan: &Plan, k: u16, item: Item) -> usize
     ensures width { result ≡ copied_width (setting_of grammar.now plan.now k) item }
     ensures room { AreSmall (passes_of plan.now.0) → result ≤ most_attributes }
@@ -119,7 +121,7 @@ pub(crate) fn copied_width(grammar: &Grammar, plan: &Plan, k: u16, item: Item) -
     row_length(copied_passes(grammar, plan, item), k)
 }
 
-/// How many of these an earlier pass gave.
+/// Returns the number of these copies that an earlier pass computed.
 pub(crate) fn known_width(grammar: &Grammar, plan: &Plan, k: u16, item: Item) -> usize
     requires { 1 ≤ k }
     ensures width { result ≡ known_width (setting_of grammar.now plan.now k) item }
@@ -128,7 +130,7 @@ pub(crate) fn known_width(grammar: &Grammar, plan: &Plan, k: u16, item: Item) ->
     row_length(copied_passes(grammar, plan, item), k - 1)
 }
 
-/// The index in the row of an item at which the value of an attribute stands.
+/// Returns the index of an attribute's value in the row of an item.
 pub(crate) fn rank_of(plan: &Plan, k: u16, item: Item, attr: u16) -> u16
     requires small { AreSmall (passes_of plan.now.0) }
     ensures rank { result ≡ rank k (item_passes (passes_of plan.now.0) (Some item)) attr }

@@ -16,8 +16,8 @@ use ag_eval::Scalar;
 use ag_grammar::Item;
 use std::mem::{replace, swap};
 
-/// Whether two rows begin with the same values of passes before k, where both have those of
-/// attributes with these passes up to k in front.
+/// Returns whether two rows begin with the same values of passes before k. Each row begins with the
+/// values, up to pass k, of attributes with these passes.
 #[tactic(auto)]
 pub(crate) fn agree(passes: &[u16], k: u16, ours: &[Carried], theirs: &[Carried]) -> bool
     requires { 1 ≤ k }
@@ -43,8 +43,8 @@ pub(crate) fn agree(passes: &[u16], k: u16, ours: &[Carried], theirs: &[Carried]
     }
 }
 
-/// Whether the row that begins at an index has, of the values at an item, those that its copies have
-/// which begin at another, as far as earlier passes gave them.
+/// Returns whether the row that begins at index `start` has the same values as the copies that
+/// begin at index `copied`, as far as earlier passes computed them.
 #[inline(always)]
 pub(crate) fn is_as_told(
     job: &Job<'_>,
@@ -67,7 +67,7 @@ pub(crate) fn is_as_told(
     agree(passes, job.pass, &values[copied..], &values[start..])
 }
 
-/// The values from an index on.
+/// Returns the values from an index on.
 #[inline(always)]
 pub(crate) fn behind(values: &[Carried], start: usize) -> &[Carried]
     requires { start ≤ length values.now }
@@ -76,7 +76,7 @@ pub(crate) fn behind(values: &[Carried], start: usize) -> &[Carried]
     &values[start..]
 }
 
-/// The value at an index, alone.
+/// Returns the value at an index as a slice of length 1.
 #[inline(always)]
 pub(crate) fn alone(values: &[Carried], index: usize) -> &[Carried]
     requires { index + 1 ≤ length values.now }
@@ -85,7 +85,8 @@ pub(crate) fn alone(values: &[Carried], index: usize) -> &[Carried]
     &values[index..index + 1]
 }
 
-/// Cuts off what was read of a token, whose text stands among the copies: the row of a node stays.
+/// Truncates the values to `start` if a token was read, since its text is among the copies. Keeps
+/// the row of a node.
 #[inline(always)]
 pub(crate) fn keep_row(item: Item, values: &mut Vec<Carried>, start: usize)
     ensures { values.new.items ≡ kept_values item (take start values.old.items) values.old.items }
@@ -95,7 +96,7 @@ pub(crate) fn keep_row(item: Item, values: &mut Vec<Carried>, start: usize)
     }
 }
 
-/// Puts a number in the place of a value, and of a number in one step.
+/// Replaces a value by a number.
 #[inline(always)]
 fn put_number(place: &mut Carried, number: i64)
     ensures { place.new ≡ Num number }
@@ -103,7 +104,7 @@ fn put_number(place: &mut Carried, number: i64)
     place.set_number(number);
 }
 
-/// Puts a value at an index.
+/// Replaces the value at an index.
 #[inline(always)]
 pub(crate) fn put_value(values: &mut Vec<Carried>, index: usize, value: Carried)
     requires { index < length values.old.items }
@@ -116,7 +117,7 @@ pub(crate) fn put_value(values: &mut Vec<Carried>, index: usize, value: Carried)
     old.release();
 }
 
-/// Puts a number or an error at an index.
+/// Replaces the value at an index by a number or an error.
 #[inline(always)]
 pub(crate) fn put_scalar(values: &mut Vec<Carried>, index: usize, scalar: Scalar)
     requires { index < length values.old.items }
@@ -128,7 +129,7 @@ pub(crate) fn put_scalar(values: &mut Vec<Carried>, index: usize, scalar: Scalar
     }
 }
 
-/// Puts values in the place of as many others, a single one in one step.
+/// Moves values into the place of as many others. What remains in `theirs` is unspecified.
 #[inline(always)]
 fn take_over(ours: &mut [Carried], theirs: &mut [Carried])
     requires { length ours.old ≡ length theirs.old }
@@ -146,7 +147,7 @@ fn take_over(ours: &mut [Carried], theirs: &mut [Carried])
     ours.swap_with_slice(theirs);
 }
 
-/// Cuts off the last value, a number in one step.
+/// Removes the last value, if there is one.
 #[inline(always)]
 fn cut_last(values: &mut Vec<Carried>)
     ensures { values.new.items ≡ take (length values.old.items - 1) values.old.items }
@@ -157,7 +158,7 @@ fn cut_last(values: &mut Vec<Carried>)
     last.release();
 }
 
-/// Cuts off the values from an index on, each number in one step.
+/// Removes the values from an index on.
 #[inline(always)]
 fn cut(values: &mut Vec<Carried>, from: usize)
     ensures { values.new.items ≡ take from values.old.items }
@@ -167,8 +168,8 @@ fn cut(values: &mut Vec<Carried>, from: usize)
     }
 }
 
-/// Puts the first values of the last row, which begins at an index, in the place of others, and cuts
-/// the row off.
+/// Moves the first `count` values of the last row, which begins at index `from`, to index `to`, and
+/// removes that row.
 #[inline(always)]
 pub(crate) fn hand_over(values: &mut Vec<Carried>, from: usize, to: usize, count: usize)
     requires front { to + count ≤ from }

@@ -15,6 +15,7 @@ ghost use Rattle.treefile.specs.devices.Device.{LeavesContent, WhenHonest};
 ghost use Rattle.treefile.specs.devices.Several.{BothLast};
 ghost use Rattle.treefile.specs.records.TreeFile.{header, version_two};
 
+use crate::laid::hints::Site;
 use crate::laid::job::Job;
 use crate::passing::machine::Machine;
 use crate::passing::open_node::OpenNode;
@@ -27,21 +28,22 @@ use backreader::Back;
 use std::alloc::Global;
 use treefile::{Device, Kind, Writer};
 
-/// The offset in bytes of the number of the pass in a header.
+/// The offset of the pass number in a header, in bytes.
 const PASS_OFFSET: u64 = 4;
 
-/// What a pass has done.
+/// The counts of one pass, or of several passes over one tree.
 #[derive(Clone, Copy, Debug, PartialEq, Eq)]
 pub struct Passed {
-    /// How many stored nodes the tree has, from 1 to `MOST_NODES`.
+    /// The number of stored nodes of the tree, from 1 to `MOST_NODES`; 0 if no pass ran.
     pub nodes: u32,
-    /// How many records were read: one for each stored node.
+    /// The number of records read: one for each stored node in each pass.
     pub read: u64,
-    /// How many records were written: one for each stored node.
+    /// The number of records written: one for each stored node in each pass.
     pub written: u64,
 }
 
-/// Begins a pass: reads the root's record, and writes the header.
+/// Begins a pass: writes the header, and reads the root's record. Fails with R1 and offset 4 if the
+/// file is that of another pass.
 pub(crate) fn begin<D: Device, E: Device>(
     alloc: Global,
     job: &Job<'_>,
@@ -56,7 +58,7 @@ pub(crate) fn begin<D: Device, E: Device>(
         (E.is_honest to.new) (E.content to.new) meter.now m (Some (first_at m.root 0))) }
     ensures header { OnOk result (WhenHonest (E.is_honest to.new)
         (E.content to.new ≡ header version_two (setting job.now).write)) }
-    // what the second device had, or a beginning of the file
+    // the content of the second device is unchanged, or a prefix of the file
     ensures left { OnErr result (WhenHonest (E.is_honest to.new)
         (LeavesBeginning (setting job.now).write (E.content to.old) (E.content to.new))) }
     ensures refused { IfErr result (λ f. WhenHonest (D.is_honest from.new)
@@ -64,7 +66,7 @@ pub(crate) fn begin<D: Device, E: Device>(
     ensures begun { IfOk result (λ m. m.begun ≡ meter.now) }
     ensures content { LeavesContent (D.is_honest from.new)
         (D.content from.old) (D.content from.new) }
-    // D1 only where the number of failures rose on one of the two
+    // D1 only if the number of failures rose on one of the two
     ensures devices { BothLast D.is_honest D.failures from.old from.new
         E.is_honest E.failures to.old to.new (IsErrOf result RunFault.Device) }
 {
@@ -75,7 +77,16 @@ pub(crate) fn begin<D: Device, E: Device>(
     let writer = Writer::begin(alloc, to, job.pass)?;
     let mut values = Vec::new(alloc);
     let start = Item::Symbol(job.grammar.start());
-    let root = fetch(alloc, job, start, None, 0, &mut back, &mut values, from)?;
+    let root = fetch(
+        alloc,
+        job,
+        start,
+        Site::default(),
+        0,
+        &mut back,
+        &mut values,
+        from,
+    )?;
     Ok(Machine {
         back,
         writer,
@@ -86,7 +97,8 @@ pub(crate) fn begin<D: Device, E: Device>(
     })
 }
 
-/// Ends a pass whose root is done: puts the root's record, and nothing may be left to read.
+/// Ends a pass whose root is done: writes the root's record. Fails with R1 and the offset of the
+/// next frame's end if any frame is left to read.
 pub(crate) fn finish<D: Device, E: Device>(
     job: &Job<'_>,
     machine: &mut Machine,
@@ -108,11 +120,11 @@ pub(crate) fn finish<D: Device, E: Device>(
     ensures refused { IfErr result (λ f. WhenHonest (D.is_honest from.new)
         (IsRunFault (setting job.now) (D.content from.old) f)) }
     ensures counts { IfOk result (λ p. (p.read ≡ p.nodes) × (p.written ≡ p.nodes)) }
-    // whatever the devices give back
+    // for any devices, honest or not
     ensures few { IfOk result (λ p. p.nodes ≤ most_nodes) }
     ensures content { LeavesContent (D.is_honest from.new)
         (D.content from.old) (D.content from.new) }
-    // D1 only where the number of failures rose on one of the two
+    // D1 only if the number of failures rose on one of the two
     ensures devices { BothLast D.is_honest D.failures from.old from.new
         E.is_honest E.failures to.old to.new (IsErrOf result RunFault.Device) }
 {

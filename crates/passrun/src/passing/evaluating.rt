@@ -1,4 +1,4 @@
-//! The value of a rule at a node.
+//! Evaluates the rules at a node.
 
 ghost use Rattle.std.specs.Prelude.{◌≡◌, ◌+◌, ◌-◌, ◌^◌, ◌<◌, All, IfOk, IfSome, None, OnOk, drop};
 ghost use Rattle.std.specs.Prelude.{get_or, length, pos, set, slice_index};
@@ -15,7 +15,7 @@ use ag_grammar::{Expr, Rule};
 use ag_value::NoMemory;
 use std::alloc::Global;
 
-/// Lends the values of a rule's arguments: those in these slots of a node's values.
+/// The values of a rule's arguments: those in these slots of a node's values.
 #[derive(Drop)]
 struct Lender<'a> {
     values: &'a [Carried],
@@ -38,8 +38,8 @@ impl<'a> CarriedEnvironment for Lender<'a> {
     }
 }
 
-/// Computes the value of a rule, whose arguments are in its slots of the row that begins at an index, and
-/// puts it into the slot of its target.
+/// Computes the value of a rule and puts it into the slot of its target. The slots count from the
+/// row that begins at index `base`. Fails with `NoMemory` if memory cannot be allocated.
 #[inline(always)]
 pub(crate) fn put_rule_value(
     alloc: Global,
@@ -75,8 +75,8 @@ pub(crate) fn put_rule_value(
     Ok(())
 }
 
-/// Computes the value of an expression that `eval_scalar` computes, where that of each occurrence is in
-/// its slot among the values.
+/// Computes the value of an expression that `eval_scalar` can compute. The value of each occurrence
+/// is in its slot among the values.
 #[tactic(auto, using(crate::proofs::steps::Lending::are_well))]
 #[inline(always)]
 fn evaluate_scalar(
@@ -103,7 +103,8 @@ fn evaluate_scalar(
     eval_scalar(alloc, expr, &env, meter)
 }
 
-/// The value of an expression, where that of each occurrence stands in its slot among these.
+/// Computes the value of an expression. The value of each occurrence is in its slot among the
+/// values. Fails with `NoMemory` if memory cannot be allocated.
 #[tactic(auto, using(crate::proofs::steps::Lending::are_well))]
 #[inline(always)]
 fn evaluate_over(

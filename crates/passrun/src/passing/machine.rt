@@ -34,9 +34,9 @@ use passcode::Instr;
 use std::alloc::Global;
 use treefile::{Device, Kind, Writer};
 
-/// A pass in the middle of its run: how far it has read and written, the values of all open nodes,
-/// those that wait for the innermost one, the number in the root's record, and where the meter
-/// stood when it began.
+/// The state of a running pass: the reader, the writer, the values of all open nodes, the open
+/// nodes that wait for the innermost one, the number in the root's record, and the meter's count
+/// when the pass began.
 #[derive(Drop)]
 pub(crate) struct Machine {
     pub(crate) back: Back,
@@ -47,8 +47,9 @@ pub(crate) struct Machine {
     pub(crate) begun: u64,
 }
 
-/// Goes into the child whose record was read last, which stands at a place: its node is the innermost
-/// one now, and the other waits.
+/// Enters the child at a place, whose record was read last. Returns the child's node, which is the
+/// innermost one now, and pushes the other one on `waiting`. Fails with `NoMemory` if memory cannot
+/// be allocated.
 pub(crate) fn go(
     job: &Job<'_>,
     node: OpenNode,
@@ -75,7 +76,8 @@ pub(crate) fn go(
 }
 
 impl Machine {
-    /// Fetches the record of the child at a place.
+    /// Reads the record of the child at a place. Fails as `fetch` does, and with R1 and the end of
+    /// the record if its values differ from their copies in the node's row.
     #[inline(always)]
     pub(crate) fn get<D: Device>(
         &mut self,
@@ -117,13 +119,12 @@ impl Machine {
         let site = Site {
             production: node.production,
             place,
-            base: node.base,
         };
         let number = fetch(
             alloc,
             job,
             row.item,
-            Some(site),
+            site,
             open_count,
             &mut self.back,
             &mut self.values,
@@ -137,8 +138,9 @@ impl Machine {
         Ok(node.stepped(number))
     }
 
-    /// Puts the record of the token at a place, whose text stands among the copies. That of a node was
-    /// put when the pass left it.
+    /// Writes the record of the token at a place, whose text is among the copies. The record of a
+    /// node was written when the pass ended it. Fails with D1 if the device fails, and with
+    /// `NoMemory` if memory cannot be allocated.
     #[inline(always)]
     pub(crate) fn put<E: Device>(
         &mut self,
@@ -181,7 +183,8 @@ impl Machine {
         Ok(node.stepped(node.child))
     }
 
-    /// Runs a rule, and leaves its value where its target stands.
+    /// Runs a rule and puts its value into the slot of its target. Fails with `NoMemory` if memory
+    /// cannot be allocated.
     #[inline(always)]
     pub(crate) fn give(
         &mut self,
@@ -213,7 +216,8 @@ impl Machine {
         Ok(node.stepped(node.child))
     }
 
-    /// Goes into the child whose record was read last.
+    /// Enters the child whose record was read last. Fails with `NoMemory` if memory cannot be
+    /// allocated.
     #[inline(always)]
     pub(crate) fn enter(
         &mut self,
@@ -239,7 +243,8 @@ impl Machine {
         Ok(child)
     }
 
-    /// Goes into the child whose record was read last, where that is next.
+    /// Enters the child whose record was read last, if the next instruction does so, and otherwise
+    /// returns the node. Fails with `NoMemory` if memory cannot be allocated.
     #[inline(always)]
     pub(crate) fn go_on(
         &mut self,
@@ -264,8 +269,10 @@ impl Machine {
         Ok(child)
     }
 
-    /// Ends a node: the one that waited for it goes on, if there is one. Then the node's record is put,
-    /// and the values of its synthesized attributes stand among the copies of the other.
+    /// Ends a node. If another one waits for it, writes the node's record, moves the values of its
+    /// synthesized attributes to their copies in the row of the other, and returns the other.
+    /// Returns `None` if the node is the root, whose record `finish` writes. Fails with D1 if the
+    /// device fails, and with `NoMemory` if memory cannot be allocated.
     #[inline(always)]
     pub(crate) fn end<E: Device>(
         &mut self,
@@ -306,7 +313,8 @@ impl Machine {
         Ok(Some(outer))
     }
 
-    /// The node behind its next instruction where that puts a child's record that was put already.
+    /// Returns the node after its next instruction if that puts the record of a child node, which
+    /// was written already, and otherwise the node itself.
     #[inline(always)]
     pub(crate) fn put_before(&self, job: &Job<'_>, node: OpenNode) -> OpenNode
         requires job { CanRun job.now }
@@ -328,8 +336,8 @@ impl Machine {
         node.stepped(node.child)
     }
 
-    /// Ends a node where that is next, and goes behind the putting of its record. The node that goes on
-    /// next, none where the root is done.
+    /// Ends a node if its next instruction does so, and passes over the instruction that puts its
+    /// record. Returns the node that continues, or `None` if the root is done.
     #[inline(always)]
     pub(crate) fn leave<E: Device>(
         &mut self,
@@ -370,9 +378,10 @@ impl Machine {
         Ok(Some(self.put_before(job, outer)))
     }
 
-    /// Follows the next instruction of the innermost open node, and with it the one behind it where
-    /// that enters the child that was read, or ends the node. The node that goes on next, none where
-    /// the root is done.
+    /// Executes the next instruction of the innermost open node: a `Get` with a `Go` that follows
+    /// it, a `Def` with an `End` that follows it, and an `End` with the `Put` of the node's record
+    /// that follows in the node that waits. Returns the node that continues, or `None` if the root
+    /// is done.
     #[inline(always)]
     pub(crate) fn step<D: Device, E: Device>(
         &mut self,
@@ -401,7 +410,7 @@ impl Machine {
         ensures rises { meter.old ≤ meter.new }
         ensures content { LeavesContent (D.is_honest from.new)
             (D.content from.old) (D.content from.new) }
-        // D1 only where the number of failures rose on one of the two
+        // D1 only if the number of failures rose on one of the two
         ensures devices { BothLast D.is_honest D.failures from.old from.new
             E.is_honest E.failures to.old to.new (IsErrOf result RunFault.Device) }
     {

@@ -1,33 +1,32 @@
-//! A node in which a pass runs.
+//! A node whose instructions a pass is executing.
 
 ghost use Rattle.std.specs.Prelude.{◌≡◌, ◌+◌, ◌<◌, ◌^◌};
 ghost use Rattle.passrun.specs.passing.Nodes.{first_at, left_at, stepped};
 
-/// An open node: one whose record was read, and whose list of instructions is not yet followed to
-/// its end.
+/// An open node: one whose record was read, and whose list of instructions is not finished.
 #[derive(Clone, Copy, Debug, PartialEq, Eq)]
 pub(crate) struct OpenNode {
     /// The number of its production.
     pub(crate) production: u16,
-    /// The number in the record of the child that was read last, 0 where none was.
+    /// The number in the record of the child that was read last; 0 if none was read.
     pub(crate) child: u16,
-    /// The place of the child in which the pass is, or was last; 0 where it was in none.
+    /// The place of the child that the pass entered last; 0 if it has entered none.
     pub(crate) place: u16,
-    /// The index in its list of instructions of the next one.
+    /// The index of the next instruction in the node's list.
     pub(crate) at: usize,
-    /// Where its own row begins among the values of all open nodes.
+    /// The index of its own row among the values of all open nodes.
     pub(crate) base: usize,
 }
 
 impl OpenNode {
-    /// A node of a production whose record was read, and that nothing was done in yet.
+    /// Returns the node of a production whose record was just read, with its row at index 0.
     pub(crate) fn first(production: u16) -> OpenNode
         ensures { result ≡ first_at production 0 }
     {
         OpenNode::begun(production, 0)
     }
 
-    /// The same, where its row begins at an index.
+    /// Returns the node of a production whose record was just read, with its row at an index.
     pub(crate) fn begun(production: u16, base: usize) -> OpenNode
         ensures { result ≡ first_at production base }
     {
@@ -40,8 +39,8 @@ impl OpenNode {
         }
     }
 
-    /// The node behind its next instruction, where the record of the child that was read last has
-    /// this number.
+    /// Returns the node after its next instruction. `child` is the number in the record of the
+    /// child that was read last.
     pub(crate) fn stepped(self, child: u16) -> OpenNode
         requires { self.at + 1 < 2 ^ 64 }
         ensures { result ≡ stepped self child }
@@ -55,7 +54,7 @@ impl OpenNode {
         }
     }
 
-    /// The node behind its next instruction, which leads into the child at a place.
+    /// Returns the node after its next instruction, which enters the child at a place.
     pub(crate) fn left_at(self, place: u16) -> OpenNode
         requires { self.at + 1 < 2 ^ 64 }
         ensures { result ≡ left_at self place }

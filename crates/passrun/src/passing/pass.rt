@@ -28,7 +28,8 @@ use planchecker::Plan;
 use std::alloc::Global;
 use treefile::Device;
 
-/// Does a job: reads the file of the pass before from its end, and writes that of the pass.
+/// Runs the pass of a job: reads the file of the previous pass backward, and writes the file of the
+/// pass.
 pub(crate) fn run_job<D: Device, E: Device>(
     alloc: Global,
     job: &Job<'_>,
@@ -41,24 +42,24 @@ pub(crate) fn run_job<D: Device, E: Device>(
     ensures passed { WhenHonest (D.is_honest from.new) (WhenHonest (E.is_honest to.new)
         (IfOk result (λ p. IsPassed (setting job.now) (D.content from.old) (E.content to.new)
         p.nodes (meter.new - meter.old)))) }
-    // R1, P2 and P3 only where they are true of the file
+    // R1, P2 and P3 only if they are true of the file
     ensures refused { IfErr result (λ f. WhenHonest (D.is_honest from.new)
         (IsRunFault (setting job.now) (D.content from.old) f)) }
-    // what the second device had, or a beginning of the file
+    // the content of the second device is unchanged, or a prefix of the file
     ensures left { OnErr result (WhenHonest (E.is_honest to.new)
         (LeavesBeginning (setting job.now).write (E.content to.old) (E.content to.new))) }
-    // whatever the first device gives back
+    // for any first device, honest or not
     ensures begins { OnOk result (WhenHonest (E.is_honest to.new)
         (BeginsFile (setting job.now).write (E.content to.new))) }
     ensures counts { IfOk result (λ p. (p.read ≡ p.nodes) × (p.written ≡ p.nodes)) }
-    // whatever the devices give back
+    // for any devices, honest or not
     ensures few { IfOk result (λ p. p.nodes ≤ most_nodes) }
-    // whatever the devices give back
+    // for any devices, honest or not
     ensures rises { meter.old ≤ meter.new }
     ensures meter { OnOk result (meter.new ≤ meter.old + 2 ^ 36) }
     ensures content { LeavesContent (D.is_honest from.new)
         (D.content from.old) (D.content from.new) }
-    // D1 only where the number of failures rose on one of the two
+    // D1 only if the number of failures rose on one of the two
     ensures devices { BothLast D.is_honest D.failures from.old from.new
         E.is_honest E.failures to.old to.new (IsErrOf result RunFault.Device) }
 {
@@ -68,22 +69,24 @@ pub(crate) fn run_job<D: Device, E: Device>(
     finish(job, &mut machine, from, to)
 }
 
-/// Runs a pass of a plan for a grammar, of a number from 1 to the greatest pass of the plan: reads
-/// the file of the pass before from its end, and writes that of the pass in place of what another
-/// device has. Each rule of the pass is evaluated once at each node of its production, and the meter
-/// counts these evaluations; it asks for a meter of at most 2^63.
+/// Runs a pass of a plan for a grammar. `pass` is a number from 1 to the greatest pass of the plan.
+/// Reads the file of the previous pass backward, and replaces the content of the second device by
+/// the file of the pass. Evaluates each rule of the pass once at each node of its production. The
+/// meter counts these evaluations, and may be at most 2^63 before the call.
 ///
-/// R1 Damaged where the first file is one that the pass before leaves of no tree of the grammar,
-/// with the offset of what tells it: 0 where it begins as no tree file, 4 where it is that of
-/// another pass, else the end of the frame that tells it, or the place at which one should end. P2
-/// TooDeep where it is that of no tree of at most `MOST_DEPTH` levels, P3 TooManyNodes where it is that
-/// of none of at most `MOST_NODES` stored nodes: P2 before a record one level deeper is read, P3 before
-/// one more. D1 Device where a call of one of the devices failed. NoMemory where a growth was refused.
+/// Fails with R1 (`Damaged`) if the first file is not one that the previous pass writes for a tree
+/// of the grammar. The offset is 0 if the file does not begin as a tree file, and 4 if it is that
+/// of another pass. Otherwise it is the end of the frame that shows the damage, or the offset at
+/// which a frame should end. Fails with P2 (`TooDeep`) if the file encodes no tree of at most
+/// `MOST_DEPTH` levels, before a record one level deeper is read. Fails with P3 (`TooManyNodes`) if
+/// it encodes no tree of at most `MOST_NODES` stored nodes, before one record more is read. Fails
+/// with D1 (`Device`) if a call of one of the devices failed, and with `NoMemory` if memory cannot
+/// be allocated.
 ///
-/// The first device is only read. After a refusal the second has what it had, or a beginning of a
-/// tree file. Takes memory for the slots of the grammar's rules, a buffer of 4,096 bytes or of the
-/// largest frame, the values of the open nodes and of their children that were read, and one frame
-/// at a time.
+/// Only reads the first device. After a failure the second device has its old content, or a prefix
+/// of a tree file. Allocates memory for the slots of the grammar's rules, for a buffer of 4,096
+/// bytes or of the largest frame, for the values of the open nodes and of their children that were
+/// read, and for one frame at a time.
 pub fn run_pass<D: Device, E: Device>(
     alloc: Global,
     grammar: &Grammar,
@@ -100,30 +103,30 @@ pub fn run_pass<D: Device, E: Device>(
     ensures passed { WhenHonest (D.is_honest from.new) (WhenHonest (E.is_honest to.new)
         (IfOk result (λ p. IsPassed (setting_of grammar.now plan.now pass) (D.content from.old)
         (E.content to.new) p.nodes (meter.new - meter.old)))) }
-    // of whichever tree and values the file is: there is only one tree
+    // for every tree and values that the file encodes: there is only one tree
     ensures told { WhenHonest (D.is_honest from.new) (WhenHonest (E.is_honest to.new)
         (IfOk result (λ p. RunsPass version_two grammar.now (passes_of plan.now.0) (pass - 1)
         (D.content from.old) (E.content to.new)
         × CountsPass grammar.now (passes_of plan.now.0) (pass - 1) (D.content from.old)
         p.nodes (meter.new - meter.old)))) }
-    // R1, P2 and P3 only where they are true of the file
+    // R1, P2 and P3 only if they are true of the file
     ensures refused { IfErr result (λ f. WhenHonest (D.is_honest from.new)
         (IsRunFault (setting_of grammar.now plan.now pass) (D.content from.old) f)) }
-    // what the second device had, or a beginning of the file
+    // the content of the second device is unchanged, or a prefix of the file
     ensures left { OnErr result (WhenHonest (E.is_honest to.new)
         (LeavesBeginning pass (E.content to.old) (E.content to.new))) }
-    // whatever the first device gives back
+    // for any first device, honest or not
     ensures begins { OnOk result (WhenHonest (E.is_honest to.new)
         (BeginsFile pass (E.content to.new))) }
     ensures counts { IfOk result (λ p. (p.read ≡ p.nodes) × (p.written ≡ p.nodes)) }
-    // whatever the devices give back
+    // for any devices, honest or not
     ensures few { IfOk result (λ p. p.nodes ≤ most_nodes) }
-    // whatever the devices give back
+    // for any devices, honest or not
     ensures rises { meter.old ≤ meter.new }
     ensures meter { OnOk result (meter.new ≤ meter.old + 2 ^ 36) }
     ensures content { LeavesContent (D.is_honest from.new)
         (D.content from.old) (D.content from.new) }
-    // D1 only where the number of failures rose on one of the two
+    // D1 only if the number of failures rose on one of the two
     ensures devices { BothLast D.is_honest D.failures from.old from.new
         E.is_honest E.failures to.old to.new (IsErrOf result RunFault.Device) }
 {
@@ -131,7 +134,8 @@ pub fn run_pass<D: Device, E: Device>(
     let job = Job {
         grammar,
         plan,
-        layout: &layout,
+        rows: layout.productions.as_slice(),
+        hints: &layout.hints,
         pass,
     };
     run_job(alloc, &job, from, to, meter)

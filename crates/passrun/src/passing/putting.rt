@@ -1,4 +1,4 @@
-//! Putting records.
+//! Writes records.
 
 ghost use Rattle.std.specs.Prelude.{◌≡◌, ◌<◌, ◌≤◌, ◌-◌, ◌^◌, All, false, length, IfErr, IsErrOf};
 ghost use Rattle.std.specs.Prelude.{OnOk};
@@ -12,7 +12,8 @@ use crate::run_fault::RunFault;
 use ag_carried::Carried;
 use treefile::{Device, Kind, Writer};
 
-/// Puts a record with these values.
+/// Writes a record with these values. Fails with D1 if the device fails, and with `NoMemory` if
+/// memory cannot be allocated.
 #[inline(always)]
 pub(crate) fn put_record<E: Device>(
     kind: Kind,

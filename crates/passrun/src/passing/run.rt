@@ -1,4 +1,4 @@
-//! One pass over a tree file, with a stack of its own.
+//! The loop of a pass over a tree file, with an explicit stack.
 
 ghost use Rattle.std.specs.Prelude.{◌≡◌, ◌≤◌, None, Some, IfErr, IsErrOf, OnOk};
 ghost use Rattle.passrun.specs.passing.Ahead.{IsRunFault};
@@ -16,7 +16,7 @@ use ag_eval::Meter;
 use std::alloc::Global;
 use treefile::Device;
 
-/// Runs a pass from its root's node until that is done.
+/// Runs a pass from the node of its root until the root is done.
 pub(crate) fn run<D: Device, E: Device>(
     alloc: Global,
     job: &Job<'_>,
@@ -41,7 +41,7 @@ pub(crate) fn run<D: Device, E: Device>(
     ensures rises { meter.old ≤ meter.new }
     ensures content { LeavesContent (D.is_honest from.new)
         (D.content from.old) (D.content from.new) }
-    // D1 only where the number of failures rose on one of the two
+    // D1 only if the number of failures rose on one of the two
     ensures devices { BothLast D.is_honest D.failures from.old from.new
         E.is_honest E.failures to.old to.new (IsErrOf result RunFault.Device) }
 {

@@ -1,4 +1,4 @@
-//! Fetching the record of an item: the next body of the file that a pass reads from its end.
+//! Reads the record of an item: the next body of the file, which a pass reads backward.
 
 ghost use Rattle.std.specs.Prelude.{◌≡◌, ◌≤◌, None, IfErr, IfOk, IsErrOf};
 ghost use Rattle.backreader.specs.BackState.{IsOver};
@@ -9,6 +9,7 @@ ghost use Rattle.treefile.specs.records.TreeFile.{version_two};
 
 use crate::laid::hints::Site;
 use crate::laid::job::Job;
+use crate::reading::lent::read_lent;
 use crate::reading::record::{RecordFault, read_record};
 use crate::run_fault::RunFault;
 use ag_carried::Carried;
@@ -18,14 +19,19 @@ use backreader::Back;
 use std::alloc::Global;
 use treefile::Device;
 
-/// Fetches the record of an item that stands below so many open nodes: its row comes behind the
-/// values. The number in the record.
+/// Reads the record of an item below `open_count` open nodes, and appends its row to the values.
+/// Returns the number in the record: that of the production, or that of the token's class.
+///
+/// Fails with P2 if the record would be deeper than `MOST_DEPTH` levels, and with P3 if
+/// `MOST_NODES` records were read already. Fails with R1 and the offset at which the record should
+/// end if no frame ends there or its body is not a record of the item. Fails with D1 if the device
+/// fails, and with `NoMemory` if memory cannot be allocated.
 #[inline(always)]
 pub(crate) fn fetch<D: Device>(
     alloc: Global,
     job: &Job<'_>,
     item: Item,
-    site: Option<Site>,
+    site: Site,
     open_count: usize,
     back: &mut Back,
     values: &mut Vec<Carried>,
@@ -52,6 +58,13 @@ pub(crate) fn fetch<D: Device>(
         return Err(RunFault::TooManyNodes);
     }
     let end = back.end();
+    if let Some(body) = back.lend_back(from) {
+        return match read_lent(alloc, job, item, site, body, values) {
+            Ok(number) => Ok(number),
+            Err(RecordFault::Damaged) => Err(RunFault::Damaged(end)),
+            Err(RecordFault::NoMemory) => Err(RunFault::NoMemory),
+        };
+    }
     let Some(body) = back.back(from)? else {
         return Err(RunFault::Damaged(end));
     };

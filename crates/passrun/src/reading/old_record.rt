@@ -1,4 +1,4 @@
-//! Records of version 1 and pass 0: a node has its production alone, and a token its text.
+//! Records of version 1 and pass 0: a node has only its production, and a token its text.
 
 ghost use Rattle.std.specs.Prelude.{◌≡◌, IfOk, IsErrOf};
 ghost use Rattle.passrun.specs.Upgrading.{IsOf, body_in};
@@ -18,10 +18,10 @@ pub(crate) enum OldRecord {
     Token(u16, Value),
 }
 
-/// The record of an item that a body is.
+/// Returns the record of an item that a body encodes.
 ///
-/// Damaged where it is none: of a production of the symbol with nothing behind it, or of a token of
-/// the class.
+/// Fails with `Damaged` if the body is not that of a production of the symbol with nothing after
+/// it, or of a token of the class, and with `NoMemory` if memory cannot be allocated.
 pub(crate) fn old_record(
     alloc: Global,
     grammar: &Grammar,

@@ -1,7 +1,7 @@
-//! Reading the body of a record: the values of a node, or the text of a token.
+//! Reads the body of a record: the values of a node, or the text of a token.
 
-ghost use Rattle.std.specs.Prelude.{◌≡◌, ◌<◌, ◌≤◌, ◌-◌, ◌++◌, [], IfOk, IfSome, IsErrOf, None, OnOk, length};
-ghost use Rattle.std.specs.Prelude.{List, MatchResult, ◌+◌, take, vec_capacity, vec_len, ℕ};
+ghost use Rattle.std.specs.Prelude.{◌≡◌, ◌<◌, ◌≤◌, ◌-◌, ◌++◌, [], IfOk, IfSome, IsErrOf, None, OnOk};
+ghost use Rattle.std.specs.Prelude.{List, MatchResult, ◌+◌, length, take, vec_capacity, vec_len, ℕ};
 ghost use Rattle.ag_value.specs.Spelling.{spelling_of};
 ghost use Rattle.ag_value.specs.Well.{IsWell};
 ghost use Rattle.ag_value.specs.declared.value.Value.{Value as AttributeValue, Num};
@@ -12,9 +12,9 @@ ghost use Rattle.passrun.specs.reading.Reading.{IsTextOf, IsTokenRead, IsNoToken
 ghost use Rattle.passrun.specs.Faults.{record_fault_of};
 ghost use Rattle.planchecker.specs.courses.Settings.{setting_of};
 
-use crate::laid::hints::{RowContext, Site};
+use crate::laid::hints::{Hints, RowContext, RowSite, Site};
 use crate::laid::job::Job;
-use crate::laid::rows::row_passes;
+use crate::laid::rows::{row_length, row_passes};
 use ag_carried::Carried;
 use ag_grammar::limits::MOST_TOKEN_BYTES;
 use ag_grammar::{Grammar, Item, Terminal};
@@ -23,12 +23,12 @@ use planchecker::Plan;
 use std::alloc::Global;
 use treefile::{Kind, split_body};
 
-/// Why no record was read.
+/// The reason why a record was not read.
 #[derive(Clone, Copy, Debug, PartialEq, Eq)]
 pub enum RecordFault {
-    /// The body is no record of what is expected.
+    /// The body is not a record of the expected item.
     Damaged,
-    /// A growth was refused.
+    /// Memory could not be allocated.
     NoMemory,
 }
 
@@ -43,7 +43,7 @@ impl From<ValueFault> for RecordFault {
     }
 }
 
-/// The number whose spelling stands in front of bytes, and the bytes behind it.
+/// Returns the number that is encoded at the beginning of some bytes, and the bytes after it.
 #[inline(always)]
 fn number_in(bytes: &[u8]) -> Option<(i64, &[u8])>
     ensures spelled { IfSome result
@@ -63,7 +63,7 @@ fn number_in(bytes: &[u8]) -> Option<(i64, &[u8])>
     Some((number.cast_signed(), rest))
 }
 
-/// Reads a value as `Carried::read` does, beside a stored value that may be equal.
+/// Reads a value as `Carried::read` does. The candidate is a stored value that may be equal.
 fn read_beside(
     alloc: Global,
     candidate: Option<&Carried>,
@@ -84,8 +84,9 @@ fn read_beside(
     }
 }
 
-/// Takes the value of an attribute of a pass as `take_value` does, if it is a number. Returns `None`
-/// for a value of another kind, or for bytes that are no value: the values are then as they were.
+/// Takes the value of an attribute of a pass as `take_value` does, if it is a number. Returns
+/// `None` for a value of another kind and for bytes that do not encode a value; the values are
+/// unchanged then.
 #[inline(always)]
 fn take_number<'b>(
     pass: u16,
@@ -139,8 +140,8 @@ fn read_value<'b>(
     Ok(&bytes[length..])
 }
 
-/// Takes the value of an attribute of a pass: from the bytes if an earlier pass computed it, and a
-/// number in its place if pass k is to compute it.
+/// Takes the value of an attribute of a pass: from the bytes if an earlier pass computed it, and 0
+/// in its place if pass k computes it. Returns the rest of the bytes.
 fn take_value<'b>(
     alloc: Global,
     pass: u16,
@@ -164,47 +165,58 @@ fn take_value<'b>(
     }
 }
 
-/// Takes the values of attributes with these passes from the front of the bytes, and returns the bytes
-/// after them.
-#[inline(never)]
-fn take_values<'b>(
-    alloc: Global,
-    passes: &[u16],
-    k: u16,
-    bytes: &'b [u8],
-    values: &mut Vec<Carried>,
-    context: &RowContext<'_>,
-) -> Result<&'b [u8], RecordFault>
-    requires { 1 ≤ k }
-    ensures taken { IfOk result (λ rest. AreTaken (k - 1) k passes.now bytes.now rest.now
-        values.old.items values.new.items) }
-    ensures untaken { IsErrOf result RecordFault.Damaged
-        → AreUntaken (k - 1) passes.now bytes.now }
-    ensures front { StandInFront values.old.items values.new.items }
+/// Fails with Damaged if bytes are left after the last value of a row.
+#[inline(always)]
+fn check_end(rest: &[u8]) -> Result<(), RecordFault>
+    ensures end { OnOk result (rest.now ≡ []) }
+    ensures left { IsErrOf result RecordFault.Damaged → length rest.now ≡ 0 → ⊥ }
 {
-    let mut rest = bytes;
-    for pass in passes {
-        rest = take_value(alloc, *pass, k, rest, values, context)?;
+    if !rest.is_empty() {
+        return Err(RecordFault::Damaged);
     }
-    Ok(rest)
+    Ok(())
 }
 
-/// Takes values as `take_values` does: numbers in one step each, until there is a value of another
-/// kind.
-#[inline(always)]
-fn take_numbers<'b>(
+/// Takes the last values of a row, which have these passes, from the bytes. Fails with `Damaged` if
+/// bytes are left after them.
+#[inline(never)]
+fn take_values(
     alloc: Global,
     passes: &[u16],
     k: u16,
-    bytes: &'b [u8],
+    bytes: &[u8],
     values: &mut Vec<Carried>,
-    context: RowContext<'_>,
-) -> Result<&'b [u8], RecordFault>
+    row: RowSite<'_>,
+) -> Result<(), RecordFault>
     requires { 1 ≤ k }
-    ensures taken { IfOk result (λ rest. AreTaken (k - 1) k passes.now bytes.now rest.now
+    ensures taken { OnOk result (AreTaken (k - 1) k passes.now bytes.now []
         values.old.items values.new.items) }
-    ensures untaken { IsErrOf result RecordFault.Damaged
-        → AreUntaken (k - 1) passes.now bytes.now }
+    ensures none { IsErrOf result RecordFault.Damaged → IsNoRow (k - 1) passes.now bytes.now }
+    ensures front { StandInFront values.old.items values.new.items }
+{
+    let context = row.context(values.len(), row_length(passes, k));
+    let mut rest = bytes;
+    for pass in passes {
+        rest = take_value(alloc, *pass, k, rest, values, &context)?;
+    }
+    check_end(rest)
+}
+
+/// Takes the values of a row as `take_values` does: numbers by `take_number`, up to the first value
+/// of another kind.
+#[inline(always)]
+fn take_row(
+    alloc: Global,
+    passes: &[u16],
+    k: u16,
+    bytes: &[u8],
+    values: &mut Vec<Carried>,
+    row: RowSite<'_>,
+) -> Result<(), RecordFault>
+    requires { 1 ≤ k }
+    ensures taken { OnOk result (AreTaken (k - 1) k passes.now bytes.now []
+        values.old.items values.new.items) }
+    ensures none { IsErrOf result RecordFault.Damaged → IsNoRow (k - 1) passes.now bytes.now }
     ensures front { StandInFront values.old.items values.new.items }
 {
     let Ok(()) = values.reserve(passes.len()) else {
@@ -213,40 +225,15 @@ fn take_numbers<'b>(
     let mut rest = bytes;
     for (index, pass) in passes.iter().enumerate() {
         let Some(after) = take_number(*pass, k, rest, values) else {
-            // a copy, so that a row of numbers needs no context in memory
-            let context = context;
-            return take_values(alloc, &passes[index..], k, rest, values, &context);
+            return take_values(alloc, &passes[index..], k, rest, values, row);
         };
         rest = after;
     }
-    Ok(rest)
+    check_end(rest)
 }
 
-/// Takes the row of a node whose values have these passes: no bytes may be left behind it.
-#[inline(always)]
-fn take_row(
-    alloc: Global,
-    passes: &[u16],
-    k: u16,
-    bytes: &[u8],
-    values: &mut Vec<Carried>,
-    context: RowContext<'_>,
-) -> Result<(), RecordFault>
-    requires { 1 ≤ k }
-    ensures taken { OnOk result (AreTaken (k - 1) k passes.now bytes.now []
-        values.old.items values.new.items) }
-    ensures none { IsErrOf result RecordFault.Damaged → IsNoRow (k - 1) passes.now bytes.now }
-    ensures front { StandInFront values.old.items values.new.items }
-{
-    let rest = take_numbers(alloc, passes, k, bytes, values, context)?;
-    if !rest.is_empty() {
-        return Err(RecordFault::Damaged);
-    }
-    Ok(())
-}
-
-/// The number of the production of a symbol's node in a body, and the spellings behind it; none where
-/// the body is that of no node of the symbol.
+/// Returns the number of the production of a symbol's node in a body, and the encoded values after
+/// it; `None` if the body is not that of a node of the symbol.
 #[inline(always)]
 pub(crate) fn node_in<'b>(grammar: &Grammar, symbol: u16, body: &'b [u8]) -> Option<(u16, &'b [u8])>
     ensures some { IfSome result (λ found.
@@ -265,15 +252,15 @@ pub(crate) fn node_in<'b>(grammar: &Grammar, symbol: u16, body: &'b [u8]) -> Opt
     Some((number, spellings))
 }
 
-/// Reads the body of a node of a symbol from the file of pass k - 1: its row goes to the values, its
-/// own first and then the copies of its children's; those of pass k, which are still to come, are
-/// numbers. Gives the number of the node's production.
+/// Reads the body of a node of a symbol from the file of pass k - 1, and appends its row to the
+/// values: first the node's own values, then the copies of its children's. For each attribute of
+/// pass k, the row has 0 as a placeholder. Returns the number of the node's production.
 ///
-/// Damaged where the body is no record of a node of the symbol in the file of that pass: of a
-/// production of it, with as many well values as it has attributes of passes before k and its
-/// children have in copies, and with no bytes behind them. NoMemory where a growth was refused. After
-/// a refusal the values that were there still stand in front, and behind them maybe others. Takes
-/// memory for what is read, and for the passes of the production's values.
+/// Fails with `Damaged` if the body is not the record of a node of the symbol in the file of that
+/// pass. Such a record has a production of the symbol, a well value for each attribute of a pass
+/// before k and for each copy, and no bytes after them. Fails with `NoMemory` if memory cannot be
+/// allocated. After a failure the old values are unchanged, and others may follow them. Allocates
+/// memory for the values read, and for the passes of the production's values.
 pub fn read_node(
     alloc: Global,
     grammar: &Grammar,
@@ -297,23 +284,23 @@ pub fn read_node(
     let Ok(passes) = row_passes(alloc, grammar, plan, production) else {
         return Err(RecordFault::NoMemory);
     };
-    let context = RowContext {
-        layout: None,
+    let hints = Hints::none(alloc);
+    let row = RowSite {
+        hints: &hints,
         production: number,
-        site: None,
-        start: values.len(),
+        parent: Site::default(),
     };
-    take_row(alloc, passes.as_slice(), k, spellings, values, context)?;
+    take_row(alloc, passes.as_slice(), k, spellings, values, row)?;
     Ok(number)
 }
 
-/// The same in a pass, which has laid out the passes of each production's values.
+/// Reads a node as `read_node` does, with the passes that the layout of the pass contains.
 #[inline(always)]
 fn read_laid_node(
     alloc: Global,
     job: &Job<'_>,
     symbol: u16,
-    site: Option<Site>,
+    site: Site,
     body: &[u8],
     values: &mut Vec<Carried>,
 ) -> Result<u16, RecordFault>
@@ -325,25 +312,25 @@ fn read_laid_node(
     let Some((number, spellings)) = node_in(job.grammar, symbol, body) else {
         return Err(RecordFault::Damaged);
     };
-    let row = job.row(number);
-    let context = RowContext {
-        layout: Some(job.layout),
+    let layout = job.row(number);
+    let row = RowSite {
+        hints: job.hints,
         production: number,
-        site,
-        start: values.len(),
+        parent: site,
     };
     take_row(
         alloc,
-        row.passes.as_slice(),
+        layout.passes.as_slice(),
         job.pass,
         spellings,
         values,
-        context,
+        row,
     )?;
     Ok(number)
 }
 
-/// The text in the body of a token of a class.
+/// Returns the text in the body of a token of a class. Fails with `Damaged` if the body is not that
+/// of such a token, with a text of at most `MOST_TOKEN_BYTES` bytes.
 #[inline(always)]
 pub(crate) fn text_in(alloc: Global, class: u16, body: &[u8]) -> Result<Value, RecordFault>
     ensures text { IfOk result (λ v. IsTextOf class body.now v) }
@@ -365,7 +352,7 @@ pub(crate) fn text_in(alloc: Global, class: u16, body: &[u8]) -> Result<Value, R
     Ok(Value::Text(text))
 }
 
-/// Reads the body of a token of a class: its text goes to the values.
+/// Reads the body of a token of a class, and appends its text to the values.
 #[inline(always)]
 fn read_token(
     alloc: Global,
@@ -386,13 +373,14 @@ fn read_token(
     Ok(())
 }
 
-/// Reads the body of what an item asks for: its row goes to the values. The number in the record.
+/// Reads the record of an item, and appends its row to the values. Returns the number in the
+/// record: that of the production, or that of the token's class.
 #[inline(always)]
 pub(crate) fn read_record(
     alloc: Global,
     job: &Job<'_>,
     item: Item,
-    site: Option<Site>,
+    site: Site,
     body: &[u8],
     values: &mut Vec<Carried>,
 ) -> Result<u16, RecordFault>

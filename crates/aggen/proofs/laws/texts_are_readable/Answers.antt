@@ -1,4 +1,4 @@
--- The goal of `texts_are_readable` that is left.
+-- The remaining goal of `texts_are_readable`.
 use Rattle.aggen.proofs.FromTexts as from_texts
 use Rattle.aggen.proofs.laws.texts_are_readable.Goals as goal
 

@@ -42,7 +42,7 @@ returns-in-B-clause-left g c =
     (λ left ha hb. subst (λ (l : Last). LeavesBeginning (c.args.done + 1) (other_content l (g.D.Device.content c.args.a.now) (g.D.Device.content c.args.b.now)) (other_content l (g.D.Device.content c.run_pass-in-B.new.to) (g.D.Device.content c.run_pass-in-B.new.from))) (sym c.in-B.is) (left ha))
     c.run_pass-in-B.ensures.left
 
--- each device that is honest, whatever the other gives back
+-- The content of each honest device, for any other device.
 pub returns-in-A-clause-a_left : goal.returns-in-A-clause-a_left
 returns-in-A-clause-a_left g c = λ h. (c.args.done + 1, inl (c.run_pass.ensures.content h))
 

@@ -77,7 +77,7 @@ returns-clause-passed g c = λ passes is ha hb.
     let same : c.loop-done.done ≡ passes = omega arith in
     subst (λ n. HasRunAll c.args.grammar.now (passes_of c.args.plan.now.0) (c.args.first - 1) n (g.D.Device.content c.args.a.now) c.loop-done.last (g.D.Device.content c.loop-done.a) (g.D.Device.content c.loop-done.b) (c.loop-done.meter - c.args.meter.now) c.loop-done.sum) same (c.loop-done.invariant.runs ha hb)
 
--- from pass 1 on they leave the solution
+-- From pass 1 on, the passes compute the solution.
 pub returns-clause-solution : goal.returns-clause-solution
 returns-clause-solution g c = λ one passes is ha hb.
     let first : c.args.first - 1 ≡ 0 = omega arith in

@@ -39,7 +39,7 @@ returns-in_err-tree-clause-refused g c =
     let refused = subst (λ (bytes : List ℕ). IsUnbrought grammar bytes (item.Symbol c.start.result ∷ []) 1 c.in_ok-back.back.progress c.in_err-tree.field-0.0) (start.content z) (c.in_err-tree.ensures.refused honest) in
     subst (λ (s : ℕ). IsUnbrought grammar content (item.Symbol s ∷ []) 1 c.in_ok-back.back.progress c.in_err-tree.field-0.0) c.start.ensures.value refused [] here)
 
--- no frame can be read behind the tree
+-- No frame can be read after the tree.
 pub returns-in_err-back-2-clause-refused : goal.returns-in_err-back-2-clause-refused
 returns-in_err-back-2-clause-refused g c =
     let p = err_from_is_err_and c.from_residual-in_err-back-2.result c.from_residual-in_err-back-2.ensures.1 in
@@ -60,7 +60,7 @@ returns-in_err-back-2-clause-refused g c =
     let told = rw tree.ready.version at (c.in_err-back-2.ensures.told tree.ready.unbroken honest) in
     fault_behind grammar c.start.ensures.accepted body_of content now fault (brought.on [] here) (subst (λ (bytes : List ℕ). Told body_of (Err fault) (next_before version_one bytes now.at)) same told))
 
--- a frame is left over
+-- A frame is left.
 pub returns-then-is_some-clause-refused : goal.returns-then-is_some-clause-refused
 returns-then-is_some-clause-refused g c honest =
     let grammar = c.args.grammar.now in
@@ -79,7 +79,7 @@ returns-then-is_some-clause-refused g c honest =
     let told = rw tree.ready.version at (c.in_ok-back-2.ensures.told tree.ready.unbroken honest) in
     left_over grammar c.start.ensures.accepted content now c.end-end.result some.0 c.end-end.ensures (brought.on [] here) (subst (λ (bytes : List ℕ). next_before version_one bytes now.at ≡ Ok (Some some.0)) same (told ∙ ap Ok some.1))
 
--- all of the tree
+-- The whole tree was converted.
 pub returns-clause-brought : goal.returns-clause-brought
 returns-clause-brought g c honest =
     let grammar = c.args.grammar.now in
@@ -104,7 +104,7 @@ returns-clause-brought g c honest =
     whole_brought grammar c.start.ensures.accepted content before back to out_old out texts here (start.started.end z) start.started.fresh brought (subst (λ (bytes : List ℕ). IsOver bytes back) (start.content z) (tree.ready.over is)) tree.ready.few
     (subst (λ (bytes : List ℕ). next_before version_one bytes back.progress.at ≡ Ok None) same (told ∙ ap Ok none)) (λ h. begin.header (tree.devices.second.honest h))
 
--- ---- what is left on the second device
+-- ---- the content of the second device
 
 pub returns-in_err-back-clause-left : goal.returns-in_err-back-clause-left
 returns-in_err-back-clause-left g c = λ h. inl refl

@@ -22,7 +22,7 @@ returns-clause-upgraded g c honest mid_honest =
     subst (λ (between : List ℕ). IsUpgraded grammar content between (g.F.Device.is_honest c.turn.new.to) (g.F.Device.content c.turn.new.to) c.in_ok-count.count) (sym (c.turn.ensures.content mid_honest))
     (turned_tree grammar c.in_ok-bring.ensures.accepted content mid (g.F.Device.is_honest c.turn.new.to) (g.F.Device.content c.turn.new.to) (subst (λ (b : Bool). IsBrought grammar content b mid) (c.in_ok-count.ensures.devices.first.honest mid_honest) (c.in_ok-bring.ensures.brought honest)) c.in_ok-count.count (c.in_ok-count.ensures.told mid_honest))
 
--- the file between stays while it is turned
+-- The intermediate file is kept while it is reversed.
 pub returns-in_err-count-clause-mid_left : goal.returns-in_err-count-clause-mid_left
 returns-in_err-count-clause-mid_left g c = λ h.
     subst (LeavesBeginning 1 (g.E.Device.content c.args.mid.now)) (sym (c.turn.ensures.content h)) (c.bring.ensures.left (c.in_err-count.ensures.devices.first.honest h))

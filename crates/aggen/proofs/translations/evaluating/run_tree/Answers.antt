@@ -56,7 +56,7 @@ returns-clause-left g c =
           are_left_of_tree c.args.translator.now c.args.plan.now.0 c.args.plan.now.1 c.grammar-grammar.ensures.accepted c.requires.least.plan (g.T.Device.content c.args.tree.now) (g.D.Device.content c.run_pass.new.to) (g.D.Device.content c.run_all.new.b) (g.D.Device.content c.run_all.new.a) (c.run_pass.new.meter - c.new-meter.result) (c.run_all.new.meter - c.run_pass.new.meter) c.in_ok-first.first c.in_ok-last.others c.in_ok-last.last (record { nodes = c.in_ok-first.first.nodes; passes = c.passes.result; evals = c.count.result; read = c.in_ok-first.first.read + c.in_ok-last.others.read; written = c.in_ok-first.first.written + c.in_ok-last.others.written; last = c.other.result }) greatest passed first.counts ran c.other.ensures refl evals refl refl;
     }
 
--- what is left on each device: the passes from 2 on take `b` first
+-- the contents of the devices: the passes from 2 on use `b` first
 pub returns-in_err-first-clause-a_left : goal.returns-in_err-first-clause-a_left
 returns-in_err-first-clause-a_left g c = λ h. (0, inl refl)
 

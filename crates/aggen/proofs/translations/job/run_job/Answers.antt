@@ -1,4 +1,4 @@
--- What is told of the grammar or the sentence of a job is told of the job.
+-- The results for the grammar or the sentence of a job are results for the job.
 use Rattle.std.proofs.Common.{List, ℕ, inl, refl, subst}
 use Rattle.std.proofs.lemmas.Result.{err_from_is_err_and}
 use Rattle.std.specs.Result.{IfErr}
@@ -26,7 +26,7 @@ returns-clause-refused g c =
     (subst (λ (text : List ℕ). IsGrammarOf text c.in_ok-translator.translator) c.grammar.ensures c.in_ok-translator.ensures.grammar) c.translate.result
     (subst (λ (sentence : List ℕ). IfErr c.translate.result (λ e. IsTranslationFault c.in_ok-translator.translator sentence ha hb old new e)) c.sentence.ensures c.translate.ensures.refused)
 
--- ---- what is left on the devices: before the sentence is translated, what they had
+-- ---- the contents of the devices: before the sentence is translated, the old ones
 
 pub returns-in_err-job-clause-a_left : goal.returns-in_err-job-clause-a_left
 returns-in_err-job-clause-a_left g c = λ h. (0, inl refl)

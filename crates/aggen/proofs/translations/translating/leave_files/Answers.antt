@@ -10,7 +10,7 @@ use Rattle.passrun.proofs.course.Stepping.{left_again}
 use Rattle.aggen.proofs.Left.{no_parse_of_run}
 use Rattle.aggen.proofs.translations.translating.leave_files.Goals as goal
 
--- honest devices give back a file that no pass refuses
+-- honest devices return a file that no pass rejects
 pub returns-in_err-last-clause-refused : goal.returns-in_err-last-clause-refused
 returns-in_err-last-clause-refused g c =
     let p = err_from_is_err_and c.from_residual-in_err-last.result c.from_residual-in_err-last.ensures.1 in
@@ -35,7 +35,7 @@ returns-clause-left g c =
           are_left c.args.translator.now c.args.sentence.now c.args.plan.now.0 c.args.plan.now.1 c.grammar.ensures.accepted c.requires.least.plan tree.0 (g.D.Device.content c.parse_tree.new.device) (g.D.Device.content c.run_all.new.a) (g.D.Device.content c.run_all.new.b) (record { nodes = c.in_ok-nodes.nodes; passes = c.passes.result; evals = c.count.result; read = c.in_ok-last.passed.read; written = c.in_ok-last.passed.written; last = c.in_ok-last.last }) c.in_ok-last.passed greatest tree.1.tree.tree (c.in_ok-nodes.ensures.file tree.0 tree.1 (c.in_ok-last.ensures.devices.first.honest x)) (subst (λ n. HasRunAll c.args.translator.now (passes_of c.args.plan.now.0) 0 c.passes.result (g.D.Device.content c.parse_tree.new.device) c.in_ok-last.last (g.D.Device.content c.run_all.new.a) (g.D.Device.content c.run_all.new.b) n c.in_ok-last.passed) evals ran) (c.in_ok-nodes.ensures.count tree.0 tree.1) refl refl;
     }
 
--- what is left on each device
+-- the content of each device
 pub returns-in_err-nodes-clause-a_left : goal.returns-in_err-nodes-clause-a_left
 returns-in_err-nodes-clause-a_left g c = λ h. (0, c.in_err-nodes.ensures.left h)
 

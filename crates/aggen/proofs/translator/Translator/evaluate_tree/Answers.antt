@@ -11,7 +11,7 @@ use Rattle.passrun.specs.Rounds.{LeavesSomeFile}
 use Rattle.aggen.proofs.Left.{files_of_tree_kept, none_after_passes}
 use Rattle.aggen.proofs.translator.Translator.evaluate_tree.Goals as goal
 
--- what is found in the last file is true of the tree of the file
+-- the result for the last file is true of the tree of the file
 pub returns-in_err-text-clause-refused : goal.returns-in_err-text-clause-refused
 returns-in_err-text-clause-refused g c =
     let p = err_from_is_err_and c.from_residual-in_err-text.result c.from_residual-in_err-text.ensures.1 in
@@ -37,12 +37,12 @@ returns-clause-evaluates g c =
     (λ x y. subst (λ (z : Grammar). TellsRoot z c.plan-plan.result.now.0 (last_content c.in_ok-report.report.last (g.D.Device.content c.run_tree.new.a) (g.D.Device.content c.run_tree.new.b)) (Ok c.in_ok-text.text)) c.grammar.ensures.grammar (c.in_ok-text.ensures.root x y))
     (subst (λ (bytes : List ℕ). Appends (g.W.Write.contents c.args.out.now) (g.W.Write.contents c.write_text.new.out) bytes) c.as_str.ensures c.in_ok-write_text.ensures.ok)
 
--- a prefix of the text that was taken was written
+-- a prefix of the text that was read was written
 pub returns-in_err-write_text-clause-begins : goal.returns-in_err-write_text-clause-begins
 returns-in_err-write_text-clause-begins g c = λ write.
     some (g.W.Write.contents c.args.out.now) (g.W.Write.contents c.write_text.new.out) c.in_ok-text.text c.as_str.result.now c.in_ok-text.ensures.well c.as_str.ensures c.in_err-write_text.ensures.err
 
--- ---- what is left on the devices
+-- ---- the contents of the devices
 
 pub returns-in_err-text-clause-a_left : goal.returns-in_err-text-clause-a_left
 returns-in_err-text-clause-a_left g c = λ h.

@@ -6,7 +6,7 @@ use Rattle.aggen.proofs.Sentences.{one_of, parse_told, scan_told, with_tokens}
 use Rattle.aggen.proofs.Left.{first_begins, no_parse_of_device, no_parse_of_scan}
 use Rattle.aggen.proofs.translator.Translator.parse_tree.Goals as goal
 
--- a sentence has one tree at most, whatever is answered
+-- a sentence has at most one tree, for any result
 pub returns-in_err-tokens-clause-one : goal.returns-in_err-tokens-clause-one
 returns-in_err-tokens-clause-one g c = rw (sym c.self.view_is) (one_of _ c.self.invariant.0 _ c.self.invariant.1 c.args.sentence.now)
 
@@ -39,7 +39,7 @@ returns-clause-file g c = λ t is.
     let h = c.in_ok-count.ensures.file t (with_tokens _ c.self.invariant.0 c.args.sentence.now _ cut t i) in
     rw (sym c.self.view_is) (λ honest. h honest)
 
--- what a refusal of the tokens, and of their tree, tells of the sentence
+-- the meaning of a fault of scanning, and of parsing, for the sentence
 pub returns-in_err-tokens-clause-refused : goal.returns-in_err-tokens-clause-refused
 returns-in_err-tokens-clause-refused g c =
     let p = err_from_is_err_and c.from_residual.result c.from_residual.ensures.1 in
@@ -52,7 +52,7 @@ returns-in_err-count-clause-refused g c =
     let e = c.in_err-count.ensures in
     rw (p.1, p.2, sym c.self.view_is) (parse_told _ c.self.invariant.0 c.args.sentence.now _ cut (Err c.in_err-count.field-0.0) c.in_err-count.field-0.0 refl e.unexpected e.none e.deep e.large)
 
--- what a refusal leaves on the device
+-- the content of the device after a fault
 pub returns-in_err-writer-clause-left : goal.returns-in_err-writer-clause-left
 returns-in_err-writer-clause-left g c =
     let p = err_from_is_err_and c.from_residual-in_err-writer.result c.from_residual-in_err-writer.ensures.1 in
@@ -63,7 +63,7 @@ returns-in_err-count-clause-left g c =
     let p = err_from_is_err_and c.from_residual-in_err-count.result c.from_residual-in_err-count.ensures.1 in
     rw p.1 (λ h. inr (c.in_err-count.ensures.left h))
 
--- P leaves a prefix of the file, and an answer all of it
+-- after P a prefix of the file, and after Ok all of it
 pub returns-in_err-tokens-clause-parsed : goal.returns-in_err-tokens-clause-parsed
 returns-in_err-tokens-clause-parsed g c =
     let p = err_from_is_err_and c.from_residual.result c.from_residual.ensures.1 in

@@ -5,7 +5,7 @@ use Rattle.passrun.specs.Upgrading.{IsUpgradeFault}
 use Rattle.aggen.proofs.Old.{old_fault}
 use Rattle.aggen.proofs.translator.Translator.upgrade.Goals as goal
 
--- what the refusal says of the old content
+-- the meaning of the fault for the old content
 pub returns-in_err-nodes-clause-refused : goal.returns-in_err-nodes-clause-refused
 returns-in_err-nodes-clause-refused g c =
     let p = err_from_is_err_and c.from_residual.result c.from_residual.ensures.1 in

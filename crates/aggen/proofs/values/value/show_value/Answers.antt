@@ -26,7 +26,7 @@ returns-in_err-write_text-clause-occurs g c = λ at occurs. absurd (no_value c.a
 pub returns-clause-occurs : goal.returns-clause-occurs
 returns-clause-occurs g c = λ at occurs. absurd (no_value c.args.text.now at c.in_ok-value.value occurs c.in_ok-value.ensures.value)
 
--- ---- what is left on the device
+-- ---- the content of the device
 
 pub returns-in_err-value-clause-left : goal.returns-in_err-value-clause-left
 returns-in_err-value-clause-left g c = λ h. inl refl

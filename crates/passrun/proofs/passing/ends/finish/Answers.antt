@@ -14,7 +14,7 @@ use Rattle.passrun.specs.declared.run_fault.RunFault.{RunFault}
 use Rattle.passrun.specs.declared.run_fault.RunFault.TheVariants as run_fault
 use Rattle.passrun.proofs.passing.ends.finish.Goals as goal
 
--- the body that is lent, if there is one
+-- The body that is lent, if there is one.
 abbrev body_of : Option (Bor (List ℕ)) → Option (List ℕ)
 body_of = option_map (λ (body : Bor (List ℕ)). body.now)
 

@@ -1,4 +1,4 @@
-use Rattle.std.proofs.Common.{◌-◌, List, sym, subst}
+use Rattle.std.proofs.Common.{◌∙◌, ◌-◌, List, sym, subst}
 use Rattle.std.proofs.lemmas.Result.{IfOk-weaker}
 use Rattle.passassign.specs.Rows.{passes_of}
 use Rattle.planchecker.specs.courses.Settings.{setting_of}
@@ -17,7 +17,7 @@ use Rattle.passrun.proofs.passing.pass.run_pass.Goals as goal
 pub run_job-requires-clause-job : goal.run_job-requires-clause-job
 run_job-requires-clause-job g c =
     let s = setting_of c.args.grammar.now c.args.plan.now c.args.pass in
-    let table : IsLayout s c.in_ok-layout.layout.productions = subst (λ (rows : List ProductionRow). IsLayout s rows) (sym c.in_ok-layout.ensures.laid) (laid s) in
+    let table : IsLayout s c.as_slice.result.now = subst (λ (rows : List ProductionRow). IsLayout s rows) (sym (c.as_slice.ensures ∙ c.in_ok-layout.ensures.laid)) (laid s) in
     plans_can_run _ c.requires.last.0 c.lay_out.ensures.accepted c.requires.plan c.requires.last.1 c.requires.first c.requires.last.2 table
 
 pub returns-clause-told : goal.returns-clause-told

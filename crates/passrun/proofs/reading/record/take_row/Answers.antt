@@ -1,22 +1,40 @@
-use Rattle.std.proofs.Common.{ap, length, sym, subst, ◌-◌, ◌∙◌, List, ℕ, arith}
-use Rattle.std.specs.Bool.{◌==◌}
-use Rattle.std.proofs.lemmas.Bool.{eqb-true}
-use Rattle.std.proofs.lemmas.Result.{err_from_is_err_and}
-use Rattle.passrun.specs.reading.Reading.{AreTaken}
-use Rattle.passrun.proofs.Recorded.{empty_is, no_row_left, no_row_taken, same_err}
+use Rattle.std.proofs.Common.{ℕ, ◌≡◌, ◌+◌, ◌-◌, ◌∷◌, List, [], arith, drop, get_or, refl, subst, sym}
+use Rattle.std.proofs.lemmas.Result.{on_ok_weaker}
+use Rattle.passrun.specs.reading.Reading.{AreTaken, IsNoRow}
+use Rattle.passrun.proofs.Recorded.{more_taken, no_passes_from, no_row_left, none_taken, others_no_row, passes_from, stand_on}
 use Rattle.passrun.proofs.reading.record.take_row.Goals as goal
 
-pub returns-in_err-rest-clause-none : goal.returns-in_err-rest-clause-none
-returns-in_err-rest-clause-none c =
-    let p = err_from_is_err_and c.from_residual.result c.from_residual.ensures.1 in
-    rw (p.1, p.2) (λ is. no_row_taken (c.args.k - 1) c.args.passes.now c.args.bytes.now (c.in_err-rest.ensures.untaken (same_err _ _ is)))
+pub loop-index-preserved : goal.loop-index-preserved
+loop-index-preserved c =
+    let read = c.args.k - 1 in
+    let i = c.loop-index.index in
+    let ps = c.args.passes.now in
+    let others = drop (i + 1) ps in
+    let all : get_or ps i 0 ∷ others ≡ drop i ps = passes_from ps i 0 c.loop-index-test.true in
+    let one = c.in-Some.ensures.taken in
+    record {
+      taken = λ new more. c.loop-index.invariant.taken new (subst (λ (qs : List ℕ). AreTaken read c.args.k qs c.loop-index.rest.now [] c.loop-index.values.items new) all
+          (more_taken read c.args.k (get_or ps i 0) others c.loop-index.rest.now c.in-Some.after.now [] c.loop-index.values.items c.take_number.new.values.items new one more));
+      none = λ none. c.loop-index.invariant.none (subst (λ (qs : List ℕ). IsNoRow read qs c.loop-index.rest.now) all
+          (others_no_row read c.args.k (get_or ps i 0) others c.loop-index.rest.now c.in-Some.after.now c.loop-index.values.items c.take_number.new.values.items one none));
+      front = stand_on c.args.values.now.items c.loop-index.values.items c.take_number.new.values.items c.loop-index.invariant.front c.take_number.ensures.front;
+      room = let before = c.loop-index.invariant.room in let len = c.take_number.ensures.len in let same = c.take_number.ensures.capacity in omega arith;
+    }
 
-pub returns-then-not-is_empty-clause-none : goal.returns-then-not-is_empty-clause-none
-returns-then-not-is_empty-clause-none c = λ damaged.
-    no_row_left (c.args.k - 1) c.args.k c.args.passes.now c.args.bytes.now c.in_ok-rest.rest.now c.args.values.now.items c.take_numbers.new.values.items c.in_ok-rest.ensures.taken
-    (λ none. let z = sym c.if-not-is_empty.true ∙ c.is_empty.ensures ∙ ap (λ (n : ℕ). n == 0) none in cc)
+pub returns-clause-none : goal.returns-clause-none
+returns-clause-none c = λ damaged.
+    let rest = c.loop-index.rest.now in
+    let vs = c.loop-index.values.items in
+    let some = no_row_left (c.args.k - 1) c.args.k [] rest rest vs vs (none_taken (c.args.k - 1) c.args.k rest vs vs refl) (c.check_end.ensures.left damaged) in
+    c.loop-index.invariant.none (subst (λ (qs : List ℕ). IsNoRow (c.args.k - 1) qs rest) (sym (no_passes_from c.args.passes.now c.loop-index.index c.loop-index-test.false)) some)
 
 pub returns-clause-taken : goal.returns-clause-taken
 returns-clause-taken c =
-    let none = eqb-true (length c.in_ok-rest.rest.now) 0 (sym c.is_empty.ensures ∙ c.if-not-is_empty.false) in
-    subst (λ (rest : List ℕ). AreTaken (c.args.k - 1) c.args.k c.args.passes.now c.args.bytes.now rest c.args.values.now.items c.take_numbers.new.values.items) (empty_is c.in_ok-rest.rest.now (omega arith)) c.in_ok-rest.ensures.taken
+    let read = c.args.k - 1 in
+    let vs = c.loop-index.values.items in
+    let rest = c.loop-index.rest.now in
+    let all = sym (no_passes_from c.args.passes.now c.loop-index.index c.loop-index-test.false) in
+    on_ok_weaker c.check_end.result
+    (λ none. c.loop-index.invariant.taken vs (subst (λ (qs : List ℕ). AreTaken read c.args.k qs rest [] vs vs) all
+    (subst (λ (left : List ℕ). AreTaken read c.args.k [] rest left vs vs) none (none_taken read c.args.k rest vs vs refl))))
+    c.check_end.ensures.end

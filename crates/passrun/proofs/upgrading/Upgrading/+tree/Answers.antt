@@ -20,7 +20,7 @@ use Rattle.passrun.specs.declared.run_fault.RunFault.{RunFault}
 use Rattle.passrun.proofs.Recorded.{production_is}
 use Rattle.passrun.proofs.upgrading.Upgrading.+tree.Goals as goal
 
--- an item without a place
+-- An item that is not a child.
 pub returns-then-not-has_place-clause-brought : goal.returns-then-not-has_place-clause-brought
 returns-then-not-has_place-clause-brought g t c honest =
     none_brought c.args.grammar.now c.requires.accepted (g.D.Device.content c.args.from.now) [] (c.args.item ∷ []) c.args.level c.args.self.now.back.progress (g.E.Device.is_honest c.args.to.now) (g.E.Device.content c.args.to.now) (c.if-not-has_place.ensures [])
@@ -28,14 +28,14 @@ returns-then-not-has_place-clause-brought g t c honest =
 pub record-requires-clause-place : goal.record-requires-clause-place
 record-requires-clause-place g t c = c.if-not-has_place.ensures []
 
--- a token
+-- A token.
 pub returns-in-Token-clause-brought : goal.returns-in-Token-clause-brought
 returns-in-Token-clause-brought g t c honest =
     let h = subst (HasTaken c.args.grammar.now c.args.item c.args.level (g.D.Device.is_honest c.record.new.from) (g.D.Device.content c.args.from.now) c.args.self.now.back c.record.new.self.back) c.in-Token.is c.in_ok-production.ensures.taken in
     token_brought c.args.grammar.now c.requires.accepted (g.D.Device.content c.args.from.now) c.args.item c.args.level c.in-Token.class c.in-Token.text c.args.self.now.back.progress c.record.new.self.back.progress (g.E.Device.is_honest c.put_record.new.to) (g.E.Device.content c.args.to.now) (g.E.Device.content c.put_record.new.to)
     (c.if-not-has_place.ensures []) h.is h.deep h.few (h.found honest) (ap (λ (p : Progress). p.at) h.progress) (ap (λ (p : Progress). p.records) h.progress) (λ h. c.in_ok-put_record-in-Token.ensures.put.there h ∙ ap (λ vs. g.E.Device.content c.args.to.now ++ frame (body_of Token c.in-Token.class vs)) c.from_ref.ensures.value)
 
--- a node
+-- A node.
 pub bounds-productions-production : goal.bounds-productions-production
 bounds-productions-production g t c =
     let node = node_of c.args.grammar.now c.args.item c.in-Node.production (subst (IsOf c.args.grammar.now c.args.item) c.in-Node.is c.in_ok-production.ensures.taken.is) in
@@ -63,11 +63,11 @@ loop-at-init g t c =
           (none_brought c.args.grammar.now c.requires.accepted (g.D.Device.content c.args.from.now) (take (length items) items) (drop (length items) items) (suc c.args.level) c.record.new.self.back.progress (g.E.Device.is_honest c.args.to.now) (g.E.Device.content c.args.to.now) (ap stored_items (drop_all (length items) items many)));
     }
 
--- its items are those of its production
+-- The items of a node are those of its production.
 items_are : (g : Grammar) (p : ℕ) (lent : List Production) (d : Production) (items : List Item) → lent ≡ g.productions → items ≡ (get_or lent p d).items → (q : Production) → IsProduction g p q → items ≡ q.items
 items_are g p lent d items same all q there = all ∙ ap (λ (q : Production). q.items) (production_is g.productions lent p q (get_or lent p d) d same refl there)
 
--- a child that is refused
+-- A child that fails.
 pub returns-in_err-text-clause-refused : goal.returns-in_err-text-clause-refused
 returns-in_err-text-clause-refused g t c =
     let p = err_from_is_err_and c.from_residual-in_err-text.result c.from_residual-in_err-text.ensures.1 in
@@ -119,7 +119,7 @@ loop-at-preserved g t c =
           c.loop-at-test.true c.loop-at.auto.at (brought_supposed grammar c.requires.accepted content _ _ _ _ between to (g.E.Device.is_honest c.loop-at.to) (g.E.Device.content c.args.to.now) out_between c.loop-at.texts.items c.in_ok-text.ensures.devices.second.honest (so_far.brought is)) (subst (λ n. Brought grammar content [] (child ∷ []) n between now to out_between out_now (text_list text)) level next) more;
     }
 
--- the texts, turned round
+-- The texts, reversed.
 turned : (xs : List Value) (turned lent : List Value) (n : ℕ) → turned ≡ reverse xs → n ≡ length xs → lent ≡ take n (turned ++ drop (length turned) xs) → lent ≡ reverse xs
 turned xs ys lent n is long same = same ∙ take_at ys (drop (length ys) xs) n (ap length is ∙ length-reverse xs ∙ sym long) ∙ is
 
@@ -138,7 +138,7 @@ put_record-requires-2-clause-well g t c =
     let same = turned texts.items c.reverse.new.self c.as_slice.result.now texts.len (c.reverse.ensures.after ∙ ap reverse c.as_mut_slice.ensures.value) (omega (arith, texts.ok.0)) c.as_slice.ensures.value in
     subst (All IsWell) (sym same) (All-reverse IsWell texts.items c.loop-at.invariant.well)
 
--- all of the tree
+-- The whole tree was converted.
 pub returns-clause-brought : goal.returns-clause-brought
 returns-clause-brought g t c honest =
     let so_far = c.loop-at.invariant in
@@ -159,7 +159,7 @@ returns-clause-brought g t c honest =
     (items_are grammar c.in-Node.production c.productions.result.now c.index-productions-production.result items c.productions.ensures.lent c.as_slice-items.ensures)
     whole (λ is. c.in_ok-put_record.ensures.put.there is ∙ ap (λ vs. out_between ++ frame (body_of Node c.in-Node.production vs)) same)
 
--- ---- what was put, whatever the first device gave back
+-- ---- the frames written, for any first device
 
 pub returns-then-not-has_place-clause-added : goal.returns-then-not-has_place-clause-added
 returns-then-not-has_place-clause-added g t c = λ h. none_added RunFault (g.E.Device.content c.args.to.now) (Ok tt)

@@ -8,7 +8,8 @@ use Rattle.passrun.proofs.upgrading.Upgrading.+tree.Given as goal
 abbrev pub decreases-tree : goal.decreases-tree
 decreases-tree g l = 257 - l.level
 
--- the trees of the last items were brought over since the record of their parent was read, and as many records written as read
+-- The trees of the last items were converted since the record of their parent was read, and the number of
+-- records written is the number of records read.
 abbrev pub invariant-loop-at : goal.invariant-loop-at
 invariant-loop-at g l =
     record {

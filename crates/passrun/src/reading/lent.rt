@@ -1,0 +1,200 @@
+//! Reads a record from a body that a device lends, in which large values may be shared.
+
+ghost use Rattle.std.specs.Prelude.{◌≡◌, ◌<◌, ◌≤◌, ◌-◌, [], IfOk, IfSome, IsErrOf, IsTrue, length, take};
+ghost use Rattle.ag_grammar.specs.declared.grammar.Item.TheVariants as item;
+ghost use Rattle.passrun.specs.laid.Jobs.{CanRun, setting};
+ghost use Rattle.passrun.specs.reading.Reading.{AreTaken, IsBodyOf, IsNodeRead, IsNoRecord, IsRead, IsTaken};
+ghost use Rattle.passrun.specs.reading.Reading.{StandInFront};
+
+use crate::laid::hints::Site;
+use crate::laid::job::Job;
+use crate::reading::record::{RecordFault, node_in, read_record};
+use ag_carried::Carried;
+use ag_grammar::{Grammar, Item};
+use ag_value::NoMemory;
+use shared_bytes::Body;
+use std::alloc::Global;
+
+/// The number of bytes of a body before its values.
+const HEAD_BYTES: u64 = 3;
+
+/// Takes the value of an attribute of a pass from the beginning of a body: from the body if an
+/// earlier pass computed it, and 0 in its place if pass k computes it. Returns the rest of the
+/// body, or `None` if the value can be read only from a copy of the body.
+fn take_value<'b>(
+    alloc: Global,
+    pass: u16,
+    k: u16,
+    body: Body<'b>,
+    values: &mut Vec<Carried>,
+) -> Result<Option<Body<'b>>, NoMemory>
+    requires { 1 ≤ k }
+    ensures taken { IfOk result (λ found. IfSome found (λ rest.
+        IsTaken (k - 1) k pass body.entry rest values.old.items values.new.items)) }
+    ensures front { StandInFront values.old.items values.new.items }
+{
+    if pass > k {
+        return Ok(Some(body));
+    }
+    if pass == k {
+        values.push(Carried::number(0))?;
+        return Ok(Some(body));
+    }
+    let Some((value, rest)) = body.take(alloc)? else {
+        return Ok(None);
+    };
+    values.push(value)?;
+    Ok(Some(rest))
+}
+
+/// Takes a row of values with these passes. Returns whether all of them were taken and no bytes of
+/// the body are left.
+fn take_row(
+    alloc: Global,
+    passes: &[u16],
+    k: u16,
+    body: Body<'_>,
+    values: &mut Vec<Carried>,
+) -> Result<bool, NoMemory>
+    requires { 1 ≤ k }
+    ensures taken { IfOk result (λ all. IsTrue all → AreTaken (k - 1) k passes.now body.entry []
+        values.old.items values.new.items) }
+    ensures front { StandInFront values.old.items values.new.items }
+{
+    let mut rest = body;
+    for pass in passes {
+        let Some(after) = take_value(alloc, *pass, k, rest, values)? else {
+            return Ok(false);
+        };
+        rest = after;
+    }
+    Ok(rest.len() == 0)
+}
+
+/// Returns the number of the production of a symbol's node in a body, and the body after it.
+fn node_of<'b>(grammar: &Grammar, symbol: u16, body: Body<'b>) -> Option<(u16, Body<'b>)>
+    ensures { IfSome result (λ found. IsBodyOf grammar.now symbol found.0 found.1 body.entry) }
+{
+    let (head, rest) = body.cut(HEAD_BYTES, 0)?;
+    let (number, spellings) = node_in(grammar, symbol, head.as_slice()?)?;
+    if !spellings.is_empty() {
+        return None;
+    }
+    Some((number, rest))
+}
+
+/// Reads the body of a node of a symbol and appends its row to the values. Returns the number of
+/// the node's production, or `None` if its values can be read only from a copy of the body; some of
+/// them may have been appended then.
+fn read_node(
+    alloc: Global,
+    job: &Job<'_>,
+    symbol: u16,
+    body: Body<'_>,
+    values: &mut Vec<Carried>,
+) -> Result<Option<u16>, NoMemory>
+    requires { CanRun job.now }
+    ensures read { IfOk result (λ found. IfSome found (λ p. IsNodeRead (setting job.now) symbol p
+        body.entry values.old.items values.new.items)) }
+    ensures front { StandInFront values.old.items values.new.items }
+{
+    let Some((number, rest)) = node_of(job.grammar, symbol, body) else {
+        return Ok(None);
+    };
+    let row = job.row(number);
+    if take_row(alloc, row.passes.as_slice(), job.pass, rest, values)? {
+        return Ok(Some(number));
+    }
+    Ok(None)
+}
+
+/// Reads the record of an item from a copy of a body, as `read_record` does.
+fn read_copy(
+    alloc: Global,
+    job: &Job<'_>,
+    item: Item,
+    site: Site,
+    body: &Body<'_>,
+    values: &mut Vec<Carried>,
+) -> Result<u16, RecordFault>
+    requires { CanRun job.now }
+    ensures read { IfOk result (λ p. IsRead (setting job.now) item p
+        body.now values.old.items values.new.items) }
+    ensures none { IsErrOf result RecordFault.Damaged → IsNoRecord (setting job.now) item body.now }
+{
+    let mut bytes = Vec::new(alloc);
+    let Ok(()) = body.append_to(&mut bytes) else {
+        return Err(RecordFault::NoMemory);
+    };
+    read_record(alloc, job, item, site, bytes.as_slice(), values)
+}
+
+/// Reads the body of a node of a symbol in which values are shared, as `read_record` does.
+fn read_shared_node(
+    alloc: Global,
+    job: &Job<'_>,
+    symbol: u16,
+    site: Site,
+    body: Body<'_>,
+    values: &mut Vec<Carried>,
+) -> Result<u16, RecordFault>
+    requires { CanRun job.now }
+    ensures read { IfOk result (λ p. IsRead (setting job.now) (item.Symbol symbol) p
+        body.entry values.old.items values.new.items) }
+    ensures none { IsErrOf result RecordFault.Damaged
+        → IsNoRecord (setting job.now) (item.Symbol symbol) body.entry }
+{
+    let start = values.len();
+    let Ok(found) = read_node(alloc, job, symbol, body.again(), values) else {
+        return Err(RecordFault::NoMemory);
+    };
+    if let Some(number) = found {
+        return Ok(number);
+    }
+    values.truncate(start);
+    read_copy(alloc, job, Item::Symbol(symbol), site, &body, values)
+}
+
+/// Reads a body in which values are shared, as `read_record` does.
+#[inline(never)]
+fn read_shared(
+    alloc: Global,
+    job: &Job<'_>,
+    item: Item,
+    site: Site,
+    body: Body<'_>,
+    values: &mut Vec<Carried>,
+) -> Result<u16, RecordFault>
+    requires { CanRun job.now }
+    ensures read { IfOk result (λ p. IsRead (setting job.now) item p
+        body.entry values.old.items values.new.items) }
+    ensures none { IsErrOf result RecordFault.Damaged
+        → IsNoRecord (setting job.now) item body.entry }
+{
+    match item {
+        Item::Symbol(symbol) => read_shared_node(alloc, job, symbol, site, body, values),
+        Item::Terminal(_) => read_copy(alloc, job, item, site, &body, values),
+    }
+}
+
+/// Reads the record of an item from a body that a device lends, as `read_record` does from bytes.
+#[inline(always)]
+pub(crate) fn read_lent(
+    alloc: Global,
+    job: &Job<'_>,
+    item: Item,
+    site: Site,
+    body: Body<'_>,
+    values: &mut Vec<Carried>,
+) -> Result<u16, RecordFault>
+    requires { CanRun job.now }
+    ensures read { IfOk result (λ p. IsRead (setting job.now) item p
+        body.entry values.old.items values.new.items) }
+    ensures none { IsErrOf result RecordFault.Damaged
+        → IsNoRecord (setting job.now) item body.entry }
+{
+    match body.as_slice() {
+        Some(bytes) => read_record(alloc, job, item, site, bytes, values),
+        None => read_shared(alloc, job, item, site, body, values),
+    }
+}
