@@ -1,0 +1,43 @@
+-- The steps of a walk along a chain.
+use Rattle.std.proofs.Common.{◌≡◌, ◌+◌, ◌<◌, List, length, get_or, ℕ, suc, true, ◌&&◌, Some, slice_get, ap, subst, sym, ◌∙◌, arith}
+use Rattle.std.specs.Prelude.{IfSome, Result, Ok, Err, nat_eq}
+use Rattle.std.specs.Result.{OkIff, result_ok}
+use Rattle.std.proofs.lemmas.Bool.{and_parts, eqb-true}
+use Rattle.std.proofs.lemmas.Option.{slice_get-get_or}
+use Rattle.ag_grammar.specs.declared.grammar.Rule.{Rule}
+use Rattle.ag_grammar.specs.declared.grammar.Target.{Target}
+use Rattle.ag_grammar.specs.grammars.AttributeGrammar.{Grammar}
+use Rattle.causes.specs.Chains.{IsChain, IsNumberFor, IsPassedFrom, in_content, longer}
+
+-- two targets with the same numbers
+target_same : (a b : Target) → a.place ≡ b.place → a.attr ≡ b.attr → a ≡ b
+target_same a b place attr =
+    let made : ℕ → ℕ → Target = λ p n. record { place = p; attr = n } in
+    ap (λ (p : ℕ). made p a.attr) place ∙ ap (made b.place) attr
+
+-- the number of a rule with the target, where it fits its type
+pub number_found : {E : Type 0} (rules : List Rule) (target : Target) (number : ℕ) (rule : Rule) (converted : Result ℕ E) → slice_get rules number ≡ Some rule → (nat_eq rule.target.place target.place && nat_eq rule.target.attr target.attr) ≡ true → OkIff converted (number < 65536) number → IfSome (result_ok converted) (IsNumberFor rules target)
+number_found rules target number rule (Err e) there same is = tt
+number_found rules target number rule (Ok n) there same is =
+    let parts = and_parts (nat_eq rule.target.place target.place) (nat_eq rule.target.attr target.attr) same in
+    record {
+      rule = rule;
+      there = ap (slice_get rules) is.1 ∙ there;
+      gives = target_same rule.target target (eqb-true rule.target.place target.place parts.0) (eqb-true rule.target.attr target.attr parts.1);
+    }
+
+-- the rule of that number, which is read from the same list
+pub rule_there : (rules list : List Rule) (at number : ℕ) (target : Target) (rule : Rule) → list ≡ rules → at ≡ number → at < length list → rule ≡ get_or list at rule → IsNumberFor list target number → (slice_get rules number ≡ Some rule) × (rule.target ≡ target)
+rule_there rules list at number target rule same same_number within is found =
+    let there : slice_get list number ≡ Some rule = ap (slice_get list) (sym same_number) ∙ slice_get-get_or list at rule within ∙ ap Some (sym is) in
+    let both : Some found.rule ≡ Some rule = sym found.there ∙ there in
+    let one : found.rule ≡ rule = cc in
+    (ap (λ (xs : List Rule). slice_get xs number) (sym same) ∙ there, ap (λ (r : Rule). r.target) (sym one) ∙ found.gives)
+
+-- A chain that is read in a content goes on by one rule; the grammar and the content have two names.
+pub reads_on : (g h : Grammar) (old new : List ℕ) → g ≡ h → old ≡ new → (places : List ℕ) (target : Target) (there : List ℕ) (from : Target) (n : ℕ) (beyond : List ℕ) (origin : Target) → IsChain (in_content h new) places target there from n → IsPassedFrom (in_content g old) there from beyond origin → IsChain (in_content h new) places target beyond origin (n + 1)
+reads_on g h old new same_grammar same_content places target there from n beyond origin chain link =
+    let with_content : IsPassedFrom (in_content g new) there from beyond origin = subst (λ (b : List ℕ). IsPassedFrom (in_content g b) there from beyond origin) same_content link in
+    let with_both : IsPassedFrom (in_content h new) there from beyond origin = subst (λ (x : Grammar). IsPassedFrom (in_content x new) there from beyond origin) same_grammar with_content in
+    let one_more : suc n ≡ n + 1 = omega arith in
+    subst (IsChain (in_content h new) places target beyond origin) one_more (longer there from n beyond origin chain with_both)

@@ -1,0 +1,116 @@
+-- Where an error has a cause, one is found along the nodes of the tree.
+use Rattle.std.proofs.Common.{ℕ, zero, suc, ◌≡◌, ◌<◌, inl, inr, List, [], ◌∷◌, ◌++◌, map, Some, slice_get, refl, ap, ◌∙◌, sym, subst, arith}
+use Rattle.std.proofs.lemmas.List.{map-append}
+use Rattle.ag_grammar.specs.declared.grammar.Production.{Production}
+use Rattle.ag_grammar.specs.declared.grammar.Rule.{Rule}
+use Rattle.ag_grammar.specs.declared.grammar.Target.{Target}
+use Rattle.ag_grammar.specs.grammars.Accepted.{IsAccepted}
+use Rattle.ag_grammar.specs.grammars.AttributeGrammar.{Grammar, HasKind, Inherited, IsProduction, Kind, Synthesized, found_kind, given_kind, item_at, item_kinds}
+use Rattle.ag_grammar.specs.grammars.Solution.{Valuation}
+use Rattle.ag_grammar.specs.grammars.Tree.{Forest, Tree, node}
+use Rattle.origins.specs.Arising.{Table, is_arising}
+use Rattle.origins.specs.Causes.{HasCause, IsRuleAt, IsSource, here, passed, place_path, tree_at}
+use Rattle.causes.specs.Chains.{GoesTo, IsChain, IsPassedFrom, Reading, itself, longer}
+use Rattle.causes.specs.Laws.{CauseIsFound, IsFound, in_tree}
+
+-- a chain with one rule more at its beginning
+prepend : (R : Reading) (places : List ℕ) (target : Target) (there : List ℕ) (from : Target) → IsPassedFrom R places target there from → {beyond : List ℕ} {origin : Target} {n : ℕ} → IsChain R there from beyond origin n → IsChain R places target beyond origin (suc n)
+prepend R places target there from link itself = longer places target 0 there from itself link
+prepend R places target there from link (longer between via n beyond origin chain last) = longer between via (suc n) beyond origin (prepend R places target there from link chain) last
+
+-- two lists with a last number
+last_same : (xs ys : List ℕ) (x y : ℕ) → xs ++ x ∷ [] ≡ ys ++ y ∷ [] → (xs ≡ ys) × (x ≡ y)
+last_same [] [] x y e = (refl, cc)
+last_same [] (b ∷ []) x y e = absurd (let bad : ⊥ = cc in bad)
+last_same [] (b ∷ c ∷ ys) x y e = absurd (let bad : ⊥ = cc in bad)
+last_same (a ∷ []) [] x y e = absurd (let bad : ⊥ = cc in bad)
+last_same (a ∷ c ∷ xs) [] x y e = absurd (let bad : ⊥ = cc in bad)
+last_same (a ∷ xs) (b ∷ ys) x y e =
+    let head : a ≡ b = cc in
+    let tail : xs ++ x ∷ [] ≡ ys ++ y ∷ [] = cc in
+    let h = last_same xs ys x y tail in
+    (ap (λ (zs : List ℕ). a ∷ zs) h.0 ∙ ap (λ (z : ℕ). z ∷ ys) head, h.1)
+
+-- An attribute at a place of the node of a path is of a kind.
+record IsOfKind (g : Grammar) (t : Tree) (path : List ℕ) (o : Target) (kind : Kind) : Type 0 where
+  production : ℕ
+  trees : Forest
+  there : tree_at (Some t) path ≡ Some (node production trees)
+  of : Production
+  is : IsProduction g production of
+  kind_is : HasKind g of o kind
+
+-- It is of one kind.
+one_kind : (g : Grammar) (t : Tree) (path other : List ℕ) (o p : Target) (k l : Kind) → IsOfKind g t path o k → IsOfKind g t other p l → path ≡ other → o.place ≡ p.place → o.attr ≡ p.attr → k ≡ l
+one_kind g t path other o p k l a b same place attr =
+    let nodes : Some (node a.production a.trees) ≡ Some (node b.production b.trees) = sym a.there ∙ ap (tree_at (Some t)) same ∙ b.there in
+    let numbers : a.production ≡ b.production = cc in
+    let productions : Some a.of ≡ Some b.of = sym a.is ∙ ap (slice_get g.productions) numbers ∙ b.is in
+    let of : a.of ≡ b.of = cc in
+    let kinds : Some k ≡ Some l = sym a.kind_is ∙ ap (λ (q : Production). slice_get (item_kinds g (item_at q o.place)) o.attr) of ∙ ap (λ (j : ℕ). slice_get (item_kinds g (item_at b.of j)) o.attr) place ∙ ap (slice_get (item_kinds g (item_at b.of p.place))) attr ∙ b.kind_is in
+    cc
+
+kinds_differ : Inherited ≡ Synthesized → ⊥
+kinds_differ e = let bad : ⊥ = cc in bad
+
+module _ (g : Grammar) (t : Tree) where
+  -- from an argument to the rule that computes its instance
+  goes : (path beyond : List ℕ) (argument target : Target) (j i : ℕ) → argument.place ≡ j → target.place ≡ i → IsOfKind g t path argument (found_kind j) → IsOfKind g t beyond target (given_kind i) → place_path path j ≡ place_path beyond i → argument.attr ≡ target.attr → GoesTo (map suc path) argument (map suc beyond) target
+  goes path beyond argument target zero zero ej ei taken given same attr = absurd (kinds_differ (one_kind g t path beyond argument target Inherited Synthesized taken given same (ej ∙ sym ei) attr))
+  goes path beyond argument target zero (suc i) ej ei taken given same attr = (sym attr, inl (ej, ap (map suc) same ∙ map-append suc beyond (i ∷ []) ∙ ap (λ (z : ℕ). map suc beyond ++ z ∷ []) (sym ei)))
+  goes path beyond argument target (suc j) zero ej ei taken given same attr = (sym attr, inr (subst (λ (z : ℕ). 0 < z) (sym ej) (omega arith), ap (map suc) (sym same) ∙ map-append suc path (j ∷ []) ∙ ap (λ (z : ℕ). map suc path ++ z ∷ []) (sym ej), ei))
+  goes path beyond argument target (suc j) (suc i) ej ei taken given same attr =
+      let both = last_same path beyond j i same in
+      absurd (kinds_differ (sym (one_kind g t path beyond argument target Synthesized Inherited taken given both.0 (ej ∙ ap suc both.1 ∙ sym ei) attr)))
+
+-- what is found, and that its first rule is one of its node
+record IsFoundAt (g : Grammar) (t : Tree) (v : Valuation) (instance : List ℕ) (attr : ℕ) : Type 0 where
+  found : IsFound g t v instance attr
+  given : IsOfKind g t found.path found.target (given_kind found.target.place)
+
+module _ (g : Grammar) (t : Tree) (v : Valuation) (accepted : IsAccepted g) where
+  given_by : (path : List ℕ) (r : Rule) (e : Table) (is : IsRuleAt g t v path r e) → IsOfKind g t path r.target (given_kind r.target.place)
+  given_by path r e is = record { production = is.production; trees = is.trees; there = is.there; of = is.of; is = is.is; kind_is = (accepted.complete is.production is.of is.is).no_other is.rule.0 r is.rule.1 }
+
+  find : {instance : List ℕ} {attr : ℕ} → HasCause g t v instance attr → IsFoundAt g t v instance attr
+  find (here path r e is on) = record {
+    found = record {
+      path = path;
+      target = r.target;
+      of_instance = refl;
+      of_attr = refl;
+      there = map suc path;
+      number = is.rule.0;
+      steps = 0;
+      cause = record {
+        from = r.target;
+        chain = itself;
+        arises = record { path = path; counted = refl; production = is.production; trees = is.trees; there = is.there; of = is.of; is = is.is; next = record { rule = r; there = is.rule.1; gives = refl; arises = ap (λ (z : Table). is_arising z r) (sym is.values) ∙ on } };
+      };
+    };
+    given = given_by path r e is;
+  }
+  find (passed path r e k o is source takes cause) =
+      let f = find cause in
+      let h = f.found in
+      let taken : IsOfKind g t path o (found_kind o.place) = record { production = is.production; trees = is.trees; there = is.there; of = is.of; is = is.is; kind_is = accepted.normal is.production is.of is.is is.rule.0 r is.rule.1 k o takes } in
+      let link : IsPassedFrom (in_tree g t v) (map suc path) r.target (map suc h.path) h.target = record {
+        argument = o;
+        passes = record { path = path; counted = refl; production = is.production; trees = is.trees; there = is.there; of = is.of; is = is.is; next = record { number = is.rule.0; rule = r; there = is.rule.1; gives = refl; index = k; takes = takes; source = subst (λ (z : Table). IsSource r z k) is.values source } };
+        goes = goes g t path h.path o h.target o.place h.target.place refl refl taken f.given h.of_instance h.of_attr;
+      } in record {
+        found = record {
+          path = path;
+          target = r.target;
+          of_instance = refl;
+          of_attr = refl;
+          there = h.there;
+          number = h.number;
+          steps = suc h.steps;
+          cause = record { from = h.cause.from; chain = prepend (in_tree g t v) (map suc path) r.target (map suc h.path) h.target link h.cause.chain; arises = h.cause.arises };
+        };
+        given = given_by path r e is;
+      }
+
+pub cause_is_found : CauseIsFound
+cause_is_found g t v instance attr accepted cause = (find g t v accepted cause).found

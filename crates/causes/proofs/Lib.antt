@@ -1,0 +1,3 @@
+pub mod ChainSteps
+pub mod Found
+pub mod InTree

@@ -1,0 +1,104 @@
+-- The chain of rules that passed an error on, from one rule to that in which the error arises. All of this is this project's.
+use Rattle.std.specs.Prelude.{ℕ, suc, ◌≡◌, ◌<◌, ◌⊎◌, List, [], ◌∷◌, ◌++◌, map, Some, Ok, slice_get, true}
+use Rattle.ag_value.specs.declared.value.Value.{Value}
+use Rattle.ag_grammar.specs.declared.grammar.Production.{Production}
+use Rattle.ag_grammar.specs.declared.grammar.Rule.{Rule}
+use Rattle.ag_grammar.specs.declared.grammar.Target.{Target}
+use Rattle.ag_grammar.specs.grammars.AttributeGrammar.{Grammar, IsProduction}
+use Rattle.treefile.specs.records.TreeFile.{version_two}
+use Rattle.treefile.specs.ways.Ending.{body_before}
+use Rattle.origins.specs.Arising.{Table, is_arising}
+use Rattle.origins.specs.Causes.{IsSource}
+use Rattle.origins.specs.Records.{IsNode}
+use Rattle.origins.specs.Rows.{table_of}
+use Rattle.causes.specs.declared.next_rule.Next.{Next}
+use Rattle.causes.specs.declared.next_rule.Next.TheVariants as rule_does
+use Rattle.causes.specs.declared.chain.PathNode.{PathNode}
+use Rattle.causes.specs.declared.chain.Step.{Step}
+use Rattle.causes.specs.declared.chain.Step.TheVariants as step
+
+-- the rule of a number is for a target
+pub record IsNumberFor (rules : List Rule) (target : Target) (number : ℕ) : Type 0 where
+  pub rule : Rule
+  pub there : slice_get rules number ≡ Some rule
+  pub gives : rule.target ≡ target
+
+-- A rule for a target passes on the error of an argument: with other errors in the place of those before it the rule has the same
+-- error, and with another one in its place too it has not.
+pub record Passes (rules : List Rule) (e : Table) (target argument : Target) : Type 0 where
+  pub number : ℕ
+  pub rule : Rule
+  pub there : slice_get rules number ≡ Some rule
+  pub gives : rule.target ≡ target
+  pub index : ℕ
+  pub takes : slice_get rule.args index ≡ Some argument
+  pub source : IsSource rule e index
+
+-- An error arises in the rule of a number, which is for a target.
+pub record Arises (rules : List Rule) (e : Table) (target : Target) (number : ℕ) : Type 0 where
+  pub rule : Rule
+  pub there : slice_get rules number ≡ Some rule
+  pub gives : rule.target ≡ target
+  pub arises : is_arising e rule ≡ true
+
+-- what the rule for a target does
+abbrev pub DoesNext : List Rule → Table → Target → Next → Type 0
+DoesNext rules e target (rule_does.Passes argument) = Passes rules e target argument
+DoesNext rules e target (rule_does.Arises number) = Arises rules e target number
+
+-- and at a node of the production of a number, with the values of its record
+pub record DoesNextAt (g : Grammar) (p : ℕ) (vs : List Value) (target : Target) (does : Next) : Type 0 where
+  pub production : Production
+  pub there : IsProduction g p production
+  pub next : DoesNext production.rules (table_of g production vs) target does
+
+-- What is read at the end of some places from the root: what the rule for a target does at the node there.
+abbrev pub Reading : Type 1
+Reading = List ℕ → Target → Next → Type 0
+
+-- A record of a content, which is that of a node, says what the rule for a target does there.
+pub record IsInRecord (g : Grammar) (content : List ℕ) (target : Target) (does : Next) : Type 0 where
+  pub end : ℕ
+  pub body : List ℕ
+  pub there : body_before version_two content end ≡ Ok body
+  pub production : ℕ
+  pub values : List Value
+  pub is_node : IsNode g body production values
+  pub next : DoesNextAt g production values target does
+
+-- What is read in a content: which of its records is the one of the node at the end of the places is not said.
+abbrev pub in_content : Grammar → List ℕ → Reading
+in_content g content places target does = IsInRecord g content target does
+
+-- the places that lead from the root to the last of some nodes
+abbrev pub places_of : List PathNode → List ℕ
+places_of nodes = map (λ (n : PathNode). n.place) nodes
+
+-- Where the rule for an argument of a rule is: for an attribute of the node itself at its parent, whose rule has it as a target at the
+-- node's place; for an attribute of a child at the child. The places lead from the root to the nodes.
+abbrev pub GoesTo : List ℕ → Target → List ℕ → Target → Type 0
+GoesTo places argument there target = (target.attr ≡ argument.attr) × (((argument.place ≡ 0) × (places ≡ there ++ target.place ∷ [])) ⊎ ((0 < argument.place) × (there ≡ places ++ argument.place ∷ []) × (target.place ≡ 0)))
+
+-- The rule for a target at one node passes on the error of the rule for another target at another node.
+pub record IsPassedFrom (R : Reading) (places : List ℕ) (target : Target) (there : List ℕ) (from : Target) : Type 0 where
+  pub argument : Target
+  pub passes : R places target (rule_does.Passes argument)
+  pub goes : GoesTo places argument there from
+
+-- What following a rule leads to: to the one whose error it passes on, or nowhere if the error arises in it.
+abbrev pub Follows : Reading → List ℕ → Target → List ℕ → Step → Type 0
+Follows R places target there (step.To from) = IsPassedFrom R places target there from
+Follows R places target there (step.Arises number) = (there ≡ places) × R places target (rule_does.Arises number)
+Follows R places target there step.Nothing = Unit {0}
+
+-- A chain of n rules that passed an error on, from the rule for a target at a node back to the rule whose error it was.
+pub data IsChain (R : Reading) (places : List ℕ) (target : Target) : List ℕ → Target → ℕ → Type 0 where
+  itself : IsChain R places target places target 0
+  longer : (there : List ℕ) (from : Target) (n : ℕ) (beyond : List ℕ) (origin : Target) → IsChain R places target there from n → IsPassedFrom R there from beyond origin → IsChain R places target beyond origin (suc n)
+
+-- The cause of the error that the rule for a target computes at the node at the end of some places: the rule of a number, at the node
+-- at the end of other places. The error arises in it, and n rules passed it on.
+pub record IsCause (R : Reading) (places : List ℕ) (target : Target) (there : List ℕ) (number : ℕ) (n : ℕ) : Type 0 where
+  pub from : Target
+  pub chain : IsChain R places target there from n
+  pub arises : R there from (rule_does.Arises number)

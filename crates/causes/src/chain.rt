@@ -1,0 +1,262 @@
+//! The chain of rules that passed an error on.
+
+ghost use Rattle.std.specs.Prelude.{◌≡◌, ◌++◌, ◌∷◌, [], IfOk, IfSome, IsErrOf, IsTrue};
+ghost use Rattle.causes.specs.Chains.{Follows, GoesTo, IsCause, IsInRecord, in_content, places_of};
+ghost use Rattle.treefile.specs.devices.Device.{LeavesContent, Persists, WhenHonest};
+
+use crate::bodies::body_before;
+use crate::next_rule::{Next, next_at};
+use ag_grammar::limits::MOST_NODES;
+use ag_grammar::{Grammar, Item, Target};
+use origins::{Record, RecordFault, record_of};
+use std::alloc::Global;
+use tree_index::{TreeFault, TreeIndex};
+use treefile::Device;
+
+/// The greatest number of rules in a chain: 16 attributes for each node.
+const MAX_STEPS: u32 = 16 * MOST_NODES;
+
+/// The cause of an error.
+#[derive(Debug, Drop)]
+pub struct Cause {
+    /// The number of the node, in the index, in whose rule the error arises.
+    pub node: u32,
+    /// The places of children, from 1, that lead from the root to that node.
+    pub places: Vec<u16>,
+    /// The number of the rule, in the production of that node.
+    pub rule: u16,
+    /// The number of rules that passed the error on.
+    pub steps: u32,
+}
+
+/// Where a chain begins: the places from the root to a node, and the target of a rule there.
+#[derive(Clone, Copy)]
+pub struct Start<'a> {
+    /// The places of children, from 1.
+    pub places: &'a [u16],
+    /// The target.
+    pub target: Target,
+}
+
+/// A node below the root, and its place at its parent, from 1.
+#[derive(Clone, Copy)]
+pub(crate) struct PathNode {
+    node: u32,
+    place: u16,
+}
+
+/// What following one rule leads to.
+#[derive(Clone, Copy)]
+pub(crate) enum Step {
+    /// The next rule of the chain: the one for this target, at the node at which the chain now is.
+    To(Target),
+    /// The error arises in the rule of this number, at the node at which the chain is.
+    Arises(u16),
+    /// The target has no rule, the rule's value is not an error, or its argument has no rule.
+    Nothing,
+}
+
+/// A chain of rules, as far as it was followed.
+#[derive(Drop)]
+struct Chain<'a> {
+    grammar: &'a Grammar,
+    index: &'a TreeIndex,
+    /// The nodes below the root, down to that of the last rule; none if it is a rule of the root.
+    nodes: Vec<PathNode>,
+}
+
+impl<'a> Chain<'a> {
+    /// Reads the record of the node at which the chain is, and returns what the rule for a target does there.
+    fn read_next<D: Device>(
+        &self,
+        alloc: Global,
+        target: Target,
+        device: &mut D,
+    ) -> Result<Option<Next>, TreeFault>
+        ensures next { IfOk result (λ next. IfSome next (λ does. WhenHonest (D.is_honest device.new)
+            (IsInRecord self.now.grammar.now (D.content device.old) target does))) }
+        ensures content { LeavesContent (D.is_honest device.new)
+            (D.content device.old) (D.content device.new) }
+        ensures persists { Persists (D.is_honest device.old) (D.is_honest device.new)
+            (D.failures device.old) (D.failures device.new) (IsErrOf result TreeFault.Device) }
+    {
+        let Some((end, item)) = self.record() else {
+            return Ok(None);
+        };
+        let body = body_before(alloc, device, end)?;
+        match record_of(alloc, self.grammar, item, body.as_slice()) {
+            Ok(Record::Node(number, values)) => {
+                Ok(next_at(alloc, self.grammar, number, values.as_slice(), target)?)
+            }
+            Ok(Record::Token) => Ok(None),
+            Err(RecordFault::Damaged) => Err(TreeFault::Damaged(end)),
+            Err(RecordFault::NoMemory) => Err(TreeFault::NoMemory),
+        }
+    }
+
+    /// Returns the number of the node at which the chain is.
+    fn node(&self) -> u32 {
+        match self.nodes.last() {
+            Some(last) => last.node,
+            None => 0,
+        }
+    }
+
+    /// Returns the end of the record of the node at which the chain is, and its item.
+    fn record(&self) -> Option<(u64, Item)> {
+        let node = self.node();
+        Some((self.index.end(node)?, self.index.item(self.grammar, node)?))
+    }
+
+    /// Goes to the child at a place. Returns whether there is one.
+    fn go_to_child(&mut self, place: u16) -> Result<bool, TreeFault>
+        ensures places { IfOk result (λ found. IsTrue found → places_of self.new.nodes.items
+            ≡ places_of self.old.nodes.items ++ place ∷ []) }
+        ensures grammar { self.new.grammar ≡ self.old.grammar }
+        ensures device { IsErrOf result TreeFault.Device → ⊥ }
+    {
+        let Some(node) = self.index.child(self.grammar, self.node(), place) else {
+            return Ok(false);
+        };
+        let Ok(()) = self.nodes.push(PathNode { node, place }) else {
+            return Err(TreeFault::NoMemory);
+        };
+        Ok(true)
+    }
+
+    /// Goes from the root to the node at the end of some places. Returns whether there is such a node.
+    fn go_down(&mut self, places: &[u16]) -> Result<bool, TreeFault>
+        requires root { self.old.nodes.items ≡ [] }
+        ensures places { IfOk result (λ found. IsTrue found
+            → places_of self.new.nodes.items ≡ places.now) }
+        ensures grammar { self.new.grammar ≡ self.old.grammar }
+        ensures device { IsErrOf result TreeFault.Device → ⊥ }
+    {
+        for place in places {
+            if !self.go_to_child(*place)? {
+                return Ok(false);
+            }
+        }
+        Ok(true)
+    }
+
+    /// Goes to the node of the rule for an argument, and returns the target of that rule. Returns `None` if
+    /// the index does not have that node.
+    fn go_to(&mut self, argument: Target) -> Result<Option<Target>, TreeFault>
+        ensures goes { IfOk result (λ target. IfSome target (GoesTo
+            (places_of self.old.nodes.items) argument (places_of self.new.nodes.items))) }
+        ensures grammar { self.new.grammar ≡ self.old.grammar }
+        ensures device { IsErrOf result TreeFault.Device → ⊥ }
+    {
+        let attr = argument.attr;
+        if argument.place == 0 {
+            return Ok(self.go_up(attr));
+        }
+        if !self.go_to_child(argument.place)? {
+            return Ok(None);
+        }
+        Ok(Some(Target { place: 0, attr }))
+    }
+
+    /// Goes to the parent, and returns the target of the rule there for an inherited attribute of the node.
+    fn go_up(&mut self, attr: u16) -> Option<Target>
+        ensures goes { IfSome result (λ target. (target.attr ≡ attr) × (places_of self.old.nodes.items
+            ≡ places_of self.new.nodes.items ++ target.place ∷ [])) }
+        ensures grammar { self.new.grammar ≡ self.old.grammar }
+    {
+        let left = self.nodes.pop()?;
+        Some(Target {
+            place: left.place,
+            attr,
+        })
+    }
+
+    /// Follows the rule for a target, at the node at which the chain is, to the next rule.
+    fn step<D: Device>(
+        &mut self,
+        alloc: Global,
+        target: Target,
+        device: &mut D,
+    ) -> Result<Step, TreeFault>
+        ensures step { IfOk result (λ step. WhenHonest (D.is_honest device.new) (Follows
+            (in_content self.old.grammar.now (D.content device.old)) (places_of self.old.nodes.items)
+            target (places_of self.new.nodes.items) step)) }
+        ensures grammar { self.new.grammar ≡ self.old.grammar }
+        ensures content { LeavesContent (D.is_honest device.new)
+            (D.content device.old) (D.content device.new) }
+        ensures persists { Persists (D.is_honest device.old) (D.is_honest device.new)
+            (D.failures device.old) (D.failures device.new) (IsErrOf result TreeFault.Device) }
+    {
+        match self.read_next(alloc, target, device)? {
+            Some(Next::Passes(argument)) => match self.go_to(argument)? {
+                Some(next) => Ok(Step::To(next)),
+                None => Ok(Step::Nothing),
+            },
+            Some(Next::Arises(rule)) => Ok(Step::Arises(rule)),
+            None => Ok(Step::Nothing),
+        }
+    }
+
+    /// Returns the places from the root to the node at which the chain is.
+    fn places(&self, alloc: Global) -> Result<Vec<u16>, TreeFault>
+        ensures places { IfOk result (λ places. places.items ≡ places_of self.now.nodes.items) }
+        ensures device { IsErrOf result TreeFault.Device → ⊥ }
+    {
+        let mut places = Vec::new(alloc);
+        for node in self.nodes.as_slice() {
+            let Ok(()) = places.push(node.place) else {
+                return Err(TreeFault::NoMemory);
+            };
+        }
+        Ok(places)
+    }
+}
+
+/// Finds the cause of an error, which the rule for a target computes: follows the rules that passed the error
+/// on. `device` contains the file of the last pass, and `index` is its index.
+///
+/// Returns `None` if the target has no rule, the rule's value is not an error, or the file does not have the chain.
+/// Fails with R1 if a record on it is damaged, with D1 if a call of the device fails, and if memory is
+/// refused. Reads a record for each rule in the chain.
+pub fn find_cause<D: Device>(
+    alloc: Global,
+    grammar: &Grammar,
+    index: &TreeIndex,
+    start: &Start<'_>,
+    device: &mut D,
+) -> Result<Option<Cause>, TreeFault>
+    // The error arises in the rule, and the rules of that number passed it on, each from one of its arguments
+    ensures found { IfOk result (λ cause. IfSome cause (λ cause. WhenHonest (D.is_honest device.new)
+        (IsCause (in_content grammar.now (D.content device.old)) start.now.places.now
+        start.now.target cause.places.items cause.rule cause.steps))) }
+    ensures content { LeavesContent (D.is_honest device.new)
+        (D.content device.old) (D.content device.new) }
+    ensures persists { Persists (D.is_honest device.old) (D.is_honest device.new)
+        (D.failures device.old) (D.failures device.new) (IsErrOf result TreeFault.Device) }
+{
+    let mut chain = Chain {
+        grammar,
+        index,
+        nodes: Vec::new(alloc),
+    };
+    if !chain.go_down(start.places)? {
+        return Ok(None);
+    }
+    let mut target = start.target;
+    for steps in 0..MAX_STEPS {
+        match chain.step(alloc, target, device)? {
+            Step::To(next) => target = next,
+            Step::Arises(rule) => {
+                let places = chain.places(alloc)?;
+                return Ok(Some(Cause {
+                    node: chain.node(),
+                    places,
+                    rule,
+                    steps,
+                }));
+            }
+            Step::Nothing => return Ok(None),
+        }
+    }
+    Ok(None)
+}

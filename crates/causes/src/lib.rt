@@ -1,0 +1,15 @@
+//! The cause of an error: the rule in which it arises, at the end of the chain of rules that passed it on.
+//!
+//! `find_cause` follows the chain along the index of the tree file of the last pass, and reads only the
+//! records on it.
+#![tactic(auto)]
+
+mod bodies;
+mod chain;
+pub mod laws;
+mod next_rule;
+mod tokens;
+
+pub use chain::{Cause, Start, find_cause};
+pub use next_rule::rule_for;
+pub use tokens::{TokenCounts, tokens_before};

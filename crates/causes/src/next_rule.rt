@@ -1,0 +1,83 @@
+//! What a rule does with an error: it passes on the error of an argument, or the error arises in it.
+
+ghost use Rattle.std.specs.Prelude.{◌≡◌, All, IfOk, IfSome, length};
+ghost use Rattle.ag_grammar.specs.Lists.{Each};
+ghost use Rattle.ag_grammar.specs.declared.grammar.Rule.{Rule as TheRule};
+ghost use Rattle.ag_value.specs.Well.{IsWell};
+ghost use Rattle.origins.specs.Rows.{table_of};
+ghost use Rattle.causes.specs.Chains.{DoesNext, DoesNextAt, IsNumberFor};
+
+use ag_grammar::{Grammar, Rule, Target};
+use ag_value::{NoMemory, Value};
+use origins::Row;
+use std::alloc::Global;
+
+/// What a rule does with an error.
+#[derive(Clone, Copy)]
+pub(crate) enum Next {
+    /// It passes on the error of this argument.
+    Passes(Target),
+    /// The error arises in it. This is its number in its production.
+    Arises(u16),
+}
+
+/// Returns the number of the rule for a target, from 0. Returns `None` if no rule has that target.
+pub fn rule_for(rules: &[Rule], target: Target) -> Option<u16>
+    ensures { IfSome result (IsNumberFor rules.now target) }
+{
+    for (number, rule) in rules.iter().enumerate() {
+        if rule.target == target {
+            return u16::try_from(number).ok();
+        }
+    }
+    None
+}
+
+/// Returns what the rule for a target does at a node. Returns `None` if the node has no such rule, or the
+/// rule's value is not an error.
+fn next_in(alloc: Global, row: &Row<'_>, target: Target) -> Result<Option<Next>, NoMemory>
+    requires arguments { Each (λ (r : TheRule). length r.args ≡ length r.expr.1)
+        row.now.production.now.rules }
+    ensures { IfOk result (λ next. IfSome next (DoesNext row.now.production.now.rules
+        (table_of row.now.grammar.now row.now.production.now row.now.values.now) target)) }
+{
+    let rules = row.production.rules.as_slice();
+    let Some(number) = rule_for(rules, target) else {
+        return Ok(None);
+    };
+    let Some(rule) = rules.get(usize::from(number)) else {
+        return Ok(None);
+    };
+    if let Some(argument) = row.source_of(alloc, rule)? {
+        return Ok(Some(Next::Passes(argument)));
+    }
+    if row.is_arising(alloc, rule)? {
+        return Ok(Some(Next::Arises(number)));
+    }
+    Ok(None)
+}
+
+/// Returns what the rule for a target does at a node of the production of a number, with the values of its
+/// record. Returns `None` as `next_in` does.
+pub(crate) fn next_at(
+    alloc: Global,
+    grammar: &Grammar,
+    number: u16,
+    values: &[Value],
+    target: Target,
+) -> Result<Option<Next>, NoMemory>
+    requires well { All IsWell values.now }
+    ensures { IfOk result (λ next. IfSome next
+        (DoesNextAt grammar.now number values.now target)) }
+{
+    if grammar.productions().len() <= number as usize {
+        return Ok(None);
+    }
+    let production = &grammar.productions()[number as usize];
+    let row = Row {
+        grammar,
+        production,
+        values,
+    };
+    next_in(alloc, &row, target)
+}

@@ -1,0 +1,176 @@
+-- The children of a node in the order of a walk.
+use Rattle.std.proofs.Common.{◌≡◌, ℕ, zero, suc, ◌+◌, ◌-◌, ◌<◌, ◌≤◌, inl, inr, List, [], ◌∷◌, ◌++◌, length, drop, map, reverse, get_or, Some, None, slice_get, refl, ap, sym, subst, ◌∙◌, arith}
+use Rattle.std.specs.List.{flat_map}
+use Rattle.std.proofs.lemmas.Grind.{flat_map-append}
+use Rattle.std.proofs.lemmas.List.{append-nil, get_or-reverse, length-reverse, map-append, reverse-append, reverse-reverse}
+use Rattle.std.proofs.lemmas.Option.{get_or_from_slice_get, slice_get-get_or, slice_get_within}
+use Rattle.ag_grammar.specs.declared.grammar.Item.{Item}
+use Rattle.ag_grammar.specs.grammars.AttributeGrammar.{Grammar}
+use Rattle.ag_grammar.specs.declared.direction.Direction.{Direction}
+use Rattle.ag_grammar.specs.declared.direction.Direction.TheVariants.{LeftToRight, RightToLeft}
+use Rattle.ag_grammar.specs.grammars.Passes.{Passes, nth}
+use Rattle.ag_grammar.specs.grammars.Solution.{AtEachNodeOf, NoRule, SolvesAll, Valuation, WellAt, rest}
+use Rattle.ag_grammar.specs.grammars.Tree.{FitsAll, Forest, Tree, none, more}
+use Rattle.treefile.specs.records.OneTree.{IsRecorded}
+use Rattle.treefile.specs.records.Orders.{prefix, prefix_all}
+use Rattle.treefile.specs.records.Records.{bodies_of, bodies_of_all}
+use Rattle.treefile.specs.records.TreeFile.{version_two}
+use Rattle.origins.specs.Origins.{HasOrigin, child, origin_count, origin_counts}
+use Rattle.origins.specs.Walking.{Kid, StandsIn, bodies_of_kid, count_in, in_order, kids, last_of, way}
+use Rattle.origins.specs.declared.walk.Open.{Open}
+
+reverse_more : {X : Type 0} (x : X) (xs : List X) → reverse (x ∷ xs) ≡ reverse xs ++ x ∷ []
+reverse_more x xs = reverse-append (x ∷ []) xs
+
+-- the path below open nodes, the root's first
+way_turned : (d : Direction) (os : List Open) → way d os ≡ map (last_of d) (reverse os)
+way_turned d [] = refl
+way_turned d (o ∷ os) = ap (λ (z : List ℕ). z ++ last_of d o ∷ []) (way_turned d os) ∙ sym (map-append (last_of d) (reverse os) (o ∷ [])) ∙ ap (map (last_of d)) (sym (reverse_more o os))
+
+pub way_of : (d : Direction) (nodes : List Open) → way d (reverse nodes) ≡ map (last_of d) nodes
+way_of d nodes = way_turned d (reverse nodes) ∙ ap (map (last_of d)) (reverse-reverse nodes)
+
+-- a child as it is in the list
+abbrev kid_of : ℕ → Tree → Valuation → Kid
+kid_of n t v = record { number = n; tree = t; values = v }
+
+module _ (g : Grammar) (m : Passes) (k : ℕ) where
+  -- the records of all children
+  pub kids_bodies : (d : Direction) (n : ℕ) (ts : Forest) (vs : ℕ → Valuation) → flat_map (bodies_of_kid g m k d) (in_order d (kids n ts vs)) ≡ prefix_all d (bodies_of_all version_two g m k ts vs)
+  kids_bodies LeftToRight n none vs = refl
+  kids_bodies RightToLeft n none vs = refl
+  kids_bodies LeftToRight n (more t ts) vs = ap (λ (bodies : List (List ℕ)). prefix LeftToRight (bodies_of version_two g m k t (vs 0)) ++ bodies) (kids_bodies LeftToRight (suc n) ts (rest vs))
+  kids_bodies RightToLeft n (more t ts) vs =
+      let kid : Kid = kid_of n t (vs 0) in
+      let others : List Kid = kids (suc n) ts (rest vs) in
+      ap (flat_map (bodies_of_kid g m k RightToLeft)) (reverse_more kid others)
+      ∙ flat_map-append (bodies_of_kid g m k RightToLeft) (reverse others) (kid ∷ [])
+      ∙ ap (λ (bodies : List (List ℕ)). bodies ++ (prefix RightToLeft (bodies_of version_two g m k t (vs 0)) ++ [])) (kids_bodies RightToLeft (suc n) ts (rest vs))
+      ∙ ap (λ (bodies : List (List ℕ)). prefix_all RightToLeft (bodies_of_all version_two g m k ts (rest vs)) ++ bodies) (append-nil (prefix RightToLeft (bodies_of version_two g m k t (vs 0))))
+
+  -- a child fits the item of its number
+  pub kid_recorded : (xs : List Item) (n : ℕ) (ts : Forest) (vs : ℕ → Valuation) (i : ℕ) (kid : Kid) (x : Item) → FitsAll g xs ts → SolvesAll NoRule g ts vs → AtEachNodeOf (WellAt (λ p. p ≤ k)) g m ts vs vs → slice_get (kids n ts vs) i ≡ Some kid → slice_get xs i ≡ Some x → IsRecorded g m k x kid.tree kid.values
+  kid_recorded xs n none vs i kid x f s w at is = absurd (let bad : ⊥ = cc in bad)
+  kid_recorded [] n (more t ts) vs i kid x f s w at is = elim f [ ]
+  kid_recorded (y ∷ xs) n (more t ts) vs zero kid x f s w at is =
+      let same : kid_of n t (vs 0) ≡ kid = cc in
+      let item : y ≡ x = cc in
+      let one : IsRecorded g m k y t (vs 0) = record { fits = f.0; texts = s.0; well = w.0 } in
+      subst (λ (z : Kid). IsRecorded g m k x z.tree z.values) same (subst (λ z. IsRecorded g m k z t (vs 0)) item one)
+  kid_recorded (y ∷ xs) n (more t ts) vs (suc i) kid x f s w at is = kid_recorded xs (suc n) ts (rest vs) i kid x f.1 s.1 w.1 at is
+
+-- a child has its number
+pub kid_number : (n : ℕ) (ts : Forest) (vs : ℕ → Valuation) (i : ℕ) (kid : Kid) → slice_get (kids n ts vs) i ≡ Some kid → kid.number ≡ n + i
+kid_number n none vs i kid e = absurd (let bad : ⊥ = cc in bad)
+kid_number n (more t ts) vs zero kid e =
+    let same : kid_of n t (vs 0) ≡ kid = cc in
+    let number : n ≡ kid.number = ap (λ (z : Kid). z.number) same in
+    omega arith
+kid_number n (more t ts) vs (suc i) kid e = let later = kid_number (suc n) ts (rest vs) i kid e in omega arith
+
+-- and there are as many as items
+pub kids_length : (g : Grammar) (xs : List Item) (n : ℕ) (ts : Forest) (vs : ℕ → Valuation) → FitsAll g xs ts → length (kids n ts vs) ≡ length xs
+kids_length g [] n none vs f = refl
+kids_length g [] n (more t ts) vs f = elim f [ ]
+kids_length g (x ∷ xs) n none vs f = elim f [ ]
+kids_length g (x ∷ xs) n (more t ts) vs f = ap suc (kids_length g xs (suc n) ts (rest vs) f.1)
+
+pub order_length : {X : Type 0} (d : Direction) (xs : List X) → length (in_order d xs) ≡ length xs
+order_length LeftToRight xs = refl
+order_length RightToLeft xs = length-reverse xs
+
+-- the child at an index in the order of the walk
+pub ordered_at : {X : Type 0} (d : Direction) (xs : List X) (i : ℕ) (x : X) → slice_get (in_order d xs) i ≡ Some x → slice_get xs (nth d (length xs) i) ≡ Some x
+ordered_at LeftToRight xs i x e = e
+ordered_at RightToLeft xs i x e =
+    let within = slice_get_within (reverse xs) i x e in
+    let long = length-reverse xs in
+    let less : i < length xs = omega arith in
+    let place : length xs - suc i ≡ length xs - 1 - i = omega arith in
+    let value : get_or xs (length xs - 1 - i) x ≡ x = sym (get_or-reverse xs i x less) ∙ get_or_from_slice_get (reverse xs) i x x e in
+    ap (slice_get xs) place ∙ slice_get-get_or xs (length xs - 1 - i) x (omega arith) ∙ ap Some value
+
+pub is_there : {X : Type 0} (xs : List X) (i : ℕ) → i < length xs → (x : X) × (slice_get xs i ≡ Some x)
+is_there [] i less = absurd (omega arith)
+is_there (x ∷ xs) zero less = (x, refl)
+is_there (x ∷ xs) (suc i) less = is_there xs i (omega arith)
+
+pub drop_there : {X : Type 0} (xs : List X) (i : ℕ) (x : X) → slice_get xs i ≡ Some x → drop i xs ≡ x ∷ drop (suc i) xs
+drop_there [] i x e = absurd (let bad : ⊥ = cc in bad)
+drop_there (y ∷ xs) zero x e = let same : y ≡ x = cc in ap (λ z. z ∷ xs) same
+drop_there (y ∷ xs) (suc i) x e = drop_there xs i x e
+
+module _ (g : Grammar) where
+  count_append : (xs ys : List Kid) → count_in g (xs ++ ys) ≡ count_in g xs + count_in g ys
+  count_append [] ys = omega arith
+  count_append (x ∷ xs) ys = omega (arith, count_append xs ys)
+
+  count_reverse : (xs : List Kid) → count_in g (reverse xs) ≡ count_in g xs
+  count_reverse [] = refl
+  count_reverse (x ∷ xs) = ap (count_in g) (reverse_more x xs) ∙ omega (arith, count_append (reverse xs) (x ∷ []), count_reverse xs)
+
+  count_kids : (n : ℕ) (ts : Forest) (vs : ℕ → Valuation) → count_in g (kids n ts vs) ≡ origin_counts g ts vs
+  count_kids n none vs = refl
+  count_kids n (more t ts) vs = ap (λ z. origin_count g t (vs 0) + z) (count_kids (suc n) ts (rest vs))
+
+  pub count_ordered : (d : Direction) (n : ℕ) (ts : Forest) (vs : ℕ → Valuation) → count_in g (in_order d (kids n ts vs)) ≡ origin_counts g ts vs
+  count_ordered LeftToRight n ts vs = count_kids n ts vs
+  count_ordered RightToLeft n ts vs = count_reverse (kids n ts vs) ∙ count_kids n ts vs
+
+  -- where there is no tree there are not any origins
+  pub none_below : (path : List ℕ) (v : Valuation) → HasOrigin g path None v → ⊥
+  none_below [] v h = omega arith
+  none_below (i ∷ path) v h = none_below path (λ p. v (i ∷ p)) h
+
+  stands_left : (xs ys : List Kid) (path : List ℕ) → StandsIn g xs path → StandsIn g (xs ++ ys) path
+  stands_left [] ys path h = absurd h
+  stands_left (x ∷ xs) ys path h = elim h [ inl a ↦ inl a | inr b ↦ inr (stands_left xs ys path b) ]
+
+  stands_right : (xs ys : List Kid) (path : List ℕ) → StandsIn g ys path → StandsIn g (xs ++ ys) path
+  stands_right [] ys path h = h
+  stands_right (x ∷ xs) ys path h = inr (stands_right xs ys path h)
+
+  stands_reversed : (xs : List Kid) (path : List ℕ) → StandsIn g xs path → StandsIn g (reverse xs) path
+  stands_reversed [] path h = absurd h
+  stands_reversed (x ∷ xs) path h = subst (λ (zs : List Kid). StandsIn g zs path) (sym (reverse_more x xs)) (elim h [ inl a ↦ stands_right (reverse xs) (x ∷ []) path (inl a) | inr b ↦ stands_left (reverse xs) (x ∷ []) path (stands_reversed xs path b) ])
+
+  stands_ordered : (d : Direction) (xs : List Kid) (path : List ℕ) → StandsIn g xs path → StandsIn g (in_order d xs) path
+  stands_ordered LeftToRight xs path h = h
+  stands_ordered RightToLeft xs path h = stands_reversed xs path h
+
+  stands_unordered : (d : Direction) (xs : List Kid) (path : List ℕ) → StandsIn g (in_order d xs) path → StandsIn g xs path
+  stands_unordered LeftToRight xs path h = h
+  stands_unordered RightToLeft xs path h = subst (λ (zs : List Kid). StandsIn g zs path) (reverse-reverse xs) (stands_reversed (reverse xs) path h)
+
+  stands_at : (n : ℕ) (ts : Forest) (vs : ℕ → Valuation) (i : ℕ) (path : List ℕ) → HasOrigin g path (child ts i) (vs i) → StandsIn g (kids n ts vs) ((n + i) ∷ path)
+  stands_at n none vs i path h = absurd (none_below path (vs i) h)
+  stands_at n (more t ts) vs zero path h = let number : n + 0 ≡ n = omega arith in inl (path, ap (λ z. z ∷ path) number, h)
+  stands_at n (more t ts) vs (suc i) path h =
+      let number : suc n + i ≡ n + suc i = omega arith in
+      inr (subst (λ z. StandsIn g (kids (suc n) ts (rest vs)) (z ∷ path)) number (stands_at (suc n) ts (rest vs) i path h))
+
+  -- the child of an origin, among children that are numbered from a number on
+  pub record IsBelow (n : ℕ) (ts : Forest) (vs : ℕ → Valuation) (path : List ℕ) : Type 0 where
+    pub number : ℕ
+    pub deeper : List ℕ
+    pub path_is : path ≡ (n + number) ∷ deeper
+    pub has : HasOrigin g deeper (child ts number) (vs number)
+
+  is_below : (n : ℕ) (ts : Forest) (vs : ℕ → Valuation) (path : List ℕ) → StandsIn g (kids n ts vs) path → IsBelow n ts vs path
+  is_below n none vs path h = absurd h
+  is_below n (more t ts) vs path h = elim h [
+    | inl a ↦ (let number : n ≡ n + 0 = omega arith in record { number = 0; deeper = a.0; path_is = a.1 ∙ ap (λ z. z ∷ a.0) number; has = a.2 })
+    | inr b ↦ (let later = is_below (suc n) ts (rest vs) path b in
+        let number : suc n + later.number ≡ n + suc later.number = omega arith in
+        record { number = suc later.number; deeper = later.deeper; path_is = later.path_is ∙ ap (λ z. z ∷ later.deeper) number; has = later.has })
+  ]
+
+  -- an origin below a child is in the children in any order,
+  pub stands_below : (d : Direction) (ts : Forest) (vs : ℕ → Valuation) (i : ℕ) (path : List ℕ) → HasOrigin g path (child ts i) (vs i) → StandsIn g (in_order d (kids 0 ts vs)) (i ∷ path)
+  stands_below d ts vs i path h =
+      let number : 0 + i ≡ i = omega arith in
+      stands_ordered d (kids 0 ts vs) (i ∷ path) (subst (λ z. StandsIn g (kids 0 ts vs) (z ∷ path)) number (stands_at 0 ts vs i path h))
+
+  -- and an origin in them is below one
+  pub below_stands : (d : Direction) (ts : Forest) (vs : ℕ → Valuation) (path : List ℕ) → StandsIn g (in_order d (kids 0 ts vs)) path → IsBelow 0 ts vs path
+  below_stands d ts vs path h = is_below 0 ts vs path (stands_unordered d (kids 0 ts vs) path h)

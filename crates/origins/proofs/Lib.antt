@@ -1,0 +1,9 @@
+pub mod Arguments
+pub mod Caused
+pub mod Children
+pub mod Induction
+pub mod Order
+pub mod Origin
+pub mod Quiet
+pub mod Same
+pub mod Step

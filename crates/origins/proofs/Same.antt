@@ -1,0 +1,86 @@
+-- What the record of a node in the file of the last pass says of its rules.
+use Rattle.std.proofs.Common.{◌≡◌, ℕ, suc, ◌^◌, ◌<◌, Bool, cond, List, [], ◌∷◌, ◌++◌, drop, take, All, Option, Some, None, slice_get, refl, ap, sym, ◌∙◌, arith}
+use Rattle.std.specs.Int.{w16, from_be_bytes, to_be_bytes}
+use Rattle.std.specs.List.{count_by, flat_map}
+use Rattle.std.proofs.lemmas.List.{drop_at, take_at}
+use Rattle.std.proofs.lemmas.List.Elements.{All-head, All-tail}
+use Rattle.std.proofs.lemmas.List.Sums.{sum_by-cons}
+use Rattle.std.proofs.lemmas.Nat.{from_be_bytes-to_be_bytes_2}
+use Rattle.std.proofs.lemmas.Option.{none-some}
+use Rattle.ag_value.specs.declared.value.Value.{Value}
+use Rattle.ag_value.specs.Reading.{value_at as read_at}
+use Rattle.ag_value.specs.Spelling.{spelling_of}
+use Rattle.ag_value.specs.Well.{IsWell}
+use Rattle.ag_value.proofs.Codec.{well_is_read}
+use Rattle.ag_grammar.specs.declared.grammar.Production.{Production}
+use Rattle.ag_grammar.specs.declared.grammar.Rule.{Rule}
+use Rattle.ag_grammar.specs.declared.grammar.Target.{Target}
+use Rattle.ag_grammar.specs.grammars.Accepted.{IsNormal}
+use Rattle.ag_grammar.specs.grammars.AttributeGrammar.{Grammar, stored_items}
+use Rattle.ag_grammar.specs.grammars.Passes.{IsLegal, Passes}
+use Rattle.ag_grammar.specs.grammars.Running.{IsLastPass}
+use Rattle.ag_grammar.specs.grammars.Solution.{NoRule, SolvesAll, Valuation, at, children}
+use Rattle.ag_grammar.specs.grammars.Tree.{FitsAll, Forest}
+use Rattle.treefile.specs.declared.body.Kind.TheVariants.{Node, Token}
+use Rattle.treefile.specs.records.TreeFile.{body_from, body_of}
+use Rattle.treefile.proofs.records.Spelled.{spelled_apart}
+use Rattle.origins.specs.Arising.{Table, arises, arising_count, environment, is_arising, value_at}
+use Rattle.origins.specs.Rows.{table_of}
+use Rattle.origins.proofs.Arguments.{argument_value, row}
+
+-- the count of what passes two tests, which agree on each member
+count_same : (f h : Rule → Bool) (rs : List Rule) → ((i : ℕ) (r : Rule) → slice_get rs i ≡ Some r → f r ≡ h r) → count_by f rs ≡ count_by h rs
+count_same f h [] same = refl
+count_same f h (r ∷ rs) same =
+    let first : ◌≡◌ {A = ℕ} (cond (f r) 1 0) (cond (h r) 1 0) = ap (λ b. cond b 1 0) (same 0 r refl) in
+    let others = count_same f h rs (λ i x e. same (suc i) x e) in
+    sum_by-cons (λ x. cond (f x) 1 0) r rs ∙ omega (arith, first, others) ∙ sym (sum_by-cons (λ x. cond (h x) 1 0) r rs)
+
+-- an error arises in a rule by what its arguments are
+arises_same : (r : Rule) (e f : Table) → ((k : ℕ) (o : Target) → slice_get r.args k ≡ Some o → e o.place o.attr ≡ f o.place o.attr) → is_arising e r ≡ is_arising f r
+arises_same r e f same =
+    let lent : environment r e ≡ environment r f = λ i k. each k i in
+    ap (arises r.expr.0) lent
+  where
+    by_argument : (o : Option Target) (k : ℕ) → slice_get r.args k ≡ o → value_at e o ≡ value_at f o
+    by_argument None k is = refl
+    by_argument (Some o) k is = same k o is
+
+    each : (k : ℕ) → environment r e k ≡ environment r f k
+    each k = by_argument (slice_get r.args k) k refl
+
+pub row_count : (g : Grammar) (m : Passes) (k : ℕ) (q : Production) (ts : Forest) (v : Valuation) → IsLegal g m → IsLastPass k m → IsNormal g q → FitsAll g (stored_items q.items) ts → SolvesAll NoRule g ts (children v) → arising_count (Some q) (table_of g q (row g m k q ts v)) ≡ arising_count (Some q) (at v)
+row_count g m k q ts v legal last normal fits solves =
+    count_same (is_arising (table_of g q (row g m k q ts v))) (is_arising (at v)) q.rules (λ i r is.
+    arises_same r (table_of g q (row g m k q ts v)) (at v) (λ j o arg. argument_value g m k legal last q ts v o fits solves (normal i r is j o arg)))
+
+-- a number in two bytes, and the bytes after it
+numbered_apart : (p r : ℕ) (xs ys : List ℕ) → p < 2 ^ 16 → r < 2 ^ 16 → to_be_bytes w16 p ++ xs ≡ to_be_bytes w16 r ++ ys → (p ≡ r) × (xs ≡ ys)
+numbered_apart p r xs ys a b e = (
+  sym (from_be_bytes-to_be_bytes_2 p a) ∙ ap (from_be_bytes w16) (sym (take_at (to_be_bytes w16 p) xs 2 refl) ∙ ap (take 2) e ∙ take_at (to_be_bytes w16 r) ys 2 refl) ∙ from_be_bytes-to_be_bytes_2 r b,
+  sym (drop_at (to_be_bytes w16 p) xs 2 refl) ∙ ap (drop 2) e ∙ drop_at (to_be_bytes w16 r) ys 2 refl,
+)
+
+-- well values have one spelling
+not_empty : (v : Value) (bytes : List ℕ) → IsWell v → spelling_of v ++ bytes ≡ [] → ⊥
+unfolding read_at
+not_empty v bytes well e =
+    let read : None ≡ Some (v, bytes) = sym (ap (read_at 64) e) ∙ well_is_read v bytes well in
+    none-some (v, bytes) read
+
+spelled_once : (vs ws : List Value) → All IsWell vs → All IsWell ws → flat_map spelling_of vs ≡ flat_map spelling_of ws → vs ≡ ws
+spelled_once [] [] a b e = refl
+spelled_once [] (w ∷ ws) a b e = absurd (not_empty w (flat_map spelling_of ws) (All-head IsWell w ws b) (sym e))
+spelled_once (v ∷ vs) [] a b e = absurd (not_empty v (flat_map spelling_of vs) (All-head IsWell v vs a) e)
+spelled_once (v ∷ vs) (w ∷ ws) a b e =
+    let apart = spelled_apart v w (flat_map spelling_of vs) (flat_map spelling_of ws) (All-head IsWell v vs a) (All-head IsWell w ws b) e in
+    ap (λ (z : Value). z ∷ vs) apart.0 ∙ ap (λ (zs : List Value). w ∷ zs) (spelled_once vs ws (All-tail IsWell v vs a) (All-tail IsWell w ws b) apart.1)
+
+pub one_body : (p r : ℕ) (vs ws : List Value) → p < 2 ^ 16 → r < 2 ^ 16 → All IsWell vs → All IsWell ws → body_of Node p vs ≡ body_of Node r ws → (p ≡ r) × (vs ≡ ws)
+one_body p r vs ws a b well_v well_w e =
+    let tails : to_be_bytes w16 p ++ flat_map spelling_of vs ≡ to_be_bytes w16 r ++ flat_map spelling_of ws = ap (drop 1) e in
+    let apart = numbered_apart p r (flat_map spelling_of vs) (flat_map spelling_of ws) a b tails in
+    (apart.0, spelled_once vs ws well_v well_w apart.1)
+
+pub node_is_no_token : (p c : ℕ) (xs ys : List ℕ) → body_from Node p xs ≡ body_from Token c ys → ⊥
+node_is_no_token p c xs ys e = let bad : ⊥ = cc in bad

@@ -1,0 +1,56 @@
+-- When an error arises in the rule of a node, rather than being passed on by it from an argument. All of this is this project's.
+use Rattle.std.specs.Prelude.{ℕ, Bool, false, nat_eq, pos, Option, Some, None, slice_get, if◌then◌else◌}
+use Rattle.std.specs.List.{count_by}
+use Rattle.ag_value.specs.Spelling.{number_of}
+use Rattle.ag_value.specs.declared.value.ErrorCode.{ErrorCode}
+use Rattle.ag_value.specs.declared.value.ErrorCode.TheVariants.{Divide, Overflow}
+use Rattle.ag_value.specs.declared.value.Value.{Value, Num}
+use Rattle.ag_value.specs.declared.value.Value.TheVariants as value
+use Rattle.ag_grammar.specs.declared.grammar.Production.{Production}
+use Rattle.ag_grammar.specs.declared.grammar.Rule.{Rule}
+use Rattle.ag_grammar.specs.declared.grammar.Target.{Target}
+use Rattle.ag_grammar.specs.declared.syntax.node.Node.{Node}
+use Rattle.ag_grammar.specs.expressions.Evaluation.{value_of}
+use Rattle.ag_grammar.specs.values.Arguments.{fault_of}
+
+-- The values at the places of a node: place 0 is the node itself, 1, 2, .. are its children.
+abbrev pub Table : Type 0
+Table = ℕ → ℕ → Value
+
+-- one value in the place of the error overflow, and another in that of every other error; a value that is not an error stays
+abbrev pub exchanged_to : Value → Value → Option ErrorCode → Value → Value
+exchanged_to first other None v = v
+exchanged_to first other (Some c) v = if nat_eq (number_of c) 1 then first else other
+
+-- Another error in the place of an error: divide for overflow, and overflow for every other. A value that is not an error stays.
+abbrev pub exchanged : Value → Value
+exchanged v = exchanged_to (value.Fault Divide) (value.Fault Overflow) (fault_of v) v
+
+-- two values are the same error
+abbrev pub is_same_error : Option ErrorCode → Option ErrorCode → Bool
+is_same_error None d = false
+is_same_error (Some c) None = false
+is_same_error (Some c) (Some d) = nat_eq (number_of c) (number_of d)
+
+-- An error arises in an expression: its value is an error, and would be the same one if every error among the values of its
+-- occurrences were another error. So it comes from none of them.
+unfoldable pub arises : Node → (ℕ → Value) → Bool
+arises e env = is_same_error (fault_of (value_of e env)) (fault_of (value_of e (λ k. exchanged (env k))))
+
+-- the value of what an occurrence stands for; that of none is anything
+abbrev pub value_at : Table → Option Target → Value
+value_at e None = Num (pos 0)
+value_at e (Some o) = e o.place o.attr
+
+-- an environment that gives each occurrence of a rule the value of what it stands for
+abbrev pub environment : Rule → Table → ℕ → Value
+environment r e k = value_at e (slice_get r.args k)
+
+-- an error arises in a rule of a node with these values
+abbrev pub is_arising : Table → Rule → Bool
+is_arising e r = arises r.expr.0 (environment r e)
+
+-- in how many rules of a production one arises
+abbrev pub arising_count : Option Production → Table → ℕ
+arising_count None e = 0
+arising_count (Some q) e = count_by (is_arising e) q.rules

@@ -1,0 +1,80 @@
+-- The cause of an error: the chain of values through which it was passed on, down to the rule in which it arises. All of this is this
+-- project's.
+use Rattle.std.specs.Prelude.{ℕ, zero, suc, ◌≡◌, ◌⊎◌, true, false, nat_lt, List, [], ◌∷◌, ◌++◌, Option, Some, None, slice_get, if◌then◌else◌, Bool}
+use Rattle.ag_value.specs.declared.value.Value.{Value}
+use Rattle.ag_grammar.specs.declared.grammar.Production.{Production}
+use Rattle.ag_grammar.specs.declared.grammar.Rule.{Rule}
+use Rattle.ag_grammar.specs.declared.grammar.Target.{Target}
+use Rattle.ag_grammar.specs.expressions.Evaluation.{value_of}
+use Rattle.ag_grammar.specs.values.Arguments.{fault_of}
+use Rattle.ag_grammar.specs.grammars.Accepted.{IsAccepted}
+use Rattle.ag_grammar.specs.grammars.AttributeGrammar.{Grammar, IsProduction, IsRule}
+use Rattle.ag_grammar.specs.grammars.Passes.{IsLegal, Passes}
+use Rattle.ag_grammar.specs.grammars.Solution.{AnyRule, Solves, Valuation, at, below, left_passes}
+use Rattle.ag_grammar.specs.grammars.Tree.{Forest, IsTreeOf, Tree, leaf, node, none, more}
+use Rattle.origins.specs.Arising.{Table, environment, exchanged, is_arising, is_same_error}
+use Rattle.origins.specs.Origins.{child_of}
+
+-- The instance that a rule's target or argument stands for at the node of a path: the path of its node. Place 0 is the node itself.
+abbrev pub place_path : List ℕ → ℕ → List ℕ
+place_path path zero = path
+place_path path (suc i) = path ++ i ∷ []
+
+-- the first n arguments are other errors where they are errors
+abbrev pub exchanged_below : ℕ → (ℕ → Value) → ℕ → Value
+exchanged_below n env k = if nat_lt k n then exchanged (env k) else env k
+
+-- a rule has the same error with other errors in the place of those among its first n arguments
+unfoldable pub is_still : Rule → Table → ℕ → Bool
+is_still r e n = is_same_error (fault_of (value_of r.expr.0 (environment r e))) (fault_of (value_of r.expr.0 (exchanged_below n (environment r e))))
+
+-- A rule's error is passed on from the argument of this number: it is the same error with other errors in the place of those before
+-- it, and not with another one in its place too.
+pub record IsSource (r : Rule) (e : Table) (k : ℕ) : Type 0 where
+  pub before : is_still r e k ≡ true
+  pub after : is_still r e (suc k) ≡ false
+
+-- The source of a rule's error: the argument that passes it on; none if the rule has no error, or one arises in it.
+abbrev pub AnswersSource : Rule → Table → Option Target → Type 0
+AnswersSource r e None = (fault_of (value_of r.expr.0 (environment r e)) ≡ None) ⊎ (is_arising e r ≡ true)
+AnswersSource r e (Some o) = (k : ℕ) × (slice_get r.args k ≡ Some o) × IsSource r e k
+
+-- the tree at the end of a path, and the values in it
+abbrev pub tree_at : Option Tree → List ℕ → Option Tree
+tree_at t [] = t
+tree_at t (i ∷ path) = tree_at (child_of t i) path
+
+abbrev pub values_at : Valuation → List ℕ → Valuation
+values_at v [] = v
+values_at v (i ∷ path) = values_at (below i v) path
+
+-- A rule of a node of a tree: the node's production, and its values.
+pub record IsRuleAt (g : Grammar) (t : Tree) (v : Valuation) (path : List ℕ) (r : Rule) (e : Table) : Type 0 where
+  pub production : ℕ
+  pub trees : Forest
+  pub there : tree_at (Some t) path ≡ Some (node production trees)
+  pub of : Production
+  pub is : IsProduction g production of
+  pub rule : IsRule of r
+  pub values : e ≡ at (values_at v path)
+
+-- The error of an attribute instance has a cause: it arises in the rule that gives it, or is passed on by that rule from an argument,
+-- whose error has one.
+pub data HasCause (g : Grammar) (t : Tree) (v : Valuation) : List ℕ → ℕ → Type 0 where
+  here : (path : List ℕ) (r : Rule) (e : Table) → IsRuleAt g t v path r e → is_arising e r ≡ true → HasCause g t v (place_path path r.target.place) r.target.attr
+  passed : (path : List ℕ) (r : Rule) (e : Table) (k : ℕ) (o : Target) → IsRuleAt g t v path r e → IsSource r e k → slice_get r.args k ≡ Some o → HasCause g t v (place_path path o.place) o.attr → HasCause g t v (place_path path r.target.place) r.target.attr
+
+-- at each node of a tree something holds of the attributes of its symbol, with their passes
+abbrev mutual
+  pub HoldsAt : (List ℕ → List ℕ → Type 0) → Grammar → Passes → Tree → List ℕ → Type 0
+  HoldsAt R g m (leaf c x) path = R path (0 ∷ [])
+  HoldsAt R g m (node p ts) path = R path (left_passes m (slice_get g.productions p)) × HoldsIn R g m ts path 0
+
+  pub HoldsIn : (List ℕ → List ℕ → Type 0) → Grammar → Passes → Forest → List ℕ → ℕ → Type 0
+  HoldsIn R g m none path n = Unit {0}
+  HoldsIn R g m (more t ts) path n = HoldsAt R g m t (path ++ n ∷ []) × HoldsIn R g m ts path (suc n)
+
+-- each error of a tree has a cause
+abbrev pub ErrorsHaveCauses : Type 0
+ErrorsHaveCauses = (g : Grammar) (m : Passes) (t : Tree) (v : Valuation) → IsAccepted g → IsLegal g m → IsTreeOf g t → Solves AnyRule g t v
+    → HoldsAt (λ path ps. (a p : ℕ) → slice_get ps a ≡ Some p → (fault_of (values_at v path [] a) ≡ None) ⊎ HasCause g t v path a) g m t []

@@ -1,0 +1,19 @@
+-- Which fault follows from the fault of a part. This project's.
+use Rattle.ag_value.specs.declared.fault.ValueFault.{ValueFault}
+use Rattle.ag_value.specs.declared.fault.ValueFault.TheVariants as value_fault
+use Rattle.treefile.specs.declared.reading.FrameFault.{FrameFault}
+use Rattle.treefile.specs.declared.reading.FrameFault.TheVariants as frame_fault
+use Rattle.origins.specs.declared.fault.RecordFault.{RecordFault}
+use Rattle.origins.specs.declared.fault.RecordFault.TheVariants as record_fault
+use Rattle.origins.specs.declared.fault.WalkFault.{WalkFault}
+use Rattle.origins.specs.declared.fault.WalkFault.TheVariants as walk_fault
+
+abbrev pub record_fault_of : ValueFault → RecordFault
+record_fault_of value_fault.Malformed = record_fault.Damaged
+record_fault_of value_fault.NoMemory = record_fault.NoMemory
+
+abbrev pub walk_fault_of : FrameFault → WalkFault
+walk_fault_of frame_fault.NotATreeFile = walk_fault.Damaged 0
+walk_fault_of (frame_fault.Damaged at) = walk_fault.Damaged at
+walk_fault_of frame_fault.Device = walk_fault.Device
+walk_fault_of frame_fault.NoMemory = walk_fault.NoMemory

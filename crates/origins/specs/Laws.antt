@@ -1,0 +1,23 @@
+-- What the laws state.
+use Rattle.std.specs.Prelude.{ℕ, ◌≡◌, ◌↔◌, List, [], None, Some, slice_get}
+use Rattle.ag_grammar.specs.values.Arguments.{fault_of}
+use Rattle.ag_grammar.specs.grammars.Accepted.{IsAccepted}
+use Rattle.ag_grammar.specs.grammars.AttributeGrammar.{Grammar}
+use Rattle.ag_grammar.specs.grammars.Passes.{IsLegal, Passes}
+use Rattle.ag_grammar.specs.grammars.Solution.{AnyRule, Solves, Valuation}
+use Rattle.ag_grammar.specs.grammars.Tree.{IsTreeOf, Tree}
+use Rattle.origins.specs.Causes.{HasCause, HoldsAt, values_at}
+use Rattle.origins.specs.Origins.{HasOrigin, IsFirst, origin_count}
+
+-- A cause ends at an origin.
+abbrev pub CausesHaveOrigins : Type 0
+CausesHaveOrigins = (g : Grammar) (t : Tree) (v : Valuation) (path : List ℕ) (a : ℕ) → HasCause g t v path a → (origin : List ℕ) × HasOrigin g origin (Some t) v
+
+-- Where a tree has no origin, no value of its solution is an error. So errors don't come from nothing.
+abbrev pub NoneIsClean : Type 0
+NoneIsClean = (g : Grammar) (m : Passes) (t : Tree) (v : Valuation) → IsAccepted g → IsLegal g m → IsTreeOf g t → Solves AnyRule g t v → IsFirst g t v None
+    → HoldsAt (λ path ps. (a p : ℕ) → slice_get ps a ≡ Some p → fault_of (values_at v path [] a) ≡ None) g m t []
+
+-- A tree has no origin exactly if none is counted.
+abbrev pub NoneIsCounted : Type 0
+NoneIsCounted = (g : Grammar) (t : Tree) (v : Valuation) → IsFirst g t v None ↔ (origin_count g t v ≡ 0)

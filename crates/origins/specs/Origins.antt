@@ -1,0 +1,64 @@
+-- The origins of errors in a tree: the nodes that have a rule in which an error arises. All of this is this project's.
+use Rattle.std.specs.Prelude.{ℕ, zero, suc, ◌≡◌, ◌+◌, ◌^◌, ◌<◌, Bool, true, false, ◌&&◌, ◌||◌, nat_lt, nat_eq, List, [], ◌∷◌, Option, Some, None, slice_get}
+use Rattle.ag_grammar.specs.grammars.AttributeGrammar.{Grammar}
+use Rattle.ag_grammar.specs.grammars.Passes.{Passes, IsLegal}
+use Rattle.ag_grammar.specs.grammars.Running.{IsLastPass}
+use Rattle.ag_grammar.specs.grammars.Solution.{Valuation, at, below, children, rest}
+use Rattle.ag_grammar.specs.grammars.Tree.{Forest, IsTreeOf, Tree, leaf, node, none, more}
+use Rattle.treefile.specs.records.Records.{IsFileOfTree}
+use Rattle.treefile.specs.records.TreeFile.{version_two}
+use Rattle.origins.specs.Arising.{arising_count}
+
+-- the child of a number, if there is one
+abbrev pub child : Forest → ℕ → Option Tree
+child none i = None
+child (more t ts) zero = Some t
+child (more t ts) (suc i) = child ts i
+
+abbrev pub child_of : Option Tree → ℕ → Option Tree
+child_of None i = None
+child_of (Some (leaf c x)) i = None
+child_of (Some (node p ts)) i = child ts i
+
+-- the number of rules at the root of a tree in which an error arises
+abbrev pub arising_at : Grammar → Option Tree → Valuation → ℕ
+arising_at g None v = 0
+arising_at g (Some (leaf c x)) v = 0
+arising_at g (Some (node p ts)) v = arising_count (slice_get g.productions p) (at v)
+
+-- The node at the end of a path of child numbers from the root is an origin: it has a rule in which an error arises.
+abbrev pub HasOrigin : Grammar → List ℕ → Option Tree → Valuation → Type 0
+HasOrigin g [] t v = 0 < arising_at g t v
+HasOrigin g (i ∷ path) t v = HasOrigin g path (child_of t i) (below i v)
+
+-- the number of rules of a tree in which one arises
+abbrev mutual
+  pub origin_count : Grammar → Tree → Valuation → ℕ
+  origin_count g (leaf c x) v = 0
+  origin_count g (node p ts) v = arising_count (slice_get g.productions p) (at v) + origin_counts g ts (children v)
+
+  pub origin_counts : Grammar → Forest → (ℕ → Valuation) → ℕ
+  origin_counts g none vs = 0
+  origin_counts g (more t ts) vs = origin_count g t (vs 0) + origin_counts g ts (rest vs)
+
+-- In the order of the sentence a node comes before what is below it, and what is below one child before what is below the
+-- children right of it.
+abbrev pub is_before : List ℕ → List ℕ → Bool
+is_before [] [] = false
+is_before [] (j ∷ q) = true
+is_before (i ∷ p) [] = false
+is_before (i ∷ p) (j ∷ q) = nat_lt i j || (nat_eq i j && is_before p q)
+
+-- The path leads to the first origin of a tree: to one, and none comes before it. Or there is none.
+abbrev pub IsFirst : Grammar → Tree → Valuation → Option (List ℕ) → Type 0
+IsFirst g t v None = (path : List ℕ) → HasOrigin g path (Some t) v → ⊥
+IsFirst g t v (Some path) = HasOrigin g path (Some t) v × ((other : List ℕ) → HasOrigin g other (Some t) v → is_before other path ≡ false)
+
+-- the origins of a tree
+pub record AreOrigins (g : Grammar) (t : Tree) (v : Valuation) (first : Option (List ℕ)) (count : ℕ) : Type 0 where
+  pub leads : IsFirst g t v first
+  pub counted : count ≡ origin_count g t v
+
+-- the origins in a content: those of each tree and values whose file of the last pass it is
+abbrev pub AreOriginsIn : Grammar → List ℕ → Option (List ℕ) → ℕ → Type 0
+AreOriginsIn g content first count = (m : Passes) (k : ℕ) (t : Tree) (v : Valuation) → k < 2 ^ 16 → IsLegal g m → IsLastPass k m → IsTreeOf g t → IsFileOfTree version_two g m k t v content → AreOrigins g t v first count

@@ -1,0 +1,170 @@
+-- A walk over the file of the last pass from its end: what was met, and what is still to come. All of this is this project's.
+use Rattle.std.specs.Prelude.{ℕ, zero, suc, ◌≡◌, ◌+◌, ◌-◌, ◌^◌, ◌<◌, ◌≤◌, ◌⊎◌, Bool, false, List, [], ◌∷◌, ◌++◌, Option, Some, None, Ok, drop, reverse, length, if◌then◌else◌}
+use Rattle.std.specs.List.{flat_map}
+use Rattle.ag_value.specs.declared.value.Value.{Value}
+use Rattle.ag_grammar.specs.declared.grammar.Item.{Item}
+use Rattle.ag_grammar.specs.declared.grammar.Production.{Production}
+use Rattle.ag_grammar.specs.grammars.AttributeGrammar.{Grammar, IsProduction, stored_items}
+use Rattle.ag_grammar.specs.declared.direction.Direction.{Direction}
+use Rattle.ag_grammar.specs.declared.direction.Direction.TheVariants.{LeftToRight, RightToLeft}
+use Rattle.ag_grammar.specs.grammars.Passes.{IsLegal, Passes, nth}
+use Rattle.ag_grammar.specs.grammars.Running.{IsLastPass}
+use Rattle.ag_grammar.specs.grammars.Solution.{AtEachNodeOf, NoRule, SolvesAll, Valuation, WellAt, rest}
+use Rattle.ag_grammar.specs.grammars.Tree.{FitsAll, Forest, IsTreeOf, Tree, none, more}
+use Rattle.backreader.specs.BackState.{BackState, IsOver}
+use Rattle.treefile.specs.devices.Device.{WhenHonest}
+use Rattle.treefile.specs.ways.Backward.{ReadsBack, before_frame, next_before}
+use Rattle.treefile.specs.records.OneTree.{IsRecorded}
+use Rattle.treefile.specs.records.Orders.{prefix}
+use Rattle.treefile.specs.records.Records.{IsFileOfTree, bodies_of}
+use Rattle.treefile.specs.records.TreeFile.{version_two}
+use Rattle.origins.specs.Origins.{HasOrigin, is_before, origin_count}
+use Rattle.origins.specs.Arising.{arising_count}
+use Rattle.origins.specs.Records.{IsRecord}
+use Rattle.origins.specs.Rows.{table_of}
+use Rattle.origins.specs.declared.record.Record.{Record}
+use Rattle.origins.specs.declared.walk.Open.{Open}
+
+-- a child with its values, and its number among the children of its node
+pub record Kid : Type 0 where
+  pub number : ℕ
+  pub tree : Tree
+  pub values : Valuation
+
+-- the children of a node from left to right, numbered from one on
+abbrev pub kids : ℕ → Forest → (ℕ → Valuation) → List Kid
+kids n none vs = []
+kids n (more t ts) vs = record { number = n; tree = t; values = vs 0 } ∷ kids (suc n) ts (rest vs)
+
+-- in a direction
+abbrev pub in_order : {X : Type 0} → Direction → List X → List X
+in_order LeftToRight xs = xs
+in_order RightToLeft xs = reverse xs
+
+-- the children of an open node, with their values
+pub record Family : Type 0 where
+  pub trees : Forest
+  pub values : ℕ → Valuation
+
+-- those that are not visited yet, in the order of the walk
+abbrev pub to_come : Direction → Open → Family → List Kid
+to_come d o f = drop o.visited (in_order d (kids 0 f.trees f.values))
+
+-- the number of the child that was visited last
+abbrev pub last_of : Direction → Open → ℕ
+last_of d o = nth d o.children (o.visited - 1)
+
+-- the path of the node that is read below open nodes, the innermost of which comes first
+abbrev pub way : Direction → List Open → List ℕ
+way d [] = []
+way d (o ∷ os) = way d os ++ last_of d o ∷ []
+
+-- the records of a child's tree, and those that are to come below open nodes
+abbrev pub bodies_of_kid : Grammar → Passes → ℕ → Direction → Kid → List (List ℕ)
+bodies_of_kid g m k d kid = prefix d (bodies_of version_two g m k kid.tree kid.values)
+
+abbrev pub bodies_to_come : Grammar → Passes → ℕ → Direction → List Open → List Family → List (List ℕ)
+bodies_to_come g m k d [] fs = []
+bodies_to_come g m k d (o ∷ os) [] = []
+bodies_to_come g m k d (o ∷ os) (f ∷ fs) = flat_map (bodies_of_kid g m k d) (to_come d o f) ++ bodies_to_come g m k d os fs
+
+-- the number of rules of some children in which an error arises
+abbrev pub count_in : Grammar → List Kid → ℕ
+count_in g [] = 0
+count_in g (kid ∷ others) = origin_count g kid.tree kid.values + count_in g others
+
+abbrev pub count_to_come : Grammar → Direction → List Open → List Family → ℕ
+count_to_come g d [] fs = 0
+count_to_come g d (o ∷ os) [] = 0
+count_to_come g d (o ∷ os) (f ∷ fs) = count_in g (to_come d o f) + count_to_come g d os fs
+
+-- An origin is in one of some children, at the end of a path from their node.
+abbrev pub StandsIn : Grammar → List Kid → List ℕ → Type 0
+StandsIn g [] path = ⊥
+StandsIn g (kid ∷ others) path = ((deeper : List ℕ) × (path ≡ kid.number ∷ deeper) × HasOrigin g deeper (Some kid.tree) kid.values) ⊎ StandsIn g others path
+
+-- and in what is to come below open nodes
+abbrev pub IsToCome : Grammar → Direction → List Open → List Family → List ℕ → Type 0
+IsToCome g d [] fs path = ⊥
+IsToCome g d (o ∷ os) [] path = ⊥
+IsToCome g d (o ∷ os) (f ∷ fs) path = ((deeper : List ℕ) × (path ≡ way d os ++ deeper) × StandsIn g (to_come d o f) deeper) ⊎ IsToCome g d os fs path
+
+-- Open nodes are of their productions, and their children are trees of the items.
+abbrev pub AreOpen : Grammar → Passes → ℕ → List Open → List Family → Type 0
+AreOpen g m k [] [] = Unit {0}
+AreOpen g m k [] (f ∷ fs) = ⊥
+AreOpen g m k (o ∷ os) [] = ⊥
+AreOpen g m k (o ∷ os) (f ∷ fs) =
+    (q : Production) × IsProduction g o.production q × FitsAll g (stored_items q.items) f.trees
+    × SolvesAll NoRule g f.trees f.values × AtEachNodeOf (WellAt (λ p. p ≤ k)) g m f.trees f.values f.values
+    × (o.children ≡ length (stored_items q.items)) × AreOpen g m k os fs
+
+-- no path that was met comes before this one; where none was met none is
+abbrev pub IsNotBefore : Option (List ℕ) → List ℕ → Type 0
+IsNotBefore None path = ⊥
+IsNotBefore (Some first) path = is_before path first ≡ false
+
+-- The walk over a tree has come so far. What it found, and what is to come, are all origins of the tree.
+pub record IsSoFar (g : Grammar) (m : Passes) (k : ℕ) (d : Direction) (t : Tree) (v : Valuation) (content : List ℕ) (at : ℕ) (open_nodes : List Open) (first : Option (List ℕ)) (count : ℕ) : Type 0 where
+  pub families : List Family
+  pub fit : AreOpen g m k open_nodes families
+  pub read : ReadsBack version_two content at (bodies_to_come g m k d open_nodes families)
+  pub counted : count + count_to_come g d open_nodes families ≡ origin_count g t v
+  pub there : (path : List ℕ) → first ≡ Some path → HasOrigin g path (Some t) v
+  pub coming : (path : List ℕ) → IsToCome g d open_nodes families path → HasOrigin g path (Some t) v
+  pub all : (path : List ℕ) → HasOrigin g path (Some t) v → IsToCome g d open_nodes families path ⊎ IsNotBefore first path
+
+-- It comes to a child next, below open nodes.
+pub record IsComing (g : Grammar) (m : Passes) (k : ℕ) (d : Direction) (t : Tree) (v : Valuation) (content : List ℕ) (at : ℕ) (x : Item) (open_nodes : List Open) (first : Option (List ℕ)) (count : ℕ) : Type 0 where
+  pub tree : Tree
+  pub values : Valuation
+  pub recorded : IsRecorded g m k x tree values
+  pub families : List Family
+  pub fit : AreOpen g m k open_nodes families
+  pub read : ReadsBack version_two content at (prefix d (bodies_of version_two g m k tree values) ++ bodies_to_come g m k d open_nodes families)
+  pub counted : count + (origin_count g tree values + count_to_come g d open_nodes families) ≡ origin_count g t v
+  pub there : (path : List ℕ) → first ≡ Some path → HasOrigin g path (Some t) v
+  pub below : (deeper : List ℕ) → HasOrigin g deeper (Some tree) values → HasOrigin g (way d open_nodes ++ deeper) (Some t) v
+  pub coming : (path : List ℕ) → IsToCome g d open_nodes families path → HasOrigin g path (Some t) v
+  pub all : (path : List ℕ) → HasOrigin g path (Some t) v → ((deeper : List ℕ) × (path ≡ way d open_nodes ++ deeper) × HasOrigin g deeper (Some tree) values) ⊎ IsToCome g d open_nodes families path ⊎ IsNotBefore first path
+
+-- So it is of each tree and values whose file of the last pass the content is.
+abbrev pub OfEach : (Passes → ℕ → Tree → Valuation → Type 0) → Grammar → List ℕ → Type 0
+OfEach P g content = (m : Passes) (k : ℕ) (t : Tree) (v : Valuation) → k < 2 ^ 16 → IsLegal g m → IsLastPass k m → IsTreeOf g t → IsFileOfTree version_two g m k t v content → P m k t v
+
+abbrev pub HasComeTo : Grammar → Direction → List ℕ → ℕ → List Open → Option (List ℕ) → ℕ → Type 0
+HasComeTo g d content at open_nodes first count = OfEach (λ m k t v. IsSoFar g m k d t v content at open_nodes first count) g content
+
+abbrev pub ComesNext : Grammar → Direction → List ℕ → ℕ → Item → List Open → Option (List ℕ) → ℕ → Type 0
+ComesNext g d content at x open_nodes first count = OfEach (λ m k t v. IsComing g m k d t v content at x open_nodes first count) g content
+
+-- A reader is one of the content, of version 2, and no failure is final.
+pub record IsReady (honest : Bool) (content : List ℕ) (state : BackState) : Type 0 where
+  pub over : WhenHonest honest (IsOver content state)
+  pub version : state.progress.version ≡ version_two
+  pub unbroken : state.progress.fault ≡ None
+
+-- A record was read: its body is before the offset.
+pub record HasFetched (g : Grammar) (honest : Bool) (content : List ℕ) (old new : BackState) (r : Record) : Type 0 where
+  pub body : List ℕ
+  pub found : WhenHonest honest (next_before version_two content old.progress.at ≡ Ok (Some body))
+  pub is : IsRecord g body r
+  pub now : new.progress.at ≡ before_frame old.progress.at body
+
+-- the path of two that comes first
+abbrev pub earlier : Option (List ℕ) → List ℕ → List ℕ
+earlier None path = path
+earlier (Some first) path = if is_before path first then path else first
+
+-- the first path after a node in which errors arise in n rules
+abbrev pub first_after : Option (List ℕ) → ℕ → List ℕ → Option (List ℕ)
+first_after first zero path = first
+first_after first (suc n) path = Some (earlier first path)
+
+-- A node was entered: it is open, none of its children is visited, and where it has origins they are counted.
+pub record HasEntered (g : Grammar) (d : Direction) (p : ℕ) (vs : List Value) (open_old open_new : List Open) (first_old first_new : Option (List ℕ)) (count_old count_new : ℕ) : Type 0 where
+  pub production : Production
+  pub there : IsProduction g p production
+  pub opened : open_new ≡ open_old ++ record { production = p; children = length (stored_items production.items); visited = 0 } ∷ []
+  pub count : count_new ≡ count_old + arising_count (Some production) (table_of g production vs)
+  pub first : first_new ≡ first_after first_old (arising_count (Some production) (table_of g production vs)) (way d (reverse open_old))

@@ -1,0 +1,155 @@
+//! Whether an error arises in a rule, and which argument passed it on.
+
+ghost use Rattle.std.specs.Prelude.{◌≡◌, IfOk, Some, length};
+ghost use Rattle.ag_grammar.specs.Lists.{Each};
+ghost use Rattle.ag_grammar.specs.declared.grammar.Rule.{Rule as TheRule};
+ghost use Rattle.ag_grammar.specs.expressions.Evaluation.{value_of};
+ghost use Rattle.origins.specs.Arising.{arising_count, environment, exchanged, is_arising};
+ghost use Rattle.origins.specs.Causes.{AnswersSource, exchanged_below, is_still};
+ghost use Rattle.origins.specs.Rows.{table_of};
+
+use crate::lending::{Arguments, ExchangedErrors, FirstExchanged, error_of, is_same_error};
+use crate::row::Row;
+use ag_eval::{Meter, eval};
+use ag_grammar::{Node, Rule, Target};
+use ag_value::{ErrorCode, NoMemory, Value};
+use std::alloc::Global;
+
+impl<'a> Row<'a> {
+    /// Evaluates a rule at the node.
+    fn evaluate(&self, alloc: Global, rule: &Rule) -> Result<Value, NoMemory>
+        requires arguments { length rule.now.args ≡ length rule.now.expr.1 }
+        ensures { IfOk result (λ v. v ≡ value_of rule.now.expr.0 (environment rule.now
+            (table_of self.now.grammar.now self.now.production.now self.now.values.now))) }
+    {
+        let spare = Value::Num(0);
+        let arguments = Arguments {
+            row: self,
+            arguments: rule.args.as_slice(),
+            spare: &spare,
+        };
+        let mut meter = Meter::new();
+        eval(alloc, &rule.expr, &arguments, &mut meter)
+    }
+
+    /// Evaluates a rule with another error in place of each error among its arguments.
+    fn evaluate_exchanged(&self, alloc: Global, rule: &Rule) -> Result<Value, NoMemory>
+        requires arguments { length rule.now.args ≡ length rule.now.expr.1 }
+        ensures { IfOk result (λ v. v ≡ value_of rule.now.expr.0 (λ k. exchanged (environment rule.now
+            (table_of self.now.grammar.now self.now.production.now self.now.values.now) k))) }
+    {
+        let spare = Value::Num(0);
+        let arguments = Arguments {
+            row: self,
+            arguments: rule.args.as_slice(),
+            spare: &spare,
+        };
+        let divide = Value::Fault(ErrorCode::Divide);
+        let overflow = Value::Fault(ErrorCode::Overflow);
+        let exchanged = ExchangedErrors {
+            arguments: &arguments,
+            divide: &divide,
+            overflow: &overflow,
+        };
+        let mut meter = Meter::new();
+        eval(alloc, &rule.expr, &exchanged, &mut meter)
+    }
+
+    /// Evaluates a rule with another error in place of each error among its first `count` arguments.
+    fn evaluate_first_exchanged(
+        &self,
+        alloc: Global,
+        rule: &Rule,
+        count: usize,
+    ) -> Result<Value, NoMemory>
+        requires arguments { length rule.now.args ≡ length rule.now.expr.1 }
+        ensures { IfOk result (λ v. v ≡ value_of rule.now.expr.0 (exchanged_below count (environment rule.now
+            (table_of self.now.grammar.now self.now.production.now self.now.values.now)))) }
+    {
+        let spare = Value::Num(0);
+        let arguments = Arguments {
+            row: self,
+            arguments: rule.args.as_slice(),
+            spare: &spare,
+        };
+        let divide = Value::Fault(ErrorCode::Divide);
+        let overflow = Value::Fault(ErrorCode::Overflow);
+        let exchanged = ExchangedErrors {
+            arguments: &arguments,
+            divide: &divide,
+            overflow: &overflow,
+        };
+        let first = FirstExchanged {
+            exchanged: &exchanged,
+            count,
+        };
+        let mut meter = Meter::new();
+        eval(alloc, &rule.expr, &first, &mut meter)
+    }
+
+    /// Whether an error arises in a rule at the node: its value is an error, and would be the same one if
+    /// every error among its arguments were another. Evaluates the rule, and a second time if its value is
+    /// an error. Fails if memory is refused.
+    pub fn is_arising(&self, alloc: Global, rule: &Rule) -> Result<bool, NoMemory>
+        requires arguments { length rule.now.args ≡ length rule.now.expr.1 }
+        ensures { IfOk result (λ arises. arises ≡ is_arising
+            (table_of self.now.grammar.now self.now.production.now self.now.values.now) rule.now) }
+    {
+        // no error arises in a rule that only copies an argument
+        if let Node::Occurrence(_) = rule.expr.tree() {
+            return Ok(false);
+        }
+        let value = self.evaluate(alloc, rule)?;
+        let Some(code) = error_of(&value) else {
+            return Ok(false);
+        };
+        let other = self.evaluate_exchanged(alloc, rule)?;
+        Ok(is_same_error(Some(code), error_of(&other)))
+    }
+
+    /// Returns the number of rules of the node's production in which an error arises.
+    pub(crate) fn arising_count(&self, alloc: Global) -> Result<usize, NoMemory>
+        requires arguments { Each (λ (r : TheRule). length r.args ≡ length r.expr.1)
+            self.now.production.now.rules }
+        ensures { IfOk result (λ count. count ≡ arising_count (Some self.now.production.now)
+            (table_of self.now.grammar.now self.now.production.now self.now.values.now)) }
+    {
+        let mut count = 0;
+        for rule in self.production.rules.as_slice() {
+            if self.is_arising(alloc, rule)? {
+                count += 1;
+            }
+        }
+        Ok(count)
+    }
+
+    /// Whether a rule has the same error with other errors among its first `count` arguments.
+    fn is_still(&self, alloc: Global, rule: &Rule, count: usize) -> Result<bool, NoMemory>
+        requires arguments { length rule.now.args ≡ length rule.now.expr.1 }
+        ensures { IfOk result (λ still. still ≡ is_still rule.now
+            (table_of self.now.grammar.now self.now.production.now self.now.values.now) count) }
+    {
+        let value = self.evaluate(alloc, rule)?;
+        let other = self.evaluate_first_exchanged(alloc, rule, count)?;
+        Ok(is_same_error(error_of(&value), error_of(&other)))
+    }
+
+    /// Returns the argument that passes its error on to a rule. Returns `None` if the rule's value is not
+    /// an error, or the error arises in the rule. Fails if memory is refused.
+    #[tactic(auto, using(crate::proofs::Caused::error_free, crate::proofs::Caused::arises_here))]
+    pub fn source_of(&self, alloc: Global, rule: &Rule) -> Result<Option<Target>, NoMemory>
+        requires arguments { length rule.now.args ≡ length rule.now.expr.1 }
+        ensures { IfOk result (AnswersSource rule.now
+            (table_of self.now.grammar.now self.now.production.now self.now.values.now)) }
+    {
+        if !self.is_still(alloc, rule, 0)? {
+            return Ok(None);
+        }
+        for (number, argument) in rule.args.as_slice().iter().enumerate() {
+            if !self.is_still(alloc, rule, number + 1)? {
+                return Ok(Some(*argument));
+            }
+        }
+        Ok(None)
+    }
+}

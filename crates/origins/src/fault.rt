@@ -1,0 +1,67 @@
+//! Why a walk over a tree file failed.
+
+ghost use Rattle.std.specs.Prelude.{◌≡◌};
+ghost use Rattle.origins.specs.Faults.{record_fault_of, walk_fault_of};
+ghost use Rattle.origins.specs.declared.fault.RecordFault.TheVariants as record_fault;
+ghost use Rattle.origins.specs.declared.fault.WalkFault.TheVariants as walk_fault;
+
+use ag_value::{NoMemory, ValueFault};
+use treefile::FrameFault;
+
+/// Why a record was not read.
+#[derive(Clone, Copy, Debug, PartialEq, Eq)]
+pub enum RecordFault {
+    /// The body is not a record of the expected item.
+    Damaged,
+    /// Memory was refused.
+    NoMemory,
+}
+
+impl From<ValueFault> for RecordFault {
+    ghost from_gives = { λ fault e. e ≡ record_fault_of fault };
+
+    fn from(fault: ValueFault) -> RecordFault {
+        match fault {
+            ValueFault::Malformed => RecordFault::Damaged,
+            ValueFault::NoMemory => RecordFault::NoMemory,
+        }
+    }
+}
+
+/// Why a walk over a tree file failed.
+#[derive(Clone, Copy, Debug, PartialEq, Eq)]
+pub enum WalkFault {
+    /// R1: no tree of the grammar has this file of the last pass. The offset in bytes is 0 if the file does
+    /// not begin as a tree file, else the end of the first frame from the end of the file that shows it, or
+    /// the offset at which one should end.
+    Damaged(u64),
+    /// P2: the tree has more than `MOST_DEPTH` levels.
+    TooDeep,
+    /// P3: the tree has more than `MOST_NODES` records.
+    TooManyNodes,
+    /// D1: a call of the device failed.
+    Device,
+    /// Memory was refused.
+    NoMemory,
+}
+
+impl From<FrameFault> for WalkFault {
+    ghost from_gives = { λ fault e. e ≡ walk_fault_of fault };
+
+    fn from(fault: FrameFault) -> WalkFault {
+        match fault {
+            FrameFault::NotATreeFile => WalkFault::Damaged(0),
+            FrameFault::Damaged(at) => WalkFault::Damaged(at),
+            FrameFault::Device => WalkFault::Device,
+            FrameFault::NoMemory => WalkFault::NoMemory,
+        }
+    }
+}
+
+impl From<NoMemory> for WalkFault {
+    ghost from_gives = { λ _ e. e ≡ walk_fault.NoMemory };
+
+    fn from(_error: NoMemory) -> WalkFault {
+        WalkFault::NoMemory
+    }
+}

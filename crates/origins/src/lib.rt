@@ -1,0 +1,17 @@
+//! Finds where errors come from in the tree of a tree file of the last pass: the rules in which an error
+//! arises, rather than being passed on by one of the rule's arguments.
+#![tactic(auto)]
+
+mod arising;
+mod fault;
+pub mod laws;
+mod lending;
+mod record;
+mod row;
+mod slots;
+mod walk;
+
+pub use fault::{RecordFault, WalkFault};
+pub use record::{Record, record_of};
+pub use row::Row;
+pub use walk::{Origins, find_origins};

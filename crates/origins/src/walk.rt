@@ -1,0 +1,369 @@
+//! A walk over a tree file of the last pass, from its end, that finds where errors arise.
+
+ghost use Rattle.std.specs.Prelude.{◌≡◌, ◌+◌, ◌^◌, ◌≤◌, ◌<◌, IfSome, ◌∷◌, ◌++◌, [], All, IfOk, IsErrOf, None, OnOk, Some};
+ghost use Rattle.std.specs.Prelude.{length, map, reverse, slice_get};
+ghost use Rattle.ag_value.specs.Well.{IsWell};
+ghost use Rattle.ag_grammar.specs.declared.grammar.Production.{Production as TheProduction};
+ghost use Rattle.ag_grammar.specs.grammars.Accepted.{IsAccepted};
+ghost use Rattle.ag_grammar.specs.grammars.AttributeGrammar.{IsProduction, stored_items};
+ghost use Rattle.treefile.specs.devices.Device.{LeavesContent, Persists, WhenHonest};
+ghost use Rattle.origins.specs.Origins.{AreOriginsIn, is_before};
+ghost use Rattle.origins.specs.Walking.{ComesNext, HasComeTo, HasEntered, HasFetched, IsReady};
+ghost use Rattle.origins.specs.Walking.{earlier, first_after, last_of, way};
+
+use crate::fault::{RecordFault, WalkFault};
+use crate::record::{Record, record_of};
+use crate::row::Row;
+use ag_grammar::limits::{MOST_DEPTH, MOST_NODES};
+use ag_grammar::{Direction, Grammar, Item};
+use ag_value::{Items, NoMemory, Value};
+use backreader::Back;
+use std::alloc::Global;
+use treefile::Device;
+
+/// The greatest number of turns to an open node: one for each node below it, and one to leave it.
+const MAX_TURNS: u32 = 2 * MOST_NODES + 1;
+
+/// Where errors arise in a tree.
+#[derive(Debug, Drop)]
+pub struct Origins {
+    /// The path of child numbers, from 0, from the root to the first node in the order of the sentence
+    /// that has a rule in which an error arises.
+    pub first: Option<Items<u16>>,
+    /// The number of rules of the tree in which an error arises.
+    pub count: u64,
+}
+
+impl Origins {
+    /// Adds a node that is read below open nodes, if errors arise in some of its rules: in `count` of them.
+    fn add_node(
+        &mut self,
+        alloc: Global,
+        direction: Direction,
+        nodes: &[Open],
+        count: usize,
+    ) -> Result<(), WalkFault>
+        ensures first { OnOk result (self.new.first
+            ≡ first_after self.old.first count (way direction (reverse nodes.now))) }
+        ensures count { OnOk result (self.new.count ≡ self.old.count + count) }
+        ensures device { IsErrOf result WalkFault.Device → ⊥ }
+    {
+        if count == 0 {
+            return Ok(());
+        }
+        let path = path_below(alloc, direction, nodes)?;
+        match self.add(path, count) {
+            Some(()) => Ok(()),
+            None => Err(WalkFault::TooManyNodes),
+        }
+    }
+
+    /// Adds the node at the end of a path, in which errors arise in `count` rules. Returns `None` if there are
+    /// too many.
+    fn add(&mut self, path: Items<u16>, count: usize) -> Option<()>
+        ensures first { IfSome result (λ _. self.new.first ≡ Some (earlier self.old.first path)) }
+        ensures count { IfSome result (λ _. self.new.count ≡ self.old.count + count) }
+    {
+        self.count = self.count.checked_add(count as u64)?;
+        let is_first = match &self.first {
+            Some(first) => is_before(path.as_slice(), first.as_slice()),
+            None => true,
+        };
+        if is_first {
+            self.first = Some(path);
+        }
+        Some(())
+    }
+}
+
+/// Whether the node at the end of a path comes before that of another path in the order of the sentence.
+fn is_before(path: &[u16], other: &[u16]) -> bool
+    ensures { result ≡ is_before path.now other.now }
+{
+    for index in 0..path.len().min(other.len()) {
+        if path[index] != other[index] {
+            return path[index] < other[index];
+        }
+    }
+    path.len() < other.len()
+}
+
+/// An open node: its record was read, and the records of some of its children were not.
+#[derive(Clone, Copy, Debug)]
+pub(crate) struct Open {
+    /// The number of its production.
+    pub(crate) production: u16,
+    /// The number of its children.
+    pub(crate) children: u16,
+    /// The number of children that were visited.
+    pub(crate) visited: u16,
+}
+
+impl Open {
+    /// Returns the number of the child that was visited last.
+    pub(crate) fn last(self, direction: Direction) -> u16
+        ensures { result ≡ last_of direction self }
+    {
+        let turn = self.visited.saturating_sub(1);
+        match direction {
+            Direction::LeftToRight => turn,
+            Direction::RightToLeft => self.children.saturating_sub(turn).saturating_sub(1),
+        }
+    }
+}
+
+/// Returns the path of the node that is read below open nodes.
+fn path_below(alloc: Global, direction: Direction, nodes: &[Open]) -> Result<Items<u16>, NoMemory>
+    ensures { IfOk result (λ path. path ≡ map (last_of direction) nodes.now) }
+{
+    let mut path = Vec::new(alloc);
+    for node in nodes {
+        path.push(node.last(direction))?;
+    }
+    Ok(Items::from_vec(path))
+}
+
+/// Returns the number of items that are children.
+pub(crate) fn stored_among(items: &[Item]) -> u16
+    requires { length items.now < 2 ^ 16 }
+    ensures { result ≡ length (stored_items items.now) }
+{
+    let mut count = 0;
+    for item in items {
+        if item.has_place() {
+            count += 1;
+        }
+    }
+    count
+}
+
+/// Returns the item of a child, by its number from 0, at a node of a production.
+pub(crate) fn child_at(grammar: &Grammar, number: u16, index: u16) -> Option<Item>
+    requires { index < 65535 }
+    ensures { IfSome result (λ x. (q : TheProduction) → IsProduction grammar.now number q
+        → slice_get (stored_items q.items) index ≡ Some x) }
+{
+    let production = grammar.productions().get(number as usize)?;
+    production.item_at(index + 1)
+}
+
+/// The grammar of a tree file, and the direction in which a walk visits children.
+#[derive(Clone, Copy)]
+struct WalkContext<'a> {
+    grammar: &'a Grammar,
+    direction: Direction,
+}
+
+/// A walk over a tree file: its reader, the open nodes from the root down, and what it found.
+#[derive(Drop)]
+struct Walk {
+    back: Back,
+    nodes: Vec<Open>,
+    found: Origins,
+}
+
+impl Walk {
+    /// Reads the next record, that of an item.
+    fn fetch<D: Device>(
+        &mut self,
+        alloc: Global,
+        grammar: &Grammar,
+        item: Item,
+        device: &mut D,
+    ) -> Result<Record, WalkFault>
+        requires { IsReady (D.is_honest device.old) (D.content device.old) self.old.back }
+        ensures fetched { IfOk result (λ found. HasFetched grammar.now (D.is_honest device.new)
+            (D.content device.old) self.old.back self.new.back found) }
+        ensures ready { OnOk result (IsReady (D.is_honest device.new) (D.content device.old)
+            self.new.back) }
+        ensures nodes { self.new.nodes ≡ self.old.nodes }
+        ensures found { self.new.found ≡ self.old.found }
+        ensures content { LeavesContent (D.is_honest device.new)
+            (D.content device.old) (D.content device.new) }
+        ensures persists { Persists (D.is_honest device.old) (D.is_honest device.new)
+            (D.failures device.old) (D.failures device.new) (IsErrOf result WalkFault.Device) }
+    {
+        if self.nodes.len() >= MOST_DEPTH {
+            return Err(WalkFault::TooDeep);
+        }
+        if self.back.records() >= u64::from(MOST_NODES) {
+            return Err(WalkFault::TooManyNodes);
+        }
+        let end = self.back.end();
+        let Some(body) = self.back.back(device)? else {
+            return Err(WalkFault::Damaged(end));
+        };
+        match record_of(alloc, grammar, item, body) {
+            Ok(record) => Ok(record),
+            Err(RecordFault::Damaged) => Err(WalkFault::Damaged(end)),
+            Err(RecordFault::NoMemory) => Err(WalkFault::NoMemory),
+        }
+    }
+
+    /// Enters a node whose record was read.
+    fn enter(
+        &mut self,
+        alloc: Global,
+        context: &WalkContext<'_>,
+        number: u16,
+        values: &[Value],
+    ) -> Result<(), WalkFault>
+        requires there { number < length context.now.grammar.now.productions }
+        requires well { All IsWell values.now }
+        ensures entered { OnOk result (HasEntered context.now.grammar.now context.now.direction
+            number values.now
+            self.old.nodes.items self.new.nodes.items self.old.found.first self.new.found.first
+            self.old.found.count self.new.found.count) }
+        ensures back { self.new.back ≡ self.old.back }
+        ensures accepted { IsAccepted context.now.grammar.now }
+        ensures device { IsErrOf result WalkFault.Device → ⊥ }
+    {
+        let production = &context.grammar.productions()[number as usize];
+        let row = Row {
+            grammar: context.grammar,
+            production,
+            values,
+        };
+        let count = row.arising_count(alloc)?;
+        self.found
+            .add_node(alloc, context.direction, self.nodes.as_slice(), count)?;
+        let node = Open {
+            production: number,
+            children: stored_among(production.items.as_slice()),
+            visited: 0,
+        };
+        let Ok(()) = self.nodes.push(node) else {
+            return Err(WalkFault::NoMemory);
+        };
+        Ok(())
+    }
+
+    /// Reads the next record, that of an item, and enters its node.
+    fn read<D: Device>(
+        &mut self,
+        alloc: Global,
+        context: &WalkContext<'_>,
+        item: Item,
+        device: &mut D,
+    ) -> Result<(), WalkFault>
+        requires ready { IsReady (D.is_honest device.old) (D.content device.old) self.old.back }
+        requires next { WhenHonest (D.is_honest device.old) (ComesNext context.now.grammar.now
+            context.now.direction (D.content device.old) self.old.back.progress.at item (reverse self.old.nodes.items)
+            self.old.found.first self.old.found.count) }
+        ensures ready { OnOk result (IsReady (D.is_honest device.new) (D.content device.old)
+            self.new.back) }
+        ensures come { OnOk result (WhenHonest (D.is_honest device.new) (HasComeTo context.now.grammar.now
+            context.now.direction (D.content device.old) self.new.back.progress.at
+            (reverse self.new.nodes.items) self.new.found.first self.new.found.count)) }
+        ensures content { LeavesContent (D.is_honest device.new)
+            (D.content device.old) (D.content device.new) }
+        ensures persists { Persists (D.is_honest device.old) (D.is_honest device.new)
+            (D.failures device.old) (D.failures device.new) (IsErrOf result WalkFault.Device) }
+    {
+        match self.fetch(alloc, context.grammar, item, device)? {
+            Record::Token => Ok(()),
+            Record::Node(number, values) => self.enter(alloc, context, number, values.as_slice()),
+        }
+    }
+
+    /// Turns to the innermost open node, which was taken from the list: visits its next child, or leaves it.
+    fn turn<D: Device>(
+        &mut self,
+        alloc: Global,
+        context: &WalkContext<'_>,
+        node: Open,
+        device: &mut D,
+    ) -> Result<(), WalkFault>
+        requires ready { IsReady (D.is_honest device.old) (D.content device.old) self.old.back }
+        requires come { WhenHonest (D.is_honest device.old) (HasComeTo context.now.grammar.now
+            context.now.direction (D.content device.old) self.old.back.progress.at
+            (node ∷ reverse self.old.nodes.items) self.old.found.first self.old.found.count) }
+        ensures ready { OnOk result (IsReady (D.is_honest device.new) (D.content device.old)
+            self.new.back) }
+        ensures come { OnOk result (WhenHonest (D.is_honest device.new) (HasComeTo context.now.grammar.now
+            context.now.direction (D.content device.old) self.new.back.progress.at
+            (reverse self.new.nodes.items) self.new.found.first self.new.found.count)) }
+        ensures content { LeavesContent (D.is_honest device.new)
+            (D.content device.old) (D.content device.new) }
+        ensures persists { Persists (D.is_honest device.old) (D.is_honest device.new)
+            (D.failures device.old) (D.failures device.new) (IsErrOf result WalkFault.Device) }
+    {
+        if node.visited >= node.children {
+            return Ok(());
+        }
+        let index = context
+            .direction
+            .nth(node.children as usize, node.visited as usize);
+        let end = self.back.end();
+        let Some(item) = child_at(context.grammar, node.production, index as u16) else {
+            return Err(WalkFault::Damaged(end));
+        };
+        let visited = Open {
+            production: node.production,
+            children: node.children,
+            visited: node.visited + 1,
+        };
+        let Ok(()) = self.nodes.push(visited) else {
+            return Err(WalkFault::NoMemory);
+        };
+        self.read(alloc, context, item, device)
+    }
+
+    /// Ends the walk when no node is open. Fails with R1 if something is left to read.
+    fn end<D: Device>(mut self, device: &mut D) -> Result<Origins, WalkFault>
+        requires ready { IsReady (D.is_honest device.old) (D.content device.old) self.back }
+        ensures found { IfOk result (λ found. found ≡ self.found) }
+        ensures content { LeavesContent (D.is_honest device.new)
+            (D.content device.old) (D.content device.new) }
+        ensures persists { Persists (D.is_honest device.old) (D.is_honest device.new)
+            (D.failures device.old) (D.failures device.new) (IsErrOf result WalkFault.Device) }
+    {
+        let end = self.back.end();
+        if self.back.back(device)?.is_some() {
+            return Err(WalkFault::Damaged(end));
+        }
+        Ok(self.found)
+    }
+}
+
+/// Finds where errors arise in the tree whose file of the last pass a device contains: the first node in
+/// the order of the sentence that has a rule in which an error arises, and the number of such rules in the
+/// tree. A node comes before what is below it.
+///
+/// Reads the file once, from its end. Evaluates each rule of the tree, and a second time if its value is an
+/// error. Takes memory for a buffer, for the values of one record, and for each level.
+pub fn find_origins<D: Device>(
+    alloc: Global,
+    grammar: &Grammar,
+    device: &mut D,
+) -> Result<Origins, WalkFault>
+    ensures found { IfOk result (λ found. WhenHonest (D.is_honest device.new)
+        (AreOriginsIn grammar.now (D.content device.old) found.first found.count)) }
+    ensures content { LeavesContent (D.is_honest device.new)
+        (D.content device.old) (D.content device.new) }
+    ensures persists { Persists (D.is_honest device.old) (D.is_honest device.new)
+        (D.failures device.old) (D.failures device.new) (IsErrOf result WalkFault.Device) }
+{
+    let back = Back::start(alloc, device)?;
+    let context = WalkContext {
+        grammar,
+        direction: Direction::of_pass(back.pass()).turned(),
+    };
+    let mut walk = Walk {
+        back,
+        nodes: Vec::new(alloc),
+        found: Origins {
+            first: None,
+            count: 0,
+        },
+    };
+    let root = Item::Symbol(grammar.start());
+    walk.read(alloc, &context, root, device)?;
+    for _turn in 0..MAX_TURNS {
+        let Some(node) = walk.nodes.pop() else {
+            return walk.end(device);
+        };
+        walk.turn(alloc, &context, node, device)?;
+    }
+    Err(WalkFault::TooManyNodes)
+}

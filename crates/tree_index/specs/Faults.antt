@@ -1,0 +1,19 @@
+-- Which fault follows from the fault of a part. This project's.
+use Rattle.ag_value.specs.declared.fault.ValueFault.{ValueFault}
+use Rattle.ag_value.specs.declared.fault.ValueFault.TheVariants as value_fault
+use Rattle.treefile.specs.declared.reading.FrameFault.{FrameFault}
+use Rattle.treefile.specs.declared.reading.FrameFault.TheVariants as frame_fault
+use Rattle.tree_index.specs.declared.fault.RecordFault.{RecordFault}
+use Rattle.tree_index.specs.declared.fault.RecordFault.TheVariants as record_fault
+use Rattle.tree_index.specs.declared.fault.TreeFault.{TreeFault}
+use Rattle.tree_index.specs.declared.fault.TreeFault.TheVariants as tree_fault
+
+abbrev pub record_fault_of : ValueFault → RecordFault
+record_fault_of value_fault.Malformed = record_fault.Damaged
+record_fault_of value_fault.NoMemory = record_fault.NoMemory
+
+abbrev pub tree_fault_of : FrameFault → TreeFault
+tree_fault_of frame_fault.NotATreeFile = tree_fault.Damaged 0
+tree_fault_of (frame_fault.Damaged at) = tree_fault.Damaged at
+tree_fault_of frame_fault.Device = tree_fault.Device
+tree_fault_of frame_fault.NoMemory = tree_fault.NoMemory

@@ -1,0 +1,9 @@
+-- When the reading of a tree file can go on. All of this is this project's.
+use Rattle.std.specs.Prelude.{◌≡◌, ℕ, Bool, List, None}
+use Rattle.backreader.specs.BackState.{BackState, IsOver}
+use Rattle.treefile.specs.devices.Device.{WhenHonest}
+
+-- A reader is one of the content, and no failure is final.
+pub record IsReady (honest : Bool) (content : List ℕ) (state : BackState) : Type 0 where
+  pub over : WhenHonest honest (IsOver content state)
+  pub unbroken : state.progress.fault ≡ None

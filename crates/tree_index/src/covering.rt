@@ -1,0 +1,107 @@
+//! The deepest node of a production that has given tokens of the sentence.
+
+use crate::index::{NodeKind, TreeIndex};
+use crate::tokens::TokenCounts;
+use ag_grammar::limits::MOST_DEPTH;
+use ag_grammar::{Grammar, Item, Terminal};
+use ag_value::NoMemory;
+use std::alloc::Global;
+
+/// Tokens of a node, from one to another, by their numbers among the tokens of the node, from 0.
+#[derive(Clone, Copy, Debug, PartialEq, Eq)]
+pub struct TokenRange {
+    /// The number of the first token.
+    pub first: u32,
+    /// The number of the last token, not before the first one.
+    pub last: u32,
+}
+
+/// A child that has all tokens of a range: its number in the index, its place, and the range among its tokens.
+#[derive(Clone, Copy)]
+struct Step {
+    node: u32,
+    place: u16,
+    range: TokenRange,
+}
+
+impl TokenRange {
+    /// Returns whether the range is within the first `count` tokens.
+    fn is_within(self, count: u32) -> bool {
+        self.last < count
+    }
+
+    /// Returns the range among the tokens after the first `count` ones; `None` if it begins before them.
+    fn after(self, count: u32) -> Option<TokenRange> {
+        Some(TokenRange {
+            first: self.first.checked_sub(count)?,
+            last: self.last.checked_sub(count)?,
+        })
+    }
+}
+
+impl TreeIndex {
+    /// Returns the places from the root to the deepest node of a production that has all tokens of a range. It
+    /// is the root if the tree does not have them. Fails if memory is refused.
+    pub fn find_covering(
+        &self,
+        alloc: Global,
+        grammar: &Grammar,
+        counts: &TokenCounts,
+        range: TokenRange,
+    ) -> Result<Vec<u16>, NoMemory> {
+        let mut places = Vec::new(alloc);
+        let mut node = 0u32;
+        let mut range = range;
+        // a tree that was read has no more levels
+        for _level in 0..MOST_DEPTH {
+            let Some(step) = self.covering_child(grammar, counts, node, range) else {
+                return Ok(places);
+            };
+            places.push(step.place)?;
+            node = step.node;
+            range = step.range;
+        }
+        Ok(places)
+    }
+
+    /// Returns the child of a node that is a node of a production and has all tokens of a range, if there is
+    /// one.
+    fn covering_child(
+        &self,
+        grammar: &Grammar,
+        counts: &TokenCounts,
+        node: u32,
+        range: TokenRange,
+    ) -> Option<Step> {
+        let NodeKind::Node(number) = self.kind(node)? else {
+            return None;
+        };
+        let production = grammar.productions().get(usize::from(number))?;
+        let mut range = range;
+        let mut place = 0u16;
+        for item in production.items.as_slice() {
+            let count = match item {
+                Item::Terminal(Terminal::Literal(_)) => 1,
+                Item::Terminal(Terminal::Class(_)) => {
+                    place = place.saturating_add(1);
+                    1
+                }
+                Item::Symbol(_) => {
+                    place = place.saturating_add(1);
+                    let child = self.child(grammar, node, place)?;
+                    let count = counts.of_subtree(self, child)?;
+                    if range.is_within(count) {
+                        return Some(Step {
+                            node: child,
+                            place,
+                            range,
+                        });
+                    }
+                    count
+                }
+            };
+            range = range.after(count)?;
+        }
+        None
+    }
+}

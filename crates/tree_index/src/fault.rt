@@ -1,0 +1,66 @@
+//! Why a tree file was not read.
+
+ghost use Rattle.std.specs.Prelude.{◌≡◌};
+ghost use Rattle.tree_index.specs.Faults.{record_fault_of, tree_fault_of};
+ghost use Rattle.tree_index.specs.declared.fault.TreeFault.TheVariants as tree_fault;
+
+use ag_value::{NoMemory, ValueFault};
+use treefile::FrameFault;
+
+/// Why a record was not read.
+#[derive(Clone, Copy, Debug, PartialEq, Eq)]
+pub(crate) enum RecordFault {
+    /// The body is not a record of the expected item.
+    Damaged,
+    /// Memory was refused.
+    NoMemory,
+}
+
+impl From<ValueFault> for RecordFault {
+    ghost from_gives = { λ fault e. e ≡ record_fault_of fault };
+
+    fn from(fault: ValueFault) -> RecordFault {
+        match fault {
+            ValueFault::Malformed => RecordFault::Damaged,
+            ValueFault::NoMemory => RecordFault::NoMemory,
+        }
+    }
+}
+
+/// Why a tree file was not read.
+#[derive(Clone, Copy, Debug, PartialEq, Eq)]
+pub enum TreeFault {
+    /// R1: no tree of the grammar has this file. The offset in bytes is 0 if the file does not begin as a
+    /// tree file, 4 if the plan does not have its pass, else the end of the first record from the end of the
+    /// file that shows it, or the offset at which one should end.
+    Damaged(u64),
+    /// P2: the tree has more than `MOST_DEPTH` levels.
+    TooDeep,
+    /// P3: the tree has more than `MOST_NODES` records.
+    TooManyNodes,
+    /// D1: a call of the device failed.
+    Device,
+    /// Memory was refused.
+    NoMemory,
+}
+
+impl From<FrameFault> for TreeFault {
+    ghost from_gives = { λ fault e. e ≡ tree_fault_of fault };
+
+    fn from(fault: FrameFault) -> TreeFault {
+        match fault {
+            FrameFault::NotATreeFile => TreeFault::Damaged(0),
+            FrameFault::Damaged(at) => TreeFault::Damaged(at),
+            FrameFault::Device => TreeFault::Device,
+            FrameFault::NoMemory => TreeFault::NoMemory,
+        }
+    }
+}
+
+impl From<NoMemory> for TreeFault {
+    ghost from_gives = { λ _ e. e ≡ tree_fault.NoMemory };
+
+    fn from(_error: NoMemory) -> TreeFault {
+        TreeFault::NoMemory
+    }
+}

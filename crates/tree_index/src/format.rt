@@ -1,0 +1,210 @@
+//! How the records of a tree file are read.
+
+ghost use Rattle.std.specs.Prelude.{IsErrOf};
+ghost use Rattle.treefile.specs.devices.Device.{LeavesContent, Persists};
+
+use crate::bodies::body_before;
+use crate::fault::{RecordFault, TreeFault};
+use crate::layout::{copied_passes, count_up_to, passes_of};
+use crate::records::{read_text, read_values, split_record};
+use ag_carried::Carried;
+use ag_grammar::limits::MOST_ATTRIBUTES;
+use ag_grammar::{Grammar, Item, Production, Terminal};
+use planchecker::Plan;
+use std::alloc::Global;
+use treefile::Device;
+
+/// How the records of a tree file are read: by a grammar, its plan, and the pass that wrote the file.
+#[derive(Clone, Copy)]
+pub struct FileFormat<'a> {
+    /// The grammar.
+    pub grammar: &'a Grammar,
+    /// A plan of the grammar.
+    pub plan: &'a Plan,
+    /// The pass that wrote the file; 0 is the parser.
+    pub pass: u16,
+}
+
+/// The record of a node or of a token.
+#[derive(Drop)]
+pub struct NodeRecord {
+    /// The number of the node's production, or of the token's class.
+    pub number: u16,
+    /// The values of the record.
+    row: Vec<Carried>,
+}
+
+impl<'a> FileFormat<'a> {
+    /// Returns the production of a number.
+    pub fn production(&self, number: u16) -> Option<&'a Production> {
+        self.grammar.productions().get(usize::from(number))
+    }
+
+    /// Returns the number of values of an item in the row of its own record.
+    pub(crate) fn own_width(&self, item: Item) -> usize {
+        match item {
+            Item::Symbol(symbol) => count_up_to(passes_of(self.plan, symbol), self.pass),
+            Item::Terminal(Terminal::Class(_)) => 1,
+            Item::Terminal(Terminal::Literal(_)) => 0,
+        }
+    }
+
+    /// Returns the number of values of an item in the row of its parent.
+    pub(crate) fn copied_width(&self, item: Item) -> usize {
+        count_up_to(copied_passes(self.grammar, self.plan, item), self.pass)
+    }
+
+    /// Returns the index, in the row of a node, of the copies of the values of a child, by its place from 1.
+    pub(crate) fn copies_at(&self, production: &Production, place: u16) -> usize {
+        let mut at = self.own_width(Item::Symbol(production.left));
+        for before in 1..place {
+            if let Some(item) = production.item_at(before) {
+                at = at.saturating_add(self.copied_width(item));
+            }
+        }
+        at
+    }
+
+    /// Returns the pass of an attribute of an item; 0 for a token's text.
+    pub fn pass_of(&self, item: Item, attr: u16) -> Option<u16> {
+        match item {
+            Item::Symbol(symbol) => { passes_of(self.plan, symbol).get(usize::from(attr)).copied() }
+            Item::Terminal(Terminal::Class(_)) if attr == 0 => Some(0),
+            Item::Terminal(_) => None,
+        }
+    }
+
+    /// Returns the name of an attribute of an item.
+    pub fn attribute_name(&self, item: Item, attr: u16) -> Option<&'a str> {
+        match item {
+            Item::Symbol(symbol) => {
+                self.grammar
+                    .symbols()
+                    .get(usize::from(symbol))?
+                    .attribute_name(attr)
+            }
+            Item::Terminal(Terminal::Class(_)) if attr == 0 => Some("lex"),
+            Item::Terminal(_) => None,
+        }
+    }
+
+    /// Returns whether an item has an attribute of this name.
+    pub fn has_attribute(&self, item: Item, name: &str) -> bool {
+        for attr in 0..MOST_ATTRIBUTES as u16 {
+            if self.attribute_name(item, attr) == Some(name) {
+                return true;
+            }
+        }
+        false
+    }
+
+    /// Reads a body as the record of an item, and appends its values to a row. Returns the number of the
+    /// production or of the class.
+    pub(crate) fn read_into(
+        &self,
+        alloc: Global,
+        item: Item,
+        body: &[u8],
+        row: &mut Vec<Carried>,
+    ) -> Result<u16, RecordFault> {
+        let Some((number, spellings)) = split_record(self.grammar, item, body) else {
+            return Err(RecordFault::Damaged);
+        };
+        match (item, self.production(number)) {
+            (Item::Symbol(_), Some(production)) => {
+                self.read_row(alloc, production, spellings, row)?;
+            }
+            _ => read_text(alloc, spellings, row)?,
+        }
+        Ok(number)
+    }
+
+    /// Reads the values of a node of a production: its own, and the copies of its children's. No bytes may
+    /// be left.
+    fn read_row(
+        &self,
+        alloc: Global,
+        production: &Production,
+        spellings: &[u8],
+        row: &mut Vec<Carried>,
+    ) -> Result<(), RecordFault> {
+        let own = self.own_width(Item::Symbol(production.left));
+        let mut rest = read_values(alloc, own, spellings, row)?;
+        for item in production.items.as_slice() {
+            rest = read_values(alloc, self.copied_width(*item), rest, row)?;
+        }
+        if rest.is_empty() {
+            Ok(())
+        } else {
+            Err(RecordFault::Damaged)
+        }
+    }
+
+    /// Reads the record of an item that ends at an offset. Fails with R1 if there is not one, with D1
+    /// if a call of the device fails, and if memory is refused.
+    pub fn read_record<D: Device>(
+        &self,
+        alloc: Global,
+        item: Item,
+        device: &mut D,
+        end: u64,
+    ) -> Result<NodeRecord, TreeFault>
+        ensures content { LeavesContent (D.is_honest device.new)
+            (D.content device.old) (D.content device.new) }
+        ensures persists { Persists (D.is_honest device.old) (D.is_honest device.new)
+            (D.failures device.old) (D.failures device.new) (IsErrOf result TreeFault.Device) }
+    {
+        let body = body_before(alloc, device, end)?;
+        let mut row = Vec::new(alloc);
+        match self.read_into(alloc, item, body.as_slice(), &mut row) {
+            Ok(number) => Ok(NodeRecord { number, row }),
+            Err(RecordFault::Damaged) => Err(TreeFault::Damaged(end)),
+            Err(RecordFault::NoMemory) => Err(TreeFault::NoMemory),
+        }
+    }
+
+    /// Returns the value of an attribute at the item of a record; `None` if the file does not have it.
+    pub fn own_value<'r>(
+        &self,
+        record: &'r NodeRecord,
+        item: Item,
+        attr: u16,
+    ) -> Option<&'r Carried> {
+        let passes = match item {
+            Item::Symbol(symbol) => passes_of(self.plan, symbol),
+            _ => &[0],
+        };
+        self.value_at(record, passes, 0, attr)
+    }
+
+    /// Returns the value of a synthesized attribute of a child, by its place from 1, from the copies in the
+    /// record of its parent, a node of a production; `None` if the file does not have it.
+    pub fn copied_value<'r>(
+        &self,
+        record: &'r NodeRecord,
+        production: &Production,
+        place: u16,
+        attr: u16,
+    ) -> Option<&'r Carried> {
+        let item = production.item_at(place)?;
+        let passes = copied_passes(self.grammar, self.plan, item);
+        self.value_at(record, passes, self.copies_at(production, place), attr)
+    }
+
+    /// Returns the value of an attribute, by its number among attributes with these passes, whose values
+    /// begin at an index of a row.
+    fn value_at<'r>(
+        &self,
+        record: &'r NodeRecord,
+        passes: &[u16],
+        start: usize,
+        attr: u16,
+    ) -> Option<&'r Carried> {
+        let attr = usize::from(attr);
+        if *passes.get(attr)? > self.pass {
+            return None;
+        }
+        let before = count_up_to(passes.get(..attr)?, self.pass);
+        record.row.get(start.checked_add(before)?)
+    }
+}

@@ -1,0 +1,47 @@
+//! The rows of values in records, by the passes of a plan.
+
+use ag_grammar::{Grammar, Item, Symbol, Terminal};
+use planchecker::Plan;
+
+/// Returns the passes of a symbol's attributes; none if the plan does not have it.
+pub(crate) fn passes_of(plan: &Plan, symbol: u16) -> &[u16] {
+    match plan.assignment().rows().get(usize::from(symbol)) {
+        Some(row) => row.as_slice(),
+        None => &[],
+    }
+}
+
+/// Returns the passes of the synthesized attributes of a symbol.
+fn synthesized_passes<'a>(grammar: &Grammar, plan: &'a Plan, symbol: u16) -> &'a [u16] {
+    let passes = passes_of(plan, symbol);
+    match grammar.symbols().get(usize::from(symbol)) {
+        Some(symbol) => synthesized_among(symbol, passes),
+        None => &[],
+    }
+}
+
+/// Returns the passes of a symbol's synthesized attributes, which come first.
+fn synthesized_among<'a>(symbol: &Symbol, passes: &'a [u16]) -> &'a [u16] {
+    &passes[..symbol.syn.as_slice().len().min(passes.len())]
+}
+
+/// Returns the passes of the values at an item of which its parent's record has copies: of a symbol's
+/// synthesized attributes, and of a token's text, which is there from the beginning.
+pub(crate) fn copied_passes<'a>(grammar: &Grammar, plan: &'a Plan, item: Item) -> &'a [u16] {
+    match item {
+        Item::Symbol(symbol) => synthesized_passes(grammar, plan, symbol),
+        Item::Terminal(Terminal::Class(_)) => &[0],
+        Item::Terminal(Terminal::Literal(_)) => &[],
+    }
+}
+
+/// Returns the number of passes up to `last`.
+pub(crate) fn count_up_to(passes: &[u16], last: u16) -> usize {
+    let mut count = 0usize;
+    for pass in passes {
+        if *pass <= last {
+            count = count.saturating_add(1);
+        }
+    }
+    count
+}

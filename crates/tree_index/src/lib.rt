@@ -1,0 +1,31 @@
+//! An index of a tree file: where the record of each node ends, and the number of records of its subtree.
+//! It takes 16 bytes a node, and finds the node at the end of a path, or the nodes in the order of
+//! the sentence, without reading the file from its end again.
+//!
+//! `TreeIndex::read` reads a file as a pass reads it, and fails as a pass does (R1, P2, P3, D1). It accepts
+//! the file of any pass of the plan.
+#![tactic(auto)]
+
+mod bodies;
+mod covering;
+mod fault;
+mod format;
+mod index;
+mod layout;
+mod path;
+mod reading;
+mod records;
+mod token_walk;
+mod tokens;
+mod walk;
+
+pub use bodies::body_before;
+pub use covering::TokenRange;
+pub use fault::TreeFault;
+pub use format::{FileFormat, NodeRecord};
+pub use index::{NodeKind, TreeIndex};
+pub use path::{NodePath, PathFault};
+pub use reading::pass_of_file;
+pub use token_walk::{TokenWalk, TreeToken};
+pub use tokens::TokenCounts;
+pub use walk::{NodeVisit, SentenceWalk};

@@ -1,0 +1,155 @@
+//! Paths from the root of a tree to its nodes.
+
+use ag_grammar::limits::MOST_DEPTH;
+use ag_value::NoMemory;
+use std::alloc::Global;
+use std::fmt;
+
+/// A run of a path: the same place several times.
+#[derive(Clone, Copy, Debug, PartialEq, Eq)]
+struct Run {
+    place: u16,
+    count: u32,
+}
+
+/// A path from the root: the places of children, from 1. As text it is `/` for the root, `/2/1` for the
+/// first child of its second child, and `/1*897/2` for 897 times the first child and then the second.
+#[derive(Debug, Drop)]
+pub struct NodePath {
+    runs: Vec<Run>,
+}
+
+/// Why a text is not a path.
+#[derive(Clone, Copy, Debug, PartialEq, Eq)]
+pub enum PathFault {
+    /// It is not written as a path.
+    NotAPath,
+    /// Memory was refused.
+    NoMemory,
+}
+
+impl NodePath {
+    /// Returns the path of the root.
+    pub fn root(alloc: Global) -> NodePath {
+        NodePath {
+            runs: Vec::new(alloc),
+        }
+    }
+
+    /// Goes to a child, by its place from 1. Fails if memory is refused.
+    pub fn push(&mut self, place: u16) -> Result<(), NoMemory> {
+        if self.extend(place) {
+            return Ok(());
+        }
+        Ok(self.runs.push(Run { place, count: 1 })?)
+    }
+
+    /// Makes the last run longer by one if it is of a place. Returns whether it is.
+    fn extend(&mut self, place: u16) -> bool {
+        match self.runs.last_mut() {
+            Some(run) if run.place == place => {
+                run.count = run.count.saturating_add(1);
+                true
+            }
+            _ => false,
+        }
+    }
+
+    /// Goes to the parent; does nothing at the root.
+    pub fn pop(&mut self) {
+        if !self.shorten() {
+            let _last = self.runs.pop();
+        }
+    }
+
+    /// Makes the last run shorter by one if it has more than one place. Returns whether it has.
+    fn shorten(&mut self) -> bool {
+        match self.runs.last_mut() {
+            Some(run) if 1 < run.count => {
+                run.count -= 1;
+                true
+            }
+            _ => false,
+        }
+    }
+
+    /// Reads a path. It begins with `/`, and `/1/2` is the same as `/1/2/`.
+    pub fn parse(alloc: Global, text: &str) -> Result<NodePath, PathFault> {
+        let Some(rest) = text.strip_prefix('/') else {
+            return Err(PathFault::NotAPath);
+        };
+        let mut path = NodePath::root(alloc);
+        if rest.is_empty() {
+            return Ok(path);
+        }
+        for part in rest.split('/') {
+            let Some(run) = run_of(part) else {
+                return Err(PathFault::NotAPath);
+            };
+            let Ok(()) = path.runs.push(run) else {
+                return Err(PathFault::NoMemory);
+            };
+        }
+        Ok(path)
+    }
+
+    /// Returns the places of the path, from the root down. Fails if memory is refused.
+    pub fn places(&self, alloc: Global) -> Result<Vec<u16>, NoMemory> {
+        let mut places = Vec::new(alloc);
+        for run in self.runs.as_slice() {
+            for _ in 0..run.count {
+                places.push(run.place)?;
+            }
+        }
+        Ok(places)
+    }
+
+    /// Returns the path of these places. Fails if memory is refused.
+    pub fn of_places(alloc: Global, places: &[u16]) -> Result<NodePath, NoMemory> {
+        let mut path = NodePath::root(alloc);
+        for place in places {
+            path.push(*place)?;
+        }
+        Ok(path)
+    }
+}
+
+/// Reads a place, or a place and the number of times that it is repeated.
+fn run_of(part: &str) -> Option<Run> {
+    let (place, count) = match part.split_once('*') {
+        Some((place, count)) => (number_in(place)?, number_in(count)?),
+        None => (number_in(part)?, 1),
+    };
+    let place = u16::try_from(place).ok()?;
+    if place == 0 || count == 0 || MOST_DEPTH as u32 <= count {
+        return None;
+    }
+    Some(Run { place, count })
+}
+
+/// Reads a decimal number.
+fn number_in(text: &str) -> Option<u32> {
+    text.parse::<u32>().ok()
+}
+
+impl fmt::Display for NodePath {
+    fn fmt<W: fmt::Write>(&self, f: &mut fmt::Formatter<W>) -> fmt::Result {
+        if self.runs.is_empty() {
+            return f.write_str("/");
+        }
+        for run in self.runs.as_slice() {
+            write_run(f, *run)?;
+        }
+        Ok(())
+    }
+}
+
+/// Writes a run: the place once or twice, or with the number of times.
+fn write_run<W: fmt::Write>(f: &mut fmt::Formatter<W>, run: Run) -> fmt::Result {
+    let Run { place, count } = run;
+    match count {
+        1 => write!(f, "/{place}"),
+        2 => write!(f, "/{place}/{place}"),
+        _ => write!(f, "/{place}*{count}"),
+    }
+}

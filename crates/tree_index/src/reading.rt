@@ -1,0 +1,410 @@
+//! The reading of a whole tree file, which makes its index.
+
+ghost use Rattle.std.specs.Prelude.{◌≡◌, IsErrOf, OnOk};
+ghost use Rattle.treefile.specs.devices.Device.{LeavesContent, Persists};
+ghost use Rattle.tree_index.specs.Ready.{IsReady};
+
+use crate::fault::{RecordFault, TreeFault};
+use crate::format::FileFormat;
+use crate::index::{NodeKind, TreeIndex, child_count};
+use crate::records::split_record;
+use ag_carried::Carried;
+use ag_grammar::limits::{MOST_DEPTH, MOST_NODES};
+use ag_grammar::{Direction, Grammar, Item, Production};
+use backreader::Back;
+use planchecker::Plan;
+use std::alloc::Global;
+use treefile::Device;
+
+/// The offset in bytes of the number of the pass in a header.
+const PASS_OFFSET: u64 = 4;
+
+/// The greatest number of turns to an open node: one for each node below it, and one to leave it.
+const MAX_TURNS: u32 = 2 * MOST_NODES + 1;
+
+/// An open node: its record was read, and the records of some of its children were not.
+#[derive(Clone, Copy)]
+pub(crate) struct OpenNode {
+    /// Its number in the index.
+    number: u32,
+    /// The number of its production.
+    production: u16,
+    /// The number of its children.
+    children: u16,
+    /// The number of children that were visited.
+    visited: u16,
+    /// The index at which its row begins.
+    row: usize,
+}
+
+/// The copies that a row has of the values of a child: the index of the first, and their number.
+#[derive(Clone, Copy)]
+struct Copies {
+    at: usize,
+    width: usize,
+}
+
+/// The copies of the root's values: there are none.
+const NO_COPIES: Copies = Copies { at: 0, width: 0 };
+
+/// A record that was read: its item, the number in it, its end, and the index at which its row begins.
+#[derive(Clone, Copy)]
+struct Fetched {
+    item: Item,
+    number: u16,
+    end: u64,
+    row: usize,
+}
+
+/// How a file is read: by its format, and with or without the values in its records.
+#[derive(Clone, Copy)]
+struct Mode<'a> {
+    alloc: Global,
+    format: FileFormat<'a>,
+    with_values: bool,
+}
+
+/// The record that is expected next.
+#[derive(Clone, Copy)]
+struct Expected {
+    item: Item,
+    copies: Copies,
+}
+
+impl Mode<'_> {
+    /// Reads a body as the record of an item, and appends its row if values are read. Returns the number in
+    /// the record.
+    fn read_body(
+        &self,
+        item: Item,
+        body: &[u8],
+        values: &mut Vec<Carried>,
+    ) -> Result<u16, RecordFault> {
+        if self.with_values {
+            return self.format.read_into(self.alloc, item, body, values);
+        }
+        match split_record(self.format.grammar, item, body) {
+            Some((number, _)) => Ok(number),
+            None => Err(RecordFault::Damaged),
+        }
+    }
+
+    /// Returns the copies that are compared with the values of a child, by its place, in the row of its
+    /// parent, a node of a production. The row begins at an index.
+    fn copies_of(&self, row: usize, production: &Production, place: u16) -> Copies {
+        if !self.with_values {
+            return NO_COPIES;
+        }
+        let width = match production.item_at(place) {
+            Some(item) => self.format.copied_width(item),
+            None => 0,
+        };
+        Copies {
+            at: row.saturating_add(self.format.copies_at(production, place)),
+            width,
+        }
+    }
+
+    /// Returns the record that is expected next at a node with a child that was not visited.
+    fn expected_child(&self, node: OpenNode) -> Option<Expected> {
+        if node.children <= node.visited {
+            return None;
+        }
+        let direction = Direction::of_pass(self.format.pass).turned();
+        let index = direction.nth(usize::from(node.children), usize::from(node.visited));
+        let place = (index as u16).saturating_add(1);
+        let production = self.format.production(node.production)?;
+        Some(Expected {
+            item: production.item_at(place)?,
+            copies: self.copies_of(node.row, production, place),
+        })
+    }
+}
+
+/// Reads the next body of a file as the record of an item, and appends its row. If values are not read and
+/// the device has the body in memory, looks only at what it begins with.
+fn fetch<D: Device>(
+    mode: &Mode<'_>,
+    item: Item,
+    back: &mut Back,
+    values: &mut Vec<Carried>,
+    device: &mut D,
+) -> Result<Fetched, TreeFault>
+    requires ready { IsReady (D.is_honest device.old) (D.content device.old) back.old }
+    ensures ready { OnOk result (IsReady (D.is_honest device.new) (D.content device.old) back.new) }
+    ensures content { LeavesContent (D.is_honest device.new)
+        (D.content device.old) (D.content device.new) }
+    ensures persists { Persists (D.is_honest device.old) (D.is_honest device.new)
+        (D.failures device.old) (D.failures device.new) (IsErrOf result TreeFault.Device) }
+{
+    if back.records() >= u64::from(MOST_NODES) {
+        return Err(TreeFault::TooManyNodes);
+    }
+    let end = back.end();
+    let row = values.len();
+    if !mode.with_values {
+        if let Some(body) = back.lend_back(device) {
+            return match split_record(mode.format.grammar, item, body.own()) {
+                Some((number, _)) => Ok(Fetched {
+                    item,
+                    number,
+                    end,
+                    row,
+                }),
+                None => Err(TreeFault::Damaged(end)),
+            };
+        }
+    }
+    let Some(body) = back.back(device)? else {
+        return Err(TreeFault::Damaged(end));
+    };
+    match mode.read_body(item, body, values) {
+        Ok(number) => Ok(Fetched {
+            item,
+            number,
+            end,
+            row,
+        }),
+        Err(RecordFault::Damaged) => Err(TreeFault::Damaged(end)),
+        Err(RecordFault::NoMemory) => Err(TreeFault::NoMemory),
+    }
+}
+
+/// The reading of a tree file from its end.
+#[derive(Drop)]
+pub(crate) struct Reading {
+    pub(crate) back: Back,
+    pub(crate) index: TreeIndex,
+    /// The open nodes, from the root down.
+    pub(crate) nodes: Vec<OpenNode>,
+    /// The rows of the open nodes.
+    pub(crate) values: Vec<Carried>,
+}
+
+impl Reading {
+    /// Reads the next record, compares it with the copies in its parent's row, and opens its node.
+    fn read<D: Device>(
+        &mut self,
+        mode: &Mode<'_>,
+        expected: Expected,
+        device: &mut D,
+    ) -> Result<(), TreeFault>
+        requires ready { IsReady (D.is_honest device.old) (D.content device.old) self.old.back }
+        ensures ready { OnOk result (IsReady (D.is_honest device.new) (D.content device.old)
+            self.new.back) }
+        ensures content { LeavesContent (D.is_honest device.new)
+            (D.content device.old) (D.content device.new) }
+        ensures persists { Persists (D.is_honest device.old) (D.is_honest device.new)
+            (D.failures device.old) (D.failures device.new) (IsErrOf result TreeFault.Device) }
+    {
+        if self.nodes.len() >= MOST_DEPTH {
+            return Err(TreeFault::TooDeep);
+        }
+        let (back, values) = (&mut self.back, &mut self.values);
+        let fetched = fetch(mode, expected.item, back, values, device)?;
+        if !self.has_copies(expected.copies, fetched.row) {
+            return Err(TreeFault::Damaged(fetched.end));
+        }
+        self.open(mode.format.grammar, fetched)
+    }
+
+    /// Returns whether the values from `start` on begin with the copies of them.
+    fn has_copies(&self, copies: Copies, start: usize) -> bool {
+        let Some(own) = self.values.get(start..) else {
+            return false;
+        };
+        let Some(copied) = self.values.get(copies.at..) else {
+            return false;
+        };
+        copies.width <= own.len()
+            && copies.width <= copied.len()
+            && are_same(&own[..copies.width], &copied[..copies.width])
+    }
+
+    /// Adds a record that was read to the index, and opens its node. The text of a token is not kept.
+    fn open(&mut self, grammar: &Grammar, fetched: Fetched) -> Result<(), TreeFault>
+        ensures back { self.new.back ≡ self.old.back }
+        ensures device { IsErrOf result TreeFault.Device → ⊥ }
+    {
+        let Item::Symbol(_) = fetched.item else {
+            self.values.truncate(fetched.row);
+            self.index
+                .add(fetched.end, NodeKind::Token(fetched.number))?;
+            return Ok(());
+        };
+        let number = self.index.add(fetched.end, NodeKind::Node(fetched.number))?;
+        let node = OpenNode {
+            number,
+            production: fetched.number,
+            children: child_count(grammar, fetched.number),
+            visited: 0,
+            row: fetched.row,
+        };
+        let Ok(()) = self.nodes.push(node) else {
+            return Err(TreeFault::NoMemory);
+        };
+        Ok(())
+    }
+
+    /// Closes a node that was taken from the open ones.
+    fn close(&mut self, node: OpenNode)
+        ensures { self.new.back ≡ self.old.back }
+    {
+        self.index.close(node.number);
+        self.values.truncate(node.row);
+    }
+
+    /// Turns to the innermost open node, which was taken from the list: visits its next child, or closes it.
+    fn turn<D: Device>(
+        &mut self,
+        mode: &Mode<'_>,
+        node: OpenNode,
+        device: &mut D,
+    ) -> Result<(), TreeFault>
+        requires ready { IsReady (D.is_honest device.old) (D.content device.old) self.old.back }
+        ensures ready { OnOk result (IsReady (D.is_honest device.new) (D.content device.old)
+            self.new.back) }
+        ensures content { LeavesContent (D.is_honest device.new)
+            (D.content device.old) (D.content device.new) }
+        ensures persists { Persists (D.is_honest device.old) (D.is_honest device.new)
+            (D.failures device.old) (D.failures device.new) (IsErrOf result TreeFault.Device) }
+    {
+        if node.visited >= node.children {
+            self.close(node);
+            return Ok(());
+        }
+        let Some(expected) = mode.expected_child(node) else {
+            return Err(TreeFault::Damaged(self.back.end()));
+        };
+        let visited = OpenNode {
+            visited: node.visited + 1,
+            ..node
+        };
+        let Ok(()) = self.nodes.push(visited) else {
+            return Err(TreeFault::NoMemory);
+        };
+        self.read(mode, expected, device)
+    }
+
+    /// Ends the reading when no node is open. Fails with R1 if something is left to read.
+    fn end<D: Device>(mut self, device: &mut D) -> Result<TreeIndex, TreeFault>
+        requires ready { IsReady (D.is_honest device.old) (D.content device.old) self.back }
+        ensures content { LeavesContent (D.is_honest device.new)
+            (D.content device.old) (D.content device.new) }
+        ensures persists { Persists (D.is_honest device.old) (D.is_honest device.new)
+            (D.failures device.old) (D.failures device.new) (IsErrOf result TreeFault.Device) }
+    {
+        let end = self.back.end();
+        if self.back.back(device)?.is_some() {
+            return Err(TreeFault::Damaged(end));
+        }
+        Ok(self.index)
+    }
+}
+
+/// Returns whether two lists have the same values.
+fn are_same(own: &[Carried], copied: &[Carried]) -> bool {
+    for (value, copy) in own.iter().zip(copied) {
+        if !value.same(copy) {
+            return false;
+        }
+    }
+    true
+}
+
+/// Returns the number of the pass of the tree file that a device contains. Fails with R1 at 0 if the content
+/// does not begin as a tree file, with D1 if a call of the device fails, and if memory is refused.
+pub fn pass_of_file<D: Device>(alloc: Global, device: &mut D) -> Result<u16, TreeFault>
+    ensures content { LeavesContent (D.is_honest device.new)
+        (D.content device.old) (D.content device.new) }
+    ensures persists { Persists (D.is_honest device.old) (D.is_honest device.new)
+        (D.failures device.old) (D.failures device.new) (IsErrOf result TreeFault.Device) }
+{
+    let back = Back::start(alloc, device)?;
+    Ok(back.pass())
+}
+
+/// Reads the tree file that a device contains, with or without the values in its records, and makes its
+/// index.
+fn read_file<D: Device>(
+    alloc: Global,
+    grammar: &Grammar,
+    plan: &Plan,
+    with_values: bool,
+    device: &mut D,
+) -> Result<TreeIndex, TreeFault>
+    ensures content { LeavesContent (D.is_honest device.new)
+        (D.content device.old) (D.content device.new) }
+    ensures persists { Persists (D.is_honest device.old) (D.is_honest device.new)
+        (D.failures device.old) (D.failures device.new) (IsErrOf result TreeFault.Device) }
+{
+    let back = Back::start(alloc, device)?;
+    let pass = back.pass();
+    if plan.assignment().passes() < pass {
+        return Err(TreeFault::Damaged(PASS_OFFSET));
+    }
+    let mode = Mode {
+        alloc,
+        format: FileFormat {
+            grammar,
+            plan,
+            pass,
+        },
+        with_values,
+    };
+    let mut reading = Reading {
+        back,
+        index: TreeIndex::new(alloc, pass),
+        nodes: Vec::new(alloc),
+        values: Vec::new(alloc),
+    };
+    let root = Expected {
+        item: Item::Symbol(grammar.start()),
+        copies: NO_COPIES,
+    };
+    reading.read(&mode, root, device)?;
+    for _turn in 0..MAX_TURNS {
+        let Some(node) = reading.nodes.pop() else {
+            return reading.end(device);
+        };
+        reading.turn(&mode, node, device)?;
+    }
+    Err(TreeFault::TooManyNodes)
+}
+
+impl TreeIndex {
+    /// Reads the tree file that a device contains, as a pass reads it, and makes its index.
+    ///
+    /// Fails with R1, P2 or P3 as a pass does, or with R1 at 4 if the file is of a pass that the plan does
+    /// not have; with D1 if a call of the device fails; and if memory is refused. Takes memory for 16 bytes
+    /// a node, and for the rows of the nodes from the root to the current one.
+    pub fn read<D: Device>(
+        alloc: Global,
+        grammar: &Grammar,
+        plan: &Plan,
+        device: &mut D,
+    ) -> Result<TreeIndex, TreeFault>
+        ensures content { LeavesContent (D.is_honest device.new)
+            (D.content device.old) (D.content device.new) }
+        ensures persists { Persists (D.is_honest device.old) (D.is_honest device.new)
+            (D.failures device.old) (D.failures device.new) (IsErrOf result TreeFault.Device) }
+    {
+        read_file(alloc, grammar, plan, true, device)
+    }
+
+    /// Makes the index of a file as `read` does, without reading the values in its records. So it accepts
+    /// some damaged files. It is for a file that a pass has just written.
+    pub fn read_shape<D: Device>(
+        alloc: Global,
+        grammar: &Grammar,
+        plan: &Plan,
+        device: &mut D,
+    ) -> Result<TreeIndex, TreeFault>
+        ensures content { LeavesContent (D.is_honest device.new)
+            (D.content device.old) (D.content device.new) }
+        ensures persists { Persists (D.is_honest device.old) (D.is_honest device.new)
+            (D.failures device.old) (D.failures device.new) (IsErrOf result TreeFault.Device) }
+    {
+        read_file(alloc, grammar, plan, false, device)
+    }
+}

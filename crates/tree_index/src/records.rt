@@ -1,0 +1,80 @@
+//! The parts of a record.
+
+use crate::fault::RecordFault;
+use ag_carried::Carried;
+use ag_grammar::limits::MOST_TOKEN_BYTES;
+use ag_grammar::{Grammar, Item, Terminal};
+use ag_value::Value;
+use std::alloc::Global;
+use treefile::{Kind, split_body};
+
+/// Returns the number of the production in the body of a node of a symbol, or that of the class in the body
+/// of a token of a class, with the bytes after it. Returns `None` if the body is not one of the item.
+pub(crate) fn split_record<'b>(
+    grammar: &Grammar,
+    item: Item,
+    body: &'b [u8],
+) -> Option<(u16, &'b [u8])> {
+    match (item, split_body(body)?) {
+        (Item::Symbol(symbol), (Kind::Node, number, spellings)) => {
+            let production = grammar.productions().get(usize::from(number))?;
+            if production.left == symbol {
+                Some((number, spellings))
+            } else {
+                None
+            }
+        }
+        (Item::Terminal(Terminal::Class(class)), (Kind::Token, number, spelling)) => {
+            if class == number {
+                Some((number, spelling))
+            } else {
+                None
+            }
+        }
+        _ => None,
+    }
+}
+
+/// Reads `count` values with which bytes begin, appends them to a row, and returns the bytes after them.
+/// Fails with Damaged if the bytes do not begin with that number of values.
+pub(crate) fn read_values<'b>(
+    alloc: Global,
+    count: usize,
+    bytes: &'b [u8],
+    row: &mut Vec<Carried>,
+) -> Result<&'b [u8], RecordFault> {
+    let mut rest = bytes;
+    for _ in 0..count {
+        let (value, length) = Carried::read(alloc, rest)?;
+        let Ok(()) = row.push(value) else {
+            return Err(RecordFault::NoMemory);
+        };
+        rest = &rest[length..];
+    }
+    Ok(rest)
+}
+
+/// Reads the text of a token, and appends it to a row. Fails with Damaged if the bytes are not a text that a
+/// token may have.
+pub(crate) fn read_text(
+    alloc: Global,
+    spelling: &[u8],
+    row: &mut Vec<Carried>,
+) -> Result<(), RecordFault> {
+    let (value, length) = Carried::read(alloc, spelling)?;
+    if length != spelling.len() || !is_token_text(&value) {
+        return Err(RecordFault::Damaged);
+    }
+    let Ok(()) = row.push(value) else {
+        return Err(RecordFault::NoMemory);
+    };
+    Ok(())
+}
+
+/// Returns whether a value is a text that a token may have.
+fn is_token_text(value: &Carried) -> bool {
+    match value.as_value() {
+        Some(Value::Text(text)) => text.as_str().len() <= MOST_TOKEN_BYTES,
+        _ => false,
+    }
+}

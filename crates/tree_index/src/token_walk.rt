@@ -1,0 +1,137 @@
+//! The tokens of a tree in the order of the sentence.
+
+use crate::index::{NodeKind, TreeIndex};
+use ag_grammar::limits::MOST_NODES;
+use ag_grammar::{Grammar, Item, Terminal};
+use ag_value::NoMemory;
+use std::alloc::Global;
+
+/// The greatest number of turns to an open node between two tokens: one for each child, and one to leave it.
+const MAX_TURNS: u32 = 2 * MOST_NODES + 1;
+
+/// A token of a tree.
+#[derive(Clone, Copy, Debug, PartialEq, Eq)]
+pub enum TreeToken {
+    /// The literal of this number.
+    Literal(u16),
+    /// The token of a class that this node is.
+    Word(u32),
+}
+
+/// A node whose tokens are visited: the next item of its production, and the number of children before it.
+#[derive(Clone, Copy)]
+struct OpenNode {
+    node: u32,
+    item: usize,
+    children: u16,
+}
+
+/// What follows in the order of the sentence.
+#[derive(Clone, Copy)]
+enum Next {
+    /// A token.
+    Token(TreeToken),
+    /// What is below this node.
+    Below(u32),
+    /// Nothing more of the node.
+    Nothing,
+}
+
+/// A walk over the tokens of a tree in the order of the sentence.
+#[derive(Drop)]
+pub struct TokenWalk<'a> {
+    grammar: &'a Grammar,
+    index: &'a TreeIndex,
+    /// The open nodes, from the root down.
+    nodes: Vec<OpenNode>,
+}
+
+impl<'a> TokenWalk<'a> {
+    /// Returns a walk over all tokens of a tree. Fails if memory is refused.
+    pub fn new(
+        alloc: Global,
+        grammar: &'a Grammar,
+        index: &'a TreeIndex,
+    ) -> Result<TokenWalk<'a>, NoMemory> {
+        let mut walk = TokenWalk {
+            grammar,
+            index,
+            nodes: Vec::new(alloc),
+        };
+        walk.open(0)?;
+        Ok(walk)
+    }
+
+    /// Visits the next token; `None` after the last one. Fails if memory is refused.
+    pub fn next(&mut self) -> Result<Option<TreeToken>, NoMemory> {
+        for _turn in 0..MAX_TURNS {
+            let Some(open) = self.nodes.pop() else {
+                return Ok(None);
+            };
+            match self.next_of(open) {
+                Next::Token(token) => {
+                    self.pass(open, token)?;
+                    return Ok(Some(token));
+                }
+                Next::Below(child) => {
+                    self.go_on(open, 1)?;
+                    self.open(child)?;
+                }
+                Next::Nothing => {}
+            }
+        }
+        Ok(None)
+    }
+
+    /// Opens a node of which nothing was visited.
+    fn open(&mut self, node: u32) -> Result<(), NoMemory> {
+        Ok(
+            self.nodes.push(OpenNode {
+                node,
+                item: 0,
+                children: 0,
+            })?,
+        )
+    }
+
+    /// Opens a node again after a token of it was visited.
+    fn pass(&mut self, open: OpenNode, token: TreeToken) -> Result<(), NoMemory> {
+        match token {
+            TreeToken::Literal(_) => self.go_on(open, 0),
+            TreeToken::Word(_) => self.go_on(open, 1),
+        }
+    }
+
+    /// Opens a node again after its next item, in which there are `children` children.
+    fn go_on(&mut self, open: OpenNode, children: u16) -> Result<(), NoMemory> {
+        Ok(
+            self.nodes.push(OpenNode {
+                node: open.node,
+                item: open.item.saturating_add(1),
+                children: open.children.saturating_add(children),
+            })?,
+        )
+    }
+
+    /// Returns what follows at the next item of a node.
+    fn next_of(&self, open: OpenNode) -> Next {
+        let Some(NodeKind::Node(number)) = self.index.kind(open.node) else {
+            return Next::Nothing;
+        };
+        let Some(production) = self.grammar.productions().get(usize::from(number)) else {
+            return Next::Nothing;
+        };
+        let place = open.children.saturating_add(1);
+        let child = self.index.child(self.grammar, open.node, place);
+        match (production.items.as_slice().get(open.item), child) {
+            (Some(Item::Terminal(Terminal::Literal(literal))), _) => {
+                Next::Token(TreeToken::Literal(*literal))
+            }
+            (Some(Item::Terminal(Terminal::Class(_))), Some(child)) => {
+                Next::Token(TreeToken::Word(child))
+            }
+            (Some(Item::Symbol(_)), Some(child)) => Next::Below(child),
+            _ => Next::Nothing,
+        }
+    }
+}

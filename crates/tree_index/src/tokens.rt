@@ -1,0 +1,66 @@
+//! The numbers of tokens in the subtrees of a tree.
+
+use crate::index::{NodeKind, TreeIndex};
+use ag_grammar::{Grammar, Item, Production, Terminal};
+use ag_value::NoMemory;
+use std::alloc::Global;
+
+/// The numbers of tokens in the subtrees of a tree, literals among them.
+#[derive(Drop)]
+pub struct TokenCounts {
+    /// For each node, the number of tokens of the nodes before it in the index, without what is below them;
+    /// and at last that of all nodes.
+    before: Vec<u32>,
+}
+
+impl TokenCounts {
+    /// Counts the tokens of a tree. Takes memory for 4 bytes a node. Fails if memory is refused, or if there
+    /// are more than 4,294,967,295 tokens.
+    pub fn new(
+        alloc: Global,
+        grammar: &Grammar,
+        index: &TreeIndex,
+    ) -> Result<TokenCounts, NoMemory> {
+        let mut before = Vec::new(alloc);
+        let mut count = 0u32;
+        before.push(count)?;
+        for node in 0..index.node_count() {
+            let Some(sum) = count.checked_add(own_tokens(grammar, index, node)) else {
+                return Err(NoMemory::NoMemory);
+            };
+            count = sum;
+            before.push(count)?;
+        }
+        Ok(TokenCounts { before })
+    }
+
+    /// Returns the number of tokens of the subtree of a node.
+    pub fn of_subtree(&self, index: &TreeIndex, node: u32) -> Option<u32> {
+        let end = node.checked_add(index.size(node)?)?;
+        let first = *self.before.get(node as usize)?;
+        self.before.get(end as usize)?.checked_sub(first)
+    }
+}
+
+/// Returns 1 for a token, and the number of literals of a node's production.
+fn own_tokens(grammar: &Grammar, index: &TreeIndex, node: u32) -> u32 {
+    match index.kind(node) {
+        Some(NodeKind::Token(_)) => 1,
+        Some(NodeKind::Node(number)) => match grammar.productions().get(usize::from(number)) {
+            Some(production) => literals_of(production),
+            None => 0,
+        },
+        None => 0,
+    }
+}
+
+/// Returns the number of literals of a production.
+fn literals_of(production: &Production) -> u32 {
+    let mut literals = 0u32;
+    for item in production.items.as_slice() {
+        if let Item::Terminal(Terminal::Literal(_)) = item {
+            literals = literals.saturating_add(1);
+        }
+    }
+    literals
+}

@@ -1,0 +1,126 @@
+//! The nodes of a tree in the order of the sentence.
+
+ghost use Rattle.std.specs.Prelude.{◌<◌};
+
+use crate::index::TreeIndex;
+use crate::path::NodePath;
+use ag_grammar::Grammar;
+use ag_value::NoMemory;
+use std::alloc::Global;
+
+/// A node that a walk visits.
+#[derive(Clone, Copy, Debug)]
+pub struct NodeVisit {
+    /// The number of the node in the index.
+    pub node: u32,
+    /// The number of levels below the node at which the walk began.
+    pub level: u32,
+}
+
+/// A node that was visited, and not yet all of its children.
+#[derive(Clone, Copy)]
+struct OpenNode {
+    node: u32,
+    children: u16,
+    /// The number of children that were visited.
+    visited: u16,
+}
+
+/// A walk over the nodes of a tree in the order of the sentence: each node before its children, and these
+/// from left to right.
+#[derive(Drop)]
+pub struct SentenceWalk<'a> {
+    grammar: &'a Grammar,
+    index: &'a TreeIndex,
+    /// The greatest level that is visited.
+    depth: u32,
+    first: Option<u32>,
+    nodes: Vec<OpenNode>,
+    path: NodePath,
+}
+
+impl<'a> SentenceWalk<'a> {
+    /// Returns a walk over the whole tree.
+    pub fn new(alloc: Global, grammar: &'a Grammar, index: &'a TreeIndex) -> SentenceWalk<'a> {
+        SentenceWalk {
+            grammar,
+            index,
+            depth: u32::MAX,
+            first: Some(0),
+            nodes: Vec::new(alloc),
+            path: NodePath::root(alloc),
+        }
+    }
+
+    /// Returns the path of the node that was visited last.
+    pub fn path(&self) -> &NodePath {
+        &self.path
+    }
+
+    /// Sets the greatest level that is visited; the node at which the walk begins has level 0.
+    pub fn set_depth(&mut self, depth: u32) {
+        self.depth = depth;
+    }
+
+    /// Lets the walk begin at the node at the end of a path, and visit nothing above it. Returns the node,
+    /// if there is one. Fails if memory is refused.
+    pub fn begin_at(&mut self, alloc: Global, places: &[u16]) -> Result<Option<u32>, NoMemory> {
+        self.path = NodePath::of_places(alloc, places)?;
+        self.first = self.index.find(self.grammar, places);
+        Ok(self.first)
+    }
+
+    /// Visits the next node; `None` after the last one. Fails if memory is refused.
+    pub fn next(&mut self) -> Result<Option<NodeVisit>, NoMemory> {
+        let Some(node) = self.next_node()? else {
+            return Ok(None);
+        };
+        let level = self.nodes.len().min(u32::MAX as usize) as u32;
+        let children = if level < self.depth {
+            self.index.child_count(self.grammar, node)
+        } else {
+            0
+        };
+        self.nodes.push(OpenNode {
+            node,
+            children,
+            visited: 0,
+        })?;
+        Ok(Some(NodeVisit { node, level }))
+    }
+
+    /// Returns the node that is visited next, and leaves the nodes whose children were all visited.
+    fn next_node(&mut self) -> Result<Option<u32>, NoMemory> {
+        if let Some(first) = self.first {
+            self.first = None;
+            return Ok(Some(first));
+        }
+        let levels = self.nodes.len();
+        for level in 0..levels {
+            let Some(open) = self.nodes.pop() else {
+                return Ok(None);
+            };
+            // the node that the walk began at has no way up
+            if level != 0 {
+                self.path.pop();
+            }
+            if open.visited < open.children {
+                return self.visit_child(open);
+            }
+        }
+        Ok(None)
+    }
+
+    /// Returns the next child of a node, which was taken from the list.
+    fn visit_child(&mut self, node: OpenNode) -> Result<Option<u32>, NoMemory>
+        requires { node.visited < node.children }
+    {
+        let place = node.visited + 1;
+        self.nodes.push(OpenNode {
+            visited: place,
+            ..node
+        })?;
+        self.path.push(place)?;
+        Ok(self.index.child(self.grammar, node.node, place))
+    }
+}

@@ -1,0 +1,43 @@
+//! Why a tree file was not printed.
+
+ghost use Rattle.std.specs.Prelude.{◌≡◌};
+ghost use Rattle.tree_text.specs.declared.fault.ShowFault.TheVariants as show_fault;
+
+use ag_value::NoMemory;
+use std::alloc::AllocError;
+use tree_index::TreeFault;
+
+/// Why a tree file was not printed.
+#[derive(Clone, Copy, Debug, PartialEq, Eq)]
+pub enum ShowFault {
+    /// The file was not read.
+    Tree(TreeFault),
+    /// O2: the output failed.
+    Write,
+    /// Memory was refused.
+    NoMemory,
+}
+
+impl From<TreeFault> for ShowFault {
+    ghost from_gives = { λ fault e. e ≡ show_fault.Tree fault };
+
+    fn from(fault: TreeFault) -> ShowFault {
+        ShowFault::Tree(fault)
+    }
+}
+
+impl From<NoMemory> for ShowFault {
+    ghost from_gives = { λ _ e. e ≡ show_fault.NoMemory };
+
+    fn from(_error: NoMemory) -> ShowFault {
+        ShowFault::NoMemory
+    }
+}
+
+impl From<AllocError> for ShowFault {
+    ghost from_gives = { λ _ e. e ≡ show_fault.NoMemory };
+
+    fn from(_error: AllocError) -> ShowFault {
+        ShowFault::NoMemory
+    }
+}

@@ -1,0 +1,222 @@
+//! A node as a JSON object.
+
+use crate::names::{ItemName, ProductionText};
+use crate::printing::{ShownNode, TreeText};
+use ag_carried::Carried;
+use ag_grammar::Item;
+use ag_grammar::limits::MOST_ATTRIBUTES;
+use ag_value::{ErrorCode, NoMemory, Text, Value};
+use std::alloc::Global;
+use tree_index::NodePath;
+
+/// The greatest number that each reader of JSON keeps exactly; -MAX_EXACT is the least.
+const MAX_EXACT: i64 = 9_007_199_254_740_991;
+
+impl TreeText<'_> {
+    /// Writes a node as an object in one line.
+    pub(crate) fn write_object(
+        &self,
+        alloc: Global,
+        out: &mut String,
+        path: &NodePath,
+        shown: &ShownNode,
+    ) -> Result<(), NoMemory> {
+        let level = shown.level;
+        let nodes = self.index.size(shown.node).unwrap_or(1);
+        write!(
+            out,
+            "{{\"path\": \"{path}\", \"level\": {level}, \"nodes\": {nodes}, "
+        )?;
+        self.write_kind_fields(alloc, out, shown)?;
+        out.push_str(", \"values\": {")?;
+        let mut is_first = true;
+        for attr in 0..MOST_ATTRIBUTES as u16 {
+            if self.write_member(out, shown, attr, is_first)? {
+                is_first = false;
+            }
+        }
+        Ok(out.push_str("}}\n")?)
+    }
+
+    /// Writes the production of a node, or the class of a token.
+    fn write_kind_fields(
+        &self,
+        alloc: Global,
+        out: &mut String,
+        shown: &ShownNode,
+    ) -> Result<(), NoMemory> {
+        let grammar = self.format.grammar;
+        let item = shown.item;
+        let name = format!(in alloc; "{}", ItemName { grammar, item })?;
+        match (item, self.format.production(shown.record.number)) {
+            (Item::Symbol(_), Some(production)) => {
+                let text = format!(in alloc;
+                    "{}",
+                    ProductionText {
+                        grammar,
+                        production
+                    }
+                )?;
+                out.push_str("\"symbol\": ")?;
+                write_string(out, name.as_str())?;
+                write!(
+                    out,
+                    ", \"number\": {}, \"production\": ",
+                    shown.record.number
+                )?;
+                write_string(out, text.as_str())
+            }
+            _ => {
+                out.push_str("\"class\": ")?;
+                write_string(out, name.as_str())
+            }
+        }
+    }
+
+    /// Writes an attribute with its value, if it is selected and the file has its value. Returns whether it
+    /// did.
+    fn write_member(
+        &self,
+        out: &mut String,
+        shown: &ShownNode,
+        attr: u16,
+        is_first: bool,
+    ) -> Result<bool, NoMemory> {
+        if !self.is_selected(shown.item, attr) {
+            return Ok(false);
+        }
+        let name = self.format.attribute_name(shown.item, attr);
+        let value = self.format.own_value(&shown.record, shown.item, attr);
+        let (Some(name), Some(value)) = (name, value) else {
+            return Ok(false);
+        };
+        if !is_first {
+            out.push_str(", ")?;
+        }
+        write_string(out, name)?;
+        out.push_str(": ")?;
+        write_carried(out, value)?;
+        Ok(true)
+    }
+}
+
+/// Writes a value as JSON.
+fn write_carried(out: &mut String, value: &Carried) -> Result<(), NoMemory> {
+    match (value.as_number(), value.as_value()) {
+        (Some(number), _) => write_number(out, number),
+        (None, Some(value)) => write_json(out, value),
+        (None, None) => Ok(()),
+    }
+}
+
+/// Writes a value as JSON: a number as one or, if a reader may not keep it exactly, as an object with its
+/// text; a text as a string; a list as an array; a table as an object with an array of its entries; an
+/// error as an object with its name.
+#[cycle(json)]
+fn write_json(out: &mut String, value: &Value) -> Result<(), NoMemory> {
+    match value {
+        Value::Num(number) => write_number(out, *number),
+        Value::Text(text) => write_string(out, text.as_str()),
+        Value::List(items) => write_array(out, items.as_slice()),
+        Value::Table(pairs) => write_entries(out, pairs.as_slice()),
+        Value::Fault(code) => Ok(write!(out, "{{\"error\": \"{}\"}}", error_name(*code))?),
+    }
+}
+
+/// Writes a list as an array.
+#[cycle(json)]
+fn write_array(out: &mut String, items: &[Value]) -> Result<(), NoMemory> {
+    out.push_str("[")?;
+    write_items(out, items)?;
+    Ok(out.push_str("]")?)
+}
+
+/// Writes the items of a list, with a comma between.
+#[cycle(json)]
+fn write_items(out: &mut String, items: &[Value]) -> Result<(), NoMemory> {
+    let [first, rest @ ..] = items else {
+        return Ok(());
+    };
+    write_json(out, first)?;
+    for item in rest {
+        out.push_str(", ")?;
+        write_json(out, item)?;
+    }
+    Ok(())
+}
+
+/// Writes a table as an object with an array of its entries.
+#[cycle(json)]
+fn write_entries(out: &mut String, pairs: &[(Text, Value)]) -> Result<(), NoMemory> {
+    out.push_str("{\"table\": [")?;
+    write_pairs(out, pairs)?;
+    Ok(out.push_str("]}")?)
+}
+
+/// Writes the entries of a table, each an array of a key and its value, with a comma between.
+#[cycle(json)]
+fn write_pairs(out: &mut String, pairs: &[(Text, Value)]) -> Result<(), NoMemory> {
+    let [first, rest @ ..] = pairs else {
+        return Ok(());
+    };
+    out.push_str("[")?;
+    write_key(out, first.0.as_str())?;
+    write_json(out, &first.1)?;
+    for pair in rest {
+        out.push_str("], [")?;
+        write_key(out, pair.0.as_str())?;
+        write_json(out, &pair.1)?;
+    }
+    Ok(out.push_str("]")?)
+}
+
+/// Writes the key of an entry, and the comma after it.
+fn write_key(out: &mut String, key: &str) -> Result<(), NoMemory> {
+    write_string(out, key)?;
+    Ok(out.push_str(", ")?)
+}
+
+/// Writes a number.
+fn write_number(out: &mut String, number: i64) -> Result<(), NoMemory> {
+    if -MAX_EXACT <= number && number <= MAX_EXACT {
+        return Ok(write!(out, "{number}")?);
+    }
+    Ok(write!(out, "{{\"number\": \"{number}\"}}")?)
+}
+
+/// Writes a text as a string.
+fn write_string(out: &mut String, text: &str) -> Result<(), NoMemory> {
+    out.push_str("\"")?;
+    for character in text.chars() {
+        write_character(out, character)?;
+    }
+    Ok(out.push_str("\"")?)
+}
+
+/// Writes a character of a string.
+fn write_character(out: &mut String, character: char) -> Result<(), NoMemory> {
+    match character {
+        '"' => out.push_str("\\\"")?,
+        '\\' => out.push_str("\\\\")?,
+        '\n' => out.push_str("\\n")?,
+        '\r' => out.push_str("\\r")?,
+        '\t' => out.push_str("\\t")?,
+        _ if character.is_control() => write!(out, "\\u{:04x}", character as u32)?,
+        _ => out.push(character)?,
+    }
+    Ok(())
+}
+
+/// Returns the name of an error.
+fn error_name(code: ErrorCode) -> &'static str {
+    match code {
+        ErrorCode::Overflow => "overflow",
+        ErrorCode::Divide => "divide",
+        ErrorCode::Kind => "kind",
+        ErrorCode::Index => "index",
+        ErrorCode::Key => "key",
+        ErrorCode::Number => "number",
+        ErrorCode::Big => "big",
+        ErrorCode::Deep => "deep",
+    }
+}

@@ -1,0 +1,150 @@
+//! The text of a tree file.
+
+ghost use Rattle.std.specs.Prelude.{IsErrOf};
+ghost use Rattle.treefile.specs.devices.Device.{LeavesContent, Persists};
+
+use crate::fault::ShowFault;
+use crate::selection::Selected;
+use ag_grammar::Item;
+use ag_grammar::limits::{MOST_ATTRIBUTES, MOST_NODES};
+use ag_value::NoMemory;
+use agoutput::write_text;
+use std::alloc::Global;
+use std::io::Write;
+use tree_index::{FileFormat, NodePath, NodeRecord, NodeVisit, SentenceWalk, TreeFault, TreeIndex};
+use treefile::Device;
+
+/// A node with its record.
+#[derive(Drop)]
+pub(crate) struct ShownNode {
+    pub(crate) node: u32,
+    /// The number of levels below the first node that is printed.
+    pub(crate) level: u32,
+    pub(crate) item: Item,
+    pub(crate) record: NodeRecord,
+}
+
+/// The number of bytes of text from which on it is written to the output.
+const BUFFER_BYTES: usize = 65_536;
+
+/// What is printed of a tree file.
+#[derive(Clone, Copy)]
+pub struct TreeText<'a> {
+    /// How the file is read.
+    pub format: FileFormat<'a>,
+    /// Its index.
+    pub index: &'a TreeIndex,
+    /// The attributes that are printed; all if there are none.
+    pub only: &'a [Selected],
+    /// The greatest level that is printed; that of the first node is 0.
+    pub depth: u32,
+    /// The greatest number of characters of a value; 0 for whole values.
+    pub width: usize,
+    /// Whether each node is a JSON object.
+    pub json: bool,
+}
+
+impl TreeText<'_> {
+    /// Returns whether an attribute is printed.
+    pub(crate) fn is_selected(&self, item: Item, attr: u16) -> bool {
+        self.only.is_empty()
+            || self
+                .only
+                .iter()
+                .any(|it| it.item == item && it.attr == attr)
+    }
+
+    /// Returns whether a node is printed: if attributes are selected, only one that has such an attribute.
+    fn is_printed(&self, item: Item) -> bool {
+        for attr in 0..MOST_ATTRIBUTES as u16 {
+            if self.is_selected(item, attr) && self.format.attribute_name(item, attr).is_some() {
+                return true;
+            }
+        }
+        self.only.is_empty()
+    }
+
+    /// Reads the record of a node that is visited; `None` if the node is not printed.
+    fn read_node<D: Device>(
+        &self,
+        alloc: Global,
+        visit: NodeVisit,
+        device: &mut D,
+    ) -> Result<Option<ShownNode>, TreeFault>
+        ensures content { LeavesContent (D.is_honest device.new)
+            (D.content device.old) (D.content device.new) }
+        ensures persists { Persists (D.is_honest device.old) (D.is_honest device.new)
+            (D.failures device.old) (D.failures device.new) (IsErrOf result TreeFault.Device) }
+    {
+        let NodeVisit { node, level } = visit;
+        let found = (
+            self.index.item(self.format.grammar, node),
+            self.index.end(node),
+        );
+        let (Some(item), Some(end)) = found else {
+            return Ok(None);
+        };
+        if !self.is_printed(item) {
+            return Ok(None);
+        }
+        let record = self.format.read_record(alloc, item, device, end)?;
+        Ok(Some(ShownNode {
+            node,
+            level,
+            item,
+            record,
+        }))
+    }
+
+    /// Writes a node.
+    fn write_node(
+        &self,
+        alloc: Global,
+        out: &mut String,
+        path: &NodePath,
+        shown: &ShownNode,
+    ) -> Result<(), NoMemory> {
+        if self.json {
+            return self.write_object(alloc, out, path, shown);
+        }
+        self.write_line(alloc, out, path, shown)
+    }
+}
+
+/// Prints the nodes of a walk over a tree file. Fails with R1 if the file has changed since its index was
+/// made, with D1 if a call of the device fails, with O2 if the output fails, and if memory is refused.
+pub fn write_tree<D: Device, W: Write>(
+    alloc: Global,
+    text: &TreeText<'_>,
+    walk: &mut SentenceWalk<'_>,
+    device: &mut D,
+    out: &mut W,
+) -> Result<(), ShowFault>
+    ensures content { LeavesContent (D.is_honest device.new)
+        (D.content device.old) (D.content device.new) }
+{
+    walk.set_depth(text.depth);
+    let mut buffer = String::new(alloc);
+    for _node in 0..MOST_NODES {
+        let Some(visit) = walk.next()? else {
+            break;
+        };
+        let Some(shown) = text.read_node(alloc, visit, device)? else {
+            continue;
+        };
+        text.write_node(alloc, &mut buffer, walk.path(), &shown)?;
+        if BUFFER_BYTES <= buffer.len() {
+            flush(&mut buffer, out)?;
+        }
+    }
+    flush(&mut buffer, out)
+}
+
+/// Writes a text to the output, and empties it.
+fn flush<W: Write>(buffer: &mut String, out: &mut W) -> Result<(), ShowFault> {
+    let Ok(()) = write_text(out, buffer.as_str()) else {
+        return Err(ShowFault::Write);
+    };
+    buffer.clear();
+    Ok(())
+}

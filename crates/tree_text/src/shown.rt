@@ -1,0 +1,61 @@
+//! Values as text, of which only the first characters are written.
+
+use ag_carried::Carried;
+use ag_value::{NoMemory, Text, Value, show};
+use message_texts::display::Plain;
+use std::alloc::Global;
+
+/// Writes the first `width` characters of a value as text, and `..` after them if there are more; the whole
+/// text if `width` is 0. Fails if memory is refused.
+pub fn write_value(
+    alloc: Global,
+    out: &mut String,
+    value: &Carried,
+    width: usize,
+) -> Result<(), NoMemory> {
+    if let Some(number) = value.as_number() {
+        return Ok(write!(out, "{number}")?);
+    }
+    match value.as_value() {
+        Some(Value::Text(text)) => write_text(alloc, out, text.as_str(), width),
+        Some(value) => {
+            let shown = show(alloc, value)?;
+            write_first(out, shown.as_str(), width)
+        }
+        None => Ok(()),
+    }
+}
+
+/// Writes the first characters of a value that is a text. Only as much of a long one as is needed is shown.
+fn write_text(alloc: Global, out: &mut String, text: &str, width: usize) -> Result<(), NoMemory> {
+    let needed = if width == 0 {
+        text.len()
+    } else {
+        width.saturating_add(1)
+    };
+    let value = Value::Text(Text::from_str(alloc, first_characters(text, needed))?);
+    let shown = show(alloc, &value)?;
+    write_first(out, shown.as_str(), width)
+}
+
+/// Returns the first characters of a text.
+fn first_characters(text: &str, count: usize) -> &str {
+    match text.char_indices().nth(count) {
+        Some((end, _)) => text.get(..end).unwrap_or(text),
+        None => text,
+    }
+}
+
+/// Writes the first `width` characters of a text, and `..` after them if there are more; the whole text if
+/// `width` is 0.
+fn write_first(out: &mut String, text: &str, width: usize) -> Result<(), NoMemory> {
+    if width == 0 {
+        return Ok(write!(out, "{}", Plain(text))?);
+    }
+    let first = first_characters(text, width);
+    write!(out, "{}", Plain(first))?;
+    if first.len() < text.len() {
+        out.push_str("..")?;
+    }
+    Ok(())
+}

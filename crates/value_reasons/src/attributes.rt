@@ -1,0 +1,313 @@
+//! The values of a node, with the rules that computed them.
+
+ghost use Rattle.std.specs.Prelude.{IsErrOf};
+ghost use Rattle.treefile.specs.devices.Device.{LeavesContent, Persists};
+
+use crate::explained::ExplainedTree;
+use crate::rule_at_node::RuleAtNode;
+use ag_carried::Carried;
+use ag_grammar::limits::MOST_ATTRIBUTES;
+use ag_grammar::{Item, Target};
+use ag_value::{NoMemory, Value};
+use causes::{Cause, Start, find_cause, rule_for};
+use message_texts::display::Plain;
+use std::alloc::Global;
+use tree_index::{NodeKind, NodePath, NodeRecord, TreeFault};
+use tree_text::{ItemName, ProductionText, Selected, write_value};
+use treefile::Device;
+
+/// The attributes of a node that are explained.
+#[derive(Clone, Copy)]
+pub struct Question<'a> {
+    /// The places from the root to the node.
+    pub places: &'a [u16],
+    /// The names of the attributes; all if there are none.
+    pub names: &'a [&'a str],
+    /// The greatest number of characters of a value; 0 for whole values.
+    pub width: usize,
+}
+
+/// A rule that computes an attribute: the places from the root to its node, and its target there.
+#[derive(Clone, Copy)]
+struct RulePlace<'a> {
+    places: &'a [u16],
+    target: Target,
+}
+
+impl<'a> ExplainedTree<'a> {
+    /// Writes the values of a node, each with the rule that computed it and the values that the rule used;
+    /// after an error its cause, if the file is of the last pass. Fails with R1 if a record is damaged, with
+    /// D1 if a call of the device fails, and if memory is refused.
+    pub fn write_node<D: Device>(
+        &self,
+        out: &mut String,
+        question: &Question<'_>,
+        device: &mut D,
+    ) -> Result<(), TreeFault>
+        ensures content { LeavesContent (D.is_honest device.new)
+            (D.content device.old) (D.content device.new) }
+        ensures persists { Persists (D.is_honest device.old) (D.is_honest device.new)
+            (D.failures device.old) (D.failures device.new) (IsErrOf result TreeFault.Device) }
+    {
+        let grammar = self.format.grammar;
+        let Some(node) = self.index.find(grammar, question.places) else {
+            return Ok(());
+        };
+        let Some(item) = self.index.item(grammar, node) else {
+            return Ok(());
+        };
+        let Some(record) = self.read_node(node, device)? else {
+            return Ok(());
+        };
+        self.write_heading(out, question.places, item, &record)?;
+        for attr in 0..MOST_ATTRIBUTES as u16 {
+            let selected = Selected { item, attr };
+            if self.is_selected(selected, question.names) {
+                self.write_value_line(out, selected, &record, question.width)?;
+                self.write_reason(out, question, selected, device)?;
+                if self.is_explained_error(&record, selected) {
+                    self.write_cause_of(out, question.places, selected, device)?;
+                }
+            }
+        }
+        Ok(())
+    }
+
+    /// Returns whether an item has an attribute, and it is explained: its name is given, or no name is.
+    fn is_selected(&self, selected: Selected, names: &[&str]) -> bool {
+        match self.format.attribute_name(selected.item, selected.attr) {
+            Some(name) => names.is_empty() || names.iter().any(|given| *given == name),
+            None => false,
+        }
+    }
+
+    /// Writes the path of a node, and its production or class.
+    fn write_heading(
+        &self,
+        out: &mut String,
+        places: &[u16],
+        item: Item,
+        record: &NodeRecord,
+    ) -> Result<(), NoMemory> {
+        let grammar = self.format.grammar;
+        let path = NodePath::of_places(self.alloc, places)?;
+        write!(out, "{path}  ")?;
+        match (item, self.format.production(record.number)) {
+            (Item::Symbol(_), Some(production)) => {
+                let text = ProductionText {
+                    grammar,
+                    production,
+                };
+                Ok(writeln!(out, "{text}")?)
+            }
+            _ => {
+                let name = ItemName { grammar, item };
+                Ok(writeln!(out, "{name}")?)
+            }
+        }
+    }
+
+    /// Writes the value of an attribute, or the pass that computes it.
+    fn write_value_line(
+        &self,
+        out: &mut String,
+        selected: Selected,
+        record: &NodeRecord,
+        width: usize,
+    ) -> Result<(), NoMemory> {
+        let Selected { item, attr } = selected;
+        let name = self.format.attribute_name(item, attr).unwrap_or("");
+        write!(out, "{}", Plain(name))?;
+        match (
+            self.format.own_value(record, item, attr),
+            self.format.pass_of(item, attr),
+        ) {
+            (Some(value), _) => {
+                out.push_str("=")?;
+                write_value(self.alloc, out, value, width)?;
+            }
+            (None, Some(pass)) => {
+                let of_file = self.format.pass;
+                write!(
+                    out,
+                    ": pass {pass} computes it, and the file is of pass {of_file}"
+                )?;
+            }
+            (None, None) => {}
+        }
+        Ok(out.push('\n')?)
+    }
+
+    /// Writes the rule for an attribute of a node, if there is one, with the values of its arguments.
+    fn write_reason<D: Device>(
+        &self,
+        out: &mut String,
+        question: &Question<'_>,
+        selected: Selected,
+        device: &mut D,
+    ) -> Result<(), TreeFault>
+        ensures content { LeavesContent (D.is_honest device.new)
+            (D.content device.old) (D.content device.new) }
+        ensures persists { Persists (D.is_honest device.old) (D.is_honest device.new)
+            (D.failures device.old) (D.failures device.new) (IsErrOf result TreeFault.Device) }
+    {
+        let Some(place) = self.rule_place(question.places, selected) else {
+            return Ok(());
+        };
+        let Some(found) = self.find_rule(place, device)? else {
+            return Ok(());
+        };
+        let path = NodePath::of_places(self.alloc, place.places)?;
+        self.write_rule_line(out, &found, &path, place.target)?;
+        Ok(self.write_arguments(out, &found, path, question.width)?)
+    }
+
+    /// Writes a line with a rule, and with the path of its node if its target is at a child.
+    fn write_rule_line(
+        &self,
+        out: &mut String,
+        found: &RuleAtNode<'_>,
+        path: &NodePath,
+        target: Target,
+    ) -> Result<(), NoMemory> {
+        out.push_str("  ")?;
+        self.write_rule(out, found.number, found.index)?;
+        self.write_position(out, found.number, found.index)?;
+        if target.place != 0 {
+            write!(out, " of {path}")?;
+        }
+        Ok(out.push('\n')?)
+    }
+
+    /// Returns the place of the rule for an attribute of the node at the end of a path: the node's own rule
+    /// for a synthesized attribute, its parent's for an inherited one. A token's text has none.
+    fn rule_place<'p>(&self, places: &'p [u16], selected: Selected) -> Option<RulePlace<'p>> {
+        let Selected { item, attr } = selected;
+        let Item::Symbol(number) = item else {
+            return None;
+        };
+        let symbol = self.format.grammar.symbols().get(usize::from(number))?;
+        if usize::from(attr) < symbol.syn.as_slice().len() {
+            return Some(RulePlace {
+                places,
+                target: Target { place: 0, attr },
+            });
+        }
+        let (last, above) = places.split_last()?;
+        Some(RulePlace {
+            places: above,
+            target: Target { place: *last, attr },
+        })
+    }
+
+    /// Reads the record of the node of a rule, if there is such a rule.
+    fn find_rule<D: Device>(
+        &self,
+        place: RulePlace<'_>,
+        device: &mut D,
+    ) -> Result<Option<RuleAtNode<'a>>, TreeFault>
+        ensures content { LeavesContent (D.is_honest device.new)
+            (D.content device.old) (D.content device.new) }
+        ensures persists { Persists (D.is_honest device.old) (D.is_honest device.new)
+            (D.failures device.old) (D.failures device.new) (IsErrOf result TreeFault.Device) }
+    {
+        match self.rule_number(place) {
+            Some((node, index)) => self.rule_at(node, index, device),
+            None => Ok(None),
+        }
+    }
+
+    /// Returns the node of a rule, and the rule's number in its production.
+    fn rule_number(&self, place: RulePlace<'_>) -> Option<(u32, u16)> {
+        let node = self.index.find(self.format.grammar, place.places)?;
+        let NodeKind::Node(number) = self.index.kind(node)? else {
+            return None;
+        };
+        let production = self.format.production(number)?;
+        Some((node, rule_for(production.rules.as_slice(), place.target)?))
+    }
+
+    /// Writes a line for each argument of a rule of the node at the end of a path: its value, and the path
+    /// of its node.
+    fn write_arguments(
+        &self,
+        out: &mut String,
+        found: &RuleAtNode<'_>,
+        mut path: NodePath,
+        width: usize,
+    ) -> Result<(), NoMemory> {
+        for argument in found.rule.args.as_slice() {
+            let value = self.value_of(&found.record, found.production, *argument);
+            let name = self.occurrence(found.production, *argument);
+            let (Some(name), Some(value)) = (name, value) else {
+                continue;
+            };
+            write!(out, "    {name}=")?;
+            write_value(self.alloc, out, value, width)?;
+            if argument.place == 0 {
+                writeln!(out, "  {path}")?;
+                continue;
+            }
+            path.push(argument.place)?;
+            writeln!(out, "  {path}")?;
+            path.pop();
+        }
+        Ok(())
+    }
+
+    /// Returns whether the value of an attribute is an error, and the file is of the last pass, so that it has
+    /// the cause.
+    fn is_explained_error(&self, record: &NodeRecord, selected: Selected) -> bool {
+        let is_whole = self.format.pass == self.format.plan.assignment().passes();
+        is_whole && is_error(self.format.own_value(record, selected.item, selected.attr))
+    }
+
+    /// Writes the cause of the error that is the value of an attribute of the node at the end of a path.
+    fn write_cause_of<D: Device>(
+        &self,
+        out: &mut String,
+        places: &[u16],
+        selected: Selected,
+        device: &mut D,
+    ) -> Result<(), TreeFault>
+        ensures content { LeavesContent (D.is_honest device.new)
+            (D.content device.old) (D.content device.new) }
+        ensures persists { Persists (D.is_honest device.old) (D.is_honest device.new)
+            (D.failures device.old) (D.failures device.new) (IsErrOf result TreeFault.Device) }
+    {
+        let Some(place) = self.rule_place(places, selected) else {
+            return Ok(());
+        };
+        let start = Start {
+            places: place.places,
+            target: place.target,
+        };
+        let (alloc, grammar) = (self.alloc, self.format.grammar);
+        let Some(cause) = find_cause(alloc, grammar, self.index, &start, device)? else {
+            return Ok(());
+        };
+        let at = write_beginning(alloc, out, &cause)?;
+        self.write_cause(out, &cause, at.as_str(), device)?;
+        Ok(write_end(out)?)
+    }
+}
+
+/// Returns whether there is a value that is an error.
+fn is_error(value: Option<&Carried>) -> bool {
+    match value {
+        Some(value) => matches!(value.as_value(), Some(Value::Fault(_))),
+        None => false,
+    }
+}
+
+/// Writes how a line about a cause begins, and returns where its node is.
+fn write_beginning(alloc: Global, out: &mut String, cause: &Cause) -> Result<String, NoMemory> {
+    out.push_str("  the error ")?;
+    let path = NodePath::of_places(alloc, cause.places.as_slice())?;
+    Ok(format!(in alloc; " at {path}")?)
+}
+
+/// Writes the end of a line.
+fn write_end(out: &mut String) -> Result<(), NoMemory> {
+    Ok(out.push('\n')?)
+}

@@ -1,0 +1,159 @@
+//! The rules of a tree in which errors arise.
+
+ghost use Rattle.std.specs.Prelude.{◌≡◌, All, IfErr, IsErrOf, length};
+ghost use Rattle.ag_grammar.specs.Lists.{Each};
+ghost use Rattle.ag_grammar.specs.declared.grammar.Rule.{Rule as TheRule};
+ghost use Rattle.ag_value.specs.Well.{IsWell};
+ghost use Rattle.treefile.specs.devices.Device.{LeavesContent, Persists};
+
+use crate::explained::ExplainedTree;
+use ag_grammar::limits::MOST_NODES;
+use ag_value::{NoMemory, Value};
+use agoutput::write_text;
+use origins::{Record, RecordFault, Row, record_of};
+use std::io::Write;
+use tree_index::{NodePath, SentenceWalk, TreeFault, body_before};
+use tree_text::ShowFault;
+use treefile::Device;
+
+/// The number of bytes of text from which on it is written to the output.
+const BUFFER_BYTES: usize = 65_536;
+
+impl<'a> ExplainedTree<'a> {
+    /// Reads the body of the record that ends at an offset.
+    fn read_body<D: Device>(&self, end: u64, device: &mut D) -> Result<Vec<u8>, TreeFault>
+        ensures content { LeavesContent (D.is_honest device.new)
+            (D.content device.old) (D.content device.new) }
+        ensures persists { Persists (D.is_honest device.old) (D.is_honest device.new)
+            (D.failures device.old) (D.failures device.new) (IsErrOf result TreeFault.Device) }
+    {
+        Ok(body_before(self.alloc, device, end)?)
+    }
+
+    /// Reads the record of a node of the last file, and writes a line for each rule of the node in which an
+    /// error arises. Returns the number of such rules: 0 if the index does not have the node.
+    fn write_errors_at<D: Device>(
+        &self,
+        out: &mut String,
+        path: &NodePath,
+        node: u32,
+        device: &mut D,
+    ) -> Result<u64, ShowFault>
+        ensures content { LeavesContent (D.is_honest device.new)
+            (D.content device.old) (D.content device.new) }
+        ensures persists { Persists (D.is_honest device.old) (D.is_honest device.new)
+            (D.failures device.old) (D.failures device.new)
+            (IsErrOf result (ShowFault.Tree TreeFault.Device)) }
+    {
+        let grammar = self.format.grammar;
+        let found = (self.index.item(grammar, node), self.index.end(node));
+        let (Some(item), Some(end)) = found else {
+            return Ok(0);
+        };
+        let body = self.read_body(end, device)?;
+        match record_of(self.alloc, grammar, item, body.as_slice()) {
+            Ok(Record::Node(number, values)) => {
+                Ok(self.write_errors_among(out, path, number, values.as_slice())?)
+            }
+            Ok(Record::Token) => Ok(0),
+            Err(RecordFault::Damaged) => Err(ShowFault::Tree(TreeFault::Damaged(end))),
+            Err(RecordFault::NoMemory) => Err(ShowFault::NoMemory),
+        }
+    }
+
+    /// Writes a line for each rule of a node in which an error arises, by the number of the node's production
+    /// and its values. Returns the number of such rules.
+    fn write_errors_among(
+        &self,
+        out: &mut String,
+        path: &NodePath,
+        number: u16,
+        values: &[Value],
+    ) -> Result<u64, NoMemory>
+        requires well { All IsWell values.now }
+    {
+        let grammar = self.format.grammar;
+        if grammar.productions().len() <= number as usize {
+            return Ok(0);
+        }
+        let production = &grammar.productions()[number as usize];
+        let row = Row {
+            grammar,
+            production,
+            values,
+        };
+        self.write_errors_in(out, path, number, &row)
+    }
+
+    /// Writes a line for each rule of a production in which an error arises with the values of a row. Returns
+    /// the number of such rules.
+    fn write_errors_in(
+        &self,
+        out: &mut String,
+        path: &NodePath,
+        number: u16,
+        row: &Row<'_>,
+    ) -> Result<u64, NoMemory>
+        requires arguments { Each (λ (r : TheRule). length r.args ≡ length r.expr.1)
+            row.now.production.now.rules }
+    {
+        let mut count = 0u64;
+        let mut index = 0u16;
+        for rule in row.production.rules.as_slice() {
+            if row.is_arising(self.alloc, rule)? {
+                write!(out, "{path}  ")?;
+                self.write_rule(out, number, index)?;
+                self.write_position(out, number, index)?;
+                out.push('\n')?;
+                count = count.saturating_add(1);
+            }
+            index = index.saturating_add(1);
+        }
+        Ok(count)
+    }
+}
+
+/// Prints a line for each rule of a tree in which an error arises, in the order of the sentence, and then
+/// their number. The file is that of the last pass. Fails with R1 if the file has changed since its index was
+/// made, with D1 if a call of the device fails, with O2 if the output fails, and if memory is refused.
+pub fn write_errors<D: Device, W: Write>(
+    tree: &ExplainedTree<'_>,
+    device: &mut D,
+    out: &mut W,
+) -> Result<(), ShowFault>
+    ensures content { LeavesContent (D.is_honest device.new)
+        (D.content device.old) (D.content device.new) }
+    ensures persists { Persists (D.is_honest device.old) (D.is_honest device.new)
+        (D.failures device.old) (D.failures device.new)
+        (IsErrOf result (ShowFault.Tree TreeFault.Device)) }
+{
+    let mut walk = SentenceWalk::new(tree.alloc, tree.format.grammar, tree.index);
+    let mut buffer = String::new(tree.alloc);
+    let mut count = 0u64;
+    for _node in 0..MOST_NODES {
+        let Some(visit) = walk.next()? else {
+            break;
+        };
+        let here = tree.write_errors_at(&mut buffer, walk.path(), visit.node, device)?;
+        count = count.saturating_add(here);
+        if BUFFER_BYTES <= buffer.len() {
+            flush(&mut buffer, out)?;
+        }
+    }
+    match count {
+        1 => writeln!(buffer, "errors arise in 1 rule")?,
+        _ => writeln!(buffer, "errors arise in {count} rules")?,
+    }
+    flush(&mut buffer, out)
+}
+
+/// Writes a text to the output, and empties it. Fails with O2 alone.
+fn flush<W: Write>(buffer: &mut String, out: &mut W) -> Result<(), ShowFault>
+    ensures { IfErr result (λ fault. fault ≡ ShowFault.Write) }
+{
+    let Ok(()) = write_text(out, buffer.as_str()) else {
+        return Err(ShowFault::Write);
+    };
+    buffer.clear();
+    Ok(())
+}

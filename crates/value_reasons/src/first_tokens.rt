@@ -1,0 +1,181 @@
+//! The first tokens of a node.
+
+ghost use Rattle.std.specs.Prelude.{IsErrOf};
+ghost use Rattle.treefile.specs.devices.Device.{LeavesContent, Persists};
+
+use crate::explained::ExplainedTree;
+use ag_grammar::limits::MOST_NODES;
+use ag_grammar::{Item, Terminal};
+use ag_value::{NoMemory, Value};
+use message_texts::display::Plain;
+use tree_index::{NodeKind, TreeFault};
+use treefile::Device;
+
+/// The greatest number of tokens that are written.
+const MAX_TOKENS: usize = 3;
+
+/// The greatest number of characters of a token.
+const MAX_CHARACTERS: usize = 24;
+
+/// A node whose tokens are written: the next item of its production, and the number of children before it.
+#[derive(Clone, Copy)]
+struct OpenNode {
+    node: u32,
+    item: usize,
+    children: u16,
+}
+
+/// What follows in the order of the sentence.
+#[derive(Clone, Copy)]
+enum NextToken {
+    /// The literal of this number.
+    Literal(u16),
+    /// The token of this node.
+    Token(u32),
+    /// What is below this node.
+    Below(u32),
+    /// Nothing more of the node.
+    Nothing,
+}
+
+impl<'a> ExplainedTree<'a> {
+    /// Writes the first tokens of a node, with a space between. Writes nothing if it has none.
+    pub(crate) fn write_first_tokens<D: Device>(
+        &self,
+        out: &mut String,
+        node: u32,
+        device: &mut D,
+    ) -> Result<(), TreeFault>
+        ensures content { LeavesContent (D.is_honest device.new)
+            (D.content device.old) (D.content device.new) }
+        ensures persists { Persists (D.is_honest device.old) (D.is_honest device.new)
+            (D.failures device.old) (D.failures device.new) (IsErrOf result TreeFault.Device) }
+    {
+        let mut nodes = Vec::new(self.alloc);
+        push(&mut nodes, node)?;
+        let mut count = 0usize;
+        for _turn in 0..16 * MOST_NODES {
+            if MAX_TOKENS <= count {
+                return Ok(());
+            }
+            let Some(open) = nodes.pop() else {
+                return Ok(());
+            };
+            let next = self.next_token(open);
+            if let NextToken::Nothing = next {
+                continue;
+            }
+            push_next(&mut nodes, open, next)?;
+            if self.write_token(out, next, count, device)? {
+                count = count.saturating_add(1);
+            }
+        }
+        Ok(())
+    }
+
+    /// Returns what follows at the next item of a node.
+    fn next_token(&self, open: OpenNode) -> NextToken {
+        let Some(NodeKind::Node(number)) = self.index.kind(open.node) else {
+            return NextToken::Nothing;
+        };
+        let Some(production) = self.format.production(number) else {
+            return NextToken::Nothing;
+        };
+        let place = open.children.saturating_add(1);
+        let child = self.index.child(self.format.grammar, open.node, place);
+        match (production.items.as_slice().get(open.item), child) {
+            (Some(Item::Terminal(Terminal::Literal(literal))), _) => NextToken::Literal(*literal),
+            (Some(Item::Terminal(Terminal::Class(_))), Some(child)) => NextToken::Token(child),
+            (Some(Item::Symbol(_)), Some(child)) => NextToken::Below(child),
+            _ => NextToken::Nothing,
+        }
+    }
+
+    /// Writes a token, with a space before it if it is not the first one. Returns whether it is one.
+    fn write_token<D: Device>(
+        &self,
+        out: &mut String,
+        next: NextToken,
+        before: usize,
+        device: &mut D,
+    ) -> Result<bool, TreeFault>
+        ensures content { LeavesContent (D.is_honest device.new)
+            (D.content device.old) (D.content device.new) }
+        ensures persists { Persists (D.is_honest device.old) (D.is_honest device.new)
+            (D.failures device.old) (D.failures device.new) (IsErrOf result TreeFault.Device) }
+    {
+        match next {
+            NextToken::Literal(number) => {
+                let literals = self.format.grammar.literals();
+                let text = match literals.get(usize::from(number)) {
+                    Some(literal) => literal.as_str(),
+                    None => "",
+                };
+                write_shortened(out, text, before)?;
+                Ok(true)
+            }
+            NextToken::Token(node) => {
+                let Some(record) = self.read_node(node, device)? else {
+                    return Ok(false);
+                };
+                let Some(item) = self.index.item(self.format.grammar, node) else {
+                    return Ok(false);
+                };
+                match self.format.own_value(&record, item, 0) {
+                    Some(value) => {
+                        if let Some(Value::Text(text)) = value.as_value() {
+                            write_shortened(out, text.as_str(), before)?;
+                        }
+                        Ok(true)
+                    }
+                    None => Ok(false),
+                }
+            }
+            NextToken::Below(_) | NextToken::Nothing => Ok(false),
+        }
+    }
+}
+
+/// Adds a node of which nothing was written.
+fn push(nodes: &mut Vec<OpenNode>, node: u32) -> Result<(), NoMemory> {
+    Ok(nodes.push(OpenNode {
+        node,
+        item: 0,
+        children: 0,
+    })?)
+}
+
+/// Puts a node back after its next item was read, and the node of that item after it.
+fn push_next(nodes: &mut Vec<OpenNode>, open: OpenNode, next: NextToken) -> Result<(), NoMemory> {
+    let is_child = !matches!(next, NextToken::Literal(_));
+    let children = if is_child {
+        open.children.saturating_add(1)
+    } else {
+        open.children
+    };
+    nodes.push(OpenNode {
+        node: open.node,
+        item: open.item.saturating_add(1),
+        children,
+    })?;
+    match next {
+        NextToken::Below(child) => push(nodes, child),
+        _ => Ok(()),
+    }
+}
+
+/// Writes the first characters of a token, with a space before it if it is not the first one.
+fn write_shortened(out: &mut String, text: &str, before: usize) -> Result<(), NoMemory> {
+    if before != 0 {
+        out.push_str(" ")?;
+    }
+    let first = match text.char_indices().nth(MAX_CHARACTERS) {
+        Some((end, _)) => text.get(..end).unwrap_or(text),
+        None => text,
+    };
+    write!(out, "{}", Plain(first))?;
+    if first.len() < text.len() {
+        out.push_str("..")?;
+    }
+    Ok(())
+}

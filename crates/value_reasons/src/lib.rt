@@ -1,0 +1,20 @@
+//! Where the values in a tree file come from: what `aggen explain` prints, and what the message of O1 says
+//! of an error.
+//!
+//! Characters that control a terminal are written by their numbers.
+#![tactic(auto)]
+
+mod attributes;
+mod cause_texts;
+mod errors;
+mod explained;
+mod first_tokens;
+mod rule_at_node;
+mod rules;
+mod tokens;
+
+pub use attributes::Question;
+pub use cause_texts::ErrorTranslation;
+pub use errors::write_errors;
+pub use explained::ExplainedTree;
+pub use tokens::{TokenPosition, position_of_token};
