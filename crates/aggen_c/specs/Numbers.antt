@@ -24,7 +24,7 @@ use Rattle.aggen_c.specs.declared.number.Number.{Number}
 abbrev pub numbered : ℕ → ℕ → Number
 numbered letter index = record { letter = letter; index = index }
 
--- want of memory has no number
+-- NoMemory has no number
 abbrev pub unnumbered : Number
 unnumbered = numbered 0 0
 

@@ -51,7 +51,7 @@ pub record IsPlanTextOf (g : Grammar) (text : List ℕ) : Type 0 where
   pub least : IsLeastPlan g rows code
   pub listing : IsPlanListing g rows text
 
--- Why a sentence has no translation: S, P and O1 are true of it. Want of memory says nothing, and no other fault comes.
+-- Why a sentence has no translation: S, P and O1 are true of it. NoMemory has no meaning for it, and no other fault is possible.
 abbrev pub IsTranslationRefusal : Grammar → (sentence : List ℕ) → Fault → Type 0
 IsTranslationRefusal g sentence (fault.Scan f) = IsScanFaultOf g sentence f
 IsTranslationRefusal g sentence (fault.Parse f) = IsParseFaultOf g sentence f
@@ -73,6 +73,6 @@ IsTreeRefusal g sentence (fault.Parse f) = IsParseFaultOf g sentence f
 IsTreeRefusal g sentence fault.NoMemory = Unit {0}
 IsTreeRefusal g sentence _ = ⊥
 
--- want of memory
+-- memory was refused
 abbrev pub IsNoMemory : Fault → Type 0
 IsNoMemory e = e ≡ fault.NoMemory

@@ -9,7 +9,7 @@ use ag_fault::Fault;
 use aggen::Translator;
 use agoutput::write_plan;
 use std::alloc::Global;
-use treefile::MemDevice;
+use treefile::{MemDevice, SharedDevice};
 
 /// Returns the translation of a sentence.
 ///
@@ -22,8 +22,8 @@ pub fn translation(
     ensures text { IfOk result (λ text. IsTranslationOf translator.now sentence.now text.items) }
     ensures refused { IfErr result (λ e. IsTranslationRefusal translator.now sentence.now e) }
 {
-    let mut a = MemDevice::new(alloc);
-    let mut b = MemDevice::new(alloc);
+    let mut a = SharedDevice::new(alloc);
+    let mut b = SharedDevice::new(alloc);
     let mut text = Vec::new(alloc);
     match translator.translate(sentence, &mut a, &mut b, &mut text) {
         Ok(_) => Ok(text),
@@ -39,8 +39,8 @@ pub fn evaluation(alloc: Global, translator: &Translator, file: &[u8]) -> Result
     ensures refused { IfErr result (λ e. IsEvaluationRefusal translator.now file.now e) }
 {
     let mut tree = device_of(alloc, file)?;
-    let mut a = MemDevice::new(alloc);
-    let mut b = MemDevice::new(alloc);
+    let mut a = SharedDevice::new(alloc);
+    let mut b = SharedDevice::new(alloc);
     let mut text = Vec::new(alloc);
     match translator.evaluate_tree(&mut tree, &mut a, &mut b, &mut text) {
         Ok(_) => Ok(text),

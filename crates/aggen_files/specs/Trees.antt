@@ -38,13 +38,13 @@ pub record ParsesSentence (g : Grammar) (sentence : List ℕ) (honest : Bool) (c
 abbrev pub LeavesConversion : Grammar → (honest_old : Bool) → List ℕ → (old new : List ℕ) → Type 0
 LeavesConversion g honest content old new = LeavesBeginning 0 old new ⊎ ((count : ℕ) × UpgradesFile g honest content true new count)
 
--- S1 to S4 and P1 to P3 are true of the sentence. O2 (the line could not be printed), a failed device and want of memory say
--- nothing of it, and no other fault comes.
+-- S1 to S4 and P1 to P3 are true of the sentence. O2 (the line could not be printed), a failed device and NoMemory
+-- have no meaning for it, and no other fault is possible.
 abbrev pub IsParsingFault : Grammar → List ℕ → Fault → Type 0
 IsParsingFault g sentence fault.Write = Unit {0}
 IsParsingFault g sentence e = IsSentenceFault g sentence e
 
--- R1, P2 and P3 are true of the old content. O2, a failed device and want of memory say nothing of it, and no other fault comes.
+-- R1, P2 and P3 are true of the old content. O2, a failed device and NoMemory have no meaning for it, and no other fault is possible.
 abbrev pub IsConversionFault : Grammar → (honest_old : Bool) → List ℕ → Fault → Type 0
 IsConversionFault g honest content fault.Write = Unit {0}
 IsConversionFault g honest content e = IsOldFileFault g honest true content e

@@ -1,9 +1,10 @@
 //! The commands of the program over files: each opens devices over files, or takes them, calls the
-//! translator, and leaves the whole content in the files. What goes out goes to any writer, so that
-//! contracts can name its bytes.
+//! translator, and leaves the whole content in the files. Output goes to any writer, so contracts
+//! can name its bytes.
 #![tactic(auto)]
 
 mod count;
+mod evaluations;
 mod trees;
 mod work_files;
 

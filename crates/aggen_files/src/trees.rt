@@ -25,7 +25,7 @@ use aggen::{Fault, Report, Translator};
 use std::alloc::Global;
 use std::fs::OpenFile;
 use std::io::{Read, Seek, Write};
-use treefile::{FileDevice, MemDevice};
+use treefile::{FileDevice, MemDevice, SharedDevice};
 
 /// Writes the file of a sentence's tree to `tree`, in place of what it has, and then prints the
 /// number of the tree's nodes.
@@ -103,8 +103,8 @@ pub fn evaluate_file<F: Read + Write + Seek + OpenFile, W: Write>(
     // D1 only if the number of failures rose
     ensures persists { FilePersists tree.old tree.new (IsErrOf result Fault.Device) }
 {
-    let mut a = MemDevice::new(alloc);
-    let mut b = MemDevice::new(alloc);
+    let mut a = SharedDevice::new(alloc);
+    let mut b = SharedDevice::new(alloc);
     translator.evaluate_tree(tree, &mut a, &mut b, out)
 }
 

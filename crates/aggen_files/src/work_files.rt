@@ -71,7 +71,7 @@ impl<F: Read + Write + Seek + OpenFile> WorkFiles<F> {
 
     /// Writes to both files what their devices have gathered, to the second one also if the first
     /// one fails.
-    fn finish(&mut self) -> Result<(), DeviceFault>
+    pub(crate) fn finish(&mut self) -> Result<(), DeviceFault>
         ensures a { OnOk result (StoresContent self.old.a self.new.a) }
         ensures b { OnOk result (StoresContent self.old.b self.new.b) }
         ensures gathered { OnOk result
@@ -154,8 +154,8 @@ impl<F: Read + Write + Seek + OpenFile> WorkFiles<F> {
     }
 }
 
-/// Returns the result of a translation into memory: a failed write there is want of memory.
-fn of_buffered(translated: Result<Report, Fault>) -> Result<Report, Fault>
+/// Returns the result of a translation into memory: a failed write there means NoMemory.
+pub(crate) fn of_buffered(translated: Result<Report, Fault>) -> Result<Report, Fault>
     ensures ok { IfOk result (λ report. translated ≡ Ok report) }
     ensures err { IfErr result (λ e. (translated ≡ Err e) ⊎ (e ≡ Fault.NoMemory)) }
     ensures other { IfErr result (λ e. e ≢ Fault.Write) }

@@ -1,22 +1,46 @@
 //! The files that the commands read, and the report of a rejected sentence.
 
-use aggen::{Fault, Translator, source_of};
+use ag_job::JobFault;
+use aggen::{Fault, Translator, bytes_of, source_of};
+use command_line::InputPath;
 use messages::{Report, Source};
 use std::alloc::Global;
 use std::rt::Files;
 
-/// Returns the bytes of the file at `path`. Fails with F1 if it can't be opened or read.
-pub fn read_file<R: Files>(rt: &R, alloc: Global, path: &str) -> Result<Vec<u8>, Report> {
-    match source_of(rt, alloc, path) {
+/// Returns the bytes of an input. Fails with F1 if a file can't be opened or read, and with J2 if standard
+/// input can't be read.
+pub fn read_input<R: Files + Input>(
+    rt: &R,
+    alloc: Global,
+    input: InputPath<'_>,
+) -> Result<Vec<u8>, Report> {
+    let bytes = match input {
+        InputPath::Standard => bytes_of(alloc, rt.reader()),
+        InputPath::File(path) => source_of(rt, alloc, path),
+    };
+    match bytes {
         Ok(bytes) => Ok(bytes),
-        Err(fault) => Err(Report::of_file(alloc, fault, path)),
+        Err(fault) => Err(report_of_input(alloc, fault, input)),
     }
 }
 
-/// Returns the translator of the grammar in the file at `path`.
-pub fn read_translator<R: Files>(rt: &R, alloc: Global, path: &str) -> Result<Translator, Report> {
-    let bytes = read_file(rt, alloc, path)?;
-    build_translator(alloc, Source::new(path, bytes.as_slice()))
+/// Returns the report of a fault of reading an input.
+pub fn report_of_input(alloc: Global, fault: Fault, input: InputPath<'_>) -> Report {
+    match (fault, input) {
+        (Fault::File, InputPath::Standard) => Report::new(alloc, Fault::Job(JobFault::Read)),
+        (fault, InputPath::Standard) => Report::new(alloc, fault),
+        (fault, InputPath::File(path)) => Report::of_file(alloc, fault, path),
+    }
+}
+
+/// Returns the translator of a grammar.
+pub fn read_translator<R: Files + Input>(
+    rt: &R,
+    alloc: Global,
+    grammar: InputPath<'_>,
+) -> Result<Translator, Report> {
+    let bytes = read_input(rt, alloc, grammar)?;
+    build_translator(alloc, Source::new(grammar.name(), bytes.as_slice()))
 }
 
 /// Returns the translator of the grammar in a text.

@@ -1,7 +1,8 @@
 //! The commands that print a part of a grammar, and the value of an expression.
 
-use crate::files::read_file;
+use crate::files::read_input;
 use aggen::{Fault, print_code, print_counts, print_plan, show_value};
+use command_line::InputPath;
 use messages::{Report, Source};
 use std::alloc::Global;
 use std::io;
@@ -19,15 +20,15 @@ pub enum Part {
     Code,
 }
 
-/// Prints a part of the grammar in the file at `path`.
-pub fn print_part<R: Files + Print>(
+/// Prints a part of a grammar.
+pub fn print_part<R: Files + Input + Print>(
     rt: &R,
     alloc: Global,
-    path: &str,
+    grammar: InputPath<'_>,
     part: Part,
 ) -> Result<(), Report> {
-    let bytes = read_file(rt, alloc, path)?;
-    let grammar = Source::new(path, bytes.as_slice());
+    let bytes = read_input(rt, alloc, grammar)?;
+    let grammar = Source::new(grammar.name(), bytes.as_slice());
     match write_part(rt, alloc, grammar.bytes, part) {
         Ok(()) => Ok(()),
         Err(fault) => Err(Report::of_grammar(alloc, fault, grammar)),

@@ -5,27 +5,51 @@
 //! on standard input. `check G` reads and checks a grammar; `plan G` and `code G` print its passes
 //! and what they do, and `why G` or `why G SYMBOL.attribute` why they are needed; `parse G S TREE`
 //! parses a sentence, and writes its tree's file; `upgrade G OLD TREE` converts a tree file of
-//! version 1 to version 2; `value EXPR` evaluates an expression, takes its value through a tree file
+//! version 1 to version 2; `show G TREE` prints the tree in a tree file, and `explain G TREE` where its
+//! values come from; `value EXPR` evaluates an expression, takes its value through a tree file
 //! in memory, and prints what it reads back.
 #![tactic(auto)]
 
 ghost use Rattle.aggen.specs.Status.{IsCommandFault};
 
+mod batch;
+mod cause;
+mod clashes;
+mod evaluations;
+mod explain;
 mod files;
+mod indexed;
 mod listings;
+mod output;
+mod paths;
+mod progress;
+mod progress_lines;
+mod same_file;
+mod screen;
+mod sentence_places;
+mod show;
+mod system_faults;
 mod translations;
 mod trees;
 mod why;
+mod work_folder;
 
 use aggen::{Fault, status};
-use command_line::{CommandLineFault, Request};
+use batch::run_all;
+use command_line::{CommandLine, CommandLineFault, Request};
+use evaluations::evaluate;
+use explain::explain_tree;
 use listings::{Part, print_part, print_value};
 use messages::Report;
+use screen::Screen;
+use show::show_tree;
 use std::alloc::{AllocError, Global};
+use std::fs;
+use std::io::IsTerminal;
 use std::process::ExitCode;
-use std::rt::{Env, Files};
-use std::{fs, io};
-use translations::{evaluate_file, run_files, run_input};
+use std::rt::{Clock, Env, Files};
+use system_faults::fault_or;
+use translations::{run_files, run_input};
 use trees::{convert_file, parse_file};
 use why::explain_plan;
 
@@ -41,46 +65,43 @@ fn main(rt: HostRuntime) -> ExitCode {
     let _input = fs::open(&rt, FOLDER);
     let _output = fs::open(&rt, FOLDER);
     let _errors = fs::open(&rt, FOLDER);
-    exit_code(&rt)
+    exit_code(&rt, rt.stderr().is_terminal())
 }
 
-/// Does what the command line asks for, and returns the status. Prints the message of a failure, one
-/// line on standard error, which no other function does. If that can't be printed, the status still
-/// shows which kind of failure it was.
-fn exit_code<R: Env + Files + Input + Print + Eprint + AllocGlobal>(rt: &R) -> ExitCode {
-    match run(rt) {
-        Ok(code) => code,
-        Err(report) => {
-            let _ = rt.eprintln(&report);
-            ExitCode::from(status(&report.number))
-        }
-    }
-}
-
-/// Does what the command line asks for.
-fn run<R: Env + Files + Input + Print + Eprint + AllocGlobal>(rt: &R) -> Result<ExitCode, Report> {
-    let alloc = rt.alloc();
-    match words_of(rt, alloc) {
-        Ok(words) => run_words(rt, alloc, words.as_slice()),
-        Err(fault) => Err(Report::new(alloc, fault)),
-    }
-}
-
-/// Does what the words of a command line ask for.
-fn run_words<R: Files + Input + Print + Eprint>(
+/// Does what the command line asks for, and returns the status. `is_terminal` says whether standard error
+/// is a terminal.
+fn exit_code<R: Env + Files + Input + Print + Eprint + Clock + AllocGlobal>(
     rt: &R,
-    alloc: Global,
-    words: &[String],
-) -> Result<ExitCode, Report> {
-    match Request::from_words(rt, alloc, words) {
-        Ok(request) => {
-            perform(rt, alloc, request)?;
-            Ok(ExitCode::SUCCESS)
+    is_terminal: bool,
+) -> ExitCode {
+    let alloc = rt.alloc();
+    let words = match words_of(rt, alloc) {
+        Ok(words) => words,
+        Err(fault) => return fail(rt, alloc, Screen::plain(), &Report::new(alloc, fault)),
+    };
+    match CommandLine::from_words(rt, alloc, words.as_slice()) {
+        Ok(CommandLine { request, messages }) => {
+            let screen = Screen::new(rt, messages, is_terminal);
+            match perform(rt, alloc, request, screen) {
+                Ok(code) => code,
+                Err(report) => fail(rt, alloc, screen, &report),
+            }
         }
         // what is wrong with the words was printed
-        Err(CommandLineFault::Usage) => Ok(ExitCode::from(status(&Fault::Usage))),
-        Err(fault) => Err(Report::new(alloc, fault_of(fault))),
+        Err(CommandLineFault::Usage) => ExitCode::from(status(&Fault::Usage)),
+        Err(fault) => fail(
+            rt,
+            alloc,
+            Screen::plain(),
+            &Report::new(alloc, fault_of(fault)),
+        ),
     }
+}
+
+/// Prints the message of a failure, and returns its status.
+fn fail<R: Eprint>(rt: &R, alloc: Global, screen: Screen, report: &Report) -> ExitCode {
+    screen.print(rt, alloc, report);
+    ExitCode::from(status(&report.number))
 }
 
 /// Returns the program's fault for a fault of the command line.
@@ -94,33 +115,37 @@ fn fault_of(fault: CommandLineFault) -> Fault
     }
 }
 
-/// Does what a request asks for.
-fn perform<R: Files + Input + Print>(
+/// Does what a request asks for. Returns the status of what was refused and printed on the way.
+fn perform<R: Files + Input + Print + Eprint + Clock>(
     rt: &R,
     alloc: Global,
     request: Request<'_>,
-) -> Result<(), Report> {
+    screen: Screen,
+) -> Result<ExitCode, Report> {
     match request {
         Request::Nothing => Ok(()),
-        Request::Job => run_input(rt, alloc),
-        Request::Run(paths) => run_files(rt, alloc, &paths),
-        Request::Eval(paths) => evaluate_file(rt, alloc, &paths),
+        Request::Job => run_input(rt, alloc, screen),
+        Request::Run(paths) => run_files(rt, alloc, &paths, screen),
+        Request::RunAll(paths) => return run_all(rt, alloc, &paths, screen),
+        Request::Eval(paths) => evaluate(rt, alloc, &paths, screen),
         Request::Value(text) => print_value(rt, alloc, text),
-        Request::Check(path) => print_part(rt, alloc, path, Part::Counts),
-        Request::Plan(path) => print_part(rt, alloc, path, Part::Plan),
+        Request::Check(grammar) => print_part(rt, alloc, grammar, Part::Counts),
+        Request::Plan(grammar) => print_part(rt, alloc, grammar, Part::Plan),
         Request::Why(words) => explain_plan(rt, alloc, words),
-        Request::Code(path) => print_part(rt, alloc, path, Part::Code),
+        Request::Code(grammar) => print_part(rt, alloc, grammar, Part::Code),
         Request::Parse(paths) => parse_file(rt, alloc, &paths),
+        Request::Show(words) => show_tree(rt, alloc, &words),
+        Request::Explain(words) => explain_tree(rt, alloc, &words),
         Request::Upgrade(paths) => convert_file(rt, alloc, &paths),
-    }
+    }?;
+    Ok(ExitCode::SUCCESS)
 }
 
 /// Returns the words of the command line; the first is the program's name.
 fn words_of<R: Env + AllocGlobal>(rt: &R, alloc: Global) -> Result<Vec<String>, Fault> {
     let words = match std::env::args(rt) {
         Ok(words) => words,
-        Err(error) if error.kind() == io::ErrorKind::OutOfMemory => return Err(Fault::NoMemory),
-        Err(_) => return Err(Fault::Usage),
+        Err(error) => return Err(fault_or(&error, Fault::Usage)),
     };
     let collected: Result<Vec<String>, AllocError> = words.collect(alloc);
     Ok(collected?)

@@ -1,154 +1,302 @@
 //! The commands that translate: `run`, `eval`, and the job on standard input.
 
-use crate::files::{build_translator, read_file, read_translator, report_of_sentence};
+ghost use Rattle.std.specs.Prelude.{◌≡◌, ◌≢◌, IfErr, IsErr, OnOk};
+ghost use Rattle.std.specs.Io.KnownBytes.{Appends};
+
+use crate::cause::{Translated, with_cause};
+use crate::clashes::check_output;
+use crate::files::{build_translator, read_input, report_of_sentence};
+use crate::output::write_file;
+use crate::progress::{Progress, ShownDevice};
+use crate::screen::Screen;
 use ag_job::Job;
 use aggen::{Fault, Translator};
 use aggen_files::WorkFiles;
-use command_line::{EvalPaths, RunPaths};
+use agoutput::write_bytes;
+use command_line::RunPaths;
 use messages::{Report, Source};
 use noted_file::Record;
 use std::alloc::Global;
-use std::io;
-use std::rt::Files;
-use treefile::{FileDevice, MemDevice};
+use std::fs::OpenFile;
+use std::io::{self, Write};
+use std::rt::{Clock, Files};
+use treefile::{Device, FileDevice, SharedDevice};
 
-/// Translates the sentence in a file by the grammar in a file, and prints the translation. The
-/// grammar is read first, then the sentence, and only then are tree files created.
-pub fn run_files<R: Files + Print>(
+/// Translates a sentence, and prints the translation or writes it to a file. The grammar is read first, then
+/// the sentence; only then are tree files created, and the translation's file after these.
+pub fn run_files<R: Files + Input + Print + Eprint + Clock>(
     rt: &R,
     alloc: Global,
     paths: &RunPaths<'_>,
+    screen: Screen,
 ) -> Result<(), Report> {
-    let translator = read_translator(rt, alloc, paths.grammar)?;
-    run_files_with(rt, alloc, &translator, paths)
-}
-
-/// Reads the sentence, translates it with a translator, and prints the translation.
-fn run_files_with<R: Files + Print>(
-    rt: &R,
-    alloc: Global,
-    translator: &Translator,
-    paths: &RunPaths<'_>,
-) -> Result<(), Report> {
-    let bytes = read_file(rt, alloc, paths.sentence)?;
-    let sentence = Source::new(paths.sentence, bytes.as_slice());
-    match paths.work {
-        Some(folder) => run_in_folder(rt, alloc, translator, sentence, folder),
-        None => run_in_memory(rt, alloc, translator, sentence),
+    if let Some(path) = paths.output {
+        check_output(
+            rt,
+            alloc,
+            path,
+            &[paths.grammar, paths.sentence],
+            paths.work,
+        )?;
+    }
+    let text = read_input(rt, alloc, paths.grammar)?;
+    let grammar = Source::new(paths.grammar.name(), text.as_slice());
+    let translator = build_translator(alloc, grammar)?;
+    let translating = Translating {
+        rt,
+        alloc,
+        translator: &translator,
+        grammar,
+        work: paths.work,
+        screen,
+    };
+    let bytes = read_input(rt, alloc, paths.sentence)?;
+    let sentence = Source::new(paths.sentence.name(), bytes.as_slice());
+    match paths.output {
+        Some(path) => translating.write(sentence, path),
+        None => translating.run(sentence, &mut io::writer(rt)),
     }
 }
 
 /// Translates the job on standard input, with its trees in memory, and prints the translation.
-pub fn run_input<R: Input + Print>(rt: &R, alloc: Global) -> Result<(), Report> {
+pub fn run_input<R: Files + Input + Print + Eprint + Clock>(
+    rt: &R,
+    alloc: Global,
+    screen: Screen,
+) -> Result<(), Report> {
     match Job::read(alloc, rt.reader()) {
-        Ok(job) => run_job(rt, alloc, &job),
+        Ok(job) => run_job(rt, alloc, &job, screen),
         Err(fault) => Err(Report::new(alloc, Fault::from(fault))),
     }
 }
 
 /// Translates a job, with its trees in memory, and prints the translation.
-fn run_job<R: Print>(rt: &R, alloc: Global, job: &Job) -> Result<(), Report> {
+fn run_job<R: Files + Print + Eprint + Clock>(
+    rt: &R,
+    alloc: Global,
+    job: &Job,
+    screen: Screen,
+) -> Result<(), Report> {
     let (grammar, sentence) = Source::of_job(job.grammar(), job.sentence());
     let translator = build_translator(alloc, grammar)?;
-    run_in_memory(rt, alloc, &translator, sentence)
+    let translating = Translating::in_memory(&*rt, alloc, &translator, grammar, screen);
+    translating.run(sentence, &mut io::writer(rt))
 }
 
-/// Translates the tree in a tree file, which keeps its content, and prints the translation. The
-/// grammar is read first; the passes write to memory.
-pub fn evaluate_file<R: Files + Print>(
-    rt: &R,
-    alloc: Global,
-    paths: &EvalPaths<'_>,
-) -> Result<(), Report> {
-    let translator = read_translator(rt, alloc, paths.grammar)?;
-    evaluate_file_with(rt, alloc, &translator, paths.tree)
+/// A translator, where it keeps its trees, and whether its progress is shown.
+#[derive(Drop)]
+pub struct Translating<'a, R> {
+    /// The system.
+    pub rt: &'a R,
+    /// The allocator.
+    pub alloc: Global,
+    /// The translator.
+    pub translator: &'a Translator,
+    /// The grammar's text.
+    pub grammar: Source<'a>,
+    /// The folder for the tree files. If there is none, they are kept in memory.
+    pub work: Option<&'a str>,
+    /// What is shown on the way.
+    pub screen: Screen,
 }
 
-/// Opens the tree file at `path`, translates its tree with a translator, and prints the translation.
-fn evaluate_file_with<R: Files + Print>(
-    rt: &R,
-    alloc: Global,
-    translator: &Translator,
-    path: &str,
-) -> Result<(), Report> {
-    match FileDevice::existing(rt, alloc, path, Record::new()) {
-        Ok(mut tree) => evaluate_tree(rt, alloc, translator, &mut tree, path),
-        Err(fault) => Err(Report::of_file(alloc, Fault::from(fault), path)),
+impl<'a, R> Translating<'a, R> {
+    /// Returns a translator that keeps its trees in memory.
+    fn in_memory(
+        rt: &'a R,
+        alloc: Global,
+        translator: &'a Translator,
+        grammar: Source<'a>,
+        screen: Screen,
+    ) -> Translating<'a, R> {
+        Translating {
+            rt,
+            alloc,
+            translator,
+            grammar,
+            work: None,
+            screen,
+        }
     }
 }
 
-/// Translates the tree in an opened tree file, and prints the translation.
-fn evaluate_tree<R: Files + Print>(
-    rt: &R,
-    alloc: Global,
-    translator: &Translator,
-    tree: &mut FileDevice<R::File>,
-    path: &str,
-) -> Result<(), Report> {
-    let mut out = io::writer(rt);
-    match aggen_files::evaluate_file(alloc, translator, tree, &mut out) {
-        Ok(_) => Ok(()),
-        Err(fault) => Err(Report::of_tree(alloc, fault, translator.grammar(), tree, path)),
+impl<R: Files + Print + Eprint + Clock> Translating<'_, R> {
+    /// Translates a sentence, and writes the translation to the file at `path`.
+    pub fn write(&self, sentence: Source<'_>, path: &str) -> Result<(), Report> {
+        let mut text = Vec::new(self.alloc);
+        self.run(sentence, &mut text).map_err(of_buffer)?;
+        write_file(self.rt, self.alloc, path, text.as_slice())
+    }
+
+    /// Translates a sentence, and writes the translation.
+    fn run<W: Write>(&self, sentence: Source<'_>, out: &mut W) -> Result<(), Report> {
+        let mut cause = None;
+        let translated = match self.screen.progress(self.rt, self.translator, 0) {
+            Some(progress) => self.run_shown(sentence, &progress, out, &mut cause),
+            None => self.run_unseen(sentence, out, &mut cause),
+        };
+        match (translated, self.work) {
+            (Ok(()), _) => Ok(()),
+            (Err(fault @ (Fault::File | Fault::Device)), Some(folder)) => {
+                Err(Report::of_file(self.alloc, fault, folder))
+            }
+            (Err(fault), _) => {
+                let report = report_of_sentence(self.alloc, fault, self.translator, sentence);
+                Err(with_cause(report, cause))
+            }
+        }
+    }
+
+    /// Returns what the message says of the cause, if the translation is an error. The devices have the last
+    /// two tree files.
+    fn cause_of<D: Device>(
+        &self,
+        translated: &Result<aggen::Report, Fault>,
+        sentence: Source<'_>,
+        a: &mut D,
+        b: &mut D,
+    ) -> Option<String> {
+        let Err(fault) = translated else {
+            return None;
+        };
+        let translated = Translated {
+            translator: self.translator,
+            grammar: self.grammar,
+            sentence: Some(sentence),
+        };
+        translated.cause_of(self.alloc, fault, a, b)
+    }
+
+    /// Translates a sentence without showing how far that is.
+    fn run_unseen<W: Write>(
+        &self,
+        sentence: Source<'_>,
+        out: &mut W,
+        cause: &mut Option<String>,
+    ) -> Result<(), Fault> {
+        let translated = match self.work {
+            Some(folder) => {
+                let mut files = self.open_work(folder)?;
+                let translated = files.translate(self.alloc, self.translator, sentence.bytes, out);
+                *cause = self.cause_of(&translated, sentence, &mut files.a, &mut files.b);
+                translated
+            }
+            None => {
+                let mut a = SharedDevice::new(self.alloc);
+                let mut b = SharedDevice::new(self.alloc);
+                let translated = self
+                    .translator
+                    .translate(sentence.bytes, &mut a, &mut b, out);
+                *cause = self.cause_of(&translated, sentence, &mut a, &mut b);
+                translated
+            }
+        };
+        translated?;
+        Ok(())
+    }
+
+    /// Translates a sentence and shows how far that is. The translation is written after the last line of
+    /// progress has been erased.
+    fn run_shown<W: Write>(
+        &self,
+        sentence: Source<'_>,
+        progress: &Progress<'_, R>,
+        out: &mut W,
+        cause: &mut Option<String>,
+    ) -> Result<(), Fault> {
+        let mut text = Vec::new(self.alloc);
+        let translated = match self.work {
+            Some(folder) => {
+                let (translated, found) = self.run_shown_in(
+                    folder, sentence, &*progress, &mut text,
+                );
+                *cause = found;
+                translated
+            }
+            None => {
+                let mut a = ShownDevice::new(SharedDevice::new(self.alloc), &*progress);
+                let mut b = ShownDevice::new(SharedDevice::new(self.alloc), &*progress);
+                let translated = self
+                    .translator
+                    .translate(sentence.bytes, &mut a, &mut b, &mut text);
+                *cause = self.cause_of(&translated, sentence, &mut a, &mut b);
+                translated
+            }
+        };
+        progress.erase();
+        write_translation(translated, text.as_slice(), out)
+    }
+
+    /// Translates a sentence by way of the files of a folder, and shows how far that is. Returns what the
+    /// message says of the cause too, if the translation is an error.
+    fn run_shown_in(
+        &self,
+        folder: &str,
+        sentence: Source<'_>,
+        progress: &Progress<'_, R>,
+        text: &mut Vec<u8>,
+    ) -> (Result<aggen::Report, Fault>, Option<String>) {
+        let WorkFiles { a, b } = match self.open_work(folder) {
+            Ok(files) => files,
+            Err(fault) => return (Err(fault), None),
+        };
+        let mut a = ShownDevice::new(a, progress);
+        let mut b = ShownDevice::new(b, progress);
+        let translated = self
+            .translator
+            .translate(sentence.bytes, &mut a, &mut b, text);
+        let cause = self.cause_of(&translated, sentence, &mut a, &mut b);
+        match finish(a.into_inner(), b.into_inner()) {
+            Ok(()) => (translated, cause),
+            Err(fault) => (Err(fault), None),
+        }
+    }
+
+    /// Opens the tree files in a folder.
+    fn open_work(&self, folder: &str) -> Result<WorkFiles<R::File>, Fault> {
+        WorkFiles::open(self.rt, self.alloc, folder, Record::new(), Record::new())
     }
 }
 
-/// Translates a sentence with its trees in memory, and prints the translation.
-fn run_in_memory<R: Print>(
-    rt: &R,
-    alloc: Global,
-    translator: &Translator,
-    sentence: Source<'_>,
-) -> Result<(), Report> {
-    match translate_in_memory(rt, alloc, translator, sentence.bytes) {
-        Ok(()) => Ok(()),
-        Err(fault) => Err(report_of_sentence(alloc, fault, translator, sentence)),
-    }
-}
-
-/// Translates a sentence by way of two devices in memory.
-fn translate_in_memory<R: Print>(
-    rt: &R,
-    alloc: Global,
-    translator: &Translator,
-    sentence: &[u8],
+/// Writes to both files what their devices have gathered, to the second one also if the first one fails.
+pub fn finish<F: io::Read + Write + io::Seek + OpenFile + Drop>(
+    mut a: FileDevice<F>,
+    mut b: FileDevice<F>,
 ) -> Result<(), Fault> {
-    let mut a = MemDevice::new(alloc);
-    let mut b = MemDevice::new(alloc);
-    let mut out = io::writer(rt);
-    match translator.translate(sentence, &mut a, &mut b, &mut out) {
-        Ok(_) => Ok(()),
+    let first = a.finish();
+    let second = b.finish();
+    first?;
+    second?;
+    Ok(())
+}
+
+/// Writes a translation that was made in memory, where a write fails only if memory is refused. Fails with
+/// O2 if a write fails or takes no byte, and else as the translation did, before anything is written.
+pub fn write_translation<W: Write>(
+    translated: Result<aggen::Report, Fault>,
+    text: &[u8],
+    out: &mut W,
+) -> Result<(), Fault>
+    ensures written { OnOk result (Appends (W.contents out.old) (W.contents out.new) text.now) }
+    ensures refused { IfErr result (λ e. e ≢ Fault.Write → out.new ≡ out.old) }
+    ensures failed { IsErr translated → IfErr result (λ e. e ≢ Fault.Write) × IsErr result }
+{
+    match translated {
+        Ok(_) => match write_bytes(out, text) {
+            Ok(()) => Ok(()),
+            Err(_) => Err(Fault::Write),
+        },
+        Err(Fault::Write) => Err(Fault::NoMemory),
         Err(fault) => Err(fault),
     }
 }
 
-/// Translates a sentence with its trees in the files a.agt and b.agt of a folder, which are kept, and
-/// prints the translation.
-fn run_in_folder<R: Files + Print>(
-    rt: &R,
-    alloc: Global,
-    translator: &Translator,
-    sentence: Source<'_>,
-    folder: &str,
-) -> Result<(), Report> {
-    match translate_in_folder(rt, alloc, translator, sentence.bytes, folder) {
-        Ok(()) => Ok(()),
-        Err(fault @ (Fault::File | Fault::Device)) => Err(Report::of_file(alloc, fault, folder)),
-        Err(fault) => Err(report_of_sentence(alloc, fault, translator, sentence)),
+/// Returns the report of a translation into memory, where a write fails only if memory is refused.
+pub fn of_buffer(mut report: Report) -> Report
+    ensures { result.number ≢ Fault.Write }
+{
+    if matches!(report.number, Fault::Write) {
+        report.number = Fault::NoMemory;
     }
-}
-
-/// Opens the tree files in a folder, and translates a sentence by way of them.
-fn translate_in_folder<R: Files + Print>(
-    rt: &R,
-    alloc: Global,
-    translator: &Translator,
-    sentence: &[u8],
-    folder: &str,
-) -> Result<(), Fault> {
-    let mut files = WorkFiles::open(rt, alloc, folder, Record::new(), Record::new())?;
-    let mut out = io::writer(rt);
-    match files.translate(alloc, translator, sentence, &mut out) {
-        Ok(_) => Ok(()),
-        Err(fault) => Err(fault),
-    }
+    report
 }

@@ -1,6 +1,6 @@
 //! The commands that write tree files: `parse` and `upgrade`.
 
-use crate::files::{read_file, read_translator, report_of_sentence};
+use crate::files::{read_input, read_translator, report_of_sentence};
 use aggen::{Fault, Translator};
 use aggen_files::{parse_to_file, upgrade_file};
 use command_line::{ParsePaths, UpgradePaths};
@@ -11,9 +11,9 @@ use std::io;
 use std::rt::Files;
 use treefile::FileDevice;
 
-/// Writes the tree file of the sentence in a file, and prints the number of its nodes. The grammar is
+/// Writes the tree file of a sentence, and prints the number of its nodes. The grammar is
 /// read first, then the sentence, and only then is the tree file created.
-pub fn parse_file<R: Files + Print>(
+pub fn parse_file<R: Files + Input + Print>(
     rt: &R,
     alloc: Global,
     paths: &ParsePaths<'_>,
@@ -23,14 +23,14 @@ pub fn parse_file<R: Files + Print>(
 }
 
 /// Reads the sentence, writes its tree file with a translator, and prints the number of its nodes.
-fn parse_file_with<R: Files + Print>(
+fn parse_file_with<R: Files + Input + Print>(
     rt: &R,
     alloc: Global,
     translator: &Translator,
     paths: &ParsePaths<'_>,
 ) -> Result<(), Report> {
-    let bytes = read_file(rt, alloc, paths.sentence)?;
-    let sentence = Source::new(paths.sentence, bytes.as_slice());
+    let bytes = read_input(rt, alloc, paths.sentence)?;
+    let sentence = Source::new(paths.sentence.name(), bytes.as_slice());
     match write_tree(rt, alloc, translator, sentence.bytes, paths.tree) {
         Ok(()) => Ok(()),
         Err(fault @ (Fault::File | Fault::Device)) => Err(Report::of_file(
@@ -59,7 +59,7 @@ fn write_tree<R: Files + Print>(
 
 /// Converts a tree file of version 1 to version 2, and prints the number of its nodes. The grammar is
 /// read first, then the old file is opened, and only then is the other one created.
-pub fn convert_file<R: Files + Print>(
+pub fn convert_file<R: Files + Input + Print>(
     rt: &R,
     alloc: Global,
     paths: &UpgradePaths<'_>,

@@ -3,7 +3,7 @@
 ghost use Rattle.std.specs.Prelude.{◌≡◌, ◌≢◌, IfErr, IfOk, IsErr, IsErrOf, OnOk, string_bytes};
 ghost use Rattle.std.specs.Io.KnownBytes.{Appends};
 
-use crate::files::read_file;
+use crate::files::read_input;
 use ag_grammar::Grammar;
 use ag_value::NoMemory;
 use aggen::{BuildFault, CertifiedPlan, Fault, StuckGrammar, certify_plan};
@@ -15,15 +15,15 @@ use std::alloc::Global;
 use std::io::{self, Write};
 use std::rt::Files;
 
-/// Prints why the grammar in a file needs its passes, or why no pass before its own can compute an
+/// Prints why a grammar needs its passes, or why no pass before its own can compute an
 /// attribute. If no order of passes evaluates the grammar, prints why, and fails with A1.
-pub fn explain_plan<R: Files + Print>(
+pub fn explain_plan<R: Files + Input + Print>(
     rt: &R,
     alloc: Global,
     words: WhyWords<'_>,
 ) -> Result<(), Report> {
-    let bytes = read_file(rt, alloc, words.grammar)?;
-    let source = Source::new(words.grammar, bytes.as_slice());
+    let bytes = read_input(rt, alloc, words.grammar)?;
+    let source = Source::new(words.grammar.name(), bytes.as_slice());
     match certify_plan(alloc, source.bytes) {
         Ok(plan) => {
             let attribute = find_attribute(alloc, &plan.grammar, words.attribute)?;

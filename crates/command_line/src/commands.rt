@@ -1,6 +1,8 @@
 //! The commands of the program and their arguments, with the texts that help prints.
 
-use clap::{Arg, Command};
+use crate::tree_options::{at, attributes, depth, errors, json, node, of_sentence, only, width};
+use clap::error::ErrorKind;
+use clap::{Arg, ArgAction, Command, Error};
 use std::alloc::{AllocError, Global};
 
 /// The argument that names the grammar's file.
@@ -24,18 +26,44 @@ pub const ATTRIBUTE: &str = "SYMBOL.attribute";
 /// The option that names the folder for the tree files.
 pub const WORK: &str = "work";
 
+/// The option that names the file for the translation.
+pub const OUTPUT: &str = "output";
+
+/// The option that names the folder for translations.
+pub const OUT_DIR: &str = "out-dir";
+
+/// The option that says when messages are marked.
+pub const COLOR: &str = "color";
+
+/// The option that turns messages off.
+pub const QUIET: &str = "quiet";
+
+/// The values of the option that says when messages are marked.
+const COLORS: &[&str] = &["auto", "always", "never"];
+
 /// The commands, in the order in which help lists them.
 const COMMANDS: &[Entry] = &[
     Entry {
         name: "run",
         about: "Translates a sentence by a grammar, and prints the translation with no newline added",
-        arguments: &[Argument::Grammar, Argument::Sentence, Argument::WorkFolder],
+        arguments: &[
+            Argument::Grammar,
+            Argument::Sentences,
+            Argument::Output,
+            Argument::OutputFolder,
+            Argument::WorkFolder,
+        ],
         example: "Example:\n  $ aggen run examples/words.ag examples/words.txt\n  iffy",
     },
     Entry {
         name: "eval",
         about: "Translates the tree in a tree file that `parse` wrote, and prints the translation",
-        arguments: &[Argument::Grammar, Argument::KeptTree],
+        arguments: &[
+            Argument::Grammar,
+            Argument::KeptTree,
+            Argument::Output,
+            Argument::WorkFolder,
+        ],
         example: "Example:\n  $ aggen eval examples/words.ag words.tree\n  iffy",
     },
     Entry {
@@ -75,6 +103,34 @@ const COMMANDS: &[Entry] = &[
         example: "Example:\n  $ aggen parse examples/words.ag examples/words.txt words.tree\n  2 nodes",
     },
     Entry {
+        name: "show",
+        about: "Prints the tree in a tree file, a line for each node with its production and its values",
+        arguments: &[
+            Argument::Grammar,
+            Argument::ShownTree,
+            Argument::Depth,
+            Argument::Node,
+            Argument::Only,
+            Argument::Width,
+            Argument::Json,
+        ],
+        example: "Example:\n  $ aggen show examples/words.ag words.tree\n  /  S = NAME \"if\"\n    /1  NAME  lex=\"iffy\"",
+    },
+    Entry {
+        name: "explain",
+        about: "Prints which rule computed each value of a node in a tree file, and what the rule used",
+        arguments: &[
+            Argument::Grammar,
+            Argument::ExplainedTree,
+            Argument::Attributes,
+            Argument::Node,
+            Argument::OfSentence,
+            Argument::At,
+            Argument::Errors,
+        ],
+        example: "Example:\n  $ aggen explain examples/percentages.ag trees/a.agt --node /1/2 sum\n  /1/2  L = NUMBER L\n  sum=170\n    $0.sum = number($1.lex) + $2.sum (examples/percentages.ag:5:16)\n      $1.lex=\"50\"  /1/2/1\n      $2.sum=120  /1/2/2",
+    },
+    Entry {
         name: "upgrade",
         about: "Converts a tree file of version 1 to version 2, and prints the number of nodes",
         arguments: &[Argument::Grammar, Argument::OldTree, Argument::NewTree],
@@ -98,7 +154,7 @@ impl Entry {
             .about(self.about)
             .after_help(self.example);
         for argument in self.arguments {
-            command = command.arg(argument.to_arg(alloc))?;
+            command = command.arg(argument.to_arg(alloc)?)?;
         }
         Ok(command)
     }
@@ -111,8 +167,32 @@ enum Argument {
     Grammar,
     /// The name of the sentence's file.
     Sentence,
+    /// The names of the files of one or more sentences.
+    Sentences,
     /// The name of a tree file that is only read.
     KeptTree,
+    /// The name of a tree file of any pass that is only read.
+    ShownTree,
+    /// The name of a tree file of any pass that is only read, or of the folder of two.
+    ExplainedTree,
+    /// The option that limits the levels that are printed.
+    Depth,
+    /// The option that names a node by its path.
+    Node,
+    /// The option that names the sentence of a tree.
+    OfSentence,
+    /// The option that names a node by a place in the sentence.
+    At,
+    /// The option that names an attribute that is printed.
+    Only,
+    /// The option that limits the characters of a value.
+    Width,
+    /// The option that prints nodes as JSON.
+    Json,
+    /// The option that lists the rules in which errors arise.
+    Errors,
+    /// The names of attributes of a node, which may be left out.
+    Attributes,
     /// The name of a tree file of version 1.
     OldTree,
     /// The name of a tree file that is written.
@@ -121,17 +201,53 @@ enum Argument {
     Expression,
     /// The name of an attribute, which may be left out.
     Attribute,
+    /// The option that names the file for the translation.
+    Output,
+    /// The option that names the folder for translations.
+    OutputFolder,
     /// The option that names the folder for the tree files.
     WorkFolder,
 }
 
 impl Argument {
-    /// Returns the argument as clap takes it.
-    fn to_arg<'a>(self, alloc: Global) -> Arg<'a> {
-        match self {
-            Argument::Grammar => file(alloc, GRAMMAR, "The file with the grammar"),
-            Argument::Sentence => file(alloc, SENTENCE, "The file with the sentence"),
-            Argument::KeptTree => file(alloc, TREE, "The tree file, which is only read"),
+    /// Returns the argument as clap takes it. Fails if memory is refused.
+    fn to_arg<'a>(self, alloc: Global) -> Result<Arg<'a>, AllocError> {
+        let arg = match self {
+            Argument::Grammar => file(
+                alloc,
+                GRAMMAR,
+                "The file with the grammar, `-` for standard input",
+            ),
+            Argument::Sentence => file(
+                alloc,
+                SENTENCE,
+                "The file with the sentence, `-` for standard input",
+            ),
+            Argument::Sentences => sentences(alloc),
+            Argument::KeptTree => file(
+                alloc,
+                TREE,
+                "The tree file, which is only read, `-` for standard input",
+            ),
+            Argument::ShownTree => file(
+                alloc,
+                TREE,
+                "The tree file of any pass, such as b.agt of `run --work`, which is only read",
+            ),
+            Argument::ExplainedTree => file(
+                alloc,
+                TREE,
+                "The tree file of any pass, or the folder of `run --work` with two, which are only read",
+            ),
+            Argument::Depth => depth(alloc),
+            Argument::Node => node(alloc),
+            Argument::OfSentence => return of_sentence(alloc),
+            Argument::At => return at(alloc),
+            Argument::Only => only(alloc),
+            Argument::Width => width(alloc),
+            Argument::Json => json(alloc),
+            Argument::Errors => errors(alloc),
+            Argument::Attributes => attributes(alloc),
             Argument::OldTree => file(
                 alloc,
                 OLD,
@@ -144,14 +260,28 @@ impl Argument {
             ),
             Argument::Expression => expression(alloc),
             Argument::Attribute => attribute(alloc),
+            Argument::Output => output(alloc),
+            Argument::OutputFolder => return output_folder(alloc),
             Argument::WorkFolder => work_folder(alloc),
-        }
+        };
+        Ok(arg)
     }
 }
 
 /// Returns the argument `name`, a file's name.
 fn file<'a>(alloc: Global, name: &'a str, help: &'a str) -> Arg<'a> {
     Arg::new(alloc, name).required(true).help(help)
+}
+
+/// Returns the argument that names the files of one or more sentences.
+fn sentences<'a>(alloc: Global) -> Arg<'a> {
+    file(
+        alloc,
+        SENTENCE,
+        "The file with the sentence, `-` for standard input; several with --out-dir",
+    )
+    .num_args(1..)
+    .action(ArgAction::Append)
 }
 
 /// Returns the argument that is an expression.
@@ -167,11 +297,49 @@ fn attribute<'a>(alloc: Global) -> Arg<'a> {
     Arg::new(alloc, ATTRIBUTE).help("Explains the pass of this attribute alone, such as L.total")
 }
 
+/// Returns the option that names the file for the translation.
+fn output<'a>(alloc: Global) -> Arg<'a> {
+    Arg::new(alloc, OUTPUT)
+        .short('o')
+        .long(OUTPUT)
+        .value_name("FILE")
+        .help("Writes the translation to FILE, and only a whole one; `-` is standard output")
+}
+
+/// Returns the option that names the folder for translations. Fails if memory is refused.
+fn output_folder<'a>(alloc: Global) -> Result<Arg<'a>, AllocError> {
+    Arg::new(alloc, OUT_DIR)
+        .long(OUT_DIR)
+        .value_name("DIR")
+        .help("Writes the translation of each PATH/NAME to NAME.out in the existing folder DIR")
+        .conflicts_with(OUTPUT)
+}
+
 /// Returns the option that names the folder for the tree files.
 fn work_folder<'a>(alloc: Global) -> Arg<'a> {
     Arg::new(alloc, WORK).long(WORK).value_name("DIR").help(
         "Writes the tree files a.agt and b.agt to the existing folder DIR, and keeps them",
     )
+}
+
+/// Returns the option of every command that says when messages are marked.
+fn color<'a>(alloc: Global) -> Arg<'a> {
+    Arg::new(alloc, COLOR)
+        .long(COLOR)
+        .value_name("WHEN")
+        .value_parser(COLORS)
+        .global(true)
+        .help("Marks the number and the place in messages; without it, on a terminal only")
+}
+
+/// Returns the option of every command that turns messages off.
+fn quiet<'a>(alloc: Global) -> Arg<'a> {
+    Arg::new(alloc, QUIET)
+        .short('q')
+        .long(QUIET)
+        .action(ArgAction::SetTrue)
+        .global(true)
+        .help("Prints no message of a refusal, so that only the status shows it")
 }
 
 /// Returns the program's command with all its subcommands. Fails if memory is refused.
@@ -198,10 +366,32 @@ fn with_command<'a>(
 /// Returns the program's command without subcommands.
 fn root_command<'a>(alloc: Global) -> Result<Command<'a>, AllocError> {
     let program = Command::new(alloc, "aggen")
-        .version("0.1.0")
+        .version("1.0.0")
         .about("Makes translators from attribute grammars")
         .after_help(
             "Without a command, aggen translates a job from standard input: a grammar, a line `%%`, and a sentence.\n\nExample:\n  $ aggen run examples/words.ag examples/words.txt\n  iffy",
         );
+    let program = program.arg(color(alloc))?.arg(quiet(alloc))?;
     program.bin_name("aggen")
+}
+
+/// Returns what clap prints of a misuse of the command `name` that it can't find itself, with the
+/// command's usage.
+pub fn misuse_of(alloc: Global, name: &str, message: &str) -> Error {
+    match usage_error(alloc, name, message) {
+        Ok(error) => error,
+        Err(refused) => Error::from(refused),
+    }
+}
+
+/// Returns an error with the usage of the command `name`. Fails if memory is refused.
+fn usage_error(alloc: Global, name: &str, message: &str) -> Result<Error, AllocError> {
+    let bin_name = format!(in alloc; "aggen {name}")?;
+    for entry in COMMANDS {
+        if entry.name == name {
+            let mut command = entry.to_command(alloc)?.bin_name(bin_name.as_str())?;
+            return command.error(ErrorKind::ArgumentConflict, message);
+        }
+    }
+    root_command(alloc)?.error(ErrorKind::ArgumentConflict, message)
 }

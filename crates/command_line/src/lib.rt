@@ -1,12 +1,23 @@
-//! The command line: its words, and the request that they make.
+//! The command line: its words, the request that they make, and how messages are printed.
 //!
-//! `Request::from_words` reads the words of a command line. It prints help, the version, and what is
+//! `CommandLine::from_words` reads the words of a command line. It prints help, the version, and what is
 //! wrong with the words itself, so that its caller only needs the kind of a failure.
 #![tactic(auto)]
 
 mod commands;
 mod fault;
+mod input;
+mod misuse;
+mod plain;
 mod request;
+mod tree_options;
+mod tree_requests;
 
 pub use fault::CommandLineFault;
-pub use request::{EvalPaths, ParsePaths, Request, RunPaths, UpgradePaths, WhyWords};
+pub use input::InputPath;
+pub use misuse::name_of;
+pub use request::{
+    BatchPaths, Color, CommandLine, EvalPaths, Messages, ParsePaths, Request, RunPaths,
+    UpgradePaths, WhyWords,
+};
+pub use tree_requests::{ExplainWords, NodeWords, PlaceInSentence, ShowWords};

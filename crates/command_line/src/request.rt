@@ -3,13 +3,50 @@
 ghost use Rattle.std.specs.Prelude.{◌≡◌, ◌≢◌, ◌⊎◌, IfErr, IsErrOf};
 ghost use Rattle.clap.specs.Values.{kind_of};
 
-use crate::commands::{ATTRIBUTE, EXPRESSION, GRAMMAR, OLD, SENTENCE, TREE, WORK, program};
+use crate::commands::{
+    ATTRIBUTE, COLOR, EXPRESSION, GRAMMAR, OLD, OUT_DIR, OUTPUT, QUIET, SENTENCE, TREE, WORK,
+    misuse_of, program,
+};
 use crate::fault::CommandLineFault;
+use crate::input::{InputPath, STANDARD};
+use crate::misuse::{check_once, check_sentences, check_tree};
+use crate::plain::Plain;
+use crate::tree_requests::{ExplainWords, ShowWords, explain_words, show_words};
 use clap::error::ErrorKind;
 use clap::{ArgMatches, Error};
 use std::alloc::Global;
 
+/// A command line: what it asks for, and how messages are printed.
+#[derive(Drop)]
+pub struct CommandLine<'a> {
+    /// What it asks for.
+    pub request: Request<'a>,
+    /// How messages are printed.
+    pub messages: Messages,
+}
+
+/// How the messages of refusals are printed.
+#[derive(Clone, Copy)]
+pub struct Messages {
+    /// When the number and the place are marked.
+    pub color: Color,
+    /// No message is printed.
+    pub is_quiet: bool,
+}
+
+/// When the number and the place of a message are marked.
+#[derive(Clone, Copy)]
+pub enum Color {
+    /// On a terminal only.
+    Auto,
+    /// Always.
+    Always,
+    /// Never.
+    Never,
+}
+
 /// The request that a command line makes.
+#[derive(Drop)]
 pub enum Request<'a> {
     /// Nothing more: help or the version was asked for, and was printed.
     Nothing,
@@ -17,118 +54,168 @@ pub enum Request<'a> {
     Job,
     /// The translation of a sentence.
     Run(RunPaths<'a>),
+    /// The translation of several sentences, each to a file of its own.
+    RunAll(BatchPaths<'a>),
     /// The translation of the tree in a tree file.
     Eval(EvalPaths<'a>),
     /// The value of this expression.
     Value(&'a str),
-    /// The check of the grammar in the file at this path.
-    Check(&'a str),
-    /// The passes of the grammar in the file at this path.
-    Plan(&'a str),
+    /// The check of a grammar.
+    Check(InputPath<'a>),
+    /// The passes of a grammar.
+    Plan(InputPath<'a>),
     /// Why the passes of a grammar, or of one of its attributes, are needed.
     Why(WhyWords<'a>),
-    /// The code of the passes of the grammar in the file at this path.
-    Code(&'a str),
+    /// The code of the passes of a grammar.
+    Code(InputPath<'a>),
     /// The tree file of a sentence.
     Parse(ParsePaths<'a>),
+    /// The tree in a tree file as text.
+    Show(ShowWords<'a>),
+    /// The rules that computed the values in a tree file.
+    Explain(ExplainWords<'a>),
     /// The conversion of a tree file of version 1 to version 2.
     Upgrade(UpgradePaths<'a>),
 }
 
-/// The paths that `run` takes.
+/// The words that `run` takes for one sentence.
 #[derive(Clone, Copy)]
 pub struct RunPaths<'a> {
-    /// The grammar's file.
-    pub grammar: &'a str,
-    /// The sentence's file.
-    pub sentence: &'a str,
+    /// The grammar.
+    pub grammar: InputPath<'a>,
+    /// The sentence.
+    pub sentence: InputPath<'a>,
+    /// The file for the translation. If there is none, it is printed.
+    pub output: Option<&'a str>,
     /// The folder for the tree files. If there is none, they are kept in memory.
     pub work: Option<&'a str>,
 }
 
-/// The paths that `eval` takes.
+/// The words that `run` takes for sentences with a folder for their translations.
+#[derive(Drop)]
+pub struct BatchPaths<'a> {
+    /// The grammar.
+    pub grammar: InputPath<'a>,
+    /// The files of the sentences, at least one. No two have the same name in their folders, and none
+    /// is standard input.
+    pub sentences: Vec<&'a str>,
+    /// The folder for the translations.
+    pub folder: &'a str,
+    /// The folder for the tree files. If there is none, they are kept in memory.
+    pub work: Option<&'a str>,
+}
+
+/// The words that `eval` takes.
 #[derive(Clone, Copy)]
 pub struct EvalPaths<'a> {
-    /// The grammar's file.
-    pub grammar: &'a str,
+    /// The grammar.
+    pub grammar: InputPath<'a>,
     /// The tree file.
-    pub tree: &'a str,
+    pub tree: InputPath<'a>,
+    /// The file for the translation. If there is none, it is printed.
+    pub output: Option<&'a str>,
+    /// The folder for the tree files. If there is none, they are kept in memory.
+    pub work: Option<&'a str>,
 }
 
 /// The words that `why` takes.
 #[derive(Clone, Copy)]
 pub struct WhyWords<'a> {
-    /// The grammar's file.
-    pub grammar: &'a str,
+    /// The grammar.
+    pub grammar: InputPath<'a>,
     /// The name of an attribute. If there is none, the whole grammar is explained.
     pub attribute: Option<&'a str>,
 }
 
-/// The paths that `parse` takes.
+/// The words that `parse` takes.
 #[derive(Clone, Copy)]
 pub struct ParsePaths<'a> {
-    /// The grammar's file.
-    pub grammar: &'a str,
-    /// The sentence's file.
-    pub sentence: &'a str,
+    /// The grammar.
+    pub grammar: InputPath<'a>,
+    /// The sentence.
+    pub sentence: InputPath<'a>,
     /// The tree file that is written.
     pub tree: &'a str,
 }
 
-/// The paths that `upgrade` takes.
+/// The words that `upgrade` takes.
 #[derive(Clone, Copy)]
 pub struct UpgradePaths<'a> {
-    /// The grammar's file.
-    pub grammar: &'a str,
+    /// The grammar.
+    pub grammar: InputPath<'a>,
     /// The tree file of version 1.
     pub old: &'a str,
     /// The tree file that is written.
     pub tree: &'a str,
 }
 
-impl<'a> Request<'a> {
-    /// Returns the request that the words of a command line make; the first word is the program's
-    /// name. If they ask for help or the version, prints it on standard output, and fails with `Write`
-    /// if that can't be done. If they are wrong, prints what is wrong on standard error, and fails with
-    /// `Usage` even if that can't be printed.
+impl<'a> CommandLine<'a> {
+    /// Returns the command line of these words; the first word is the program's name. If they ask for
+    /// help or the version, prints it on standard output, and fails with `Write` if that can't be done.
+    /// If they are wrong, prints what is wrong on standard error, and fails with `Usage` even if that
+    /// can't be printed.
     pub fn from_words<R: Print + Eprint>(
         rt: &R,
         alloc: Global,
         words: &'a [String],
-    ) -> Result<Request<'a>, CommandLineFault> {
+    ) -> Result<CommandLine<'a>, CommandLineFault> {
         match parse(alloc, words) {
-            Ok(matches) => Ok(request_in(&matches)),
-            Err(error) => print_error(rt, &error),
+            Ok(line) => Ok(line),
+            Err(error) => print_error(rt, alloc, &error),
+        }
+    }
+
+    /// Returns a command line that asks for nothing more.
+    fn nothing() -> CommandLine<'a> {
+        CommandLine {
+            request: Request::Nothing,
+            messages: Messages {
+                color: Color::Auto,
+                is_quiet: false,
+            },
         }
     }
 }
 
 /// Parses the words of a command line.
-fn parse<'a>(alloc: Global, words: &'a [String]) -> Result<ArgMatches<'a>, Error> {
-    program(alloc)?.try_get_matches_from(words)
-}
-
-/// Returns the request in the matches of a command line.
-fn request_in<'a>(matches: &ArgMatches<'a>) -> Request<'a> {
+fn parse<'a>(alloc: Global, words: &'a [String]) -> Result<CommandLine<'a>, Error> {
+    let matches = program(alloc)?.try_get_matches_from(words)?;
     match matches.subcommand() {
-        Some((name, matches)) => request_of(name, matches),
-        None => Request::Job,
+        Some((name, matches)) => Ok(CommandLine {
+            request: request_of(alloc, name, matches)?,
+            messages: messages_of(matches),
+        }),
+        None => Ok(CommandLine {
+            request: Request::Job,
+            messages: messages_of(&matches),
+        }),
     }
 }
 
-/// Returns the request that a command makes, by its name and its matches.
-fn request_of<'a>(name: &str, matches: &ArgMatches<'a>) -> Request<'a> {
-    let grammar = value_of(matches, GRAMMAR);
-    match name {
-        "run" => Request::Run(RunPaths {
-            grammar,
-            sentence: value_of(matches, SENTENCE),
-            work: matches.get_str(WORK),
-        }),
-        "eval" => Request::Eval(EvalPaths {
-            grammar,
-            tree: value_of(matches, TREE),
-        }),
+/// Returns how messages are printed.
+fn messages_of(matches: &ArgMatches<'_>) -> Messages {
+    let color = match matches.get_str(COLOR) {
+        Some("always") => Color::Always,
+        Some("never") => Color::Never,
+        _ => Color::Auto,
+    };
+    Messages {
+        color,
+        is_quiet: matches.get_flag(QUIET),
+    }
+}
+
+/// Returns the request that a command makes, by its name and its matches. Fails with what is wrong
+/// with words that clap accepts.
+fn request_of<'a>(
+    alloc: Global,
+    name: &str,
+    matches: &ArgMatches<'a>,
+) -> Result<Request<'a>, Error> {
+    let grammar = input_of(matches, GRAMMAR);
+    let request = match name {
+        "run" => return run_request(alloc, matches),
+        "eval" => return eval_request(alloc, matches),
         "value" => Request::Value(value_of(matches, EXPRESSION)),
         "check" => Request::Check(grammar),
         "plan" => Request::Plan(grammar),
@@ -137,18 +224,93 @@ fn request_of<'a>(name: &str, matches: &ArgMatches<'a>) -> Request<'a> {
             attribute: matches.get_str(ATTRIBUTE),
         }),
         "code" => Request::Code(grammar),
-        "parse" => Request::Parse(ParsePaths {
-            grammar,
-            sentence: value_of(matches, SENTENCE),
-            tree: value_of(matches, TREE),
-        }),
-        "upgrade" => Request::Upgrade(UpgradePaths {
-            grammar,
-            old: value_of(matches, OLD),
-            tree: value_of(matches, TREE),
-        }),
+        "parse" => return parse_request(alloc, matches),
+        "show" => Request::Show(show_words(alloc, matches)?),
+        "explain" => Request::Explain(explain_words(alloc, matches)?),
+        "upgrade" => return upgrade_request(alloc, matches),
         // clap passes on no other name
         _ => Request::Job,
+    };
+    Ok(request)
+}
+
+/// Returns the request that `run` makes.
+fn run_request<'a>(alloc: Global, matches: &ArgMatches<'a>) -> Result<Request<'a>, Error> {
+    let grammar = input_of(matches, GRAMMAR);
+    let sentences = matches.get_strs(SENTENCE).unwrap_or(&[]);
+    let work = matches.get_str(WORK);
+    if let Some(folder) = matches.get_str(OUT_DIR) {
+        check_sentences(alloc, sentences)?;
+        return Ok(Request::RunAll(BatchPaths {
+            grammar,
+            sentences: Vec::from_slice(alloc, sentences)?,
+            folder,
+            work,
+        }));
+    }
+    if 1 < sentences.len() {
+        return Err(misuse_of(alloc, "run", "several sentences need '--out-dir <DIR>'"));
+    }
+    let sentence = input_of(matches, SENTENCE);
+    check_once(alloc, "run", [grammar, sentence])?;
+    Ok(Request::Run(RunPaths {
+        grammar,
+        sentence,
+        output: output_of(matches),
+        work,
+    }))
+}
+
+/// Returns the request that `eval` makes.
+fn eval_request<'a>(alloc: Global, matches: &ArgMatches<'a>) -> Result<Request<'a>, Error> {
+    let grammar = input_of(matches, GRAMMAR);
+    let tree = input_of(matches, TREE);
+    check_once(alloc, "eval", [grammar, tree])?;
+    Ok(Request::Eval(EvalPaths {
+        grammar,
+        tree,
+        output: output_of(matches),
+        work: matches.get_str(WORK),
+    }))
+}
+
+/// Returns the request that `parse` makes.
+fn parse_request<'a>(alloc: Global, matches: &ArgMatches<'a>) -> Result<Request<'a>, Error> {
+    let grammar = input_of(matches, GRAMMAR);
+    let sentence = input_of(matches, SENTENCE);
+    let tree = value_of(matches, TREE);
+    check_once(alloc, "parse", [grammar, sentence])?;
+    check_tree(alloc, "parse", tree)?;
+    Ok(Request::Parse(ParsePaths {
+        grammar,
+        sentence,
+        tree,
+    }))
+}
+
+/// Returns the request that `upgrade` makes.
+fn upgrade_request<'a>(alloc: Global, matches: &ArgMatches<'a>) -> Result<Request<'a>, Error> {
+    let old = value_of(matches, OLD);
+    let tree = value_of(matches, TREE);
+    check_tree(alloc, "upgrade", old)?;
+    check_tree(alloc, "upgrade", tree)?;
+    Ok(Request::Upgrade(UpgradePaths {
+        grammar: input_of(matches, GRAMMAR),
+        old,
+        tree,
+    }))
+}
+
+/// Returns the input that an argument names.
+fn input_of<'a>(matches: &ArgMatches<'a>, name: &str) -> InputPath<'a> {
+    InputPath::of(value_of(matches, name))
+}
+
+/// Returns the file for the translation, if one is named. `-` is standard output.
+fn output_of<'a>(matches: &ArgMatches<'a>) -> Option<&'a str> {
+    match matches.get_str(OUTPUT) {
+        Some(path) if path != STANDARD => Some(path),
+        _ => None,
     }
 }
 
@@ -161,8 +323,9 @@ fn value_of<'a>(matches: &ArgMatches<'a>, name: &str) -> &'a str {
 /// version can't be printed, and with `Usage` if something is wrong with the words.
 fn print_error<'a, R: Print + Eprint>(
     rt: &R,
+    alloc: Global,
     error: &Error,
-) -> Result<Request<'a>, CommandLineFault>
+) -> Result<CommandLine<'a>, CommandLineFault>
     ensures memory { kind_of error.now ≡ ErrorKind.OutOfMemory → IsErrOf result CommandLineFault.NoMemory }
     ensures help { (kind_of error.now ≡ ErrorKind.DisplayHelp) ⊎ (kind_of error.now ≡ ErrorKind.DisplayVersion)
         → IfErr result (λ e. e ≡ CommandLineFault.Write) }
@@ -172,13 +335,20 @@ fn print_error<'a, R: Print + Eprint>(
     if error.kind() == ErrorKind::OutOfMemory {
         return Err(CommandLineFault::NoMemory);
     }
-    let printed = error.print(rt);
     if error.exit_code() != 0 {
-        // the status says enough if the message can't be printed
+        print_misuse(rt, alloc, error);
         return Err(CommandLineFault::Usage);
     }
-    if printed.is_err() {
+    if error.print(rt).is_err() {
         return Err(CommandLineFault::Write);
     }
-    Ok(Request::Nothing)
+    Ok(CommandLine::nothing())
+}
+
+/// Prints what is wrong with the words of a command line.
+fn print_misuse<R: Eprint>(rt: &R, alloc: Global, error: &Error) {
+    // the status says enough if the message can't be printed
+    if let Ok(text) = error.to_string(alloc) {
+        let _ = rt.eprint(&Plain(text.as_str()));
+    }
 }

@@ -1,0 +1,125 @@
+//! The command that translates several sentences: `run` with a folder for the translations.
+
+use crate::clashes::check_outputs;
+use crate::files::{build_translator, read_input};
+use crate::paths::path_in;
+use crate::screen::Screen;
+use crate::system_faults::fault_or;
+use crate::translations::Translating;
+use aggen::{Fault, status};
+use command_line::{BatchPaths, InputPath, name_of};
+use messages::{Report, Source};
+use std::alloc::{AllocError, Global};
+use std::fs;
+use std::process::ExitCode;
+use std::rt::{Clock, Files};
+
+/// Translates each sentence, and writes its translation to a file of its own. Prints the message of each
+/// refused sentence, and goes on; returns the status of the first of these. The grammar is read first.
+///
+/// Fails before a sentence is read if the grammar is refused, if the folder for the translations is missing
+/// (F1), or if a translation's file is one of the inputs.
+pub fn run_all<'a, R: Files + Input + Print + Eprint + Clock>(
+    rt: &'a R,
+    alloc: Global,
+    paths: &'a BatchPaths<'a>,
+    screen: Screen,
+) -> Result<ExitCode, Report> {
+    let outputs = match output_paths(alloc, paths) {
+        Ok(outputs) => outputs,
+        Err(_) => return Err(Report::new(alloc, Fault::NoMemory)),
+    };
+    check_clashes(rt, alloc, paths, outputs.as_slice())?;
+    check_folder(rt, alloc, paths.folder)?;
+    let text = read_input(rt, alloc, paths.grammar)?;
+    let grammar = Source::new(paths.grammar.name(), text.as_slice());
+    let translator = build_translator(alloc, grammar)?;
+    let translating = Translating {
+        rt,
+        alloc,
+        translator: &translator,
+        grammar,
+        work: paths.work,
+        screen,
+    };
+    let mut first = ExitCode::SUCCESS;
+    let mut is_first = true;
+    for (sentence, output) in paths.sentences.iter().zip(outputs.iter()) {
+        if let Err(report) = translate(&translating, sentence, output.as_str()) {
+            screen.print(rt, alloc, &report);
+            if is_first {
+                first = ExitCode::from(status(&report.number));
+                is_first = false;
+            }
+        }
+    }
+    Ok(first)
+}
+
+/// Returns the path of each translation: DIR/NAME.out for PATH/NAME. Fails if memory is refused.
+fn output_paths(alloc: Global, paths: &BatchPaths<'_>) -> Result<Vec<String>, AllocError> {
+    let mut outputs = Vec::new(alloc);
+    for sentence in paths.sentences.iter() {
+        let name = format!(in alloc; "{}.out", name_of(sentence))?;
+        outputs.push(path_in(alloc, paths.folder, name.as_str())?)?;
+    }
+    Ok(outputs)
+}
+
+/// Fails if one of the translations' files is the grammar or a sentence.
+fn check_clashes<R: Files>(
+    rt: &R,
+    alloc: Global,
+    paths: &BatchPaths<'_>,
+    outputs: &[String],
+) -> Result<(), Report> {
+    check_outputs(rt, alloc, paths.sentences.as_slice(), outputs)?;
+    match paths.grammar {
+        InputPath::File(path) => check_outputs(rt, alloc, &[path], outputs),
+        InputPath::Standard => Ok(()),
+    }
+}
+
+/// Fails with F1 if `path` is not a folder, and if memory is refused.
+fn check_folder<R: Files>(rt: &R, alloc: Global, path: &str) -> Result<(), Report> {
+    let fault = match fs::metadata(rt, path) {
+        Ok(found) if found.is_dir() => return Ok(()),
+        Ok(_) => Fault::File,
+        Err(error) => fault_or(&error, Fault::File),
+    };
+    Err(Report::of_file(alloc, fault, path))
+}
+
+/// Reads a sentence, translates it, and writes the translation to the file at `output`. A report names the
+/// sentence.
+fn translate<R: Files + Input + Print + Eprint + Clock>(
+    translating: &Translating<'_, R>,
+    path: &str,
+    output: &str,
+) -> Result<(), Report> {
+    let alloc = translating.alloc;
+    let bytes = read_input(translating.rt, alloc, InputPath::File(path))?;
+    let sentence = Source::new(path, bytes.as_slice());
+    match translating.write(sentence, output) {
+        Ok(()) => Ok(()),
+        Err(report) => Err(with_sentence(alloc, report, path)),
+    }
+}
+
+/// Returns a report with the name of the sentence that it is about. That of refused memory names no file.
+fn with_sentence(alloc: Global, mut report: Report, path: &str) -> Report {
+    if matches!(report.number, Fault::NoMemory) {
+        return report;
+    }
+    if report.file.is_none() {
+        return report.with_file(alloc, path);
+    }
+    if matches!(report.number, Fault::File | Fault::Device | Fault::Write) {
+        let named = Report::new(alloc, Fault::File).with_file(alloc, path);
+        if let Some(name) = &named.file {
+            let written = write!(report.parts.found, "for the sentence {}", name.as_str());
+            return report.or_bare(written);
+        }
+    }
+    report
+}

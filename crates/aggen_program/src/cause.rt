@@ -1,0 +1,58 @@
+//! The cause of a translation that is an error, in its message.
+
+use ag_value::Value;
+use aggen::{Fault, Translator};
+use messages::{Report, Source};
+use std::alloc::Global;
+use treefile::Device;
+use value_reasons::ErrorTranslation;
+
+/// A translator with the text of its grammar, and the sentence, if there is one.
+#[derive(Clone, Copy)]
+pub struct Translated<'a> {
+    /// The translator.
+    pub translator: &'a Translator,
+    /// The grammar's text.
+    pub grammar: Source<'a>,
+    /// The sentence; a tree may come from a file.
+    pub sentence: Option<Source<'a>>,
+}
+
+impl Translated<'_> {
+    /// Returns what a message says of the cause of a fault, if the fault is a translation that is an error.
+    /// `a` and `b` have the last two tree files. Returns `None` if the cause can't be found.
+    pub fn cause_of<D: Device>(
+        self,
+        alloc: Global,
+        fault: &Fault,
+        a: &mut D,
+        b: &mut D,
+    ) -> Option<String> {
+        if !matches!(fault, Fault::NoText(Value::Fault(_))) {
+            return None;
+        }
+        let plan = self.translator.plan();
+        let error = ErrorTranslation {
+            grammar: self.translator.grammar(),
+            plan,
+            source: self.grammar,
+            sentence: self.sentence,
+        };
+        let last = if plan.assignment().passes() % 2 == 1 {
+            b
+        } else {
+            a
+        };
+        error.describe_cause(alloc, last).unwrap_or(None)
+    }
+}
+
+/// Returns a report with what is said of the cause, or as it is if memory for that is refused.
+pub fn with_cause(mut report: Report, cause: Option<String>) -> Report {
+    let Some(cause) = cause else {
+        return report;
+    };
+    let found = &mut report.parts.found;
+    let written = write!(found, ", which {}", cause.as_str());
+    report.or_bare(written)
+}

@@ -1,0 +1,199 @@
+//! The command that translates the tree in a tree file: `eval`.
+
+use crate::cause::{Translated, with_cause};
+use crate::clashes::{check_output, check_tree};
+use crate::files::{build_translator, read_input, report_of_input};
+use crate::output::write_file;
+use crate::progress::{Progress, ShownDevice};
+use crate::screen::Screen;
+use crate::translations::{finish, of_buffer, write_translation};
+use ag_job::{ReadFault, read_front};
+use aggen::{Fault, Translator};
+use aggen_files::{WorkFiles, evaluate_file};
+use command_line::{EvalPaths, InputPath};
+use messages::{Report, Source};
+use noted_file::Record;
+use std::alloc::Global;
+use std::io::{self, Write};
+use std::rt::{Clock, Files};
+use treefile::{Device, FileDevice, MemDevice, SharedDevice};
+
+/// Translates the tree in a tree file, which keeps its content, and prints the translation or writes it to a
+/// file. The grammar is read first.
+pub fn evaluate<R: Files + Input + Print + Eprint + Clock>(
+    rt: &R,
+    alloc: Global,
+    paths: &EvalPaths<'_>,
+    screen: Screen,
+) -> Result<(), Report> {
+    if let Some(folder) = paths.work {
+        check_tree(rt, alloc, paths.tree, folder)?;
+    }
+    if let Some(path) = paths.output {
+        check_output(rt, alloc, path, &[paths.grammar, paths.tree], paths.work)?;
+    }
+    let text = read_input(rt, alloc, paths.grammar)?;
+    let grammar = Source::new(paths.grammar.name(), text.as_slice());
+    let translator = build_translator(alloc, grammar)?;
+    let evaluating = Evaluating {
+        rt,
+        alloc,
+        translator: &translator,
+        grammar,
+        paths,
+        screen,
+    };
+    match paths.output {
+        Some(path) => evaluating.write(path),
+        None => evaluating.run(&mut io::writer(rt)),
+    }
+}
+
+/// A translator, the tree file that it translates, where it keeps its own trees, and whether its progress is
+/// shown.
+#[derive(Drop)]
+struct Evaluating<'a, R> {
+    rt: &'a R,
+    alloc: Global,
+    translator: &'a Translator,
+    grammar: Source<'a>,
+    paths: &'a EvalPaths<'a>,
+    screen: Screen,
+}
+
+impl<R: Files + Input + Print + Eprint + Clock> Evaluating<'_, R> {
+    /// Translates the tree, and writes the translation to the file at `path`.
+    fn write(&self, path: &str) -> Result<(), Report> {
+        let mut text = Vec::new(self.alloc);
+        self.run(&mut text).map_err(of_buffer)?;
+        write_file(self.rt, self.alloc, path, text.as_slice())
+    }
+
+    /// Opens the tree file, or reads it from standard input, translates its tree, and writes the translation.
+    fn run<W: Write>(&self, out: &mut W) -> Result<(), Report> {
+        match self.paths.tree {
+            InputPath::File(path) => {
+                match FileDevice::existing(self.rt, self.alloc, path, Record::new()) {
+                    Ok(mut tree) => self.run_file(&mut tree, out),
+                    Err(fault) => Err(Report::of_file(self.alloc, Fault::from(fault), path)),
+                }
+            }
+            InputPath::Standard => match read_front(self.alloc, self.rt.reader(), u64::MAX) {
+                Ok(bytes) => self.run_device(&mut MemDevice::from_bytes(bytes), out),
+                Err(ReadFault::NoMemory) => Err(Report::new(self.alloc, Fault::NoMemory)),
+                Err(ReadFault::Read) => {
+                    Err(report_of_input(self.alloc, Fault::File, self.paths.tree))
+                }
+            },
+        }
+    }
+
+    /// Translates the tree in an opened tree file, and writes the translation.
+    fn run_file<W: Write>(
+        &self,
+        tree: &mut FileDevice<R::File>,
+        out: &mut W,
+    ) -> Result<(), Report> {
+        if self.paths.work.is_some() || self.screen.shows_progress() {
+            return self.run_device(tree, out);
+        }
+        match evaluate_file(self.alloc, self.translator, tree, out) {
+            Ok(_) => Ok(()),
+            Err(fault) => Err(self.report_of(fault, tree)),
+        }
+    }
+
+    /// Translates the tree on a device, and writes the translation.
+    fn run_device<T: Device, W: Write>(&self, tree: &mut T, out: &mut W) -> Result<(), Report> {
+        let evaluated = match self.screen.progress(self.rt, self.translator, 1) {
+            Some(progress) => {
+                let mut text = Vec::new(self.alloc);
+                let evaluated = self.run_shown(tree, &progress, &mut text);
+                progress.erase();
+                write_translation(evaluated, text.as_slice(), out)
+            }
+            None => self.run_unseen(tree, out),
+        };
+        match evaluated {
+            Ok(()) => Ok(()),
+            Err(fault) => Err(self.report_of(fault, tree)),
+        }
+    }
+
+    /// Translates the tree on a device without showing how far that is, and writes the translation.
+    fn run_unseen<T: Device, W: Write>(&self, tree: &mut T, out: &mut W) -> Result<(), Fault> {
+        let Some(folder) = self.paths.work else {
+            let mut a = SharedDevice::new(self.alloc);
+            let mut b = SharedDevice::new(self.alloc);
+            self.translator.evaluate_tree(tree, &mut a, &mut b, out)?;
+            return Ok(());
+        };
+        let mut files = self.open_work(folder)?;
+        files.evaluate(self.alloc, self.translator, tree, out)?;
+        Ok(())
+    }
+
+    /// Translates the tree on a device to a text, and shows how far that is.
+    fn run_shown<T: Device>(
+        &self,
+        tree: &mut T,
+        progress: &Progress<'_, R>,
+        text: &mut Vec<u8>,
+    ) -> Result<aggen::Report, Fault> {
+        let Some(folder) = self.paths.work else {
+            let mut a = ShownDevice::new(SharedDevice::new(self.alloc), progress);
+            let mut b = ShownDevice::new(SharedDevice::new(self.alloc), progress);
+            return self.translator.evaluate_tree(tree, &mut a, &mut b, text);
+        };
+        let WorkFiles { a, b } = self.open_work(folder)?;
+        let mut a = ShownDevice::new(a, progress);
+        let mut b = ShownDevice::new(b, progress);
+        let evaluated = self.translator.evaluate_tree(tree, &mut a, &mut b, text);
+        finish(a.into_inner(), b.into_inner())?;
+        evaluated
+    }
+
+    /// Opens the tree files in a folder.
+    fn open_work(&self, folder: &str) -> Result<WorkFiles<R::File>, Fault> {
+        WorkFiles::open(self.rt, self.alloc, folder, Record::new(), Record::new())
+    }
+
+    /// Returns the report of a fault. It names the folder if a tree file there can't be opened, read or written.
+    fn report_of<T: Device>(&self, fault: Fault, tree: &mut T) -> Report {
+        let is_of_folder = match fault {
+            Fault::File => true,
+            Fault::Device => tree.len().is_ok(),
+            _ => false,
+        };
+        let name = self.paths.tree.name();
+        let cause = self.cause_of(&fault, tree);
+        let report = match self.paths.work {
+            Some(folder) if is_of_folder => Report::of_file(self.alloc, fault, folder),
+            _ => Report::of_tree(self.alloc, fault, self.translator.grammar(), tree, name),
+        };
+        with_cause(report, cause)
+    }
+
+    /// Returns what the message says of the cause, if the translation is an error. The tree is translated
+    /// once more, to memory.
+    fn cause_of<T: Device>(&self, fault: &Fault, tree: &mut T) -> Option<String> {
+        if !matches!(fault, Fault::NoText(_)) {
+            return None;
+        }
+        let mut a = SharedDevice::new(self.alloc);
+        let mut b = SharedDevice::new(self.alloc);
+        let mut text = Vec::new(self.alloc);
+        let again = self
+            .translator
+            .evaluate_tree(tree, &mut a, &mut b, &mut text);
+        let Err(fault) = again else {
+            return None;
+        };
+        let translated = Translated {
+            translator: self.translator,
+            grammar: self.grammar,
+            sentence: None,
+        };
+        translated.cause_of(self.alloc, &fault, &mut a, &mut b)
+    }
+}

@@ -1,0 +1,223 @@
+//! The command that explains values in a tree file: `explain`.
+
+use crate::files::{build_translator, read_input};
+use crate::indexed::{
+    describe_last_pass, no_attribute, no_memory, no_node, places_of, read_index, report_of_tree,
+};
+use crate::sentence_places::TreeSentence;
+use crate::work_folder::TreePath;
+use aggen::{Fault, Translator};
+use agoutput::write_text;
+use command_line::{ExplainWords, NodeWords, PlaceInSentence};
+use message_texts::display::Plain;
+use messages::{Position, Report, Source};
+use noted_file::Record;
+use std::alloc::{AllocError, Global};
+use std::io;
+use std::rt::Files;
+use tree_index::{FileFormat, TreeIndex};
+use tree_text::ShowFault;
+use treefile::{Device, FileDevice};
+use value_reasons::{ExplainedTree, Question, write_errors};
+
+/// The greatest number of characters of a value.
+const WIDTH: usize = 60;
+
+/// Prints the values of a node of a tree file with the rules that computed them, or the rules in which errors
+/// arise. The grammar is read first, then the sentence, if there is one, then the whole tree file; only then is
+/// anything printed.
+pub fn explain_tree<R: Files + Input + Print>(
+    rt: &R,
+    alloc: Global,
+    words: &ExplainWords<'_>,
+) -> Result<(), Report> {
+    let bytes = read_input(rt, alloc, words.grammar)?;
+    let source = Source::new(words.grammar.name(), bytes.as_slice());
+    let translator = build_translator(alloc, source)?;
+    let sentence = read_sentence(rt, alloc, words.node)?;
+    let path = match TreePath::find(rt, alloc, words.tree) {
+        Ok(path) => path,
+        Err(_) => return Err(no_memory(alloc)),
+    };
+    match FileDevice::existing(rt, alloc, path.as_str(), Record::new()) {
+        Ok(mut tree) => {
+            let explaining = Explaining {
+                translator: &translator,
+                source,
+                sentence: sentence.as_slice(),
+                path: path.as_str(),
+                is_chosen: path.is_chosen(),
+            };
+            explaining.run(rt, alloc, words, &mut tree)
+        }
+        Err(fault) => Err(Report::of_file(alloc, Fault::from(fault), path.as_str())),
+    }
+}
+
+/// Returns the bytes of the sentence in which a node is named by its place; none if it is named otherwise.
+fn read_sentence<R: Files + Input>(
+    rt: &R,
+    alloc: Global,
+    node: NodeWords<'_>,
+) -> Result<Vec<u8>, Report> {
+    match node {
+        NodeWords::At(place) => read_input(rt, alloc, place.sentence),
+        NodeWords::None | NodeWords::Path(_) => Ok(Vec::new(alloc)),
+    }
+}
+
+/// Returns the places of the path of the node; none if the node is named otherwise, or not at all.
+fn places_of_path(alloc: Global, node: NodeWords<'_>) -> Result<Vec<u16>, Report> {
+    match node {
+        NodeWords::Path(path) => places_of(alloc, Some(path)),
+        NodeWords::None | NodeWords::At(_) => Ok(Vec::new(alloc)),
+    }
+}
+
+/// A tree file that is explained: its grammar with its text, its sentence, if there is one, and its path.
+#[derive(Clone, Copy)]
+struct Explaining<'a> {
+    translator: &'a Translator,
+    source: Source<'a>,
+    sentence: &'a [u8],
+    path: &'a str,
+    /// Whether the tree file was chosen in a folder.
+    is_chosen: bool,
+}
+
+impl Explaining<'_> {
+    /// Prints the explanation of a node of the tree file on a device, or the rules in which errors arise.
+    fn run<R: Print, D: Device>(
+        self,
+        rt: &R,
+        alloc: Global,
+        words: &ExplainWords<'_>,
+        device: &mut D,
+    ) -> Result<(), Report> {
+        // a text that is not a path is refused before the tree file is read
+        let given = places_of_path(alloc, words.node)?;
+        let index = read_index(alloc, self.translator, self.path, device)?;
+        let places = match words.node {
+            NodeWords::At(place) => self.places_at(alloc, place, &index, device)?,
+            NodeWords::None | NodeWords::Path(_) => given,
+        };
+        let grammar = self.translator.grammar();
+        let Some(node) = index.find(grammar, places.as_slice()) else {
+            return Err(no_node(alloc, grammar, &index, places.as_slice()));
+        };
+        self.check(alloc, words, &index, node)?;
+        let printed = if words.errors {
+            self.print_errors(rt, alloc, &index, device)
+        } else {
+            let question = Question {
+                places: places.as_slice(),
+                names: words.attributes.as_slice(),
+                width: WIDTH,
+            };
+            self.print_node(rt, alloc, &index, &question, device)
+        };
+        match printed {
+            Ok(()) => Ok(()),
+            Err(fault) => Err(report_of_tree(alloc, fault, self.path)),
+        }
+    }
+
+    /// Returns the places that lead from the root to the node at a place in the sentence.
+    fn places_at<D: Device>(
+        self,
+        alloc: Global,
+        place: PlaceInSentence<'_>,
+        index: &TreeIndex,
+        device: &mut D,
+    ) -> Result<Vec<u16>, Report> {
+        let tree = TreeSentence {
+            translator: self.translator,
+            tree: self.path,
+            index,
+            sentence: Source::new(place.sentence.name(), self.sentence),
+        };
+        let position = Position {
+            line: place.line,
+            column: place.column,
+        };
+        tree.node_at(alloc, position, device)
+    }
+
+    /// Fails if a node does not have the attributes that are asked for, or if the rules in which errors arise
+    /// are asked for and the file is not of the last pass.
+    fn check(
+        self,
+        alloc: Global,
+        words: &ExplainWords<'_>,
+        index: &TreeIndex,
+        node: u32,
+    ) -> Result<(), Report> {
+        let (grammar, plan) = (self.translator.grammar(), self.translator.plan());
+        let last = plan.assignment().passes();
+        if words.errors && index.pass() != last {
+            return Err(describe_last_pass(alloc, index.pass(), last));
+        }
+        let format = self.format(index);
+        let Some(item) = index.item(grammar, node) else {
+            return Ok(());
+        };
+        for name in words.attributes.as_slice() {
+            if !format.has_attribute(item, name) {
+                return Err(no_attribute(alloc, &format, item, name));
+            }
+        }
+        Ok(())
+    }
+
+    /// Returns how the records of the tree file are read.
+    fn format(&self, index: &TreeIndex) -> FileFormat<'_> {
+        FileFormat {
+            grammar: self.translator.grammar(),
+            plan: self.translator.plan(),
+            pass: index.pass(),
+        }
+    }
+
+    /// Prints the rules in which errors arise.
+    fn print_errors<R: Print, D: Device>(
+        self,
+        rt: &R,
+        alloc: Global,
+        index: &TreeIndex,
+        device: &mut D,
+    ) -> Result<(), ShowFault> {
+        let tree = ExplainedTree::new(alloc, self.source, self.format(index), index)?;
+        let mut out = io::writer(rt);
+        let mut text = String::new(alloc);
+        self.write_path(&mut text, index.pass())?;
+        write_text(&mut out, text.as_str()).map_err(|_| ShowFault::Write)?;
+        write_errors(&tree, device, &mut out)
+    }
+
+    /// Prints the values of a node.
+    fn print_node<R: Print, D: Device>(
+        self,
+        rt: &R,
+        alloc: Global,
+        index: &TreeIndex,
+        question: &Question<'_>,
+        device: &mut D,
+    ) -> Result<(), ShowFault> {
+        let tree = ExplainedTree::new(alloc, self.source, self.format(index), index)?;
+        let mut out = io::writer(rt);
+        let mut text = String::new(alloc);
+        self.write_path(&mut text, index.pass())?;
+        tree.write_node(&mut text, question, device)?;
+        write_text(&mut out, text.as_str()).map_err(|_| ShowFault::Write)
+    }
+
+    /// Writes the path of the tree file and its pass, if the file was chosen in a folder.
+    fn write_path(self, out: &mut String, pass: u16) -> Result<(), AllocError> {
+        if !self.is_chosen {
+            return Ok(());
+        }
+        let path = Plain(self.path);
+        let passes = self.translator.plan().assignment().passes();
+        writeln!(out, "{path}  pass {pass} of {passes}")
+    }
+}

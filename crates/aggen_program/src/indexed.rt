@@ -1,0 +1,158 @@
+//! Tree files that are read with an index, for `show` and `explain`.
+
+use ag_grammar::limits::MOST_ATTRIBUTES;
+use ag_grammar::{Grammar, Item};
+use ag_value::NoMemory;
+use aggen::{Fault, Translator};
+use message_texts::display::Plain;
+use messages::Report;
+use passrun::RunFault;
+use std::alloc::{AllocError, Global};
+use tree_index::{FileFormat, NodePath, PathFault, TreeFault, TreeIndex};
+use tree_text::{ItemName, ShowFault};
+use treefile::Device;
+
+/// What to do about a tree file that is damaged.
+const AGAIN: &str = "make the file again by `aggen parse` or `aggen run --work` with this grammar";
+
+/// Reads the tree file of this name as a pass reads it, and makes its index.
+pub fn read_index<D: Device>(
+    alloc: Global,
+    translator: &Translator,
+    path: &str,
+    device: &mut D,
+) -> Result<TreeIndex, Report> {
+    match TreeIndex::read(alloc, translator.grammar(), translator.plan(), device) {
+        Ok(index) => Ok(index),
+        Err(fault) => Err(report_of_tree(alloc, ShowFault::Tree(fault), path)),
+    }
+}
+
+/// Returns the report of a fault of reading the tree file of this name, or of printing.
+pub fn report_of_tree(alloc: Global, fault: ShowFault, path: &str) -> Report {
+    let number = match fault {
+        ShowFault::Tree(fault) => fault_of(fault),
+        ShowFault::Write => Fault::Write,
+        ShowFault::NoMemory => Fault::NoMemory,
+    };
+    let is_damaged = matches!(number, Fault::Run(_));
+    let mut report = Report::of_file(alloc, number, path);
+    if is_damaged {
+        let written = report.parts.help.push_str(AGAIN);
+        return report.or_bare(written);
+    }
+    report
+}
+
+/// Returns the report of refused memory.
+pub fn no_memory(alloc: Global) -> Report {
+    Report::new(alloc, Fault::NoMemory)
+}
+
+/// Returns the places of a path, none if there is no path. Fails if the text is not a path.
+pub fn places_of(alloc: Global, path: Option<&str>) -> Result<Vec<u16>, Report> {
+    let Some(text) = path else {
+        return Ok(Vec::new(alloc));
+    };
+    match NodePath::parse(alloc, text) {
+        Ok(path) => path.places(alloc).map_err(|_: NoMemory| no_memory(alloc)),
+        Err(PathFault::NoMemory) => Err(no_memory(alloc)),
+        Err(PathFault::NotAPath) => Err(not_a_path(alloc, text)),
+    }
+}
+
+/// Returns the report of a text that is not a path.
+fn not_a_path(alloc: Global, text: &str) -> Report {
+    let mut report = Report::new(alloc, Fault::Usage);
+    let written = write!(
+        report.parts.found,
+        "expected a path such as `/`, `/2/1` or `/1*897/2`, found `{}`",
+        Plain(text)
+    );
+    report.or_bare(written)
+}
+
+/// Returns the report of a path at whose end there is no node: how far it goes, and the children there.
+pub fn no_node(alloc: Global, grammar: &Grammar, index: &TreeIndex, places: &[u16]) -> Report {
+    let mut report = Report::new(alloc, Fault::Usage);
+    let written = describe_missing(alloc, &mut report.parts.found, grammar, index, places);
+    report.or_bare(written)
+}
+
+/// Writes how far a path goes in a tree, and which children there are at its end.
+fn describe_missing(
+    alloc: Global,
+    out: &mut String,
+    grammar: &Grammar,
+    index: &TreeIndex,
+    places: &[u16],
+) -> Result<(), AllocError> {
+    let mut node = 0u32;
+    let mut path = NodePath::root(alloc);
+    for place in places {
+        let Some(child) = index.child(grammar, node, *place) else {
+            break;
+        };
+        node = child;
+        if path.push(*place).is_err() {
+            return Ok(());
+        }
+    }
+    write!(
+        out,
+        "the tree has no node at this path, the node at `{path}` has "
+    )?;
+    match index.child_count(grammar, node) {
+        0 => out.push_str("no children"),
+        1 => out.push_str("1 child"),
+        count => write!(out, "{count} children"),
+    }
+}
+
+/// Returns the report of a file that is not of the last pass.
+pub fn describe_last_pass(alloc: Global, pass: u16, last: u16) -> Report {
+    let mut report = Report::new(alloc, Fault::Usage);
+    let written = write!(
+        report.parts.found,
+        "`--errors` needs a tree file of the last pass, {last}, this one is of pass {pass}"
+    );
+    report.or_bare(written)
+}
+
+/// Returns the report of the name of an attribute that an item does not have, with the names that it has.
+pub fn no_attribute(alloc: Global, format: &FileFormat<'_>, item: Item, name: &str) -> Report {
+    let mut report = Report::new(alloc, Fault::Usage);
+    let written = describe_attributes(&mut report.parts.found, format, item, name);
+    report.or_bare(written)
+}
+
+/// Writes that an item does not have an attribute, and the names that it has.
+fn describe_attributes(
+    out: &mut String,
+    format: &FileFormat<'_>,
+    item: Item,
+    name: &str,
+) -> Result<(), AllocError> {
+    let owner = ItemName {
+        grammar: format.grammar,
+        item,
+    };
+    write!(out, "{owner} has no attribute `{}`, it has", Plain(name))?;
+    for attr in 0..MOST_ATTRIBUTES as u16 {
+        if let Some(name) = format.attribute_name(item, attr) {
+            write!(out, " {}", Plain(name))?;
+        }
+    }
+    Ok(())
+}
+
+/// Returns the program's fault for a fault of a tree file.
+fn fault_of(fault: TreeFault) -> Fault {
+    match fault {
+        TreeFault::Damaged(at) => Fault::Run(RunFault::Damaged(at)),
+        TreeFault::TooDeep => Fault::Run(RunFault::TooDeep),
+        TreeFault::TooManyNodes => Fault::Run(RunFault::TooManyNodes),
+        TreeFault::Device => Fault::Device,
+        TreeFault::NoMemory => Fault::NoMemory,
+    }
+}

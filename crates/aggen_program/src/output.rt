@@ -1,0 +1,155 @@
+//! The files that translations are written to.
+
+use crate::paths::{folder_of, path_in};
+use crate::same_file::FileId;
+use crate::system_faults::fault_or;
+use aggen::Fault;
+use agoutput::write_bytes;
+use messages::Report;
+use std::alloc::Global;
+use std::fs::{self, OpenFile, OpenOptions, Permissions};
+use std::io::{self, ErrorKind};
+use std::rt::Files;
+
+/// The greatest number of links that are followed from a path, as on Linux.
+const MAX_LINKS: usize = 40;
+
+/// The greatest number of names that are tried for a new file.
+const MAX_NAMES: u32 = 1_000;
+
+/// Writes a translation to the file at `path`: the whole of it, or nothing. A regular file is replaced by a
+/// new one with its mode, and a missing one is created. Any other file is written to, as a device. If
+/// standard output is this file, prints the translation.
+///
+/// Fails with F1 if the file can't be opened or created, and with O2 if a write fails or takes no byte; the
+/// report names the file. Fails with NoMemory if memory is refused.
+pub fn write_file<R: Files + Print>(
+    rt: &R,
+    alloc: Global,
+    path: &str,
+    bytes: &[u8],
+) -> Result<(), Report> {
+    match put(rt, alloc, path, bytes) {
+        Ok(()) => Ok(()),
+        Err(Fault::NoMemory) => Err(Report::new(alloc, Fault::NoMemory)),
+        Err(fault) => Err(Report::new(alloc, fault).with_file(alloc, path)),
+    }
+}
+
+/// Writes bytes to the file at `path`.
+fn put<R: Files + Print>(rt: &R, alloc: Global, path: &str, bytes: &[u8]) -> Result<(), Fault> {
+    let standard = FileId::of_standard_output(rt)?;
+    match fs::metadata(rt, path) {
+        Ok(found) if standard == Some(FileId::of(&found)) => {
+            write_bytes(&mut io::writer(rt), bytes).map_err(Fault::from)
+        }
+        Ok(found) if found.is_file() && !is_of_system(path) => {
+            open_to_append(rt, path)?;
+            replace(rt, alloc, path, bytes, Some(found.permissions()))
+        }
+        Ok(_) => {
+            let mut file = open_to_append(rt, path)?;
+            write_bytes(&mut file, bytes).map_err(Fault::from)
+        }
+        Err(error) if error.kind() == ErrorKind::NotFound => replace(rt, alloc, path, bytes, None),
+        Err(error) => Err(fault_or(&error, Fault::File)),
+    }
+}
+
+/// Returns whether a path is one that the system makes for devices and open files.
+fn is_of_system(path: &str) -> bool {
+    path.starts_with("/dev/") || path.starts_with("/proc/")
+}
+
+/// Opens the existing file at `path` to write at its end. Fails with F1 if that is not allowed.
+fn open_to_append<R: Files>(rt: &R, path: &str) -> Result<R::File, Fault> {
+    let mut how = OpenOptions::new();
+    how.append(true);
+    how.open(rt, path)
+        .map_err(|error| fault_or(&error, Fault::File))
+}
+
+/// Writes bytes to a new file, and renames it to `path` once it has all of them. If a step fails, removes the
+/// new file.
+fn replace<R: Files>(
+    rt: &R,
+    alloc: Global,
+    path: &str,
+    bytes: &[u8],
+    mode: Option<Permissions>,
+) -> Result<(), Fault> {
+    let path = target_of(rt, alloc, path)?;
+    let (new, file) = create_beside(rt, alloc, path.as_str())?;
+    let filled = fill(file, bytes, mode);
+    let renamed = match filled {
+        Ok(()) => fs::rename(rt, new.as_str(), path.as_str()).map_err(|error| fault_or(
+            &error,
+            Fault::Write,
+        )),
+        Err(fault) => Err(fault),
+    };
+    if renamed.is_err() {
+        // the file is not the output; nothing more can be done if it stays
+        let _ = fs::remove_file(rt, new.as_str());
+    }
+    renamed
+}
+
+/// Gives a new file its mode, and writes bytes to it.
+fn fill<F: io::Write + OpenFile + Drop>(
+    mut file: F,
+    bytes: &[u8],
+    mode: Option<Permissions>,
+) -> Result<(), Fault> {
+    if let Some(mode) = mode {
+        file.set_permissions(mode)
+            .map_err(|error| fault_or(&error, Fault::File))?;
+    }
+    write_bytes(&mut file, bytes).map_err(Fault::from)
+}
+
+/// Returns the path that the links at `path` lead to, which need not exist. Fails with F1 if there are too many.
+fn target_of<R: Files>(rt: &R, alloc: Global, path: &str) -> Result<String, Fault> {
+    let mut target = String::from_str(alloc, path)?;
+    for _ in 0..MAX_LINKS {
+        match fs::symlink_metadata(rt, target.as_str()) {
+            Ok(found) if found.is_symlink() => target = link_at(rt, alloc, target.as_str())?,
+            Ok(_) => return Ok(target),
+            Err(error) => match fault_or(&error, Fault::File) {
+                Fault::NoMemory => return Err(Fault::NoMemory),
+                // that the file can be written shows only when it is created
+                _ => return Ok(target),
+            },
+        }
+    }
+    Err(Fault::File)
+}
+
+/// Returns the path that the link at `path` leads to.
+fn link_at<R: Files>(rt: &R, alloc: Global, path: &str) -> Result<String, Fault> {
+    let link = match rt.read_link(alloc, path) {
+        Ok(link) => link,
+        Err(error) => return Err(fault_or(&error, Fault::File)),
+    };
+    let link = link.as_str();
+    if link.starts_with('/') {
+        return Ok(String::from_str(alloc, link)?);
+    }
+    Ok(path_in(alloc, folder_of(path), link)?)
+}
+
+/// Creates a new file in the folder of `path`, and returns its path too. Fails with F1 if it can't be created.
+fn create_beside<R: Files>(rt: &R, alloc: Global, path: &str) -> Result<(String, R::File), Fault> {
+    let mut how = OpenOptions::new();
+    how.write(true).create_new(true);
+    for number in 0..MAX_NAMES {
+        let name = format!(in alloc; ".aggen-{number}.part")?;
+        let new = path_in(alloc, folder_of(path), name.as_str())?;
+        match how.open(rt, new.as_str()) {
+            Ok(file) => return Ok((new, file)),
+            Err(error) if error.kind() == ErrorKind::AlreadyExists => {}
+            Err(error) => return Err(fault_or(&error, Fault::File)),
+        }
+    }
+    Err(Fault::File)
+}

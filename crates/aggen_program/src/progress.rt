@@ -1,0 +1,183 @@
+//! How far a translation is, shown on a terminal.
+
+ghost use Rattle.std.specs.Prelude.{◌≡◌};
+
+use crate::progress_lines::ProgressLine;
+use shared_bytes::{Body, SharedBytes};
+use std::cell::Cell;
+use std::rt::Clock;
+use std::time::Duration;
+use treefile::{Device, DeviceFault};
+
+/// How long a translation takes before its progress is shown, in milliseconds.
+const DELAY: u64 = 2_000;
+
+/// How long a line is shown before the next one, in milliseconds.
+const INTERVAL: u64 = 200;
+
+/// The number of appended records after which the clock is read.
+const APPENDS: u32 = 256;
+
+/// How far a translation is: the pass, and how far the tree file that it reads has been read. A line on
+/// standard error shows it, once the translation has taken two seconds. Failed writes of the line are ignored.
+#[derive(Drop)]
+pub struct Progress<'a, R> {
+    rt: &'a R,
+    passes: u16,
+    next: Cell<Duration>,
+    is_shown: Cell<bool>,
+    first: u16,
+    written: Cell<u16>,
+    appends: Cell<u32>,
+}
+
+impl<'a, R: Clock + Eprint> Progress<'a, R> {
+    /// Returns the progress of a translation that began at a time of the clock, and needs `passes` passes. The
+    /// first tree file that is written is that of pass `first`.
+    pub fn new(rt: &'a R, began: Duration, passes: u16, first: u16) -> Progress<'a, R> {
+        Progress {
+            rt,
+            passes,
+            next: Cell::new(began.saturating_add(Duration::from_millis(DELAY))),
+            is_shown: Cell::new(false),
+            first,
+            written: Cell::new(0),
+            appends: Cell::new(0),
+        }
+    }
+
+    /// Notes that the next pass begins to write its tree file.
+    fn begin_pass(&self) {
+        self.written.set(self.written.get().saturating_add(1));
+    }
+
+    /// Returns the pass whose tree file is written: 0 while the sentence is parsed.
+    fn pass(&self) -> u16 {
+        self.first
+            .saturating_add(self.written.get())
+            .saturating_sub(1)
+    }
+
+    /// Notes that a record was appended.
+    fn note_append(&self) {
+        let appends = self.appends.get().saturating_add(1);
+        if appends < APPENDS {
+            self.appends.set(appends);
+            return;
+        }
+        self.appends.set(0);
+        if self.pass() == 0 && self.is_due() {
+            let _ = self.rt.eprint(&ProgressLine::Parsing);
+        }
+    }
+
+    /// Notes that a tree file of `length` bytes has been read from its end down to an offset.
+    fn note_read(&self, at: u64, length: u64) {
+        if self.is_due() {
+            let line = ProgressLine::Reading {
+                pass: self.pass(),
+                passes: self.passes,
+                percent: percent_of(length.saturating_sub(at), length),
+            };
+            let _ = self.rt.eprint(&line);
+        }
+    }
+
+    /// Returns whether a line is shown now. The next one is not before some time has passed.
+    fn is_due(&self) -> bool {
+        let Ok(now) = self.rt.monotonic() else {
+            return false;
+        };
+        if now < self.next.get() {
+            return false;
+        }
+        self.next
+            .set(now.saturating_add(Duration::from_millis(INTERVAL)));
+        self.is_shown.set(true);
+        true
+    }
+
+    /// Erases the line, if one is shown.
+    pub fn erase(&self) {
+        if self.is_shown.replace(false) {
+            let _ = self.rt.eprint(&ProgressLine::Nothing);
+        }
+    }
+}
+
+/// Returns how many hundredths of a whole a part is.
+fn percent_of(part: u64, whole: u64) -> u64 {
+    part.saturating_mul(100).checked_div(whole).unwrap_or(100)
+}
+
+/// A device that forwards each call to another one, and shows how far the translation is. It has the content,
+/// the honesty and the failures of the other one.
+#[derive(Drop)]
+pub struct ShownDevice<'a, D, R> {
+    inner: D,
+    length: u64,
+    progress: &'a Progress<'a, R>,
+}
+
+impl<'a, D, R> ShownDevice<'a, D, R> {
+    /// Returns a device that forwards its calls to `inner`. Takes no memory.
+    pub fn new(inner: D, progress: &'a Progress<'a, R>) -> ShownDevice<'a, D, R>
+        ensures { result.inner ≡ inner }
+    {
+        ShownDevice {
+            inner,
+            length: 0,
+            progress,
+        }
+    }
+
+    /// Returns the device that got the calls.
+    pub fn into_inner(self) -> D
+        ensures { result ≡ self.entry.inner }
+    {
+        self.inner
+    }
+}
+
+impl<D: Device, R: Clock + Eprint> Device for ShownDevice<'_, D, R> {
+    ghost content = { λ d. D.content d.inner };
+
+    ghost is_honest = { λ d. D.is_honest d.inner };
+
+    ghost failures = { λ d. D.failures d.inner };
+
+    fn len(&mut self) -> Result<u64, DeviceFault> {
+        let answer = self.inner.len();
+        self.length = answer.unwrap_or(0);
+        answer
+    }
+
+    fn append(&mut self, bytes: &[u8]) -> Result<(), DeviceFault> {
+        self.progress.note_append();
+        self.inner.append(bytes)
+    }
+
+    fn read_at(&mut self, at: u64, out: &mut [u8]) -> Result<(), DeviceFault> {
+        self.progress.note_read(at, self.length);
+        self.inner.read_at(at, out)
+    }
+
+    fn clear(&mut self) -> Result<(), DeviceFault> {
+        self.progress.begin_pass();
+        self.inner.clear()
+    }
+
+    fn append_parts(
+        &mut self,
+        parts: &SharedBytes,
+        buffer: &mut Vec<u8>,
+    ) -> Result<(), DeviceFault> {
+        self.progress.note_append();
+        self.inner.append_parts(parts, buffer)
+    }
+
+    fn lend_before(&self, at: u64) -> Option<Body<'_>> {
+        self.progress.note_read(at, self.length);
+        self.inner.lend_before(at)
+    }
+}

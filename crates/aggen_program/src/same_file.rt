@@ -1,0 +1,72 @@
+//! Whether two paths lead to one file.
+
+use crate::system_faults::fault_or;
+use ag_value::NoMemory;
+use aggen::Fault;
+use std::fs::{self, Metadata};
+use std::io;
+use std::os::unix::fs::MetadataExt;
+use std::rt::Files;
+
+/// The path of standard input.
+const STANDARD_INPUT: &str = "/dev/stdin";
+
+/// The path of standard output.
+const STANDARD_OUTPUT: &str = "/dev/stdout";
+
+/// The device and the number of a file, which no other file has.
+#[derive(Clone, Copy, PartialEq, Eq, PartialOrd, Ord)]
+pub struct FileId {
+    device: u64,
+    number: u64,
+}
+
+impl FileId {
+    /// Returns the identity of the file that a call has described.
+    pub fn of(metadata: &Metadata) -> FileId {
+        FileId {
+            device: metadata.dev(),
+            number: metadata.ino(),
+        }
+    }
+
+    /// Returns the identity of the regular file at `path`, through links. None if there is none. Fails if
+    /// memory is refused.
+    pub fn at<R: Files>(rt: &R, path: &str) -> Result<Option<FileId>, NoMemory> {
+        match fs::metadata(rt, path) {
+            Ok(metadata) if metadata.is_file() => Ok(Some(FileId::of(&metadata))),
+            Ok(_) => Ok(None),
+            Err(error) => none_or_refused(&error),
+        }
+    }
+
+    /// Returns the identity of the folder at `path`, through links. None if there is none. Fails if memory
+    /// is refused.
+    pub fn of_folder<R: Files>(rt: &R, path: &str) -> Result<Option<FileId>, NoMemory> {
+        match fs::metadata(rt, path) {
+            Ok(metadata) if metadata.is_dir() => Ok(Some(FileId::of(&metadata))),
+            Ok(_) => Ok(None),
+            Err(error) => none_or_refused(&error),
+        }
+    }
+
+    /// Returns the identity of the regular file that is standard input, if it is one. Fails if memory is
+    /// refused.
+    pub fn of_standard_input<R: Files>(rt: &R) -> Result<Option<FileId>, NoMemory> {
+        FileId::at(rt, STANDARD_INPUT)
+    }
+
+    /// Returns the identity of the regular file that is standard output, if it is one. Fails if memory is
+    /// refused.
+    pub fn of_standard_output<R: Files>(rt: &R) -> Result<Option<FileId>, NoMemory> {
+        FileId::at(rt, STANDARD_OUTPUT)
+    }
+}
+
+/// Returns no identity for a failed call. Fails if memory for the call was refused.
+fn none_or_refused(error: &io::Error) -> Result<Option<FileId>, NoMemory> {
+    match fault_or(error, Fault::File) {
+        Fault::NoMemory => Err(NoMemory::NoMemory),
+        _ => Ok(None),
+    }
+}

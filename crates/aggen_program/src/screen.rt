@@ -1,0 +1,159 @@
+//! How messages are printed.
+
+use crate::progress::Progress;
+use aggen::{Fault, Translator};
+use command_line::{Color, Messages};
+use message_texts::Location;
+use messages::{Position, Report};
+use std::alloc::Global;
+use std::rt::{Clock, Env};
+
+/// Begins the text that is bold and red.
+const NUMBER: &str = "\u{1b}[1;31m";
+
+/// Begins the text that is bold.
+const PLACE: &str = "\u{1b}[1m";
+
+/// Ends what is marked.
+const END: &str = "\u{1b}[0m";
+
+/// How messages are printed, and whether the progress of a translation is shown.
+#[derive(Clone, Copy)]
+pub struct Screen {
+    is_quiet: bool,
+    is_marked: bool,
+    shows_progress: bool,
+}
+
+impl Screen {
+    /// Returns how messages are printed if no command line says it.
+    pub fn plain() -> Screen {
+        Screen {
+            is_quiet: false,
+            is_marked: false,
+            shows_progress: false,
+        }
+    }
+
+    /// Returns how messages are printed. They are marked on a terminal, unless the environment has the
+    /// variable `NO_COLOR` or the terminal is a dumb one, or as the command line says. Progress is shown
+    /// on a terminal, unless messages are off or the terminal is a dumb one.
+    pub fn new<R: Env + AllocGlobal>(rt: &R, messages: Messages, is_terminal: bool) -> Screen {
+        let is_marked = match messages.color {
+            Color::Always => true,
+            Color::Never => false,
+            Color::Auto => is_terminal && allows_colors(rt) && !is_dumb(rt),
+        };
+        Screen {
+            is_quiet: messages.is_quiet,
+            is_marked,
+            shows_progress: is_terminal && !messages.is_quiet && !is_dumb(rt),
+        }
+    }
+
+    /// Returns whether the progress of translations is shown.
+    pub fn shows_progress(self) -> bool {
+        self.shows_progress
+    }
+
+    /// Returns the progress of a translation, if it is shown. The first tree file that is written is that of
+    /// pass `first`.
+    pub fn progress<'a, R: Clock + Eprint>(
+        self,
+        rt: &'a R,
+        translator: &Translator,
+        first: u16,
+    ) -> Option<Progress<'a, R>> {
+        if !self.shows_progress {
+            return None;
+        }
+        let began = rt.monotonic().ok()?;
+        let passes = translator.plan().assignment().passes();
+        Some(Progress::new(rt, began, passes, first))
+    }
+
+    /// Prints a message on standard error, in one line. That of a refusal is not printed if messages are off.
+    /// Whether it could be printed is not said: the status shows which kind of failure it was.
+    pub fn print<R: Eprint>(self, rt: &R, alloc: Global, report: &Report) {
+        if self.is_quiet && !matches!(report.number, Fault::Usage) {
+            return;
+        }
+        let marked = if self.is_marked {
+            marked_line(alloc, report)
+        } else {
+            None
+        };
+        let _ = match marked {
+            Some(line) => rt.eprintln(&line),
+            None => rt.eprintln(report),
+        };
+    }
+}
+
+/// Returns whether the environment allows colours.
+fn allows_colors<R: Env + AllocGlobal>(rt: &R) -> bool {
+    match std::env::var(rt, "NO_COLOR") {
+        Ok(value) => value.is_empty(),
+        Err(_) => true,
+    }
+}
+
+/// Returns whether the terminal is one that shows text alone.
+fn is_dumb<R: Env + AllocGlobal>(rt: &R) -> bool {
+    match std::env::var(rt, "TERM") {
+        Ok(value) => value.as_str() == "dumb",
+        Err(_) => true,
+    }
+}
+
+/// Returns the line of a report with its number and its place marked. None if memory is refused.
+fn marked_line(alloc: Global, report: &Report) -> Option<String> {
+    let line = report.to_string(alloc).ok()?;
+    let fault = report.number.to_string(alloc).ok()?;
+    let (fault, rest) = parts_at(line.as_str(), fault.len());
+    let (number, offset) = parts_at(fault, number_len(fault));
+    let (before, place) = parts_at(rest, place_start(report, rest));
+    let (place, after) = parts_at(place, place_len(alloc, report)?);
+    if place.is_empty() {
+        return format!(in alloc; "{NUMBER}{number}{END}{offset}{rest}").ok();
+    }
+    format!(in alloc; "{NUMBER}{number}{END}{offset}{before}{PLACE}{place}{END}{after}").ok()
+}
+
+/// Returns the number of bytes of a fault's first word, without a colon.
+fn number_len(fault: &str) -> usize {
+    match fault.split_once(' ') {
+        Some((word, _)) => word.trim_end_matches(':').len(),
+        None => fault.len(),
+    }
+}
+
+/// Returns the offset of a report's place in what follows its fault: after ` (`, or at the end.
+fn place_start(report: &Report, rest: &str) -> usize {
+    match (report.location, &report.file) {
+        (Location::At(_), _) => 2,
+        (_, Some(file)) => rest.len().saturating_sub(file.len()),
+        (_, None) => 0,
+    }
+}
+
+/// Returns the number of bytes of a report's place: a file with line and column, or a file alone. None if
+/// memory is refused.
+fn place_len(alloc: Global, report: &Report) -> Option<usize> {
+    match (report.location, &report.file) {
+        (Location::At(Position { line, column }), Some(file)) => {
+            let place = format!(in alloc; "{}:{line}:{column}", file.as_str()).ok()?;
+            Some(place.len())
+        }
+        (_, Some(file)) => Some(file.len()),
+        (_, None) => Some(0),
+    }
+}
+
+/// Returns the parts of a text before and after an offset.
+fn parts_at(text: &str, at: usize) -> (&str, &str) {
+    match text.split_at_checked(at) {
+        Some(parts) => parts,
+        None => (text, ""),
+    }
+}

@@ -1,0 +1,342 @@
+//! The node of a tree at a place of its sentence.
+
+use crate::files::report_of_sentence;
+use crate::indexed::{no_memory, report_of_tree};
+use ag_grammar::Terminal;
+use ag_grammar::limits::{MOST_TEXT_BYTES, TEXT};
+use ag_scan::{Sentence, Token, Tokens, scan};
+use ag_value::{NoMemory, Value};
+use aggen::{Fault, Translator};
+use message_texts::Location;
+use message_texts::display::Plain;
+use messages::{Position, Report, Source};
+use std::alloc::{AllocError, Global};
+use tree_index::{FileFormat, TokenCounts, TokenRange, TokenWalk, TreeFault, TreeIndex, TreeToken};
+use tree_text::ShowFault;
+use treefile::Device;
+
+/// What to do about a tree that is not that of the sentence.
+const OTHER_SENTENCE: &str = "name the sentence that the tree was made from";
+
+/// A tree file with its index, and the sentence that it is said to be of.
+#[derive(Clone, Copy)]
+pub struct TreeSentence<'a> {
+    /// The translator.
+    pub translator: &'a Translator,
+    /// The name of the tree file.
+    pub tree: &'a str,
+    /// The index of the tree file.
+    pub index: &'a TreeIndex,
+    /// The sentence.
+    pub sentence: Source<'a>,
+}
+
+/// A token as it is in a tree.
+#[derive(Drop)]
+struct TokenText {
+    kind: Terminal,
+    text: String,
+}
+
+impl TreeSentence<'_> {
+    /// Returns the places from the root to the innermost node whose tokens include the one at a position;
+    /// between two tokens, to the innermost node that has both; before the first and after the last one, to
+    /// the root.
+    ///
+    /// Fails if the sentence can't be cut into tokens, if these are not the tree's, if the sentence does not
+    /// have the position, if a record is damaged or can't be read, and if memory is refused.
+    pub fn node_at<D: Device>(
+        self,
+        alloc: Global,
+        position: Position,
+        device: &mut D,
+    ) -> Result<Vec<u16>, Report> {
+        let grammar = self.translator.grammar();
+        match scan(alloc, grammar, self.sentence.bytes) {
+            Ok(scanned) => self.node_in(alloc, &scanned, position, device),
+            Err(fault) => {
+                let fault = Fault::from(fault);
+                Err(report_of_sentence(alloc, fault, self.translator, self.sentence))
+            }
+        }
+    }
+
+    /// Returns the same of a sentence that was cut into tokens.
+    fn node_in<D: Device>(
+        self,
+        alloc: Global,
+        scanned: &Sentence<'_>,
+        position: Position,
+        device: &mut D,
+    ) -> Result<Vec<u16>, Report> {
+        let Some(at) = offset_of(self.sentence.text(), position) else {
+            return Err(self.no_place(alloc, position));
+        };
+        self.check_tokens(alloc, scanned.tokens(), device)?;
+        let range = range_at(scanned.tokens(), at);
+        match self.find_node(alloc, range) {
+            Ok(places) => Ok(places),
+            Err(_) => Err(no_memory(alloc)),
+        }
+    }
+
+    /// Returns the places from the root to the innermost node that has all tokens of a range.
+    fn find_node(self, alloc: Global, range: Option<TokenRange>) -> Result<Vec<u16>, NoMemory> {
+        let Some(range) = range else {
+            return Ok(Vec::new(alloc));
+        };
+        let grammar = self.translator.grammar();
+        let counts = TokenCounts::new(alloc, grammar, self.index)?;
+        self.index.find_covering(alloc, grammar, &counts, range)
+    }
+
+    /// Fails if the tokens of the sentence are not those of the tree.
+    fn check_tokens<D: Device>(
+        self,
+        alloc: Global,
+        mut tokens: Tokens<'_>,
+        device: &mut D,
+    ) -> Result<(), Report> {
+        let grammar = self.translator.grammar();
+        let Ok(mut walk) = TokenWalk::new(alloc, grammar, self.index) else {
+            return Err(no_memory(alloc));
+        };
+        for _ in 0..=MOST_TEXT_BYTES {
+            let of_sentence = tokens.ahead();
+            let of_tree = match self.next_of_tree(alloc, &mut walk, device) {
+                Ok(token) => token,
+                Err(fault) => {
+                    return Err(report_of_tree(alloc, ShowFault::Tree(fault), self.tree));
+                }
+            };
+            if of_sentence.is_none() && of_tree.is_none() {
+                return Ok(());
+            }
+            if !is_same(of_sentence, &of_tree) {
+                return Err(self.other_token(alloc, of_sentence, &of_tree));
+            }
+            take(&mut tokens);
+        }
+        Ok(())
+    }
+
+    /// Returns the next token of the tree with its text; `None` after the last one.
+    fn next_of_tree<D: Device>(
+        self,
+        alloc: Global,
+        walk: &mut TokenWalk<'_>,
+        device: &mut D,
+    ) -> Result<Option<TokenText>, TreeFault> {
+        match walk.next()? {
+            Some(TreeToken::Literal(number)) => Ok(Some(self.literal(alloc, number)?)),
+            Some(TreeToken::Word(node)) => Ok(Some(self.word(alloc, node, device)?)),
+            None => Ok(None),
+        }
+    }
+
+    /// Returns the literal of a number.
+    fn literal(self, alloc: Global, number: u16) -> Result<TokenText, NoMemory> {
+        let literals = self.translator.grammar().literals();
+        let text = match literals.get(usize::from(number)) {
+            Some(literal) => literal.as_str(),
+            None => "",
+        };
+        Ok(TokenText {
+            kind: Terminal::Literal(number),
+            text: String::from_str(alloc, text)?,
+        })
+    }
+
+    /// Reads the record of a token of a class.
+    fn word<D: Device>(
+        self,
+        alloc: Global,
+        node: u32,
+        device: &mut D,
+    ) -> Result<TokenText, TreeFault> {
+        let grammar = self.translator.grammar();
+        let (Some(item), Some(end)) = (self.index.item(grammar, node), self.index.end(node)) else {
+            return Err(TreeFault::Damaged(0));
+        };
+        let format = FileFormat {
+            grammar,
+            plan: self.translator.plan(),
+            pass: self.index.pass(),
+        };
+        let record = format.read_record(alloc, item, device, end)?;
+        let mut text = String::new(alloc);
+        if let Some(value) = format.own_value(&record, item, 0) {
+            if let Some(Value::Text(lex)) = value.as_value() {
+                push(&mut text, lex.as_str())?;
+            }
+        }
+        Ok(TokenText {
+            kind: Terminal::Class(record.number),
+            text,
+        })
+    }
+
+    /// Returns the report of a position that the sentence does not have.
+    fn no_place(self, alloc: Global, position: Position) -> Report {
+        let mut report = Report::new(alloc, Fault::Usage).with_file(alloc, self.sentence.name);
+        let found = &mut report.parts.found;
+        let written = write_no_place(found, self.sentence.text(), position);
+        report.or_bare(written)
+    }
+
+    /// Returns the report of a token of the sentence, or of its end, where the tree has something else.
+    fn other_token(
+        self,
+        alloc: Global,
+        of_sentence: Option<Token<'_>>,
+        of_tree: &Option<TokenText>,
+    ) -> Report {
+        let at = match of_sentence {
+            Some(token) => token.at as usize,
+            None => self.sentence.bytes.len(),
+        };
+        let location = Location::At(self.sentence.position(at));
+        let mut report = Report::new(alloc, Fault::Usage).with_location(
+            alloc,
+            location,
+            self.sentence.name,
+        );
+        let written = write_other_token(&mut report.parts.found, of_sentence, of_tree);
+        let report = report.or_bare(written);
+        with_help(report)
+    }
+}
+
+/// Returns the report of a tree that is not that of the sentence, with what to do.
+fn with_help(mut report: Report) -> Report {
+    let written = report.parts.help.push_str(OTHER_SENTENCE);
+    report.or_bare(written)
+}
+
+/// Writes which token the sentence has, and which one the tree has.
+fn write_other_token(
+    out: &mut String,
+    of_sentence: Option<Token<'_>>,
+    of_tree: &Option<TokenText>,
+) -> Result<(), AllocError> {
+    match of_tree {
+        Some(token) => write!(
+            out,
+            "expected `{}`, the next token of the tree",
+            Plain(token.text.as_str())
+        )?,
+        None => out.push_str("expected the end, as in the tree")?,
+    }
+    match of_sentence {
+        Some(token) => write!(out, ", found `{}`", Plain(token.lex)),
+        None => out.push_str(", found the end of the sentence"),
+    }
+}
+
+/// Writes that a text does not have a position, and where its line ends, or the text.
+fn write_no_place(out: &mut String, text: &str, position: Position) -> Result<(), AllocError> {
+    let Position { line, column } = position;
+    write!(out, "the sentence has no place {line}:{column}, ")?;
+    let end = Position::of(text, text.len());
+    if end.line < line {
+        return write!(out, "it ends at {}:{}", end.line, end.column);
+    }
+    write!(
+        out,
+        "its line {line} ends at column {}",
+        column_of_end(text, line)
+    )
+}
+
+/// Returns the column after the last character of a line of a text. Lines count from 1.
+fn column_of_end(text: &str, line: usize) -> usize {
+    let mut number = 1usize;
+    let mut column = 1usize;
+    for character in text.chars() {
+        if character == '\n' {
+            if number == line {
+                return column;
+            }
+            number = number.saturating_add(1);
+            column = 1;
+        } else {
+            column = column.saturating_add(1);
+        }
+    }
+    column
+}
+
+/// Returns the offset in bytes of a position in a text, or at its end.
+fn offset_of(text: &str, position: Position) -> Option<usize> {
+    let mut line = 1usize;
+    let mut column = 1usize;
+    for (offset, character) in text.char_indices() {
+        if line == position.line && column == position.column {
+            return Some(offset);
+        }
+        if character == '\n' {
+            line = line.saturating_add(1);
+            column = 1;
+        } else {
+            column = column.saturating_add(1);
+        }
+    }
+    if line == position.line && column == position.column {
+        Some(text.len())
+    } else {
+        None
+    }
+}
+
+/// Returns the number of the token at an offset of a sentence, or those of both tokens around it. Returns
+/// `None` before the first token and after the last one.
+fn range_at(mut tokens: Tokens<'_>, at: usize) -> Option<TokenRange> {
+    for number in 0..=MOST_TEXT_BYTES as u32 {
+        let token = tokens.ahead()?;
+        let start = token.at as usize;
+        if at < start {
+            return Some(TokenRange {
+                first: number.checked_sub(1)?,
+                last: number,
+            });
+        }
+        if at - start < length_of(token) {
+            return Some(TokenRange {
+                first: number,
+                last: number,
+            });
+        }
+        take(&mut tokens);
+    }
+    None
+}
+
+/// Returns the number of bytes of a token in its sentence.
+fn length_of(token: Token<'_>) -> usize {
+    match token.kind {
+        // the quotes are not part of its text
+        Terminal::Class(TEXT) => token.lex.len().saturating_add(2),
+        _ => token.lex.len(),
+    }
+}
+
+/// Takes a token, if there is one.
+#[tactic(auto, using(std::proofs::lemmas::Option::slice_get_within))]
+fn take(tokens: &mut Tokens<'_>) {
+    if let Some(_token) = tokens.ahead() {
+        tokens.advance();
+    }
+}
+
+/// Returns whether a token of the sentence is that of the tree.
+fn is_same(of_sentence: Option<Token<'_>>, of_tree: &Option<TokenText>) -> bool {
+    match (of_sentence, of_tree) {
+        (Some(token), Some(other)) => token.kind == other.kind && token.lex == other.text.as_str(),
+        _ => false,
+    }
+}
+
+/// Appends a text to another one.
+fn push(out: &mut String, text: &str) -> Result<(), NoMemory> {
+    Ok(out.push_str(text)?)
+}

@@ -1,0 +1,82 @@
+//! The command that prints a tree file as text: `show`.
+
+use crate::files::read_translator;
+use crate::indexed::{no_memory, no_node, places_of, read_index, report_of_tree};
+use ag_grammar::Grammar;
+use aggen::{Fault, Translator};
+use command_line::ShowWords;
+use messages::Report;
+use noted_file::Record;
+use std::alloc::Global;
+use std::io;
+use std::rt::Files;
+use tree_index::{FileFormat, SentenceWalk};
+use tree_text::{Selected, TreeText, selected_in, write_tree};
+use treefile::{Device, FileDevice};
+
+/// Prints the nodes of a tree file. The grammar is read first, then the whole tree file; only then is
+/// anything printed.
+pub fn show_tree<R: Files + Input + Print>(
+    rt: &R,
+    alloc: Global,
+    words: &ShowWords<'_>,
+) -> Result<(), Report> {
+    let translator = read_translator(rt, alloc, words.grammar)?;
+    match FileDevice::existing(rt, alloc, words.tree, Record::new()) {
+        Ok(mut tree) => show_device(rt, alloc, &translator, words, &mut tree),
+        Err(fault) => Err(Report::of_file(alloc, Fault::from(fault), words.tree)),
+    }
+}
+
+/// Prints the nodes of the tree file on a device.
+fn show_device<R: Print, D: Device>(
+    rt: &R,
+    alloc: Global,
+    translator: &Translator,
+    words: &ShowWords<'_>,
+    device: &mut D,
+) -> Result<(), Report> {
+    let grammar = translator.grammar();
+    let places = places_of(alloc, words.node)?;
+    let only = selection_of(alloc, grammar, words.only.as_slice())?;
+    let index = read_index(alloc, translator, words.tree, device)?;
+    let mut walk = SentenceWalk::new(alloc, grammar, &index);
+    match walk.begin_at(alloc, places.as_slice()) {
+        Ok(Some(_)) => {}
+        Ok(None) => return Err(no_node(alloc, grammar, &index, places.as_slice())),
+        Err(_) => return Err(no_memory(alloc)),
+    }
+    let text = TreeText {
+        format: FileFormat {
+            grammar,
+            plan: translator.plan(),
+            pass: index.pass(),
+        },
+        index: &index,
+        only: only.as_slice(),
+        depth: words.depth,
+        width: words.width,
+        json: words.json,
+    };
+    let mut out = io::writer(rt);
+    match write_tree(alloc, &text, &mut walk, device, &mut out) {
+        Ok(()) => Ok(()),
+        Err(fault) => Err(report_of_tree(alloc, fault, words.tree)),
+    }
+}
+
+/// Returns the attributes of these names. Fails if the grammar has no such attribute.
+fn selection_of(alloc: Global, grammar: &Grammar, names: &[&str]) -> Result<Vec<Selected>, Report> {
+    let mut selection = Vec::new(alloc);
+    for name in names {
+        match selected_in(grammar, name) {
+            Ok(selected) => selection.push(selected).map_err(|_| no_memory(alloc))?,
+            Err(fault) => {
+                let mut report = Report::new(alloc, Fault::Usage);
+                let written = fault.describe(&mut report.parts, grammar, name);
+                return Err(report.or_bare(written));
+            }
+        }
+    }
+    Ok(selection)
+}

@@ -1,0 +1,13 @@
+//! The faults of calls of the file system.
+
+use aggen::Fault;
+use std::io::{Error, ErrorKind};
+
+/// Returns the fault of a failed call: NoMemory if memory for it was refused, else `other`.
+pub fn fault_or(error: &Error, other: Fault) -> Fault {
+    if error.kind() == ErrorKind::OutOfMemory {
+        Fault::NoMemory
+    } else {
+        other
+    }
+}

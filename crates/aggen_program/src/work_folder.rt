@@ -1,0 +1,62 @@
+//! The tree file of a folder that `run --work` wrote.
+
+use crate::clashes::WORK_FILES;
+use crate::paths::path_in;
+use crate::same_file::FileId;
+use ag_value::NoMemory;
+use noted_file::Record;
+use std::alloc::Global;
+use std::rt::Files;
+use tree_index::{TreeFault, pass_of_file};
+use treefile::FileDevice;
+
+/// The path of a tree file.
+#[derive(Drop)]
+pub enum TreePath<'a> {
+    /// It was given.
+    Given(&'a str),
+    /// It was chosen in the folder that was given.
+    Chosen(String),
+}
+
+impl<'a> TreePath<'a> {
+    /// Returns a path, or if it is that of a folder, the path of the tree file of the greater pass there: of
+    /// a.agt and b.agt. Fails if memory is refused.
+    pub fn find<R: Files>(rt: &R, alloc: Global, path: &'a str) -> Result<TreePath<'a>, NoMemory> {
+        if FileId::of_folder(rt, path)?.is_none() {
+            return Ok(TreePath::Given(path));
+        }
+        let [a, b] = WORK_FILES;
+        let (a, b) = (path_in(alloc, path, a)?, path_in(alloc, path, b)?);
+        if passes_at(rt, alloc, a.as_str())? < passes_at(rt, alloc, b.as_str())? {
+            Ok(TreePath::Chosen(b))
+        } else {
+            Ok(TreePath::Chosen(a))
+        }
+    }
+
+    /// Returns the path.
+    pub fn as_str(&self) -> &str {
+        match self {
+            TreePath::Given(path) => path,
+            TreePath::Chosen(path) => path.as_str(),
+        }
+    }
+
+    /// Returns whether the file was chosen in a folder.
+    pub fn is_chosen(&self) -> bool {
+        matches!(self, TreePath::Chosen(_))
+    }
+}
+
+/// Returns one more than the pass of the tree file at `path`; 0 if there is none. Fails if memory is refused.
+fn passes_at<R: Files>(rt: &R, alloc: Global, path: &str) -> Result<u32, NoMemory> {
+    let Ok(mut tree) = FileDevice::existing(rt, alloc, path, Record::new()) else {
+        return Ok(0);
+    };
+    match pass_of_file(alloc, &mut tree) {
+        Ok(pass) => Ok(u32::from(pass) + 1),
+        Err(TreeFault::NoMemory) => Err(NoMemory::NoMemory),
+        Err(_) => Ok(0),
+    }
+}

@@ -1,0 +1,41 @@
+//! Where an input is read from.
+
+ghost use Rattle.std.specs.Prelude.{◌≡◌, ◌≢◌, codes};
+ghost use Rattle.command_line.specs.Inputs.{name_of};
+
+/// The word that names standard input, and standard output as an output.
+pub const STANDARD: &str = "-";
+
+/// Where an input is read from.
+#[derive(Clone, Copy, Debug, PartialEq, Eq)]
+pub enum InputPath<'a> {
+    /// Standard input, whose name is `-`.
+    Standard,
+    /// The file at this path.
+    File(&'a str),
+}
+
+impl<'a> InputPath<'a> {
+    /// Returns the input that a word names: standard input for `-`, and else the file at that path.
+    pub fn of(word: &'a str) -> InputPath<'a>
+        ensures name { name_of result ≡ word.now }
+        ensures standard { word.now ≡ codes "-" → result ≡ InputPath.Standard }
+        ensures file { word.now ≢ codes "-" → result ≢ InputPath.Standard }
+    {
+        if word == STANDARD {
+            InputPath::Standard
+        } else {
+            InputPath::File(word)
+        }
+    }
+
+    /// Returns the name of the input as it was given.
+    pub fn name(self) -> &'a str
+        ensures { result.now ≡ name_of self.entry }
+    {
+        match self {
+            InputPath::Standard => STANDARD,
+            InputPath::File(path) => path,
+        }
+    }
+}

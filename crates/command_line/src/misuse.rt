@@ -1,0 +1,78 @@
+//! What is wrong with words that clap accepts.
+
+use crate::commands::misuse_of;
+use crate::input::{InputPath, STANDARD};
+use clap::Error;
+use std::alloc::{AllocError, Global};
+
+/// Fails if both inputs of a command are standard input, which can be read only once.
+pub fn check_once(alloc: Global, command: &str, inputs: [InputPath<'_>; 2]) -> Result<(), Error> {
+    match inputs {
+        [InputPath::Standard, InputPath::Standard] => Err(misuse_of(
+            alloc,
+            command,
+            "standard input ('-') can be read only once",
+        )),
+        _ => Ok(()),
+    }
+}
+
+/// Fails if the path of a tree file is `-`: only `eval` reads one from standard input.
+pub fn check_tree(alloc: Global, command: &str, path: &str) -> Result<(), Error> {
+    if path == STANDARD {
+        return Err(misuse_of(
+            alloc,
+            command,
+            "a tree file can't be '-' here; './-' is a file of this name",
+        ));
+    }
+    Ok(())
+}
+
+/// Fails if a sentence has no name for its translation's file, or two have the same one.
+pub fn check_sentences(alloc: Global, paths: &[&str]) -> Result<(), Error> {
+    if paths.iter().any(|path| *path == STANDARD) {
+        return Err(misuse_of(
+            alloc,
+            "run",
+            "standard input ('-') has no name for a file in '--out-dir <DIR>'",
+        ));
+    }
+    match doubled_name(alloc, paths)? {
+        Some((first, second)) => {
+            let name = name_of(second);
+            let message = format!(in alloc;
+                "the sentences '{first}' and '{second}' would both be translated to '{name}.out'"
+            )?;
+            Err(misuse_of(alloc, "run", message.as_str()))
+        }
+        None => Ok(()),
+    }
+}
+
+/// Returns two paths of the same name, if there are some. Fails if memory is refused.
+fn doubled_name<'a>(
+    alloc: Global,
+    paths: &[&'a str],
+) -> Result<Option<(&'a str, &'a str)>, AllocError> {
+    let mut sorted = Vec::from_slice(alloc, paths)?;
+    sorted.sort_unstable_by(|a, b| name_of(a).cmp(name_of(b)));
+    let mut last: Option<&str> = None;
+    for path in sorted {
+        if let Some(before) = last {
+            if name_of(before) == name_of(path) {
+                return Ok(Some((before, path)));
+            }
+        }
+        last = Some(path);
+    }
+    Ok(None)
+}
+
+/// Returns the name of a path's file in its folder: what follows the last slash.
+pub fn name_of(path: &str) -> &str {
+    match path.rsplit_once('/') {
+        Some((_, name)) => name,
+        None => path,
+    }
+}

@@ -1,0 +1,153 @@
+//! The requests of the commands that print tree files: `show` and `explain`.
+
+use crate::commands::{GRAMMAR, TREE, misuse_of};
+use crate::input::InputPath;
+use crate::misuse::{check_once, check_tree};
+use crate::tree_options::{AT, ATTRIBUTES, DEPTH, ERRORS, JSON, NODE, OF_SENTENCE, ONLY, WIDTH};
+use clap::{ArgMatches, Error};
+use std::alloc::Global;
+
+/// The number of characters of a value without the option that limits them.
+const DEFAULT_WIDTH: usize = 60;
+
+/// The words that `show` takes.
+#[derive(Drop)]
+pub struct ShowWords<'a> {
+    /// The grammar.
+    pub grammar: InputPath<'a>,
+    /// The tree file.
+    pub tree: &'a str,
+    /// The greatest level that is printed, below the first node.
+    pub depth: u32,
+    /// The path of the first node. If there is none, it is the root.
+    pub node: Option<&'a str>,
+    /// The names of the attributes that are printed. If there are none, all are.
+    pub only: Vec<&'a str>,
+    /// The greatest number of characters of a value; 0 if there is no limit.
+    pub width: usize,
+    /// Whether nodes are printed as JSON.
+    pub json: bool,
+}
+
+/// How a node is named.
+#[derive(Clone, Copy)]
+pub enum NodeWords<'a> {
+    /// It is not named.
+    None,
+    /// By its path.
+    Path(&'a str),
+    /// By a place in the sentence.
+    At(PlaceInSentence<'a>),
+}
+
+/// A place in a sentence.
+#[derive(Clone, Copy)]
+pub struct PlaceInSentence<'a> {
+    /// The sentence.
+    pub sentence: InputPath<'a>,
+    /// The line, from 1.
+    pub line: usize,
+    /// The column in characters, from 1.
+    pub column: usize,
+}
+
+/// The words that `explain` takes.
+#[derive(Drop)]
+pub struct ExplainWords<'a> {
+    /// The grammar.
+    pub grammar: InputPath<'a>,
+    /// The tree file, or the folder of two.
+    pub tree: &'a str,
+    /// The node. If there is none, it is the root.
+    pub node: NodeWords<'a>,
+    /// Whether the rules in which errors arise are printed, and not a node.
+    pub errors: bool,
+    /// The names of the attributes. If there are none, all are explained.
+    pub attributes: Vec<&'a str>,
+}
+
+/// Returns the words that `show` takes.
+pub fn show_words<'a>(alloc: Global, matches: &ArgMatches<'a>) -> Result<ShowWords<'a>, Error> {
+    let tree = matches.get_str(TREE).unwrap_or("");
+    check_tree(alloc, "show", tree)?;
+    let Some(depth) = number_of(matches, DEPTH, u32::MAX) else {
+        return Err(misuse_of(alloc, "show", "'--depth <N>' needs a number from 1"));
+    };
+    let Some(width) = number_of(matches, WIDTH, DEFAULT_WIDTH as u32) else {
+        return Err(misuse_of(alloc, "show", "'--width <N>' needs a number"));
+    };
+    if depth == 0 {
+        return Err(misuse_of(alloc, "show", "'--depth <N>' needs a number from 1"));
+    }
+    Ok(ShowWords {
+        grammar: InputPath::of(matches.get_str(GRAMMAR).unwrap_or("")),
+        tree,
+        depth: depth.saturating_sub(1),
+        node: matches.get_str(NODE),
+        only: Vec::from_slice(alloc, matches.get_strs(ONLY).unwrap_or(&[]))?,
+        width: width as usize,
+        json: matches.get_flag(JSON),
+    })
+}
+
+/// Returns the number that an option has, or another if it is not there. Returns `None` if it is not a number.
+fn number_of(matches: &ArgMatches<'_>, name: &str, other: u32) -> Option<u32> {
+    match matches.get_str(name) {
+        Some(word) => word.parse::<u32>().ok(),
+        None => Some(other),
+    }
+}
+
+/// Returns the words that `explain` takes.
+pub fn explain_words<'a>(
+    alloc: Global,
+    matches: &ArgMatches<'a>,
+) -> Result<ExplainWords<'a>, Error> {
+    let tree = matches.get_str(TREE).unwrap_or("");
+    check_tree(alloc, "explain", tree)?;
+    let grammar = InputPath::of(matches.get_str(GRAMMAR).unwrap_or(""));
+    let node = node_words(alloc, matches)?;
+    if let NodeWords::At(place) = node {
+        check_once(alloc, "explain", [grammar, place.sentence])?;
+    }
+    Ok(ExplainWords {
+        grammar,
+        tree,
+        node,
+        errors: matches.get_flag(ERRORS),
+        attributes: Vec::from_slice(alloc, matches.get_strs(ATTRIBUTES).unwrap_or(&[]))?,
+    })
+}
+
+/// Returns how the node that `explain` explains is named.
+fn node_words<'a>(alloc: Global, matches: &ArgMatches<'a>) -> Result<NodeWords<'a>, Error> {
+    let Some(at) = matches.get_str(AT) else {
+        return Ok(match matches.get_str(NODE) {
+            Some(path) => NodeWords::Path(path),
+            None => NodeWords::None,
+        });
+    };
+    let Some((line, column)) = numbers_in(at) else {
+        return Err(misuse_of(
+            alloc,
+            "explain",
+            "'--at <LINE:COLUMN>' needs two numbers from 1, such as 3:14",
+        ));
+    };
+    Ok(NodeWords::At(PlaceInSentence {
+        sentence: InputPath::of(matches.get_str(OF_SENTENCE).unwrap_or("")),
+        line,
+        column,
+    }))
+}
+
+/// Returns the line and the column in a word, both from 1. Returns `None` if it does not have them.
+fn numbers_in(word: &str) -> Option<(usize, usize)> {
+    let (line, column) = word.split_once(':')?;
+    let line = line.parse::<usize>().ok()?;
+    let column = column.parse::<usize>().ok()?;
+    if line == 0 || column == 0 {
+        return None;
+    }
+    Some((line, column))
+}
