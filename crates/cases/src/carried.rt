@@ -1,4 +1,4 @@
-//! What calls on a carried value return.
+//! Answers questions about `Carried`.
 
 ghost use Rattle.std.specs.Prelude.{IfOk};
 ghost use Rattle.ag_value.specs.Well.{IsWell};
@@ -9,7 +9,7 @@ use ag_value::{Value, copy, is_well, show, weight};
 use rows::words::{Mistake, first_word, printed, shown_bytes};
 use std::alloc::Global;
 
-/// What a call on the value that was given, as a carried one, returns.
+/// Calls the named method on the current value as a `Carried`, and returns its result as text.
 pub fn carried_told(alloc: Global, rest: &str, value: &Value) -> Result<String, Mistake> {
     let (call, other) = first_word(rest);
     let carried = carried_of(alloc, value)?;
@@ -25,7 +25,7 @@ pub fn carried_told(alloc: Global, rest: &str, value: &Value) -> Result<String, 
     }
 }
 
-/// The value as a carried one.
+/// Copies a value into a `Carried`. Fails with `Unfit` if the value is not well.
 fn carried_of(alloc: Global, value: &Value) -> Result<Carried, Mistake>
     ensures { IfOk result (λ c. IsWell c) }
 {
@@ -36,7 +36,7 @@ fn carried_of(alloc: Global, value: &Value) -> Result<Carried, Mistake>
     Ok(Carried::new(alloc, copied)?)
 }
 
-/// The value, made with its weight, where that is less than the greatest.
+/// Shows the value after `Carried::with_weight` with its own weight. Fails with `Unfit` if it is not well.
 fn weighed_told(alloc: Global, value: &Value) -> Result<String, Mistake> {
     let copied = copy(alloc, value)?;
     if !is_well(&copied) {
@@ -46,7 +46,8 @@ fn weighed_told(alloc: Global, value: &Value) -> Result<String, Mistake> {
     lent_told(alloc, &Carried::with_weight(alloc, copied, weight)?)
 }
 
-/// The number, or the value that is lent.
+/// Shows the number or the value that a `Carried` returns. Fails with `Unfit` unless it returns exactly one of
+/// them.
 fn lent_told(alloc: Global, carried: &Carried) -> Result<String, Mistake> {
     match (carried.as_number(), carried.as_value()) {
         (Some(number), None) => Ok(show(alloc, &Value::Num(number))?),
@@ -55,35 +56,35 @@ fn lent_told(alloc: Global, carried: &Carried) -> Result<String, Mistake> {
     }
 }
 
-/// The value of one owner of two, taken from it.
+/// Shares the value, and shows what the new owner returns while the first one exists.
 fn shared_told(alloc: Global, carried: &Carried) -> Result<String, Mistake> {
     let shared = carried.share(alloc)?;
     Ok(show(alloc, &shared.into_value(alloc)?)?)
 }
 
-/// The value of the second owner of two, taken from it after the first was dropped.
+/// Shares the value, drops the first owner, and shows what the second one returns.
 fn last_told(alloc: Global, carried: Carried) -> Result<String, Mistake> {
     let shared = carried.share(alloc)?;
     carried.release();
     Ok(show(alloc, &shared.into_value(alloc)?)?)
 }
 
-/// The number 7 in the place of the value.
+/// Replaces the value by the number 7, and shows it.
 fn set_told(alloc: Global, carried: Carried) -> Result<String, Mistake> {
     let mut set = carried;
     set.set_number(7);
     lent_told(alloc, &set)
 }
 
-/// Whether the value is equal to another one, and to itself as it is shared.
+/// Returns whether the value equals `other`, and whether it equals itself shared.
 fn same_told(alloc: Global, carried: &Carried, other: &Value) -> Result<String, Mistake> {
     let other = carried_of(alloc, other)?;
     let shared = carried.share(alloc)?;
     Ok(format!(in alloc; "{} {}", carried.same(&other), carried.same(&shared))?)
 }
 
-/// The encoding, or the value that is read from it and a byte after it: alone, beside the value, or
-/// beside 7.
+/// Returns the encoding of the value, or what is read from the encoding followed by a zero byte: with
+/// `Carried::read` (`read`), with `read_beside` of the value (`beside`) or with `read_beside` of 7 (`apart`).
 fn encoding_told(alloc: Global, call: &str, carried: &Carried) -> Result<String, Mistake>
     requires { IsWell carried.now }
 {
@@ -105,7 +106,7 @@ fn encoding_told(alloc: Global, call: &str, carried: &Carried) -> Result<String,
     }
 }
 
-/// A value that was read, and the length of its encoding in bytes.
+/// Returns a value that was read, and the length of its encoding in bytes.
 fn read_told(alloc: Global, read: &Carried, len: usize) -> Result<String, Mistake> {
     let shown = lent_told(alloc, read)?;
     Ok(format!(in alloc; "{shown} of {len} bytes")?)

@@ -1,4 +1,4 @@
-//! What is told of contents of devices: files that are written, read back and turned round.
+//! Answers questions about contents of devices: files that are written, read backward and reversed.
 
 use ag_value::Value;
 use backreader::{Arity, Back, turn};
@@ -8,7 +8,7 @@ use rows::words::{
 use std::alloc::{AllocError, Global};
 use treefile::{Device, DeviceFault, FrameFault, Kind, MemDevice, Writer, last_body, split_body};
 
-/// How many children the nodes of binary fractions have.
+/// The arities in trees of binary fractions.
 struct Fractions {}
 
 impl Arity for Fractions {
@@ -26,12 +26,12 @@ impl Arity for Fractions {
     }
 }
 
-/// A device that has something.
+/// Returns a device that already has 3 bytes.
 fn used(alloc: Global) -> Result<MemDevice, AllocError> {
     Ok(MemDevice::from_bytes(vec![in alloc; 1, 2, 3]?))
 }
 
-/// The last body of a content, or its fault.
+/// Returns the last body of a content, or its fault.
 pub fn last_told(alloc: Global, bytes: Vec<u8>) -> Result<String, Mistake> {
     match last_body(alloc, &mut MemDevice::from_bytes(bytes)) {
         Ok(body) => Ok(shown_bytes(alloc, body.as_slice())?),
@@ -39,7 +39,7 @@ pub fn last_told(alloc: Global, bytes: Vec<u8>) -> Result<String, Mistake> {
     }
 }
 
-/// The kind, the number and the spellings of a body.
+/// Returns the kind, the number and the encoded values of a body.
 pub fn split_told(alloc: Global, body: &[u8]) -> Result<String, Mistake> {
     match split_body(body) {
         Some((kind, number, spellings)) => {
@@ -50,15 +50,17 @@ pub fn split_told(alloc: Global, body: &[u8]) -> Result<String, Mistake> {
     }
 }
 
-/// The bodies of a content, from the last to the first, and what is told behind them, twice.
+/// Returns the bodies of a content from the last to the first, then how reading ends, and whether the next call
+/// returns the same.
 pub fn back_told(alloc: Global, bytes: Vec<u8>) -> Result<String, Mistake> {
     bodies_told(alloc, &mut MemDevice::from_bytes(bytes))
 }
 
-/// The most bodies that are read.
+/// The maximal number of bodies that are read.
 const READ: u32 = 1000;
 
-/// What a reader tells of a device, body by body.
+/// Returns the pass of a file, its bodies from the last to the first, how reading ends, and whether the next call
+/// returns the same. Fails with `Unfit` if reading doesn't end within `READ` calls.
 fn bodies_told<D: Device>(alloc: Global, device: &mut D) -> Result<String, Mistake> {
     let mut back = match Back::start(alloc, device) {
         Ok(back) => back,
@@ -85,7 +87,7 @@ fn bodies_told<D: Device>(alloc: Global, device: &mut D) -> Result<String, Mista
     Err(Mistake::Unfit)
 }
 
-/// The content turned round, as the file of a pass, or its fault.
+/// Reverses a content into the file of a pass, and returns that file or the fault.
 pub fn turn_told(alloc: Global, pass: u16, bytes: Vec<u8>) -> Result<String, Mistake> {
     let mut from = MemDevice::from_bytes(bytes);
     let mut to = used(alloc)?;
@@ -95,14 +97,14 @@ pub fn turn_told(alloc: Global, pass: u16, bytes: Vec<u8>) -> Result<String, Mis
     }
 }
 
-/// The number of the records of a file, and the file.
+/// Returns the number of records and the file.
 fn file_told(alloc: Global, count: u64, file: &[u8]) -> Result<String, Mistake> {
     let file = shown_bytes(alloc, file)?;
     Ok(format!(in alloc; "{count} records, {file}")?)
 }
 
-/// The file of a pass with the records of a text, which has `;` between them: `node 4 1 0` and
-/// `token 0 14` have values, `body 090807` has bytes.
+/// Returns the file of a pass with the records of a text, separated by `;`. `node 4 1 0` and `token 0 14` have
+/// values, `body 090807` has bytes.
 pub fn write_told(alloc: Global, text: &str) -> Result<String, Mistake> {
     let (pass, records) = halves(text, " : ")?;
     let mut device = used(alloc)?;
@@ -124,7 +126,7 @@ fn put_all(
     Ok(writer.written())
 }
 
-/// Puts the records of a text.
+/// Writes the records of a text.
 fn put_records(
     alloc: Global,
     writer: &mut Writer,
@@ -152,12 +154,12 @@ fn put_record(
     }
 }
 
-/// What is told of a record that was put.
+/// Maps a failed write to `NoMemory`.
 fn put_or(put: Result<(), DeviceFault>) -> Result<(), Mistake> {
     put.map_err(|_| Mistake::NoMemory)
 }
 
-/// Puts a body as it stands.
+/// Writes a body unchanged. Fails with `Unfit` if its length is not within 3..=16,777,219 bytes.
 fn put_bytes(writer: &mut Writer, device: &mut MemDevice, body: &[u8]) -> Result<(), Mistake> {
     if writer.written() == u64::MAX || body.len() < 3 || body.len() > 16_777_219 {
         return Err(Mistake::Unfit);
@@ -165,7 +167,7 @@ fn put_bytes(writer: &mut Writer, device: &mut MemDevice, body: &[u8]) -> Result
     put_or(writer.put_body(device, body))
 }
 
-/// Puts a record with its number and its values, which are none, one or three numbers.
+/// Writes a record with its number and its values, which are zero, one or three numbers.
 fn put_values(
     alloc: Global,
     writer: &mut Writer,
@@ -184,7 +186,7 @@ fn put_values(
     )
 }
 
-/// Puts a record with none, one or three numbers.
+/// Writes a record with zero, one or three numbers.
 fn put_numbers(
     writer: &mut Writer,
     device: &mut MemDevice,
@@ -206,7 +208,7 @@ fn put_numbers(
     }
 }
 
-/// The numbers of a text.
+/// Returns the numbers of a text.
 fn numbers(alloc: Global, text: &str) -> Result<Vec<i64>, Mistake> {
     let mut numbers = Vec::new(alloc);
     for word in text.split_whitespace() {

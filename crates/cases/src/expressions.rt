@@ -1,4 +1,4 @@
-//! What is told of the text of an expression.
+//! Answers questions about the texts of expressions.
 
 use ag_eval::{Environment, Meter, eval};
 use ag_expr::{expected_at, read_expr, read_until};
@@ -8,10 +8,10 @@ use rows::words::{Mistake, first_word, halves, number, printed};
 use rows::written::Written;
 use std::alloc::{AllocError, Global};
 
-/// How many occurrences an expression has at most that is evaluated.
+/// The maximal number of occurrences of an expression that is evaluated.
 const LENT: usize = 65_536;
 
-/// Lends one value for each of so many occurrences.
+/// An environment that returns the same value for each occurrence.
 #[derive(Drop)]
 struct Same<'a> {
     value: &'a Value,
@@ -27,7 +27,8 @@ impl<'a> Environment for Same<'a> {
     }
 }
 
-/// The value of an expression where each occurrence has this value, which is well.
+/// Evaluates an expression whose occurrences all have the value `lent`. Fails with `Unfit` if that value is not
+/// well, or if there are more than `LENT` occurrences.
 #[tactic(auto, using(ag_eval::proofs::Values::are_well))]
 fn evaluated(alloc: Global, expr: &Expr, lent: &Value) -> Result<Value, Mistake> {
     if !is_well(lent) || occurrences(expr).len() > LENT {
@@ -37,7 +38,7 @@ fn evaluated(alloc: Global, expr: &Expr, lent: &Value) -> Result<Value, Mistake>
     Ok(eval(alloc, expr, &Same { value: lent }, &mut meter)?)
 }
 
-/// The value of a text.
+/// Reads and evaluates an expression. Fails with `Unfit` if the text isn't an expression.
 pub fn value_of(alloc: Global, text: &str, lent: &Value) -> Result<Value, Mistake> {
     match read_expr(alloc, text) {
         Ok(expr) => evaluated(alloc, &expr, lent),
@@ -45,13 +46,13 @@ pub fn value_of(alloc: Global, text: &str, lent: &Value) -> Result<Value, Mistak
     }
 }
 
-/// The value of an expression as it is shown.
+/// Evaluates an expression and shows its value.
 fn shown(alloc: Global, expr: &Expr, lent: &Value) -> Result<String, Mistake> {
     let value = evaluated(alloc, expr, lent)?;
     Ok(show(alloc, &value)?)
 }
 
-/// The value of a text, or its fault.
+/// Returns the value of a text as it is shown, or the fault of the text.
 pub fn value_told(alloc: Global, text: &str, lent: &Value) -> Result<String, Mistake> {
     match read_expr(alloc, text) {
         Ok(expr) => shown(alloc, &expr, lent),
@@ -59,7 +60,7 @@ pub fn value_told(alloc: Global, text: &str, lent: &Value) -> Result<String, Mis
     }
 }
 
-/// What an evaluation counts.
+/// Evaluates an expression and returns the meter's count, and whether the meter is full.
 #[tactic(auto, using(ag_eval::proofs::Values::are_well))]
 fn counted(alloc: Global, expr: &Expr, lent: &Value) -> Result<String, Mistake> {
     if !is_well(lent) || occurrences(expr).len() > LENT {
@@ -70,7 +71,7 @@ fn counted(alloc: Global, expr: &Expr, lent: &Value) -> Result<String, Mistake> 
     Ok(format!(in alloc; "{}, full {}", meter.count(), meter.is_full())?)
 }
 
-/// What the evaluation of a text counts, and whether the meter is full then.
+/// Evaluates a text and returns the meter's count, and whether the meter is full.
 pub fn meter_told(alloc: Global, text: &str, lent: &Value) -> Result<String, Mistake> {
     match read_expr(alloc, text) {
         Ok(expr) => counted(alloc, &expr, lent),
@@ -78,7 +79,7 @@ pub fn meter_told(alloc: Global, text: &str, lent: &Value) -> Result<String, Mis
     }
 }
 
-/// The tree of a text, or its fault.
+/// Returns the tree of a text, or its fault.
 pub fn tree_told(alloc: Global, text: &str) -> Result<String, Mistake> {
     match read_expr(alloc, text) {
         Ok(expr) => printed(alloc, &expr),
@@ -86,7 +87,7 @@ pub fn tree_told(alloc: Global, text: &str) -> Result<String, Mistake> {
     }
 }
 
-/// The tree of a text that is read.
+/// Returns the tree of a text. Fails with `Unfit` if the text isn't an expression.
 fn tree_of(alloc: Global, text: &str) -> Result<String, Mistake> {
     match read_expr(alloc, text) {
         Ok(expr) => printed(alloc, &expr),
@@ -94,7 +95,8 @@ fn tree_of(alloc: Global, text: &str) -> Result<String, Mistake> {
     }
 }
 
-/// Whether the texts on both sides of `&` have the same tree. Both have to be read.
+/// Returns whether the texts on both sides of `&` have the same tree. Fails with `Unfit` if one isn't an
+/// expression.
 pub fn alike_told(alloc: Global, texts: &str) -> Result<String, Mistake> {
     let (first, second) = halves(texts, " & ")?;
     let first = tree_of(alloc, first)?;
@@ -102,7 +104,7 @@ pub fn alike_told(alloc: Global, texts: &str) -> Result<String, Mistake> {
     Ok(format!(in alloc; "{}", first.as_str() == second.as_str())?)
 }
 
-/// The occurrences of an expression.
+/// Returns the number of occurrences in an expression, and each of them.
 fn listed(alloc: Global, expr: &Expr) -> Result<String, Mistake> {
     let mut told = format!(in alloc; "{} occurrences", occurrences(expr).len())?;
     show_occurrences(&mut told, expr)?;
@@ -117,7 +119,7 @@ fn show_occurrences(told: &mut String, expr: &Expr) -> Result<(), AllocError> {
     Ok(())
 }
 
-/// How many occurrences a text has, and each of them.
+/// Returns the number of occurrences in a text, and each of them, or the fault of the text.
 pub fn occurrences_told(alloc: Global, text: &str) -> Result<String, Mistake> {
     match read_expr(alloc, text) {
         Ok(expr) => listed(alloc, &expr),
@@ -125,12 +127,12 @@ pub fn occurrences_told(alloc: Global, text: &str) -> Result<String, Mistake> {
     }
 }
 
-/// How many occurrences an expression has.
+/// Returns the number of occurrences in an expression.
 fn number_shown(alloc: Global, expr: &Expr) -> Result<String, Mistake> {
     Ok(occurrences(expr).len().to_string(alloc)?)
 }
 
-/// How many occurrences a text has.
+/// Returns the number of occurrences in a text, or the fault of the text.
 pub fn count_told(alloc: Global, text: &str) -> Result<String, Mistake> {
     match read_expr(alloc, text) {
         Ok(expr) => number_shown(alloc, &expr),
@@ -138,20 +140,20 @@ pub fn count_told(alloc: Global, text: &str) -> Result<String, Mistake> {
     }
 }
 
-/// The offset in front of a text, and the text, which may be the one that was written.
+/// Splits a row into an offset in bytes and a text. If the text is missing, it is the current text.
 fn placed<'a>(written: &'a Written, rest: &'a str) -> Result<(usize, &'a str), Mistake> {
     let (at, text) = first_word(rest);
     Ok((number(at)? as usize, written.text_or(text)))
 }
 
-/// Where an expression ends, and its occurrences.
+/// Returns the offset in bytes at which an expression ends, and its occurrences.
 fn ended(alloc: Global, expr: &Expr, at: usize) -> Result<String, Mistake> {
     let listed = listed(alloc, expr)?;
     Ok(format!(in alloc; "up to {at}, {listed}")?)
 }
 
-/// Where the expression ends that stands from an offset of a text on up to a `;`, and its
-/// occurrences.
+/// Reads the expression from an offset in bytes to the next `;`, and returns where it ends and its occurrences.
+/// Fails with `Unfit` if the offset is not a character boundary.
 pub fn until_told(alloc: Global, written: &Written, rest: &str) -> Result<String, Mistake> {
     let (from, text) = placed(written, rest)?;
     if !text.is_char_boundary(from) {
@@ -163,7 +165,7 @@ pub fn until_told(alloc: Global, written: &Written, rest: &str) -> Result<String
     }
 }
 
-/// What could stand at an offset of a text.
+/// Returns what is expected at an offset of a text.
 pub fn expected_told(alloc: Global, written: &Written, rest: &str) -> Result<String, Mistake> {
     let (at, text) = placed(written, rest)?;
     let found = expected_at(alloc, text, at)?;

@@ -1,4 +1,4 @@
-//! What is told of the text of a grammar.
+//! Answers questions about the texts of grammars.
 
 ghost use Rattle.std.specs.Prelude.{IfOk};
 ghost use Rattle.normalform.specs.faults.Faults.{IsReadable};
@@ -11,7 +11,7 @@ use normalform::{NormalFault, check, is_readable};
 use rows::words::{Mistake, printed};
 use std::alloc::{AllocError, Global};
 
-/// What is read of a text, or its fault.
+/// Returns what a text reads as, or its fault.
 pub fn read_told(alloc: Global, text: &[u8]) -> Result<String, Mistake> {
     match read_grammar(alloc, text) {
         Ok(raw) => raw_shown(alloc, &raw),
@@ -19,7 +19,7 @@ pub fn read_told(alloc: Global, text: &[u8]) -> Result<String, Mistake> {
     }
 }
 
-/// A raw grammar, with a line for each symbol and each production.
+/// Returns a raw grammar as text, with a line for each symbol and each production.
 fn raw_shown(alloc: Global, raw: &RawGrammar) -> Result<String, Mistake> {
     let mut told = format!(in alloc; "start {} at {}", raw.start.name.as_str(), raw.start.at)?;
     show_lines(&mut told, raw)?;
@@ -85,7 +85,7 @@ fn show_rule(told: &mut String, rule: &RawRule) -> Result<(), AllocError> {
     Ok(())
 }
 
-/// What could stand where a text is refused.
+/// Returns what is expected at the offset of a text's fault. Fails with `Unfit` if the text has no fault.
 pub fn could_told(alloc: Global, text: &str) -> Result<String, Mistake> {
     match read_grammar(alloc, text.as_bytes()) {
         Ok(_) => Err(Mistake::Unfit),
@@ -96,7 +96,7 @@ pub fn could_told(alloc: Global, text: &str) -> Result<String, Mistake> {
     }
 }
 
-/// The raw grammar that a text reads as.
+/// Returns the raw grammar of a text. Fails with `Unfit` if the text isn't a grammar.
 pub fn raw_grammar(alloc: Global, text: &str) -> Result<RawGrammar, Mistake>
     ensures { IfOk result (λ raw. IsReadable raw) }
 {
@@ -106,18 +106,18 @@ pub fn raw_grammar(alloc: Global, text: &str) -> Result<RawGrammar, Mistake>
     }
 }
 
-/// The grammar of a text, which is accepted.
+/// Returns the grammar of a text. Fails with `Unfit` if it is not accepted.
 pub fn grammar(alloc: Global, text: &str) -> Result<Grammar, Mistake> {
     let raw = raw_grammar(alloc, text)?;
     check(alloc, raw).map_err(|_| Mistake::Unfit)
 }
 
-/// What a fault of a symbol is called, with the symbol's name.
+/// Returns the name of a fault, and the name and offset of its symbol.
 fn with_name(alloc: Global, fault: &str, symbol: &Named) -> Result<String, Mistake> {
     Ok(format!(in alloc; "{fault} {} at {}", symbol.name.as_str(), symbol.at)?)
 }
 
-/// A fault, with the name of the symbol that it tells.
+/// Returns a fault as text. `Unproductive` and `Unreachable` have the symbol's name and offset.
 fn shown_fault(alloc: Global, fault: &NormalFault) -> Result<String, Mistake> {
     match fault {
         NormalFault::Unproductive(symbol) => with_name(alloc, "Unproductive", symbol),
@@ -126,7 +126,7 @@ fn shown_fault(alloc: Global, fault: &NormalFault) -> Result<String, Mistake> {
     }
 }
 
-/// Whether a raw grammar is accepted, or its first fault.
+/// Returns `accepted`, or the first fault of a raw grammar.
 pub fn verdict(alloc: Global, raw: RawGrammar) -> Result<String, Mistake>
     requires { IsReadable raw }
 {
@@ -136,12 +136,12 @@ pub fn verdict(alloc: Global, raw: RawGrammar) -> Result<String, Mistake>
     }
 }
 
-/// Whether the grammar that a text reads as is accepted, or its first fault.
+/// Returns `accepted`, or the first fault of the grammar of a text.
 pub fn check_told(alloc: Global, text: &str) -> Result<String, Mistake> {
     verdict(alloc, raw_grammar(alloc, text)?)
 }
 
-/// The parts of a grammar, by their numbers: a line for each production.
+/// Returns the parts of a grammar by number, with a line for each production.
 pub fn parts_told(alloc: Global, grammar: &Grammar) -> Result<String, AllocError> {
     let mut told = format!(in alloc;
         "start {} of {}, classes {:?}, literals",

@@ -1,4 +1,4 @@
-//! The strikes of a least assignment, and whether strikes show that an assignment is the least one.
+//! Answers questions about the strikes of least assignments.
 
 use crate::plans::assignment;
 use crate::stuck::{show_strike, strikes};
@@ -9,7 +9,7 @@ use planchecker::check_least;
 use rows::words::{Mistake, halves, parts};
 use std::alloc::{AllocError, Global};
 
-/// Writes the strikes of the passes of a grammar's least assignment, as a row spells them.
+/// Returns the strikes of the passes of a grammar's least assignment, as in a row.
 pub fn strikes_told(alloc: Global, grammar: &Grammar) -> Result<String, Mistake> {
     match assign_with_strikes(alloc, grammar) {
         Ok((_, strikes)) => shown(alloc, strikes.passes.as_slice()),
@@ -18,7 +18,7 @@ pub fn strikes_told(alloc: Global, grammar: &Grammar) -> Result<String, Mistake>
     }
 }
 
-/// Returns lists of strikes as a row spells them.
+/// Returns lists of strikes as in a row.
 fn shown(alloc: Global, lists: &[Items<Strike>]) -> Result<String, Mistake> {
     let mut out = String::new(alloc);
     for list in lists {
@@ -53,7 +53,7 @@ fn lists_of(alloc: Global, text: &str) -> Result<Items<Items<Strike>>, Mistake> 
     Ok(Items::from_vec(lists))
 }
 
-/// Says whether the strikes of a row show that its assignment is the least one of a grammar.
+/// Returns whether the strikes of a row show that its assignment is the least one of a grammar.
 pub fn least_told(alloc: Global, grammar: &Grammar, spelled: &str) -> Result<String, Mistake> {
     let (rows, lists) = halves(spelled, " : ")?;
     let assignment = assignment(alloc, rows)?;

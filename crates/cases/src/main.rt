@@ -1,4 +1,4 @@
-//! Tries rows about public calls of the libraries, from values to the text of the root. `tests/README.md` lists the verbs.
+//! Runs the rows about the libraries, from values to the text of the root. `tests/README.md` lists the verbs.
 #![tactic(auto)]
 
 mod carried;

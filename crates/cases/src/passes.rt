@@ -1,4 +1,4 @@
-//! What passes make of tree files.
+//! Answers questions about passes over tree files.
 
 ghost use Rattle.planchecker.specs.Plans.{IsPlan};
 
@@ -13,8 +13,8 @@ use rows::written::Written;
 use std::alloc::Global;
 use treefile::MemDevice;
 
-/// The number in front of a content, and the device that has the content, which may be the text that
-/// was written.
+/// Splits a row into a number and a content. Returns the number and a device with the content, which is the
+/// current text if it is missing.
 fn numbered_content(
     alloc: Global,
     written: &Written,
@@ -26,7 +26,7 @@ fn numbered_content(
     Ok((number, MemDevice::from_bytes(bytes)))
 }
 
-/// What a pass counts, and the file that it leaves.
+/// Returns the numbers of nodes and evaluated rules of a pass, and its output file.
 fn passed_told(
     alloc: Global,
     passed: &Passed,
@@ -37,7 +37,8 @@ fn passed_told(
     Ok(format!(in alloc; "{} nodes, {rules} rules, {file}", passed.nodes)?)
 }
 
-/// What a pass of a plan makes of a file, onto a device that has nothing, or its fault.
+/// Runs a pass of a plan from a file to an empty device. Returns the pass's counts and its output file, or its
+/// fault. Fails with `Unfit` if the plan doesn't have that pass.
 fn pass_over(
     alloc: Global,
     grammar: &Grammar,
@@ -58,7 +59,7 @@ fn pass_over(
     }
 }
 
-/// What a pass of a grammar's plan makes of a content.
+/// Runs a pass of a grammar's plan over a content.
 pub fn pass_told(
     alloc: Global,
     grammar: &Grammar,
@@ -71,14 +72,14 @@ pub fn pass_told(
     pass_over(alloc, grammar, &plan, pass, &mut from, &mut to)
 }
 
-/// What all passes of a grammar's plan make of the tree of a sentence, each on a line of its own.
+/// Runs all passes of a grammar's plan over the tree of a sentence. Returns a line for each pass.
 pub fn through_told(alloc: Global, grammar: &Grammar, sentence: &str) -> Result<String, Mistake> {
     let tree = tree_of(alloc, grammar, sentence)?;
     let plan = plan_of(alloc, grammar)?;
     passes_told(alloc, grammar, &plan, tree)
 }
 
-/// What all passes of a plan make of a file, each on a line of its own.
+/// Runs all passes of a plan over a tree file. Returns a line for each pass.
 fn passes_told(
     alloc: Global,
     grammar: &Grammar,
@@ -95,7 +96,7 @@ fn passes_told(
     Ok(String::from_str(alloc, told.as_str().trim_end())?)
 }
 
-/// The file that a pass of a plan leaves of another one. Adds the pass to what is told, on a line of its own.
+/// Runs a pass of a plan, appends its line to `told`, and returns its output file.
 fn next_file(
     alloc: Global,
     grammar: &Grammar,
@@ -112,7 +113,7 @@ fn next_file(
     Ok(to)
 }
 
-/// What passes counted, and the file that they left on a device.
+/// Returns the counts of several passes, and their last file.
 fn sum_told(
     alloc: Global,
     last: Last,
@@ -127,8 +128,9 @@ fn sum_told(
     )?)
 }
 
-/// What the passes of a plan from one on make of a file, to and fro between it and a device that has
-/// nothing, or their fault.
+/// Runs the passes of a plan from `first` on over a file, alternating between its device and an empty one. Returns
+/// their counts and their last file, or their fault. Fails with `Unfit` unless `first` is at least 1 and at most one
+/// more than the number of passes.
 fn run_from(
     alloc: Global,
     grammar: &Grammar,
@@ -150,15 +152,15 @@ fn run_from(
     }
 }
 
-/// What all passes of a grammar's plan make of the tree of a sentence.
+/// Runs all passes of a grammar's plan over the tree of a sentence.
 pub fn run_told(alloc: Global, grammar: &Grammar, sentence: &str) -> Result<String, Mistake> {
     let mut device = tree_of(alloc, grammar, sentence)?;
     let plan = plan_of(alloc, grammar)?;
     run_from(alloc, grammar, &plan, 1, &mut device)
 }
 
-/// What all passes of another plan for a grammar make of the tree of a sentence. The sentence and the
-/// plan's assignment and code stand on both sides of `by`.
+/// Runs all passes of another plan for a grammar over the tree of a sentence. In the row, `by` separates the
+/// sentence from the plan's assignment and code.
 pub fn run_by_told(alloc: Global, grammar: &Grammar, spelled: &str) -> Result<String, Mistake> {
     let (sentence, spelled) = halves(spelled, " by ")?;
     let mut device = tree_of(alloc, grammar, sentence)?;
@@ -169,7 +171,7 @@ pub fn run_by_told(alloc: Global, grammar: &Grammar, spelled: &str) -> Result<St
     run_from(alloc, grammar, &plan, 1, &mut device)
 }
 
-/// What the passes of a grammar's plan, from one on, make of a content.
+/// Runs the passes of a grammar's plan, from a given one on, over a content.
 pub fn run_bytes_told(
     alloc: Global,
     grammar: &Grammar,

@@ -1,4 +1,4 @@
-//! What is told of plans, and of assignments and of code by hand.
+//! Answers questions about plans, and about assignments and code that a row spells.
 
 ghost use Rattle.std.specs.Prelude.{IfOk};
 ghost use Rattle.planchecker.specs.Plans.{IsPlan};
@@ -11,8 +11,8 @@ use planchecker::{Plan, check_plan};
 use rows::words::{Mistake, first_word, halves, parts, short_number, short_numbers};
 use std::alloc::{AllocError, Global};
 
-/// The instruction that a word spells: `g2`, `o2` and `p2` get, go to and put the second child,
-/// `s2.1.0` sets its attribute 1 by rule 0, `d1.0` defines attribute 1 by rule 0, `e` ends.
+/// Returns the instruction that a word spells: `g2`, `o2` and `p2` are `Get`, `Go` and `Put` of child 2, `s2.1.0`
+/// sets attribute 1 of child 2 by rule 0, `d1.0` defines attribute 1 by rule 0, and `e` is `End`.
 fn instruction(word: &str) -> Result<Instr, Mistake> {
     if word == "e" {
         return Ok(Instr::End);
@@ -29,7 +29,7 @@ fn instruction(word: &str) -> Result<Instr, Mistake> {
     rule_instruction(word)
 }
 
-/// An instruction by a rule.
+/// Returns the `Def` or `Set` that a word spells.
 fn rule_instruction(word: &str) -> Result<Instr, Mistake> {
     if let Some(numbers) = word.strip_prefix('d') {
         let (attr, rule) = halves(numbers, ".")?;
@@ -50,7 +50,7 @@ fn rule_instruction(word: &str) -> Result<Instr, Mistake> {
     })
 }
 
-/// A list of instructions.
+/// Returns the list of instructions that a text spells.
 fn list(alloc: Global, text: &str) -> Result<Vec<Instr>, Mistake> {
     let mut list = Vec::new(alloc);
     for word in parts(alloc, text, " ")?.as_slice() {
@@ -59,7 +59,7 @@ fn list(alloc: Global, text: &str) -> Result<Vec<Instr>, Mistake> {
     Ok(list)
 }
 
-/// The lists of a production, one a pass, with `;` between them.
+/// Returns the lists of a production, one for each pass, separated by `;`.
 fn lists(alloc: Global, text: &str) -> Result<Vec<Vec<Instr>>, Mistake> {
     let mut lists = Vec::new(alloc);
     for part in parts(alloc, text, " ; ")?.as_slice() {
@@ -68,7 +68,7 @@ fn lists(alloc: Global, text: &str) -> Result<Vec<Vec<Instr>>, Mistake> {
     Ok(lists)
 }
 
-/// The lists of the productions, with `|` between these.
+/// Returns the lists of the productions, separated by `|`.
 fn rows_of_lists(alloc: Global, text: &str) -> Result<Vec<Vec<Vec<Instr>>>, Mistake> {
     let mut rows = Vec::new(alloc);
     for part in parts(alloc, text, " | ")?.as_slice() {
@@ -77,7 +77,7 @@ fn rows_of_lists(alloc: Global, text: &str) -> Result<Vec<Vec<Vec<Instr>>>, Mist
     Ok(rows)
 }
 
-/// The assignment of a text, with `/` between the symbols.
+/// Returns the assignment of a text, with `/` between the symbols.
 pub fn assignment(alloc: Global, text: &str) -> Result<Assignment, Mistake> {
     let mut rows = Vec::new(alloc);
     for part in parts(alloc, text, " / ")?.as_slice() {
@@ -86,14 +86,14 @@ pub fn assignment(alloc: Global, text: &str) -> Result<Assignment, Mistake> {
     Ok(Assignment::of_rows(rows))
 }
 
-/// The assignment and the code of a text, which stand on both sides of `:`.
+/// Returns the assignment and the code of a text, separated by `:`.
 pub fn pair(alloc: Global, text: &str) -> Result<(Assignment, Code), Mistake> {
     let (rows, lists) = halves(text, " : ")?;
     let assignment = assignment(alloc, rows)?;
     Ok((assignment, Code::of_rows(rows_of_lists(alloc, lists)?)))
 }
 
-/// What is told of an assignment and of code.
+/// Returns the number of passes of an assignment and code, or their fault.
 fn verdict(
     alloc: Global,
     grammar: &Grammar,
@@ -106,13 +106,13 @@ fn verdict(
     }
 }
 
-/// What is told of the assignment and the code that a text spells, for a grammar.
+/// Returns the number of passes of the assignment and code of a row, or their fault.
 pub fn plan_told(alloc: Global, grammar: &Grammar, spelled: &str) -> Result<String, Mistake> {
     let (assignment, code) = pair(alloc, spelled)?;
     Ok(verdict(alloc, grammar, assignment, code)?)
 }
 
-/// The plan that a grammar has: its least assignment, and the code of that.
+/// Returns the plan of a grammar: its least assignment and the code for it. Fails with `Unfit` if it has none.
 pub fn plan_of(alloc: Global, grammar: &Grammar) -> Result<Plan, Mistake>
     ensures { IfOk result (λ plan. IsPlan grammar.now plan.0 plan.1) }
 {
@@ -126,7 +126,7 @@ pub fn plan_of(alloc: Global, grammar: &Grammar) -> Result<Plan, Mistake>
     }
 }
 
-/// The listings of the passes and of the code of a grammar's plan, line by line.
+/// Returns the listings of the passes and of the code of a grammar's plan.
 pub fn listing_told(alloc: Global, grammar: &Grammar) -> Result<String, Mistake> {
     let plan = plan_of(alloc, grammar)?;
     let mut listing = Vec::new(alloc);
@@ -149,20 +149,20 @@ fn write_listings(
     write_code(alloc, listing, grammar, plan).map_err(|_| Mistake::Unfit)
 }
 
-/// Lines, each of which is ended, without the end of the last.
+/// Returns lines without the LF of the last one. Fails with `Unfit` if that is missing.
 fn whole_lines(alloc: Global, bytes: &[u8]) -> Result<String, Mistake> {
     let lines = str::from_utf8(bytes).map_err(|_| Mistake::Unfit)?;
     let lines = lines.strip_suffix('\n').ok_or(Mistake::Unfit)?;
     Ok(String::from_str(alloc, lines)?)
 }
 
-/// The greatest pass of the assignment that a text spells.
+/// Returns the greatest pass of an assignment.
 pub fn passes_told(alloc: Global, spelled: &str) -> Result<String, Mistake> {
     let assignment = assignment(alloc, spelled)?;
     Ok(assignment.passes().to_string(alloc)?)
 }
 
-/// The list of a production and a pass, of code that a text spells.
+/// Returns the list of a production and a pass, in code that a row spells.
 pub fn list_told(alloc: Global, spelled: &str) -> Result<String, Mistake> {
     let (production, rest) = first_word(spelled);
     let (pass, lists) = halves(rest, " : ")?;
@@ -170,7 +170,7 @@ pub fn list_told(alloc: Global, spelled: &str) -> Result<String, Mistake> {
     listed(alloc, rows, short_number(production)?, short_number(pass)?)
 }
 
-/// The list of a production and a pass, which are there.
+/// Returns the list of a production and a pass. Fails with `Unfit` if the code doesn't have it.
 fn listed(
     alloc: Global,
     rows: Vec<Vec<Vec<Instr>>>,

@@ -1,4 +1,4 @@
-//! Which verb asks which question about grammars, plans, sentences and passes.
+//! The verbs of questions about grammars, plans, sentences and passes.
 
 use crate::grammars::{check_told, could_told, grammar, parts_told, read_told};
 use crate::least::{least_told, strikes_told};
@@ -19,7 +19,7 @@ use rows::words::{Mistake, bytes_of, number};
 use rows::written::Written;
 use std::alloc::Global;
 
-/// The value that the rows have given last: that of each occurrence of an expression.
+/// The current value, which the rows set: each occurrence in an expression has it.
 #[derive(Drop)]
 pub struct Given {
     pub value: Value,
@@ -51,7 +51,7 @@ impl Questions for Given {
     }
 }
 
-/// A question: its verb, the words after it, and what was written above.
+/// A question: its verb, the text after it, and the current texts.
 #[derive(Clone, Copy)]
 struct Question<'a> {
     alloc: Global,
@@ -61,12 +61,12 @@ struct Question<'a> {
 }
 
 impl Question<'_> {
-    /// Returns the text after the verb, or else the text that was written.
+    /// Returns the text after the verb, or the current text if there is none.
     fn text(&self) -> &str {
         self.written.text_or(self.rest)
     }
 
-    /// Answers a question about the grammar that was written, or else about texts and the value that was given.
+    /// Answers a question about the current grammar, or about texts and the current value.
     fn answer(&self, given: &Value) -> Result<String, Mistake> {
         if !self.is_of_grammar() {
             return self.of_texts(given);
@@ -75,7 +75,7 @@ impl Question<'_> {
         self.of_plans(&grammar)
     }
 
-    /// Says whether the question is about the grammar that was written, which is accepted then.
+    /// Returns whether the question needs the current grammar, which must be accepted.
     fn is_of_grammar(&self) -> bool {
         match self.verb {
             "parts" | "listing" | "assign" | "plan" | "stuck" => true,
@@ -87,7 +87,8 @@ impl Question<'_> {
         }
     }
 
-    /// Answers questions about a grammar's parts, and about assignments, code and certificates.
+    /// Answers questions about a grammar's parts, and about assignments, code and certificates; then those about
+    /// passes.
     fn of_plans(&self, grammar: &Grammar) -> Result<String, Mistake> {
         let (alloc, rest) = (self.alloc, self.rest);
         match self.verb {
@@ -102,7 +103,7 @@ impl Question<'_> {
         }
     }
 
-    /// Answers questions about passes, and about the last file.
+    /// Answers questions about passes and the text of the root; then those about sentences.
     fn of_passes(&self, grammar: &Grammar) -> Result<String, Mistake> {
         let (alloc, written) = (self.alloc, self.written);
         match self.verb {
@@ -117,7 +118,7 @@ impl Question<'_> {
         }
     }
 
-    /// Answers questions about sentences, and about the tables that they are parsed by.
+    /// Answers questions about sentences and their parse tables. Fails with `Misspelt` if no question has this verb.
     fn of_sentences(&self, grammar: &Grammar) -> Result<String, Mistake> {
         let alloc = self.alloc;
         match self.verb {
@@ -132,7 +133,8 @@ impl Question<'_> {
         }
     }
 
-    /// Answers questions about texts of grammars, about assignments and code without a grammar, or else about values.
+    /// Answers questions about texts of grammars, and about assignments and code without a grammar; then those about
+    /// values.
     fn of_texts(&self, given: &Value) -> Result<String, Mistake> {
         let (alloc, rest) = (self.alloc, self.rest);
         match self.verb {

@@ -1,4 +1,4 @@
-//! Raw grammars by hand, of more symbols than a text has room for.
+//! Raw grammars with more symbols than a text can declare.
 
 use crate::grammars::{raw_grammar, verdict};
 use ag_grammar::{Named, RawGrammar, RawItem, RawProduction, RawSymbol};
@@ -7,7 +7,7 @@ use normalform::is_readable;
 use rows::words::Mistake;
 use std::alloc::{AllocError, Global};
 
-/// The name `s` with a number.
+/// Returns the name `s` followed by a number.
 fn named(alloc: Global, number: u32) -> Result<Named, AllocError> {
     let name = format!(in alloc; "s{number}")?;
     Ok(Named {
@@ -16,7 +16,7 @@ fn named(alloc: Global, number: u32) -> Result<Named, AllocError> {
     })
 }
 
-/// The declaration of a symbol with a numbered name.
+/// Returns the declaration of symbol `s` with a number.
 fn symbol(alloc: Global, number: u32) -> Result<RawSymbol, AllocError> {
     Ok(RawSymbol {
         name: named(alloc, number)?,
@@ -25,7 +25,7 @@ fn symbol(alloc: Global, number: u32) -> Result<RawSymbol, AllocError> {
     })
 }
 
-/// A right side of the symbol behind a numbered one, or of nothing behind the last.
+/// Returns a right side with the next symbol, or an empty one for the last symbol.
 fn items(alloc: Global, number: u32, last: u32) -> Result<Items<RawItem>, Mistake> {
     let mut items = Vec::new(alloc);
     if number < last {
@@ -34,7 +34,7 @@ fn items(alloc: Global, number: u32, last: u32) -> Result<Items<RawItem>, Mistak
     Ok(Items::from_vec(items))
 }
 
-/// A production of a numbered symbol.
+/// Returns a production of symbol `s` with a number.
 fn production(alloc: Global, number: u32, last: u32) -> Result<RawProduction, Mistake> {
     let items = items(alloc, number, last)?;
     Ok(RawProduction {
@@ -44,7 +44,7 @@ fn production(alloc: Global, number: u32, last: u32) -> Result<RawProduction, Mi
     })
 }
 
-/// These symbols, and so many more.
+/// Appends `last` symbols.
 fn more_symbols(
     alloc: Global,
     symbols: Items<RawSymbol>,
@@ -57,7 +57,7 @@ fn more_symbols(
     Ok(Items::from_vec(symbols))
 }
 
-/// These productions, and one for each of so many symbols.
+/// Appends a production for each of `last` symbols.
 fn more_productions(
     alloc: Global,
     productions: Items<RawProduction>,
@@ -70,7 +70,7 @@ fn more_productions(
     Ok(Items::from_vec(productions))
 }
 
-/// A raw grammar with so many further symbols, each of which has the next one on its right side.
+/// Appends `last` symbols to a raw grammar, each of which has the next one on its right side.
 fn chain(alloc: Global, raw: RawGrammar, last: u32) -> Result<RawGrammar, Mistake> {
     Ok(RawGrammar {
         start: raw.start,
@@ -79,7 +79,7 @@ fn chain(alloc: Global, raw: RawGrammar, last: u32) -> Result<RawGrammar, Mistak
     })
 }
 
-/// What is told of S and so many symbols behind it.
+/// Checks the grammar of S and a chain of `last` symbols. Returns `accepted`, or the first fault.
 pub fn chain_told(alloc: Global, last: u32) -> Result<String, Mistake> {
     let bare = raw_grammar(alloc, "start S; symbol S syn out; S = s1 { $0.out = 0; }")?;
     let raw = chain(alloc, bare, last)?;

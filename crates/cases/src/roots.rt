@@ -1,4 +1,4 @@
-//! What the last file tells of the translation.
+//! Answers questions about the text of the root.
 
 ghost use Rattle.planchecker.specs.Plans.{IsPlan};
 
@@ -13,7 +13,7 @@ use rows::words::{Mistake, bytes_of, printed};
 use std::alloc::Global;
 use treefile::MemDevice;
 
-/// The text of a last file, quoted, or its fault.
+/// Returns the root's text in a last file, quoted, or its fault.
 fn text_told(
     alloc: Global,
     grammar: &Grammar,
@@ -28,14 +28,14 @@ fn text_told(
     }
 }
 
-/// The text of a content, by a grammar's plan.
+/// Returns the root's text in a content, by the plan of a grammar.
 pub fn root_bytes_told(alloc: Global, grammar: &Grammar, content: &str) -> Result<String, Mistake> {
     let mut file = MemDevice::from_bytes(bytes_of(alloc, content)?);
     let plan = plan_of(alloc, grammar)?;
     text_told(alloc, grammar, &plan, &mut file)
 }
 
-/// The file that a pass of a plan leaves of another one.
+/// Runs a pass of a plan and returns its output file.
 fn next_file(
     alloc: Global,
     grammar: &Grammar,
@@ -56,7 +56,7 @@ fn next_file(
     }
 }
 
-/// The file that all passes of a plan leave of a tree's.
+/// Runs all passes of a plan over a tree and returns the last file.
 fn last_file(
     alloc: Global,
     grammar: &Grammar,
@@ -72,7 +72,7 @@ fn last_file(
     Ok(file)
 }
 
-/// The text of the last file of a sentence.
+/// Translates a sentence and returns the text of its root.
 pub fn root_told(alloc: Global, grammar: &Grammar, sentence: &str) -> Result<String, Mistake> {
     let tree = tree_of(alloc, grammar, sentence)?;
     let plan = plan_of(alloc, grammar)?;

@@ -1,4 +1,4 @@
-//! What is told of sentences, of their trees, and of the tables that they are parsed by.
+//! Answers questions about sentences, their trees, and the parse tables.
 
 ghost use Rattle.std.specs.Prelude.{IfOk};
 ghost use Rattle.ag_scan.specs.Tokens.{FitAll};
@@ -12,7 +12,7 @@ use rows::words::{Mistake, first_word, number, printed, short_number, shown_tree
 use std::alloc::{AllocError, Global};
 use treefile::{Device, FuseDevice, MemDevice, Writer};
 
-/// Whether a grammar has tables, or its least conflict.
+/// Returns `no conflict`, or the least conflict of a grammar's tables.
 pub fn table_told(alloc: Global, grammar: &Grammar) -> Result<String, Mistake> {
     match tables(alloc, grammar) {
         Ok(_) => Ok(String::from_str(alloc, "no conflict")?),
@@ -20,7 +20,7 @@ pub fn table_told(alloc: Global, grammar: &Grammar) -> Result<String, Mistake> {
     }
 }
 
-/// The tables of a grammar, which has some.
+/// Returns the tables of a grammar. Fails with `Unfit` if it has a conflict.
 fn tables_of(alloc: Global, grammar: &Grammar) -> Result<Tables, Mistake>
     ensures { IfOk result (λ tables. FitsGrammar grammar.now tables) }
 {
@@ -30,7 +30,7 @@ fn tables_of(alloc: Global, grammar: &Grammar) -> Result<Tables, Mistake>
     }
 }
 
-/// The terminal of a word and a number: `literal` or `class`.
+/// Returns the terminal of a word (`literal` or `class`) and a number.
 fn terminal(word: &str, number: &str) -> Result<Terminal, Mistake> {
     match word {
         "literal" => Ok(Terminal::Literal(short_number(number)?)),
@@ -39,7 +39,7 @@ fn terminal(word: &str, number: &str) -> Result<Terminal, Mistake> {
     }
 }
 
-/// The look-ahead of a text: a terminal, or `end`.
+/// Returns the look-ahead that a text names: a terminal, or `end`.
 fn ahead(text: &str) -> Result<Ahead, Mistake> {
     if text == "end" {
         return Ok(Ahead::End);
@@ -48,7 +48,7 @@ fn ahead(text: &str) -> Result<Ahead, Mistake> {
     Ok(Ahead::Terminal(terminal(word, number)?))
 }
 
-/// Which production a symbol has at a look-ahead.
+/// Returns the production that the tables predict for a symbol and a look-ahead.
 pub fn choice_told(alloc: Global, grammar: &Grammar, spelled: &str) -> Result<String, Mistake> {
     let (symbol, rest) = first_word(spelled);
     let symbol = short_number(symbol)?;
@@ -57,7 +57,7 @@ pub fn choice_told(alloc: Global, grammar: &Grammar, spelled: &str) -> Result<St
     printed(alloc, &tables.choice(symbol, ahead))
 }
 
-/// The tokens of a sentence, or its fault.
+/// Returns the tokens of a sentence, or its fault.
 pub fn scan_told(alloc: Global, grammar: &Grammar, sentence: &[u8]) -> Result<String, Mistake> {
     match scan(alloc, grammar, sentence) {
         Ok(sentence) => Ok(shown(alloc, &sentence)?),
@@ -65,7 +65,7 @@ pub fn scan_told(alloc: Global, grammar: &Grammar, sentence: &[u8]) -> Result<St
     }
 }
 
-/// How many tokens there are, and each with its text and its offset.
+/// Returns the number of tokens, and the kind, text and offset of each.
 fn shown(alloc: Global, sentence: &Sentence<'_>) -> Result<String, AllocError> {
     let mut told = String::new(alloc);
     let mut tokens = sentence.tokens();
@@ -76,7 +76,7 @@ fn shown(alloc: Global, sentence: &Sentence<'_>) -> Result<String, AllocError> {
     format!(in alloc; "{} tokens{told}", tokens.taken())
 }
 
-/// The most bytes of a token's text that are printed.
+/// The maximal length in bytes of a token's text that is printed.
 const PRINTED: usize = 40;
 
 fn show_token(told: &mut String, token: Token<'_>) -> Result<(), AllocError> {
@@ -96,7 +96,7 @@ fn show_lex(told: &mut String, lex: &str) -> Result<(), AllocError> {
     write!(told, "[{lex}]")
 }
 
-/// The tokens of a sentence, which has some.
+/// Scans a sentence. Fails with `Unfit` if it is rejected.
 fn tokens_of<'s>(
     alloc: Global,
     grammar: &'s Grammar,
@@ -110,7 +110,7 @@ fn tokens_of<'s>(
     }
 }
 
-/// How many nodes the tree of tokens has, whose file a device gets, or why they have none.
+/// Parses tokens and writes the tree's file onto a device. Returns the number of stored nodes, or the fault.
 fn parse_tokens<D: Device>(
     alloc: Global,
     grammar: &Grammar,
@@ -125,7 +125,8 @@ fn parse_tokens<D: Device>(
     parse(alloc, grammar, tables, tokens, device, &mut writer)
 }
 
-/// How many nodes the tree of a sentence has, whose file a device gets, or why its tokens have none.
+/// Scans and parses a sentence and writes the tree's file onto a device. Returns the number of stored nodes, or the
+/// parser's fault.
 fn parse_sentence(
     alloc: Global,
     grammar: &Grammar,
@@ -137,7 +138,7 @@ fn parse_sentence(
     Ok(parse_tokens(alloc, grammar, &tables, &tokens, device))
 }
 
-/// How many nodes the tree of a sentence has and its file, or what is refused.
+/// Returns the number of stored nodes and the tree's file of a sentence, or the parser's fault.
 pub fn parse_told(alloc: Global, grammar: &Grammar, sentence: &str) -> Result<String, Mistake> {
     let mut device = MemDevice::new(alloc);
     match parse_sentence(alloc, grammar, sentence, &mut device)? {
@@ -146,7 +147,7 @@ pub fn parse_told(alloc: Global, grammar: &Grammar, sentence: &str) -> Result<St
     }
 }
 
-/// How parsing a sentence ends where a call of the device fails, and how many bytes the device has then.
+/// Parses a sentence over a device whose given call fails. Returns the result and the number of bytes on the device.
 pub fn parse_failing_told(
     alloc: Global,
     grammar: &Grammar,
@@ -160,7 +161,7 @@ pub fn parse_failing_told(
     Ok(format!(in alloc; "{parsed:?} {}", device.inner().bytes().len())?)
 }
 
-/// The file of the tree of a sentence, which has one.
+/// Returns a device with the tree's file of a sentence. Fails with `Unfit` if the parser rejects it.
 pub fn tree_of(alloc: Global, grammar: &Grammar, sentence: &str) -> Result<MemDevice, Mistake> {
     let mut device = MemDevice::new(alloc);
     match parse_sentence(alloc, grammar, sentence, &mut device)? {
@@ -169,14 +170,14 @@ pub fn tree_of(alloc: Global, grammar: &Grammar, sentence: &str) -> Result<MemDe
     }
 }
 
-/// Behind how many tokens a sentence is refused, and what could stand there.
+/// Returns the number of tokens before the one at which a sentence is rejected, and what is expected there.
 pub fn stand_told(alloc: Global, grammar: &Grammar, sentence: &str) -> Result<String, Mistake> {
     let tokens = tokens_of(alloc, grammar, sentence)?;
     let tables = tables_of(alloc, grammar)?;
     stuck_told(alloc, grammar, &tables, &tokens)
 }
 
-/// Behind how many tokens a parse is refused, and what could stand there.
+/// Returns the number of tokens before the one at which a parse fails, and what is expected there.
 fn stuck_told(
     alloc: Global,
     grammar: &Grammar,

@@ -1,4 +1,4 @@
-//! What is told of the least assignment of a grammar, and of certificates that there is none.
+//! Answers questions about least assignments, and about certificates that there is none.
 
 use ag_grammar::Grammar;
 use ag_value::Items;
@@ -7,7 +7,7 @@ use planchecker::check_stuck;
 use rows::words::{Mistake, halves, parts, printed, short_number};
 use std::alloc::{AllocError, Global};
 
-/// The least assignment of a grammar, or the certificate that there is none.
+/// Returns the least assignment of a grammar, or the certificate that there is none.
 pub fn assign_told(alloc: Global, grammar: &Grammar) -> Result<String, Mistake> {
     match assign(alloc, grammar) {
         Ok(assignment) => printed(alloc, &assignment.rows()),
@@ -16,7 +16,7 @@ pub fn assign_told(alloc: Global, grammar: &Grammar) -> Result<String, Mistake> 
     }
 }
 
-/// A certificate as a row spells it.
+/// Returns a certificate as in a row.
 fn shown(alloc: Global, stuck: &Stuck) -> Result<String, Mistake> {
     let mut told = String::from_str(alloc, "stuck")?;
     show_parts(&mut told, stuck)?;
@@ -40,7 +40,7 @@ fn show_strikes(told: &mut String, strikes: &[Strike]) -> Result<(), AllocError>
     Ok(())
 }
 
-/// Writes a strike as a row spells it.
+/// Writes a strike as in a row.
 pub fn show_strike(told: &mut String, strike: &Strike) -> Result<(), AllocError> {
     write!(told, "{}.{}", strike.symbol, strike.attr)?;
     write!(
@@ -50,13 +50,13 @@ pub fn show_strike(told: &mut String, strike: &Strike) -> Result<(), AllocError>
     )
 }
 
-/// The attribute that a word spells: attribute 0 of symbol 1 is `1.0`.
+/// Returns the attribute that a word spells: attribute 0 of symbol 1 is `1.0`.
 fn attribute(word: &str) -> Result<(u16, u16), Mistake> {
     let (symbol, attr) = halves(word, ".")?;
     Ok((short_number(symbol)?, short_number(attr)?))
 }
 
-/// The attributes of a certificate, as `1.0`.
+/// Returns the attributes of a certificate, written as `1.0` and separated by spaces.
 fn attributes(alloc: Global, text: &str) -> Result<Items<(u16, u16)>, Mistake> {
     let mut set = Vec::new(alloc);
     for word in parts(alloc, text, " ")?.as_slice() {
@@ -65,8 +65,8 @@ fn attributes(alloc: Global, text: &str) -> Result<Items<(u16, u16)>, Mistake> {
     Ok(Items::from_vec(set))
 }
 
-/// The strike that a word spells: attribute 1 of symbol 2 by argument 0 of rule 4 of production 3
-/// is `2.1.3.4.0`.
+/// Returns the strike that a word spells: attribute 1 of symbol 2 by argument 0 of rule 4 of production 3 is
+/// `2.1.3.4.0`.
 fn strike(word: &str) -> Result<Strike, Mistake> {
     let (symbol, rest) = halves(word, ".")?;
     let (attr, rest) = halves(rest, ".")?;
@@ -81,7 +81,7 @@ fn strike(word: &str) -> Result<Strike, Mistake> {
     })
 }
 
-/// The strikes of a text, with spaces between them; `-` alone has none.
+/// Returns the strikes of a text, separated by spaces; `-` alone is none.
 pub fn strikes(alloc: Global, text: &str) -> Result<Items<Strike>, Mistake> {
     let mut strikes = Vec::new(alloc);
     for word in parts(alloc, text, " ")?.as_slice() {
@@ -90,7 +90,7 @@ pub fn strikes(alloc: Global, text: &str) -> Result<Items<Strike>, Mistake> {
     Ok(Items::from_vec(strikes))
 }
 
-/// The certificate of a text: its attributes, and behind each `|` strikes.
+/// Returns the certificate of a text: its attributes, its odd strikes and its even strikes, separated by `|`.
 fn stuck(alloc: Global, spelled: &str) -> Result<Stuck, Mistake> {
     let (set, rest) = halves(spelled, " | ")?;
     let (odd, even) = halves(rest, " | ")?;
@@ -100,7 +100,7 @@ fn stuck(alloc: Global, spelled: &str) -> Result<Stuck, Mistake> {
     Ok(Stuck { set, odd, even })
 }
 
-/// Whether a grammar has the certificate of a text.
+/// Returns whether `check_stuck` accepts a row's certificate for a grammar.
 pub fn stuck_told(alloc: Global, grammar: &Grammar, spelled: &str) -> Result<String, Mistake> {
     let stuck = stuck(alloc, spelled)?;
     Ok(format!(in alloc; "{}", check_stuck(grammar, &stuck))?)

@@ -1,4 +1,4 @@
-//! Which verb asks which question about expressions, values and contents of devices.
+//! The verbs of questions about expressions, values and contents of devices.
 
 use crate::carried::carried_told;
 use crate::contents::{back_told, last_told, split_told, turn_told, write_told};
@@ -12,8 +12,8 @@ use rows::words::{Mistake, bytes_of, first_word, short_number};
 use rows::written::Written;
 use std::alloc::Global;
 
-/// Answers questions about expressions, where each occurrence has the value that was given; about that value, and about
-/// contents. Fails with `Misspelt` if no question begins with the verb.
+/// Answers questions about expressions (each occurrence has the value `given`), about that value, and about
+/// contents. Fails with `Misspelt` if no question has this verb.
 pub fn answer(
     alloc: Global,
     written: &Written,
@@ -35,7 +35,7 @@ pub fn answer(
     }
 }
 
-/// Answers questions about values and their spellings.
+/// Answers questions about values and their encodings; then those about contents.
 fn answer_of_values(
     alloc: Global,
     written: &Written,

@@ -1,12 +1,12 @@
-//! What is told of the value that was given, and of the spelling of a value.
+//! Answers questions about the current value, and about encodings of values.
 
 use crate::expressions::value_of;
 use ag_value::{Items, Text, Value, copy, decode, depth, encode, is_well, same, show, weight};
 use rows::words::{Mistake, number, printed, shown_bytes};
 use std::alloc::{AllocError, Global};
 
-/// The value that a line gives: that of an expression, a text of so many letters, the value so far
-/// in so many lists, or a table that has a key twice.
+/// Returns the new current value: that of an expression (`given`), a text of N letters (`letters`), the current value
+/// in N nested lists (`wrap`), or a table with a key twice (`doubled`).
 pub fn given(alloc: Global, verb: &str, rest: &str, value: &Value) -> Result<Value, Mistake> {
     match verb {
         "given" => value_of(alloc, rest, value),
@@ -16,13 +16,13 @@ pub fn given(alloc: Global, verb: &str, rest: &str, value: &Value) -> Result<Val
     }
 }
 
-/// A text of so many letters.
+/// Returns a text of `count` letters.
 fn letters(alloc: Global, count: u32) -> Result<Value, AllocError> {
     let letters = "a".repeat(alloc, count as usize)?;
     Ok(Value::Text(Text::from_string(letters)))
 }
 
-/// The value in so many lists, each in the next.
+/// Wraps a value in `levels` nested lists.
 fn in_lists(alloc: Global, value: Value, levels: u32) -> Result<Value, AllocError> {
     let mut outer = value;
     for _ in 0..levels {
@@ -31,12 +31,12 @@ fn in_lists(alloc: Global, value: Value, levels: u32) -> Result<Value, AllocErro
     Ok(outer)
 }
 
-/// A key with a value.
+/// Returns a pair of a key and a copy of a value.
 fn entry(alloc: Global, key: &str, value: &Value) -> Result<(Text, Value), Mistake> {
     Ok((Text::from_str(alloc, key)?, copy(alloc, value)?))
 }
 
-/// A table that has a key twice.
+/// Returns a table that has a key twice.
 fn doubled(alloc: Global, key: &str, value: &Value) -> Result<Value, Mistake> {
     let mut pairs = Vec::new(alloc);
     for _ in 0..2 {
@@ -45,7 +45,7 @@ fn doubled(alloc: Global, key: &str, value: &Value) -> Result<Value, Mistake> {
     Ok(Value::Table(Items::from_vec(pairs)))
 }
 
-/// The spelling of a value.
+/// Returns the encoding of a value. Fails with `Unfit` if the value is not well.
 pub fn spell_told(alloc: Global, value: &Value) -> Result<String, Mistake> {
     if !is_well(value) {
         return Err(Mistake::Unfit);
@@ -55,7 +55,7 @@ pub fn spell_told(alloc: Global, value: &Value) -> Result<String, Mistake> {
     Ok(shown_bytes(alloc, bytes.as_slice())?)
 }
 
-/// The measures of a value, whether it is well, and its copy.
+/// Returns the weight or the depth of a value, whether it is well, or its copy.
 pub fn told_of_value(alloc: Global, verb: &str, value: &Value) -> Result<String, Mistake> {
     match verb {
         "weight" => Ok(weight(value).to_string(alloc)?),
@@ -65,19 +65,19 @@ pub fn told_of_value(alloc: Global, verb: &str, value: &Value) -> Result<String,
     }
 }
 
-/// The copy of a value.
+/// Copies a value and shows the copy.
 fn copied(alloc: Global, value: &Value) -> Result<String, Mistake> {
     let copied = copy(alloc, value)?;
     Ok(show(alloc, &copied)?)
 }
 
-/// Whether the value of a text is the one that was given.
+/// Returns whether the value of a text equals the current value.
 pub fn same_told(alloc: Global, text: &str, value: &Value) -> Result<String, Mistake> {
     let other = value_of(alloc, text, value)?;
     Ok(format!(in alloc; "{}", same(&other, value))?)
 }
 
-/// The value with which bytes begin, and how many of them it takes.
+/// Decodes a value. Returns it and the length of its encoding in bytes, or the fault.
 pub fn decode_told(alloc: Global, bytes: &[u8]) -> Result<String, Mistake> {
     match decode(alloc, bytes) {
         Ok((value, length)) => decoded_told(alloc, &value, length),
@@ -85,7 +85,7 @@ pub fn decode_told(alloc: Global, bytes: &[u8]) -> Result<String, Mistake> {
     }
 }
 
-/// A value, and the number of its bytes.
+/// Returns a value as it is shown, and the length of its encoding in bytes.
 fn decoded_told(alloc: Global, value: &Value, length: usize) -> Result<String, Mistake> {
     let shown = show(alloc, value)?;
     Ok(format!(in alloc; "{shown} of {length} bytes")?)

@@ -1,4 +1,4 @@
-//! Texts, listings, values and translations that a writer does not take whole: a beginning of them has gone out.
+//! Texts, listings, values and translations for a writer that doesn't accept all bytes: a prefix is written.
 
 use crate::endings::Ending;
 use crate::fractions::{FRACTIONS, SENTENCE, translator};
@@ -9,7 +9,8 @@ use rows::words::{Mistake, first_word, number};
 use std::alloc::Global;
 use treefile::MemDevice;
 
-/// Writes what a word names: a text, a grammar's counts, a plan, its code, the value 14, or a translation.
+/// Calls what a word names with the writer: a text, a grammar's counts, a plan, its code, the value 14, or a
+/// translation. Returns how the call ends.
 fn written_to(alloc: Global, what: &str, out: &mut Narrow) -> Result<Ending, Mistake> {
     let fractions = FRACTIONS.as_bytes();
     match what {
@@ -22,7 +23,7 @@ fn written_to(alloc: Global, what: &str, out: &mut Narrow) -> Result<Ending, Mis
     }
 }
 
-/// How writing the text `abc` ends.
+/// Writes the text `abc` and returns how the call ends.
 fn text_ending(out: &mut Narrow) -> Ending {
     match write_text(out, "abc") {
         Ok(()) => Ending::Done,
@@ -30,13 +31,13 @@ fn text_ending(out: &mut Narrow) -> Ending {
     }
 }
 
-/// How showing 14 ends.
+/// Shows the value 14 and returns how the call ends.
 fn value_ending(alloc: Global, out: &mut Narrow) -> Ending {
     let mut device = MemDevice::new(alloc);
     Ending::of(show_value(alloc, "14", &mut device, out))
 }
 
-/// How translating the sentence ends, by a translator of its own.
+/// Builds a translator, translates the sentence and returns how the call ends.
 fn translation_ending(alloc: Global, out: &mut Narrow) -> Result<Ending, Mistake> {
     let translator = translator(alloc, FRACTIONS)?;
     Ok(ended(alloc, &translator, out))
@@ -48,8 +49,8 @@ fn ended(alloc: Global, translator: &Translator, out: &mut Narrow) -> Ending {
     Ending::of(translator.translate(SENTENCE, &mut a, &mut b, out))
 }
 
-/// How a call ends whose writer has room for so many bytes and then takes none or, with `fails`, fails; and the bytes
-/// that it has taken. It takes one byte a call.
+/// Calls what a word names with a writer that accepts a number of bytes, one in each call, and then none or, with
+/// `fails`, fails. Returns how the call ends, and the bytes that were written.
 pub fn beginning_told(alloc: Global, what: &str, spelled: &str) -> Result<String, Mistake> {
     let (room, rest) = first_word(spelled);
     let mut out = with_room(alloc, number(room)? as usize, rest == "fails")?;

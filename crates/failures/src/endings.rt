@@ -4,16 +4,16 @@ use ag_job::JobFault;
 use aggen::Fault;
 use std::alloc::{AllocError, Global};
 
-/// How a call ends, as far as the rows ask.
+/// How a call ends. The rows distinguish no more cases.
 #[derive(Clone, Copy, Debug)]
 pub enum Ending {
-    /// With an answer.
+    /// With success.
     Done,
     /// With F1.
     File,
     /// With B1.
     NotATreeFile,
-    /// With B2, and the offset in bytes that it tells.
+    /// With B2, and its offset in bytes.
     Damaged(u64),
     /// With D1.
     Device,
@@ -26,7 +26,7 @@ pub enum Ending {
 }
 
 impl Ending {
-    /// How a call ended.
+    /// Returns the ending of a result.
     pub fn of<T: Drop>(told: Result<T, Fault>) -> Ending {
         match told {
             Ok(_) => Ending::Done,

@@ -1,5 +1,5 @@
-//! Devices of which one call fails: each call in turn, counted up until a run makes fewer. Nothing
-//! goes out where one fails, and the same translator and devices serve the next run.
+//! Devices of which one call fails: first call 1, then call 2, and so on, until a run makes fewer calls. A run with
+//! a failed call writes no translation, and the next run with the same translator and devices succeeds.
 
 use crate::endings::Ending;
 use crate::fractions::{FRACTIONS, SENTENCE, TREE, evaluated, old_tree, translated, translator};
@@ -8,7 +8,7 @@ use rows::words::{Mistake, first_word, number};
 use std::alloc::Global;
 use treefile::{FuseDevice, MemDevice};
 
-/// A device in memory of which a call fails.
+/// A device in memory of which one call fails.
 type Fused = FuseDevice<MemDevice>;
 
 /// A device of a run.
@@ -16,25 +16,24 @@ type Fused = FuseDevice<MemDevice>;
 enum RunDevice {
     /// The first device of `translate`.
     First,
-    /// Its second device.
+    /// The second device of `translate`.
     Second,
-    /// The device of `evaluate_tree` that has the tree.
+    /// The device of `evaluate_tree` that contains the tree.
     Tree,
-    /// The first of its two others.
+    /// The first of the two other devices of `evaluate_tree`.
     A,
-    /// The second of these.
+    /// The second of the two other devices of `evaluate_tree`.
     B,
-    /// The device of `upgrade` that has the old tree.
+    /// The device of `upgrade` that contains the old tree.
     Old,
-    /// The one between.
+    /// The device of `upgrade` for the intermediate file.
     Mid,
-    /// The one that gets the tree.
+    /// The device of `upgrade` to which the tree is written.
     To,
 }
 
-/// Whether the first of two runs ends with the translation: then the call that fails is the first
-/// one of the second run. Else the first run has failed, nothing went out, and the second one ends
-/// with the translation.
+/// Returns whether the first of two runs succeeds. Then the failing call must be one of the second run. If the first
+/// run fails, it must have written nothing, and the second run must succeed. Fails with `Unfit` in all other cases.
 fn is_whole(first: &str, second: &str) -> Result<bool, Mistake> {
     match (first, second) {
         ("Done \"868352\"", "Device \"\"") => Ok(true),
@@ -43,12 +42,12 @@ fn is_whole(first: &str, second: &str) -> Result<bool, Mistake> {
     }
 }
 
-/// A device without bytes of which this call fails, 0 being none.
+/// Returns an empty device whose given call fails, or none if the number is 0.
 fn fused(alloc: Global, call: u64) -> Fused {
     FuseDevice::new(MemDevice::new(alloc), call)
 }
 
-/// Whether the first of two translations is whole.
+/// Translates the sentence twice and returns whether the first translation succeeds.
 fn translates_twice(
     alloc: Global,
     translator: &Translator,
@@ -60,7 +59,7 @@ fn translates_twice(
     is_whole(first.as_str(), second.as_str())
 }
 
-/// Whether the first of two translations is whole where these calls of the devices fail.
+/// Translates the sentence twice over devices whose given calls fail. Returns whether the first translation succeeds.
 fn translates_without(
     alloc: Global,
     translator: &Translator,
@@ -72,8 +71,8 @@ fn translates_without(
     translates_twice(alloc, translator, &mut a, &mut b)
 }
 
-/// Whether the first of two evaluations of the sentence's tree is whole. The device that has the
-/// tree keeps it.
+/// Evaluates the sentence's tree twice and returns whether the first evaluation succeeds. Fails with `Unfit` if the
+/// tree's device has changed.
 fn evaluates_twice(
     alloc: Global,
     translator: &Translator,
@@ -89,7 +88,7 @@ fn evaluates_twice(
     is_whole(first.as_str(), second.as_str())
 }
 
-/// Whether the first of two evaluations is whole where these calls of the devices fail.
+/// Evaluates the tree twice over devices whose given calls fail. Returns whether the first evaluation succeeds.
 fn evaluates_without(
     alloc: Global,
     translator: &Translator,
@@ -104,8 +103,9 @@ fn evaluates_without(
     evaluates_twice(alloc, translator, &mut tree, &mut a, &mut b)
 }
 
-/// Whether the first of two runs that bring the old tree over is whole. Else the first one has failed,
-/// and the second one is whole. The device that has the old tree keeps it.
+/// Upgrades the old tree twice and returns whether the first run succeeds. Then the second one must fail. If
+/// the first run fails, the second one must succeed. Fails with `Unfit` otherwise, or if the old tree's device
+/// has changed.
 fn upgrades_twice(
     translator: &Translator,
     kept: &[u8],
@@ -126,7 +126,7 @@ fn upgrades_twice(
     }
 }
 
-/// Whether the first of two such runs is whole where these calls of the devices fail.
+/// Upgrades the old tree twice over devices whose given calls fail. Returns whether the first run succeeds.
 fn upgrades_without(
     alloc: Global,
     translator: &Translator,
@@ -141,7 +141,7 @@ fn upgrades_without(
     upgrades_twice(translator, kept.as_slice(), &mut old, &mut mid, &mut to)
 }
 
-/// Whether the first of two runs is whole where a call of a device fails.
+/// Returns whether the first of two runs succeeds if a given call of one device fails.
 fn is_whole_without(
     alloc: Global,
     translator: &Translator,
@@ -160,8 +160,8 @@ fn is_whole_without(
     }
 }
 
-/// The first call of a device that no run makes, counted from 1. Each call before it fails where
-/// it is to.
+/// Returns the first call of a device that a run doesn't make, counted from 1. Fails with `Unfit` if an earlier call
+/// doesn't fail as it should.
 fn counted(alloc: Global, translator: &Translator, device: RunDevice) -> Result<u64, Mistake> {
     for call in 1..1000 {
         if is_whole_without(alloc, translator, device, call)? {
@@ -171,7 +171,7 @@ fn counted(alloc: Global, translator: &Translator, device: RunDevice) -> Result<
     Err(Mistake::Unfit)
 }
 
-/// The device that a word names.
+/// Returns the device that a word names.
 fn run_device(word: &str) -> Result<RunDevice, Mistake> {
     match word {
         "first" => Ok(RunDevice::First),
@@ -186,7 +186,8 @@ fn run_device(word: &str) -> Result<RunDevice, Mistake> {
     }
 }
 
-/// Whether each call of a device fails where it is to, and there are more than so many.
+/// Returns whether each call of a device fails as it should, and whether there are at least the row's number of
+/// calls.
 pub fn failing_told(alloc: Global, spelled: &str) -> Result<String, Mistake> {
     let (word, least) = first_word(spelled);
     let device = run_device(word)?;

@@ -1,4 +1,4 @@
-//! Binary fractions: their grammar, a sentence with its tree, and translations over devices of any kind.
+//! Binary fractions: their grammar, a sentence with its tree, and translations over any devices.
 
 use crate::endings::Ending;
 use aggen::Translator;
@@ -23,19 +23,18 @@ B = \"0\" { $0.bit = 0; }
 B = \"1\" { $0.bit = 1; }
 ";
 
-/// A sentence of it, 13.25. Its translation is 868352.
+/// A sentence of this grammar, 13.25. Its translation is 868352.
 pub const SENTENCE: &[u8] = b"1101.01";
 
-/// The file of its tree before the first pass: nodes of the productions 7, 7, 6, 7, 4, 5, 5, 5, 3, 6,
-/// 7, 4, 5, 3, 2 and 0.
+/// The file of its tree before the first pass: nodes of the productions 7, 7, 6, 7, 4, 5, 5, 5, 3, 6, 7, 4, 5, 3, 2
+/// and 0.
 pub const TREE: &[u8] = b"AGT2\0\0\
     \0\0\x07\0\0\0\x03\0\0\x07\0\0\0\x03\0\0\x06\0\0\0\x03\0\0\x07\0\0\0\x03\
     \0\0\x04\0\0\0\x03\0\0\x05\0\0\0\x03\0\0\x05\0\0\0\x03\0\0\x05\0\0\0\x03\
     \0\0\x03\0\0\0\x03\0\0\x06\0\0\0\x03\0\0\x07\0\0\0\x03\0\0\x04\0\0\0\x03\
     \0\0\x05\0\0\0\x03\0\0\x03\0\0\0\x03\0\0\x02\0\0\0\x03\0\0\0\0\0\0\x03";
 
-/// The same file as version 1 has it: the tree has no tokens, so that only the number of the version is
-/// another.
+/// Returns the same file in version 1. The tree has no tokens, so only the version's number differs.
 pub fn old_tree(alloc: Global) -> Result<Vec<u8>, Mistake> {
     let mut bytes = TREE.to_vec(alloc)?;
     if let Some(version) = bytes.get_mut(3) {
@@ -44,7 +43,7 @@ pub fn old_tree(alloc: Global) -> Result<Vec<u8>, Mistake> {
     Ok(bytes)
 }
 
-/// How translating a sentence over two devices ends, and what goes out.
+/// Translates a sentence over two devices. Returns how the call ends, and what was written.
 pub fn translated<D: Device>(
     alloc: Global,
     translator: &Translator,
@@ -57,7 +56,7 @@ pub fn translated<D: Device>(
     Ok(ending.told(alloc, out.as_slice())?)
 }
 
-/// How evaluating a tree over two other devices ends, and what goes out.
+/// Evaluates a tree over two other devices. Returns how the call ends, and what was written.
 pub fn evaluated<D: Device>(
     alloc: Global,
     translator: &Translator,
@@ -70,20 +69,20 @@ pub fn evaluated<D: Device>(
     Ok(ending.told(alloc, out.as_slice())?)
 }
 
-/// How parsing `1` ends at a device of which a call fails.
+/// Parses `1` over a device whose given call fails, and returns how the call ends.
 fn parsed_without(alloc: Global, translator: &Translator, call: u64) -> Ending {
     let mut device = FuseDevice::new(MemDevice::new(alloc), call);
     Ending::of(translator.parse_tree(b"1", &mut device))
 }
 
-/// The same, by a translator of its own.
+/// Builds a translator, and parses `1` over a device whose given call fails.
 pub fn parse_without_told(alloc: Global, call: &str) -> Result<String, Mistake> {
     let call = number(call)? as u64;
     let translator = translator(alloc, FRACTIONS)?;
     printed(alloc, &parsed_without(alloc, &translator, call))
 }
 
-/// The translator of a text's grammar.
+/// Returns the translator of a grammar's text. Fails with `Unfit` if it has none.
 pub fn translator(alloc: Global, text: &str) -> Result<Translator, Mistake> {
     match Translator::build(alloc, text.as_bytes()) {
         Ok(translator) => Ok(translator),

@@ -1,4 +1,4 @@
-//! Jobs of a reader that fails at one of its reads, each in turn, counted up until there are fewer.
+//! Jobs from a reader of which one read fails: first read 1, then read 2, and so on, until a job makes fewer reads.
 
 use crate::endings::Ending;
 use crate::fractions::FRACTIONS;
@@ -8,7 +8,7 @@ use std::alloc::Global;
 use std::io::{self, Read};
 use treefile::MemDevice;
 
-/// A reader that gives so many bytes a read, and fails at one of its reads.
+/// A reader that returns at most `step` bytes in a read, and fails when `reads_left` reaches 0.
 #[derive(Drop)]
 struct Faltering<'a> {
     bytes: &'a [u8],
@@ -30,15 +30,15 @@ impl Read for Faltering<'_> {
     }
 }
 
-/// How a job of a reader ends.
+/// Runs a job from a reader and returns how the call ends.
 fn ended(alloc: Global, reader: Faltering<'_>, out: &mut Vec<u8>) -> Ending {
     let mut a = MemDevice::new(alloc);
     let mut b = MemDevice::new(alloc);
     Ending::of(run_job(alloc, reader, out, &mut a, &mut b))
 }
 
-/// How a job ends of a reader that gives so many bytes a read and fails at this read, and what goes
-/// out.
+/// Runs a job from a reader that returns at most `step` bytes in a read and whose given read fails. Returns how
+/// the call ends, and what was written.
 fn told_of(alloc: Global, bytes: &[u8], step: usize, read: u64) -> Result<String, Mistake> {
     let reader = Faltering {
         bytes,
@@ -50,7 +50,8 @@ fn told_of(alloc: Global, bytes: &[u8], step: usize, read: u64) -> Result<String
     Ok(ending.told(alloc, out.as_slice())?)
 }
 
-/// Whether a job is done where the reader fails at this read. Else it is refused, and nothing goes out.
+/// Returns whether a job succeeds if a given read fails. Otherwise it must fail with J2 and write nothing; in
+/// all other cases this fails with `Unfit`.
 fn is_done(alloc: Global, job: &[u8], step: usize, read: u64) -> Result<bool, Mistake> {
     let told = told_of(alloc, job, step, read)?;
     match told.as_str() {
@@ -60,8 +61,8 @@ fn is_done(alloc: Global, job: &[u8], step: usize, read: u64) -> Result<bool, Mi
     }
 }
 
-/// The first read that is not made of a job, counted from 1. At each read before it the reader
-/// fails.
+/// Returns the first read that a job doesn't make, counted from 1. Fails with `Unfit` if an earlier read
+/// doesn't fail as it should.
 fn reads_of(alloc: Global, job: &[u8], step: usize) -> Result<u64, Mistake> {
     for read in 1..1000 {
         if is_done(alloc, job, step, read)? {
@@ -71,7 +72,8 @@ fn reads_of(alloc: Global, job: &[u8], step: usize) -> Result<u64, Mistake> {
     Err(Mistake::Unfit)
 }
 
-/// Whether each read of a job of binary fractions fails where it is to, and there are more than so many.
+/// Returns whether each read of a job of binary fractions fails as it should, and whether there are at least
+/// the row's number of reads.
 pub fn job_reads_told(alloc: Global, spelled: &str) -> Result<String, Mistake> {
     let (step, least) = first_word(spelled);
     let step = number(step)? as usize;

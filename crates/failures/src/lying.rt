@@ -1,4 +1,4 @@
-//! Devices that lie: each call over them returns, and nothing goes out where it is refused.
+//! Devices that lie: each call over them returns, and a call that fails writes nothing.
 
 ghost use Rattle.std.specs.Prelude.{[], false, Some};
 
@@ -16,11 +16,11 @@ use treefile::{Device, DeviceFault, Kind, MemDevice};
 enum Lie {
     /// Its length is 2^63.
     Long,
-    /// Its length is less at each call.
+    /// Its length is smaller in each call.
     Shrinking,
-    /// Its length is more at each call.
+    /// Its length is greater in each call.
     Growing,
-    /// Its bytes are others at each read.
+    /// Its bytes differ in each read.
     Changing,
 }
 
@@ -57,7 +57,7 @@ impl Device for Liar {
     fn read_at(&mut self, at: u64, out: &mut [u8]) -> Result<(), DeviceFault> {
         self.calls = self.calls.saturating_add(1);
         self.file.read_at(at, out)?;
-        // a header is left as it is, so that there is a file behind it
+        // the header is not changed, so that a reader accepts the file
         if matches!(self.lie, Lie::Changing) && at > 0 {
             for byte in out {
                 *byte = byte.wrapping_add((self.calls % 5) as u8);
@@ -71,7 +71,7 @@ impl Device for Liar {
     }
 }
 
-/// The lie that a word names.
+/// Returns the lie that a word names.
 fn lie_named(word: &str) -> Result<Lie, Mistake> {
     match word {
         "long" => Ok(Lie::Long),
@@ -82,7 +82,7 @@ fn lie_named(word: &str) -> Result<Lie, Mistake> {
     }
 }
 
-/// Records that stand for nodes of one child.
+/// An arity by which each record has one child.
 struct Chain {}
 
 impl Arity for Chain {
@@ -93,7 +93,7 @@ impl Arity for Chain {
     }
 }
 
-/// A device that lies, over these bytes.
+/// Returns a device with these bytes that lies.
 fn liar_over(alloc: Global, bytes: &[u8], lie: Lie) -> Result<Liar, Mistake> {
     let bytes = bytes.to_vec(alloc)?;
     Ok(Liar {
@@ -103,7 +103,7 @@ fn liar_over(alloc: Global, bytes: &[u8], lie: Lie) -> Result<Liar, Mistake> {
     })
 }
 
-/// A device that lies, without bytes.
+/// Returns an empty device that lies.
 fn empty_liar(alloc: Global, lie: Lie) -> Liar {
     Liar {
         file: MemDevice::new(alloc),
@@ -112,19 +112,19 @@ fn empty_liar(alloc: Global, lie: Lie) -> Liar {
     }
 }
 
-/// Whether nothing goes out where a run is refused for another cause than the writer.
+/// Returns whether a run wrote nothing, unless it succeeded or its writer failed.
 fn is_clean(told: &str) -> bool {
     told.starts_with("Done ") || told.starts_with("Write ") || told.ends_with(" \"\"")
 }
 
-/// How a translation over devices that lie ends, and what goes out.
+/// Translates the sentence over devices that lie. Returns how the call ends, and what was written.
 fn translation(alloc: Global, translator: &Translator, lie: Lie) -> Result<String, Mistake> {
     let mut a = empty_liar(alloc, lie);
     let mut b = empty_liar(alloc, lie);
     translated(alloc, translator, SENTENCE, &mut a, &mut b)
 }
 
-/// How an evaluation over devices that lie ends, and what goes out.
+/// Evaluates the tree over devices that lie. Returns how the call ends, and what was written.
 fn evaluation(alloc: Global, translator: &Translator, lie: Lie) -> Result<String, Mistake> {
     let mut tree = liar_over(alloc, TREE, lie)?;
     let mut a = empty_liar(alloc, lie);
@@ -132,7 +132,7 @@ fn evaluation(alloc: Global, translator: &Translator, lie: Lie) -> Result<String
     evaluated(alloc, translator, &mut tree, &mut a, &mut b)
 }
 
-/// Runs the first pass, and then all, over devices that lie.
+/// Runs the first pass, and then all passes, over devices that lie.
 fn run_passes(alloc: Global, translator: &Translator, a: &mut Liar, b: &mut Liar) {
     let (grammar, plan) = (translator.grammar(), translator.plan());
     if plan.assignment().passes() == 0 {
@@ -144,7 +144,7 @@ fn run_passes(alloc: Global, translator: &Translator, a: &mut Liar, b: &mut Liar
     let _all = run_all(alloc, grammar, plan, 1, a, b, &mut meter);
 }
 
-/// Runs passes where the first device has the sentence's tree.
+/// Runs passes over the sentence's tree on devices that lie.
 fn passes(alloc: Global, translator: &Translator, lie: Lie) -> Result<(), Mistake> {
     let mut a = liar_over(alloc, TREE, lie)?;
     let mut b = empty_liar(alloc, lie);
@@ -152,7 +152,7 @@ fn passes(alloc: Global, translator: &Translator, lie: Lie) -> Result<(), Mistak
     Ok(())
 }
 
-/// Brings an old tree over by way of devices that lie.
+/// Upgrades the old tree over devices that lie.
 fn upgrade(alloc: Global, translator: &Translator, lie: Lie) -> Result<(), Mistake> {
     let bytes = old_tree(alloc)?;
     let mut old = liar_over(alloc, bytes.as_slice(), lie)?;
@@ -162,7 +162,8 @@ fn upgrade(alloc: Global, translator: &Translator, lie: Lie) -> Result<(), Mista
     Ok(())
 }
 
-/// Whether all runs of a translator return, and nothing goes out where one is refused.
+/// Runs all calls of a translator. Returns whether the translation and the evaluation wrote nothing, unless
+/// they succeeded or their writer failed.
 fn return_clean(alloc: Global, translator: &Translator, lie: Lie) -> Result<bool, Mistake> {
     passes(alloc, translator, lie)?;
     upgrade(alloc, translator, lie)?;
@@ -171,7 +172,7 @@ fn return_clean(alloc: Global, translator: &Translator, lie: Lie) -> Result<bool
     Ok(is_clean(translation.as_str()) && is_clean(evaluation.as_str()))
 }
 
-/// Whether passes, `translate`, `evaluate_tree` and `upgrade` return, and nothing goes out where one is refused.
+/// Runs passes, `translate`, `evaluate_tree` and `upgrade`. Returns whether the calls that failed wrote nothing.
 pub fn lie_told(alloc: Global, word: &str) -> Result<String, Mistake> {
     let lie = lie_named(word)?;
     let translator = translator(alloc, FRACTIONS)?;
@@ -179,7 +180,7 @@ pub fn lie_told(alloc: Global, word: &str) -> Result<String, Mistake> {
     Ok(format!(in alloc; "{is_clean}")?)
 }
 
-/// Turns a file round over devices that lie.
+/// Reverses a file over devices that lie.
 fn turned(alloc: Global, lie: Lie) -> Result<(), Mistake> {
     let mut from = liar_over(alloc, TREE, lie)?;
     let mut to = empty_liar(alloc, lie);
@@ -187,13 +188,13 @@ fn turned(alloc: Global, lie: Lie) -> Result<(), Mistake> {
     Ok(())
 }
 
-/// That turning a file round returns.
+/// Reverses a file over devices that lie, and returns `returned`.
 pub fn lie_turn_told(alloc: Global, word: &str) -> Result<String, Mistake> {
     turned(alloc, lie_named(word)?)?;
     Ok(String::from_str(alloc, "returned")?)
 }
 
-/// How many bodies a reader lends of a device.
+/// Returns the number of bodies that a reader returns, calling it at most 1,000 times.
 fn lent(alloc: Global, device: &mut Liar) -> Result<u64, Mistake> {
     let Ok(mut back) = Back::start(alloc, device) else {
         return Err(Mistake::Unfit);
@@ -206,7 +207,7 @@ fn lent(alloc: Global, device: &mut Liar) -> Result<u64, Mistake> {
     Ok(back.records())
 }
 
-/// Whether a reader lends no more bodies than there are frames: a file of 118 bytes has 16, and there is no longer one.
+/// Returns whether a reader returns no more bodies than the file has frames: its 118 bytes contain 16.
 pub fn lie_back_told(alloc: Global, word: &str) -> Result<String, Mistake> {
     let mut device = liar_over(alloc, TREE, lie_named(word)?)?;
     let lent = lent(alloc, &mut device)?;

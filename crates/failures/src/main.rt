@@ -1,4 +1,4 @@
-//! Tries rows about the translator where devices, readers, writers and files fail or lie. `tests/README.md` lists the verbs.
+//! Runs the rows about devices, readers, writers and files that fail or lie. `tests/README.md` lists the verbs.
 #![tactic(auto)]
 
 mod beginnings;
@@ -9,6 +9,8 @@ mod job_reads;
 mod lying;
 mod narrow;
 mod questions;
+mod shared_fuse;
+mod sharing;
 mod showing;
 mod sources;
 mod translating;

@@ -1,12 +1,12 @@
-//! A writer that doesn't take all.
+//! A writer that doesn't accept all bytes.
 
 use std::alloc::{AllocError, Global};
 use std::io::{self, Write};
 
-/// A writer that takes so many bytes, one at a time, and then none, or fails.
+/// A writer that accepts `room` bytes, one in each call, and then none, or fails.
 #[derive(Drop)]
 pub struct Narrow {
-    /// What it has taken.
+    /// The bytes that were written.
     pub taken: Vec<u8>,
     room: usize,
     fails: bool,
@@ -29,7 +29,7 @@ impl Write for Narrow {
     }
 }
 
-/// A writer of so many bytes, which has the memory for them.
+/// Returns a writer that accepts `room` bytes, and allocates the memory for them.
 pub fn with_room(alloc: Global, room: usize, fails: bool) -> Result<Narrow, AllocError> {
     Ok(Narrow {
         taken: Vec::with_capacity(alloc, room)?,

@@ -1,10 +1,11 @@
-//! Which verb asks which question about failures.
+//! The verbs of questions about failures.
 
 use crate::beginnings::beginning_told;
 use crate::failing::failing_told;
 use crate::fractions::parse_without_told;
 use crate::job_reads::job_reads_told;
 use crate::lying::{lie_back_told, lie_told, lie_turn_told};
+use crate::sharing::sharing_told;
 use crate::showing::{show_of_told, show_without_told};
 use crate::sources::source_of_told;
 use crate::translating::translate_three_told;
@@ -14,7 +15,7 @@ use rows::written::Written;
 use std::alloc::Global;
 use std::rt::Files;
 
-/// Questions about failures, and the files that one of them is about.
+/// Answers questions about failures. One of them reads files of the runtime `rt`.
 #[derive(Drop)]
 pub struct Failures<'a, R: Files> {
     pub rt: &'a R,
@@ -30,6 +31,7 @@ impl<R: Files> Questions for Failures<'_, R> {
     ) -> Result<String, Mistake> {
         match verb {
             "failing" => failing_told(alloc, rest),
+            "sharing" => sharing_told(alloc, rest),
             "parse-without" => parse_without_told(alloc, rest),
             "show-without" => show_without_told(alloc, rest),
             "show-of" => show_of_told(alloc, bytes_of(alloc, rest)?),
@@ -41,7 +43,7 @@ impl<R: Files> Questions for Failures<'_, R> {
     }
 }
 
-/// Answers questions about devices that lie, and about writers that don't take all.
+/// Answers questions about devices that lie, and about writers that don't accept all bytes.
 fn answer_of_lies(alloc: Global, verb: &str, rest: &str) -> Result<String, Mistake> {
     match verb {
         "lie" => lie_told(alloc, rest),

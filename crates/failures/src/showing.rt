@@ -8,22 +8,22 @@ use rows::words::{Mistake, number};
 use std::alloc::Global;
 use treefile::{Device, DeviceFault, FuseDevice, MemDevice};
 
-/// How showing the value of a text ends over a device, and what was written.
+/// Shows the value of a text over a device. Returns how the call ends, and what was written.
 fn shown_over<D: Device>(alloc: Global, text: &str, device: &mut D) -> Result<String, Mistake> {
     let mut out = Vec::new(alloc);
     let ending = Ending::of(show_value(alloc, text, device, &mut out));
     Ok(ending.told(alloc, out.as_slice())?)
 }
 
-/// How showing 14 ends where a call of the device fails, and what was written. The device is called eight times: it is
-/// cleared, appended to, asked for its length, and read.
+/// Shows 14 over a device whose given call fails. Returns how the call ends, and what was written. The device
+/// is called eight times: it is cleared, appended to, measured and read.
 pub fn show_without_told(alloc: Global, call: &str) -> Result<String, Mistake> {
     let call = number(call)? as u64;
     let mut device = FuseDevice::new(MemDevice::new(alloc), call);
     shown_over(alloc, "14", &mut device)
 }
 
-/// A device that keeps nothing that is written, and gives back another file.
+/// A device that ignores what is written, and returns the bytes of another file.
 #[derive(Drop)]
 struct Other {
     file: MemDevice,
@@ -53,7 +53,7 @@ impl Device for Other {
     }
 }
 
-/// How showing 1 ends where the device returns these bytes, and what was written.
+/// Shows 1 over a device that returns these bytes. Returns how the call ends, and what was written.
 pub fn show_of_told(alloc: Global, file: Vec<u8>) -> Result<String, Mistake> {
     let mut device = Other {
         file: MemDevice::from_bytes(file),

@@ -1,4 +1,4 @@
-//! What is read of files.
+//! Answers questions about reading files.
 
 use crate::endings::Ending;
 use aggen::source_of;
@@ -6,7 +6,8 @@ use rows::words::{Mistake, bytes_of, printed};
 use std::alloc::Global;
 use std::rt::Files;
 
-/// How reading the file of a path ends, which is spelled by its bytes.
+/// Reads the file whose path is spelled by its bytes, and returns how the call ends. Fails with `Unfit` if the
+/// path is not UTF-8.
 pub fn source_of_told<R: Files>(rt: &R, alloc: Global, spelled: &str) -> Result<String, Mistake> {
     let path = bytes_of(alloc, spelled)?;
     match str::from_utf8(path.as_slice()) {

@@ -1,4 +1,4 @@
-//! Translations by a translator that has refused a sentence.
+//! Translations by a translator that has rejected a sentence.
 
 use crate::fractions::{FRACTIONS, SENTENCE, translated, translator};
 use aggen::Translator;
@@ -6,7 +6,7 @@ use rows::words::Mistake;
 use std::alloc::Global;
 use treefile::MemDevice;
 
-/// How three sentences are translated, one after the other, over the same devices.
+/// Translates three sentences over the same devices, of which the second is rejected. Returns how each call ends.
 fn three_told(
     alloc: Global,
     translator: &Translator,
@@ -19,14 +19,14 @@ fn three_told(
     Ok(format!(in alloc; "{first}, {refused}, {last}")?)
 }
 
-/// The same, over devices of their own.
+/// Translates three sentences over two devices in memory.
 fn three_translated(alloc: Global, translator: &Translator) -> Result<String, Mistake> {
     let mut a = MemDevice::new(alloc);
     let mut b = MemDevice::new(alloc);
     three_told(alloc, translator, &mut a, &mut b)
 }
 
-/// The same, by a translator of its own.
+/// Builds a translator, and translates three sentences.
 pub fn translate_three_told(alloc: Global) -> Result<String, Mistake> {
     let translator = translator(alloc, FRACTIONS)?;
     three_translated(alloc, &translator)

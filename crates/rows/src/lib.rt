@@ -1,4 +1,4 @@
-//! Rows: lines of data, each of which asks a question about a public call. A row costs the prover nothing.
+//! Rows: lines of data with a question about a public call and its answer. The prover doesn't check them.
 #![tactic(auto)]
 
 pub mod sheet;

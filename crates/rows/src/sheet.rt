@@ -1,4 +1,4 @@
-//! The rows one after the other: what was written so far, and the last answer, until it is compared.
+//! Running rows one after the other, with the current texts and the last answer until it is compared.
 
 use crate::words::{Mistake, first_word};
 use crate::written::Written;
@@ -7,12 +7,12 @@ use std::io;
 
 /// Answers the questions of rows.
 pub trait Questions {
-    /// Follows a line that writes something that only these questions know, and returns whether it does.
+    /// Runs the line if its verb changes state of these questions. Returns whether it does.
     fn follow(&mut self, _alloc: Global, _verb: &str, _rest: &str) -> Result<bool, Mistake> {
         Ok(false)
     }
 
-    /// Answers the question that begins with a verb. Fails with `Misspelt` if no question does.
+    /// Answers the question that begins with a verb. Fails with `Misspelt` if no question has that verb.
     fn answer(
         &self,
         alloc: Global,
@@ -22,7 +22,7 @@ pub trait Questions {
     ) -> Result<String, Mistake>;
 }
 
-/// Tries the rows on standard input. Prints each wrong line with its number, and then the number of right answers.
+/// Runs the rows on standard input. Prints each wrong line with its number, and then the number of right answers.
 pub fn try_rows<R: Input + Print, Q: Questions>(
     rt: &R,
     alloc: Global,
@@ -33,7 +33,7 @@ pub fn try_rows<R: Input + Print, Q: Questions>(
     println!(rt; "{} answers are right", sheet.right)
 }
 
-/// Takes the lines on standard input. Prints each wrong line with its number.
+/// Runs the lines on standard input. Prints each wrong line with its number.
 fn take_lines<R: Input + Print, Q: Questions>(
     rt: &R,
     alloc: Global,
@@ -49,7 +49,7 @@ fn take_lines<R: Input + Print, Q: Questions>(
     print_wrong(rt, number, &sheet.left(alloc)?)
 }
 
-/// Prints what is wrong with a line, if something is.
+/// Prints what is wrong with a line, unless it is `None`.
 fn print_wrong<R: Print>(rt: &R, number: u64, wrong: &Option<String>) -> io::Result<()> {
     match wrong {
         Some(wrong) => println!(rt; "line {number}: {wrong}"),
@@ -57,7 +57,7 @@ fn print_wrong<R: Print>(rt: &R, number: u64, wrong: &Option<String>) -> io::Res
     }
 }
 
-/// What was written, and the lines of the last answer that are not compared yet.
+/// The current texts, and the lines of the last answer that were not compared yet.
 #[derive(Drop)]
 struct Sheet {
     written: Written,
@@ -66,7 +66,7 @@ struct Sheet {
 }
 
 impl Sheet {
-    /// A sheet without rows.
+    /// Returns a sheet with empty texts and no answer.
     fn new(alloc: Global) -> Sheet {
         Sheet {
             written: Written::new(alloc),
@@ -75,7 +75,8 @@ impl Sheet {
         }
     }
 
-    /// What is wrong with a further line, if something is.
+    /// Runs the next line, and returns what is wrong with it, if anything. Ignores empty lines and those that
+    /// begin with `#`.
     fn take<Q: Questions>(
         &mut self,
         alloc: Global,
@@ -91,7 +92,7 @@ impl Sheet {
         }
     }
 
-    /// What is left of the last answer, if no line was compared with it.
+    /// Returns a message if lines of the last answer were not compared.
     fn left(&mut self, alloc: Global) -> Result<Option<String>, AllocError> {
         match self.answer.take() {
             Some(answer) => Ok(Some(format!(in alloc; "no line has the answer {answer}")?)),
@@ -99,7 +100,7 @@ impl Sheet {
         }
     }
 
-    /// Compares the next line of the last answer with the line that is wanted.
+    /// Compares the next line of the last answer with the expected line.
     fn compare(&mut self, alloc: Global, wanted: &str) -> Result<Option<String>, AllocError> {
         match self.answer.take() {
             Some(answer) => self.compare_line(alloc, answer.as_str(), wanted),
@@ -107,7 +108,7 @@ impl Sheet {
         }
     }
 
-    /// Compares the first line of an answer, and keeps the lines after it.
+    /// Compares the first line of an answer with the expected one, and keeps the lines after it.
     fn compare_line(
         &mut self,
         alloc: Global,
@@ -128,7 +129,8 @@ impl Sheet {
         Ok(None)
     }
 
-    /// Follows a line that writes or asks something. The last question must have its answer.
+    /// Runs a line that isn't an answer. Returns what is wrong with it, or that lines of the last answer were
+    /// not compared.
     fn ask<Q: Questions>(
         &mut self,
         alloc: Global,
@@ -142,7 +144,7 @@ impl Sheet {
         }
     }
 
-    /// Follows a line, and keeps the answer if it asks something.
+    /// Runs a line, and keeps the answer if it is a question.
     fn follow<Q: Questions>(
         &mut self,
         alloc: Global,

@@ -1,4 +1,4 @@
-//! The words of which rows are made, and how bytes are printed.
+//! Parsing the words of rows, and printing bytes.
 
 use ag_value::OutOfMemory;
 use hex::{FromHexError, decode, encode};
@@ -10,7 +10,7 @@ use std::fmt::Debug;
 pub enum Mistake {
     /// A word of the row is unknown or missing.
     Misspelt,
-    /// The row asks for more than its grammar, its expression or its value allows.
+    /// The row exceeds what its grammar, its expression or its value allows.
     Unfit,
     /// A request for memory was refused.
     NoMemory,
@@ -22,32 +22,32 @@ impl<M: OutOfMemory> From<M> for Mistake {
     }
 }
 
-/// A value as `{:?}` prints it.
+/// Returns a value as `{:?}` prints it.
 pub fn printed<T: Debug>(alloc: Global, value: &T) -> Result<String, Mistake> {
     Ok(format!(in alloc; "{value:?}")?)
 }
 
-/// The first word of a text, and the text after the space that ends it.
+/// Returns the first word of a text, and the text after the space that ends it.
 pub fn first_word(text: &str) -> (&str, &str) {
     text.split_once(' ').unwrap_or((text, ""))
 }
 
-/// The texts before and after a mark.
+/// Returns the texts before and after a separator. Fails with `Misspelt` if it is missing.
 pub fn halves<'a>(text: &'a str, mark: &str) -> Result<(&'a str, &'a str), Mistake> {
     text.split_once(mark).ok_or(Mistake::Misspelt)
 }
 
-/// The number that a word spells.
+/// Returns the number that a word spells. Fails with `Misspelt` if it isn't a `u32`.
 pub fn number(word: &str) -> Result<u32, Mistake> {
     word.parse::<u32>().map_err(|_| Mistake::Misspelt)
 }
 
-/// The number that a word spells, of two bytes.
+/// Returns the number that a word spells. Fails with `Misspelt` if it isn't a `u16`.
 pub fn short_number(word: &str) -> Result<u16, Mistake> {
     word.parse::<u16>().map_err(|_| Mistake::Misspelt)
 }
 
-/// The parts of a text between marks; `-` alone has none.
+/// Returns the parts of a text between separators; `-` alone is none.
 pub fn parts<'a>(alloc: Global, text: &'a str, mark: &str) -> Result<Vec<&'a str>, AllocError> {
     let mut found = Vec::new(alloc);
     if text == "-" {
@@ -65,7 +65,7 @@ pub fn parts<'a>(alloc: Global, text: &'a str, mark: &str) -> Result<Vec<&'a str
     Ok(found)
 }
 
-/// The numbers of a text, with spaces between them; `-` alone has none.
+/// Returns the numbers of a text, separated by spaces; `-` alone is none. Fails with `Misspelt` if one isn't a `u16`.
 pub fn short_numbers(alloc: Global, text: &str) -> Result<Vec<u16>, Mistake> {
     let mut numbers = Vec::new(alloc);
     for word in parts(alloc, text, " ")?.as_slice() {
@@ -74,7 +74,8 @@ pub fn short_numbers(alloc: Global, text: &str) -> Result<Vec<u16>, Mistake> {
     Ok(numbers)
 }
 
-/// The bytes that the words of a text spell, two digits each; the word `00*1000` spells 1,000 times the byte 0.
+/// Returns the bytes that the words of a text spell, with two hexadecimal digits each. The word `00*1000`
+/// spells the byte 0 1,000 times.
 pub fn bytes_of(alloc: Global, text: &str) -> Result<Vec<u8>, Mistake> {
     let mut bytes = Vec::new(alloc);
     for word in text.split_whitespace() {
@@ -94,10 +95,10 @@ fn bytes_of_word(alloc: Global, word: &str) -> Result<Vec<u8>, Mistake> {
     }
 }
 
-/// The most bytes that are printed one by one.
+/// The maximal number of bytes that are printed one by one.
 const PRINTED: usize = 128;
 
-/// Bytes as two digits each, and many bytes by their number alone.
+/// Returns two hexadecimal digits for each byte, or only the number of bytes if there are more than `PRINTED`.
 pub fn shown_bytes(alloc: Global, bytes: &[u8]) -> Result<String, AllocError> {
     if bytes.len() > PRINTED {
         return format!(in alloc; "{} bytes", bytes.len());
@@ -105,7 +106,7 @@ pub fn shown_bytes(alloc: Global, bytes: &[u8]) -> Result<String, AllocError> {
     encode(alloc, bytes)
 }
 
-/// The number of the nodes of a tree, and its file.
+/// Returns the number of nodes of a tree, and its file.
 pub fn shown_tree_file(alloc: Global, count: u32, file: &[u8]) -> Result<String, Mistake> {
     let file = shown_bytes(alloc, file)?;
     Ok(format!(in alloc; "{count} nodes, {file}")?)

@@ -1,9 +1,9 @@
-//! The text that rows ask about, and the lines that write it.
+//! The current text, and the lines that change it.
 
 use crate::words::{Mistake, bytes_of, first_word, number};
 use std::alloc::{AllocError, Global};
 
-/// Writes on a text if a line says so, and returns whether it does.
+/// Runs the line if its verb changes the text. Returns whether it does.
 pub fn write_on(alloc: Global, text: &mut String, verb: &str, rest: &str) -> Result<bool, Mistake> {
     match verb {
         "text" => {
@@ -24,7 +24,7 @@ pub fn write_on(alloc: Global, text: &mut String, verb: &str, rest: &str) -> Res
     Ok(true)
 }
 
-/// Writes the characters of these numbers.
+/// Appends the characters with these code points.
 fn write_chars(text: &mut String, numbers: &[u8]) -> Result<(), AllocError> {
     for number in numbers {
         text.push(char::from(*number))?;
@@ -32,14 +32,14 @@ fn write_chars(text: &mut String, numbers: &[u8]) -> Result<(), AllocError> {
     Ok(())
 }
 
-/// Writes what was written once more, and then a text.
+/// Appends the text to itself, and then appends `rest`.
 fn write_twice(alloc: Global, text: &mut String, rest: &str) -> Result<(), AllocError> {
     let so_far = String::from_str(alloc, text.as_str())?;
     text.push_str(so_far.as_str())?;
     text.push_str(rest)
 }
 
-/// Writes a text in front of what was written.
+/// Inserts a text before the current text.
 fn write_in_front(alloc: Global, text: &mut String, rest: &str) -> Result<(), AllocError> {
     let so_far = String::from_str(alloc, text.as_str())?;
     text.clear();
@@ -47,8 +47,8 @@ fn write_in_front(alloc: Global, text: &mut String, rest: &str) -> Result<(), Al
     text.push_str(so_far.as_str())
 }
 
-/// Writes a text as often as the number in front of it says, with the turn's number, from 0, in the
-/// place of each `#`, the next one in the place of each `@`, and a space in the place of each `~`.
+/// Appends a text as often as the number before it says. In each copy, `#` becomes the copy's number from 0, `@` its
+/// number from 1, and `~` a space.
 fn write_times(alloc: Global, text: &mut String, rest: &str) -> Result<(), Mistake> {
     let (count, piece) = first_word(rest);
     let count = number(count)?;
@@ -61,7 +61,7 @@ fn write_times(alloc: Global, text: &mut String, rest: &str) -> Result<(), Mista
     Ok(())
 }
 
-/// Writes a text so often, the same in each turn.
+/// Appends `count` equal copies of a text.
 fn write_alike(
     alloc: Global,
     text: &mut String,

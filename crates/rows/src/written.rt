@@ -1,20 +1,20 @@
-//! What rows have written so far, which the questions ask about.
+//! The current texts, about which the questions are.
 
 use crate::words::Mistake;
 use crate::writing::write_on;
 use std::alloc::{AllocError, Global};
 
-/// What the questions ask about.
+/// The current texts, about which the questions are.
 #[derive(Drop)]
 pub struct Written {
-    /// The text.
+    /// The current text.
     pub text: String,
-    /// The text of the grammar.
+    /// The text of the current grammar.
     pub grammar: String,
 }
 
 impl Written {
-    /// Empty texts.
+    /// Returns empty texts.
     pub fn new(alloc: Global) -> Written {
         Written {
             text: String::new(alloc),
@@ -22,7 +22,7 @@ impl Written {
         }
     }
 
-    /// Follows a line that writes something, and returns whether it does.
+    /// Runs the line if its verb changes a text. Returns whether it does.
     pub fn follow(&mut self, alloc: Global, verb: &str, rest: &str) -> Result<bool, Mistake> {
         if write_on(alloc, &mut self.text, verb, rest)? {
             return Ok(true);
@@ -34,7 +34,7 @@ impl Written {
         Ok(true)
     }
 
-    /// Takes a text for the grammar, or else the text that was written.
+    /// Sets the grammar's text to `rest`, or to the current text if `rest` is empty.
     fn keep_grammar(&mut self, rest: &str) -> Result<(), AllocError> {
         self.grammar.clear();
         if rest.is_empty() {
@@ -43,7 +43,7 @@ impl Written {
         self.grammar.push_str(rest)
     }
 
-    /// Returns the text after a verb, or else the text that was written.
+    /// Returns the text after a verb, or the current text if there is none.
     pub fn text_or<'a>(&'a self, rest: &'a str) -> &'a str {
         if rest.is_empty() {
             return self.text.as_str();

@@ -1,4 +1,4 @@
-//! What no clause says: that a pass reads by blocks, and writes while it reads.
+//! Tests that no contract covers: a pass reads by blocks, and writes while it reads.
 
 ghost use Rattle.std.specs.Prelude.{◌≡◌, IfOk};
 ghost use Rattle.planchecker.specs.Plans.{IsPlan};
@@ -16,7 +16,7 @@ use rows::words::Mistake;
 use std::alloc::{AllocError, Global};
 use std::cell::Cell;
 
-/// The grammar of lists in groups.
+/// The grammar of groups of lists.
 const GROUPS: &str = "start S; symbol S syn out; symbol T syn c; symbol V syn c;
 S = T \";\" S { $0.out = \"\"; }
 S = { $0.out = \"\"; }
@@ -26,33 +26,34 @@ V = \"x\" V { $0.c = 0; }
 V = { $0.c = 0; }
 ";
 
-/// How many nodes the tree of the sentence has.
+/// The number of stored nodes of the sentence's tree.
 const NODES: u64 = 65_536;
 
-/// How many bytes the record of a node without values has, with its length.
+/// The length in bytes of a frame whose record is a node without values.
 const FRAME: u64 = 7;
 
-/// 85 groups of 24 lists: 23 lists of 31 letters, of 33 nodes each, and one of 8, of 10 nodes. With
-/// one node at either end a group has 771, and with the last one the tree has 65,536.
+/// Returns a sentence of 85 groups of 24 lists: 23 lists of 31 letters (33 nodes each) and one of 8 (10 nodes).
+/// A group has 771 nodes: its lists, one for the group and one for the end of its lists. The end of the groups
+/// is one more node, so the tree has 65,536.
 fn sentence(alloc: Global) -> Result<String, AllocError> {
     let mut group = "xxxxxxxxxxxxxxxxxxxxxxxxxxxxxxx,".repeat(alloc, 23)?;
     group.push_str("xxxxxxxx,;")?;
     group.repeat(alloc, 85)
 }
 
-/// What was really read and put, in frames, where so much had been put before.
+/// Returns the number of frames that were read, and the number of appends after the first `before`.
 fn frames_told(alloc: Global, bytes: u64, puts: u64, before: u64) -> Result<String, AllocError> {
     let (read, put) = (bytes / FRAME, puts.saturating_sub(before));
     format!(in alloc; "{read} read, {put} put")
 }
 
-/// Whether each file that a device had was read at least 112 times, and whether at least 400 frames
-/// were put between two reads, but for those of the header and the last one.
+/// Returns whether each file of a device was read at least 112 times, and whether at least 400 frames were appended
+/// between two reads. The read of the header and the last read are ignored.
 fn is_by_blocks(device: &CountingDevice<'_>) -> bool {
     device.fewest_reads() >= 112 && device.least_gap() >= 400
 }
 
-/// How many records a translation of the sentence reads, and how many it writes, as it tells.
+/// Translates the sentence and returns the numbers of read and written records in its report.
 fn translate<'p>(
     alloc: Global,
     translator: &Translator,
@@ -67,25 +68,26 @@ fn translate<'p>(
     }
 }
 
-/// What a translation of the sentence tells, and what its devices have counted.
+/// Translates the sentence. Returns the report's counts, and what the devices counted.
 fn translated(alloc: Global, translator: &Translator) -> Result<String, Mistake> {
     let puts = Cell::new(0);
     let mut a = CountingDevice::new(alloc, &puts);
     let mut b = CountingDevice::new(alloc, &puts);
     let told = translate(alloc, translator, &mut a, &mut b)?;
-    // the parser puts a header and each node, and the pass a header
+    // the parser appends a header and each node, and the pass appends a header
     let frames = frames_told(alloc, a.bytes, puts.get(), NODES + 2)?;
     let by_blocks = is_by_blocks(&a);
     Ok(format!(in alloc; "{told}; {frames}; by blocks: {by_blocks}")?)
 }
 
-/// What a translation tells, by a translator of its own.
+/// Builds the translator and translates the sentence.
 pub fn blocks_of_translate_told(alloc: Global) -> Result<String, Mistake> {
     let translator = translator(alloc, GROUPS)?;
     translated(alloc, &translator)
 }
 
-/// The list of a production whose children stand so in the order of the pass.
+/// Returns the instructions of a production for one pass: `Get`, `Go` and `Put` of each child in the given
+/// order, then `Def` of attribute 0 if `has_rule`, then `End`.
 fn list(alloc: Global, children: &[u16], has_rule: bool) -> Result<Vec<Instr>, AllocError> {
     let mut list = Vec::new(alloc);
     for child in children {
@@ -100,7 +102,8 @@ fn list(alloc: Global, children: &[u16], has_rule: bool) -> Result<Vec<Instr>, A
     Ok(list)
 }
 
-/// The lists of a production for three passes, of which the last has its rule.
+/// Returns the lists of a production for three passes: children in the orders `left`, `right`, `left`. The last pass
+/// has the rule.
 fn lists(alloc: Global, left: &[u16], right: &[u16]) -> Result<Vec<Vec<Instr>>, AllocError> {
     let mut lists = Vec::new(alloc);
     for (children, has_rule) in [(left, false), (right, false), (left, true)] {
@@ -109,8 +112,8 @@ fn lists(alloc: Global, left: &[u16], right: &[u16]) -> Result<Vec<Vec<Instr>>, 
     Ok(lists)
 }
 
-/// The code of three passes: for each production its children from right to left, and from left
-/// to right.
+/// Returns the code of three passes. The children of each production are visited from right to left, from left to
+/// right, and from right to left.
 fn code(alloc: Global) -> Result<Code, AllocError> {
     let mut rows = Vec::new(alloc);
     for (left, right) in [
@@ -126,7 +129,7 @@ fn code(alloc: Global) -> Result<Code, AllocError> {
     Ok(Code::of_rows(rows))
 }
 
-/// The assignment of pass 3 to the one attribute of each of three symbols.
+/// Returns the assignment of pass 3 to the only attribute of each of three symbols.
 fn assignment(alloc: Global) -> Result<Assignment, AllocError> {
     let mut rows = Vec::new(alloc);
     for pass in [3, 3, 3] {
@@ -135,7 +138,7 @@ fn assignment(alloc: Global) -> Result<Assignment, AllocError> {
     Ok(Assignment::of_rows(rows))
 }
 
-/// A plan whose first two passes have no rules.
+/// Returns the plan, whose first two passes have no rules.
 fn plan(alloc: Global, grammar: &Grammar) -> Result<Plan, Mistake>
     ensures { IfOk result (λ plan. IsPlan grammar.now plan.0 plan.1) }
 {
@@ -147,7 +150,7 @@ fn plan(alloc: Global, grammar: &Grammar) -> Result<Plan, Mistake>
     }
 }
 
-/// Leaves the file of the sentence's tree on a device.
+/// Writes the file of the sentence's tree onto a device.
 fn parse(
     alloc: Global,
     translator: &Translator,
@@ -160,7 +163,7 @@ fn parse(
     }
 }
 
-/// What three passes over the tree on the first device tell.
+/// Runs three passes over the tree on the first device, and returns their counts.
 fn run<'p>(
     alloc: Global,
     grammar: &Grammar,
@@ -181,7 +184,7 @@ fn run<'p>(
     }
 }
 
-/// What three passes over the sentence's tree tell, and what their devices have counted.
+/// Parses the sentence and runs three passes. Returns their counts, and what the devices counted.
 fn run_thrice(alloc: Global, translator: &Translator, plan: &Plan) -> Result<String, Mistake>
     requires { IsPlan translator.now plan.now.0 plan.now.1 }
 {
@@ -189,7 +192,7 @@ fn run_thrice(alloc: Global, translator: &Translator, plan: &Plan) -> Result<Str
     let mut a = CountingDevice::new(alloc, &puts);
     let mut b = CountingDevice::new(alloc, &puts);
     parse(alloc, translator, &mut a)?;
-    // each pass puts a header
+    // each pass appends a header
     let before = puts.get().saturating_add(3);
     let told = run(alloc, translator.grammar(), plan, &mut a, &mut b)?;
     let bytes = a.bytes.saturating_add(b.bytes);
@@ -198,13 +201,13 @@ fn run_thrice(alloc: Global, translator: &Translator, plan: &Plan) -> Result<Str
     Ok(format!(in alloc; "{told}; {frames}; by blocks: {by_blocks}")?)
 }
 
-/// What three passes tell, by a plan whose first two have no rules.
+/// Runs three passes by the plan whose first two passes have no rules.
 fn run_by_plan(alloc: Global, translator: &Translator) -> Result<String, Mistake> {
     let plan = plan(alloc, translator.grammar())?;
     run_thrice(alloc, translator, &plan)
 }
 
-/// What three passes tell, by a translator of their own.
+/// Builds the translator and runs three passes.
 pub fn blocks_of_passes_told(alloc: Global) -> Result<String, Mistake> {
     let translator = translator(alloc, GROUPS)?;
     run_by_plan(alloc, &translator)

@@ -1,4 +1,4 @@
-//! Devices that count how they are read, and share one count of what is put onto them.
+//! Devices that count their reads, and share a count of their appends.
 
 ghost use Rattle.std.specs.Prelude.{[], false};
 
@@ -6,21 +6,21 @@ use std::alloc::Global;
 use std::cell::Cell;
 use treefile::{Device, DeviceFault, MemDevice};
 
-/// What is counted while one file is read, from its header on.
+/// Counts for the file that is being read. They begin again when its header is read.
 #[derive(Clone, Copy)]
 struct Reading {
-    /// How often bytes behind the header were read.
+    /// The number of reads after the header.
     reads: u64,
-    /// How much had been put at the last read.
+    /// The number of appends before the last read.
     put: u64,
-    /// How much was put between the last two reads.
+    /// The number of appends between the last two reads.
     last_gap: u64,
-    /// The least that was put between two reads, but for the last two.
+    /// The least number of appends between two successive reads, without the last two reads.
     least_gap: u64,
 }
 
 impl Reading {
-    /// A file of which no more than the header was read.
+    /// Returns the counts of a file of which only the header was read.
     fn begun() -> Reading {
         Reading {
             reads: 0,
@@ -30,7 +30,7 @@ impl Reading {
         }
     }
 
-    /// One read more, where so much has been put.
+    /// Counts a read after `put` appends.
     fn with_read(self, put: u64) -> Reading {
         Reading {
             reads: self.reads.saturating_add(1),
@@ -45,24 +45,24 @@ impl Reading {
     }
 }
 
-/// A device in memory that counts.
+/// A device in memory that counts its reads and appends.
 #[derive(Drop)]
 pub struct CountingDevice<'a> {
     memory: MemDevice,
-    /// How often bytes were put onto this device, or onto another that shares the count.
+    /// The number of appends to this device and to the others that share the count.
     puts: &'a Cell<u64>,
-    /// How many bytes behind the headers were read.
+    /// The number of bytes that were read after the headers.
     pub bytes: u64,
-    /// The reading of a file that goes on.
+    /// The counts of the current file.
     reading: Reading,
-    /// The fewest reads of a file, of those that were read before.
+    /// The least number of reads of a file, of the files read before.
     fewest_reads: u64,
-    /// The least that was put between two reads, of those that were read before.
+    /// The least number of appends between two reads, of the files read before.
     least_gap: u64,
 }
 
 impl<'a> CountingDevice<'a> {
-    /// A device without bytes, which shares this count.
+    /// Returns an empty device that shares a count.
     pub fn new(alloc: Global, puts: &'a Cell<u64>) -> CountingDevice<'a> {
         CountingDevice {
             memory: MemDevice::new(alloc),
@@ -74,7 +74,7 @@ impl<'a> CountingDevice<'a> {
         }
     }
 
-    /// How often a file was read behind its header, of the files that were read the fewest.
+    /// Returns the least number of reads of a file after its header.
     pub fn fewest_reads(&self) -> u64 {
         if self.reading.reads == 0 {
             return self.fewest_reads;
@@ -82,7 +82,7 @@ impl<'a> CountingDevice<'a> {
         self.fewest_reads.min(self.reading.reads)
     }
 
-    /// The least that was put between two reads of a file, but for the header and the last read.
+    /// Returns the least number of appends between two reads of a file, without its header and its last read.
     pub fn least_gap(&self) -> u64 {
         self.least_gap.min(self.reading.least_gap)
     }

@@ -1,4 +1,4 @@
-//! What is told of the program's faults.
+//! Answers questions about the program's faults.
 
 use ag_expr::ExprFault;
 use ag_text::TextFault;
@@ -9,7 +9,7 @@ use passrun::RunFault;
 use rows::words::{Mistake, first_word, number};
 use std::alloc::Global;
 
-/// The fault that a text names.
+/// Returns the fault that a text names.
 fn fault(text: &str) -> Result<Fault, Mistake> {
     let (name, rest) = first_word(text);
     match name {
@@ -30,17 +30,17 @@ fn fault(text: &str) -> Result<Fault, Mistake> {
     }
 }
 
-/// The status of a fault.
+/// Returns the exit status of a fault.
 pub fn status_told(alloc: Global, text: &str) -> Result<String, Mistake> {
     Ok(status(&fault(text)?).to_string(alloc)?)
 }
 
-/// A fault's message.
+/// Returns a fault's message.
 pub fn message(alloc: Global, fault: &Fault) -> Result<String, Mistake> {
     Ok(fault.to_string(alloc)?)
 }
 
-/// The message of the fault that a text names.
+/// Returns the message of the fault that a text names.
 pub fn message_told(alloc: Global, text: &str) -> Result<String, Mistake> {
     message(alloc, &fault(text)?)
 }

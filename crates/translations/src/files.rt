@@ -1,17 +1,18 @@
-//! What is told of the file of a value, and of what is read of a file.
+//! Answers questions about the file of a value, and about reading a file.
 
 use aggen::{bytes_of, show_value};
 use rows::words::{Mistake, shown_bytes};
 use std::alloc::{AllocError, Global};
 use treefile::MemDevice;
 
-/// A file, and the text that was written of it.
+/// Returns a file, and the text that was printed.
 fn shown(alloc: Global, file: &MemDevice, out: &[u8]) -> Result<String, AllocError> {
     let file = shown_bytes(alloc, file.bytes())?;
     format!(in alloc; "{file} {:?}", str::from_utf8(out))
 }
 
-/// The file of the value of an expression, and the line that is written of it.
+/// Returns the file of the value of an expression, and the line that `show_value` prints. Fails with `Unfit` if
+/// `show_value` fails.
 pub fn file_told(alloc: Global, text: &str) -> Result<String, Mistake> {
     let mut device = MemDevice::new(alloc);
     let mut out = Vec::new(alloc);
@@ -21,7 +22,7 @@ pub fn file_told(alloc: Global, text: &str) -> Result<String, Mistake> {
     }
 }
 
-/// How many bytes are read of a file with a text.
+/// Returns the number of bytes that `bytes_of` reads from a reader of the text. Fails with `Unfit` if it fails.
 pub fn source_told(alloc: Global, text: &str) -> Result<String, Mistake> {
     match bytes_of(alloc, text.as_bytes()) {
         Ok(bytes) => Ok(format!(in alloc; "{} bytes", bytes.len())?),

@@ -1,4 +1,5 @@
-//! Tries rows about the translator: translations, jobs, trees, faults, files, and reads and writes by blocks. `tests/README.md` lists the verbs.
+//! Runs the rows about the translator: translations, jobs, trees, faults, files, and reads and writes by blocks.
+//! `tests/README.md` lists the verbs.
 #![tactic(auto)]
 
 mod blocks;

@@ -1,4 +1,4 @@
-//! Which verb asks which question about translators, faults and files.
+//! The verbs of questions about translators, faults and files.
 
 use crate::blocks::{blocks_of_passes_told, blocks_of_translate_told};
 use crate::faults::{message_told, status_told};
@@ -10,7 +10,7 @@ use rows::words::Mistake;
 use rows::written::Written;
 use std::alloc::Global;
 
-/// Questions about the translator of the grammar that was written.
+/// Answers questions about the translator of the current grammar.
 #[derive(Drop)]
 pub struct Translations {}
 

@@ -1,4 +1,4 @@
-//! What sentences, jobs, and the trees of files are translated to.
+//! Answers questions about translations of sentences, jobs and tree files.
 
 use crate::translators::translator;
 use ag_value::{Value, show};
@@ -7,7 +7,7 @@ use rows::words::{Mistake, bytes_of, printed};
 use std::alloc::{AllocError, Global};
 use treefile::MemDevice;
 
-/// A text, quoted, and of a long one how many bytes it has.
+/// Returns a text, quoted, or only its length in bytes if it has more than 64.
 fn text_told(alloc: Global, text: &str) -> Result<String, AllocError> {
     if text.len() > 64 {
         return format!(in alloc; "{} bytes", text.len());
@@ -15,7 +15,7 @@ fn text_told(alloc: Global, text: &str) -> Result<String, AllocError> {
     format!(in alloc; "{text:?}")
 }
 
-/// A report and the text that was written.
+/// Returns a report and the text that was written. Fails with `Unfit` if that is not UTF-8.
 fn report_told(alloc: Global, report: &Report, out: &[u8]) -> Result<String, Mistake> {
     let Ok(text) = str::from_utf8(out) else {
         return Err(Mistake::Unfit);
@@ -27,13 +27,13 @@ fn report_told(alloc: Global, report: &Report, out: &[u8]) -> Result<String, Mis
     )?)
 }
 
-/// A value that is no text.
+/// Returns a root value that is not a text.
 fn value_told(alloc: Global, value: &Value) -> Result<String, Mistake> {
     let shown = show(alloc, value)?;
     Ok(format!(in alloc; "no text: {shown}")?)
 }
 
-/// How a translation ended: the text that was written with its report, or the fault.
+/// Returns the result of a translation: the written text with its report, or the fault.
 fn ending_told(
     alloc: Global,
     ended: &Result<Report, Fault>,
@@ -46,7 +46,7 @@ fn ending_told(
     }
 }
 
-/// The translation of a sentence.
+/// Translates a sentence.
 pub fn translate_told(alloc: Global, text: &str, sentence: &str) -> Result<String, Mistake> {
     let translator = translator(alloc, text)?;
     let mut a = MemDevice::new(alloc);
@@ -56,7 +56,7 @@ pub fn translate_told(alloc: Global, text: &str, sentence: &str) -> Result<Strin
     ending_told(alloc, &ended, out.as_slice())
 }
 
-/// The translation of a job.
+/// Translates a job.
 pub fn job_told(alloc: Global, text: &str) -> Result<String, Mistake> {
     let mut a = MemDevice::new(alloc);
     let mut b = MemDevice::new(alloc);
@@ -65,7 +65,7 @@ pub fn job_told(alloc: Global, text: &str) -> Result<String, Mistake> {
     ending_told(alloc, &ended, out.as_slice())
 }
 
-/// The translation of the tree whose file a content is.
+/// Translates the tree whose file is the given content.
 pub fn evaluate_told(alloc: Global, text: &str, content: &str) -> Result<String, Mistake> {
     let mut tree = MemDevice::from_bytes(bytes_of(alloc, content)?);
     let translator = translator(alloc, text)?;

@@ -1,4 +1,4 @@
-//! What is told of the text of a grammar, and of the trees of its sentences.
+//! Answers questions about the texts of grammars, and about the trees of sentences.
 
 use crate::faults::message;
 use aggen::{Fault, Translator, grammar_of};
@@ -6,7 +6,7 @@ use rows::words::{Mistake, printed, shown_tree_file};
 use std::alloc::Global;
 use treefile::MemDevice;
 
-/// Whether a text's grammar is accepted, or why not.
+/// Returns `accepted`, or the fault of a grammar's text.
 pub fn grammar_of_told(alloc: Global, text: &str) -> Result<String, Mistake> {
     match grammar_of(alloc, text.as_bytes()) {
         Ok(_) => Ok(String::from_str(alloc, "accepted")?),
@@ -14,7 +14,7 @@ pub fn grammar_of_told(alloc: Global, text: &str) -> Result<String, Mistake> {
     }
 }
 
-/// The translator of a text's grammar.
+/// Returns the translator of a grammar's text. Fails with `Unfit` if it has none.
 pub fn translator(alloc: Global, text: &str) -> Result<Translator, Mistake> {
     match Translator::build(alloc, text.as_bytes()) {
         Ok(translator) => Ok(translator),
@@ -22,7 +22,7 @@ pub fn translator(alloc: Global, text: &str) -> Result<Translator, Mistake> {
     }
 }
 
-/// How many nodes the tree of a sentence has and its file, or what is refused.
+/// Returns the number of stored nodes and the tree's file of a sentence, or the fault's message.
 pub fn parse_tree_told(alloc: Global, text: &str, sentence: &str) -> Result<String, Mistake> {
     match Translator::build(alloc, text.as_bytes()) {
         Ok(translator) => parsed(alloc, &translator, sentence),
@@ -30,7 +30,7 @@ pub fn parse_tree_told(alloc: Global, text: &str, sentence: &str) -> Result<Stri
     }
 }
 
-/// How many nodes the tree of a sentence has and its file, or what is refused.
+/// Returns the number of stored nodes and the tree's file of a sentence, or the fault's message.
 fn parsed(alloc: Global, translator: &Translator, sentence: &str) -> Result<String, Mistake> {
     let mut device = MemDevice::new(alloc);
     match translator.parse_tree(sentence.as_bytes(), &mut device) {

@@ -1,0 +1,96 @@
+//! Translations over two devices that share values, of which one call fails: first call 1, then call 2, and so on.
+
+use crate::fractions::{translated, translator};
+use crate::shared_fuse::SharedFuse;
+use aggen::Translator;
+use rows::words::{Mistake, first_word, number};
+use std::alloc::Global;
+use treefile::MemDevice;
+
+/// A grammar whose first pass builds tables that the second pass copies down to each node.
+const TABLES: &str = "start S; symbol S syn out; symbol A syn names, sum inh all;
+S = A { $1.all = $1.names; $0.out = text($1.sum); }
+A = \"x\" A {
+    $0.names = put($1.names, \"a name\", [1, \"a text that is long enough to be shared\"]);
+    $1.all = $0.all;
+    $0.sum = $1.sum + len($0.all);
+}
+A = \"y\" {
+    $0.names = put({}, \"another name\", [2, \"another text that is long enough to be shared\"]);
+    $0.sum = len($0.all);
+}
+";
+
+/// A sentence of this grammar. Its translation is 6.
+const SENTENCE: &[u8] = b"xxy";
+
+/// The ending of a translation that succeeds.
+const DONE: &str = "Done \"6\"";
+
+/// The ending of a translation if a call of a device fails.
+const FAILED: &str = "Device \"\"";
+
+/// Returns two devices. Call `call` fails of the one that a word names.
+fn devices(alloc: Global, word: &str, call: u64) -> Result<(SharedFuse, SharedFuse), Mistake> {
+    let (first, second) = match word {
+        "first" => (call, 0),
+        "second" => (0, call),
+        _ => return Err(Mistake::Misspelt),
+    };
+    Ok((
+        SharedFuse::new(alloc, first),
+        SharedFuse::new(alloc, second),
+    ))
+}
+
+/// Translates the sentence twice over the same devices, of which one call fails. Returns whether that is a
+/// call of the second translation. Fails with `Unfit` if the other translation doesn't succeed, or if no value was
+/// shared.
+fn fails_later(
+    alloc: Global,
+    translator: &Translator,
+    word: &str,
+    call: u64,
+) -> Result<bool, Mistake> {
+    let (mut a, mut b) = devices(alloc, word, call)?;
+    let first = translated(alloc, translator, SENTENCE, &mut a, &mut b)?;
+    let second = translated(alloc, translator, SENTENCE, &mut a, &mut b)?;
+    if a.shared() == 0 || b.shared() == 0 {
+        return Err(Mistake::Unfit);
+    }
+    match (first.as_str(), second.as_str()) {
+        (DONE, FAILED) => Ok(true),
+        (FAILED, DONE) => Ok(false),
+        _ => Err(Mistake::Unfit),
+    }
+}
+
+/// Returns the first call of a device that the first translation doesn't make, counted from 1.
+fn first_later(alloc: Global, translator: &Translator, word: &str) -> Result<u64, Mistake> {
+    for call in 1..1000 {
+        if fails_later(alloc, translator, word, call)? {
+            return Ok(call);
+        }
+    }
+    Err(Mistake::Unfit)
+}
+
+/// Translates the sentence over devices in memory that don't share values.
+fn translated_in_memory(alloc: Global, translator: &Translator) -> Result<String, Mistake> {
+    let mut a = MemDevice::new(alloc);
+    let mut b = MemDevice::new(alloc);
+    translated(alloc, translator, SENTENCE, &mut a, &mut b)
+}
+
+/// Returns whether each call of a device fails as it should, and whether there are at least the row's number of
+/// calls.
+pub fn sharing_told(alloc: Global, spelled: &str) -> Result<String, Mistake> {
+    let (word, least) = first_word(spelled);
+    let least = number(least)? as u64;
+    let translator = translator(alloc, TABLES)?;
+    if translated_in_memory(alloc, &translator)?.as_str() != DONE {
+        return Err(Mistake::Unfit);
+    }
+    let calls = first_later(alloc, &translator, word)?;
+    Ok(format!(in alloc; "{}", least < calls)?)
+}
