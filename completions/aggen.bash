@@ -9,9 +9,34 @@ _aggen() {
             continue
         elif [[ -n $value ]]; then
             value=''
-        elif [[ ${COMP_WORDS[it]} = -* ]]; then
+        elif [[ ${COMP_WORDS[it]} = -?* ]]; then
             case $command${COMP_WORDS[it]} in
+                --color) value='words auto always never' ;;
+                run--color) value='words auto always never' ;;
+                run-o) value='file' ;;
+                run--output) value='file' ;;
+                run--out-dir) value='folder' ;;
                 run--work) value='folder' ;;
+                eval--color) value='words auto always never' ;;
+                eval-o) value='file' ;;
+                eval--output) value='file' ;;
+                eval--work) value='folder' ;;
+                value--color) value='words auto always never' ;;
+                check--color) value='words auto always never' ;;
+                plan--color) value='words auto always never' ;;
+                why--color) value='words auto always never' ;;
+                code--color) value='words auto always never' ;;
+                parse--color) value='words auto always never' ;;
+                show--color) value='words auto always never' ;;
+                show--depth) value='none' ;;
+                show--node) value='none' ;;
+                show--only) value='none' ;;
+                show--width) value='none' ;;
+                explain--color) value='words auto always never' ;;
+                explain--node) value='none' ;;
+                explain--sentence) value='file' ;;
+                explain--at) value='none' ;;
+                upgrade--color) value='words auto always never' ;;
             esac
         elif [[ -z $command ]]; then
             command=${COMP_WORDS[it]}
@@ -24,22 +49,24 @@ _aggen() {
         kind=$value
     elif [[ $word = -* ]]; then
         case $command in
-            '') kind='words -h --help -V --version' ;;
-            'run') kind='words --work -h --help' ;;
-            'eval') kind='words -h --help' ;;
-            'value') kind='words -h --help' ;;
-            'check') kind='words -h --help' ;;
-            'plan') kind='words -h --help' ;;
-            'why') kind='words -h --help' ;;
-            'code') kind='words -h --help' ;;
-            'parse') kind='words -h --help' ;;
-            'upgrade') kind='words -h --help' ;;
+            '') kind='words --color -q --quiet -h --help -V --version' ;;
+            'run') kind='words --color -o --output --out-dir -q --quiet --work -h --help' ;;
+            'eval') kind='words --color -o --output -q --quiet --work -h --help' ;;
+            'value') kind='words --color -q --quiet -h --help' ;;
+            'check') kind='words --color -q --quiet -h --help' ;;
+            'plan') kind='words --color -q --quiet -h --help' ;;
+            'why') kind='words --color -q --quiet -h --help' ;;
+            'code') kind='words --color -q --quiet -h --help' ;;
+            'parse') kind='words --color -q --quiet -h --help' ;;
+            'show') kind='words --color --depth --node -q --quiet --only --width --json -h --help' ;;
+            'explain') kind='words --color --node -q --quiet --sentence --at --errors -h --help' ;;
+            'upgrade') kind='words --color -q --quiet -h --help' ;;
         esac
     else
         case $command/$place in
-            /*) kind='words run eval value check plan why code parse upgrade help' ;;
+            /*) kind='words run eval value check plan why code parse show explain upgrade help' ;;
             run/0) kind='grammar' ;;
-            run/1) kind='file' ;;
+            run/*) kind='file' ;;
             eval/0) kind='grammar' ;;
             eval/1) kind='file' ;;
             value/0) kind='none' ;;
@@ -51,10 +78,15 @@ _aggen() {
             parse/0) kind='grammar' ;;
             parse/1) kind='file' ;;
             parse/2) kind='file' ;;
+            show/0) kind='grammar' ;;
+            show/1) kind='file' ;;
+            explain/0) kind='grammar' ;;
+            explain/1) kind='file' ;;
+            explain/*) kind='none' ;;
             upgrade/0) kind='grammar' ;;
             upgrade/1) kind='file' ;;
             upgrade/2) kind='file' ;;
-            help/0) kind='words run eval value check plan why code parse upgrade help' ;;
+            help/0) kind='words run eval value check plan why code parse show explain upgrade help' ;;
         esac
     fi
     case $kind in

@@ -27,7 +27,7 @@
 extern "C" {
 #endif
 
-#define AGGEN_VERSION "0.1.0"
+#define AGGEN_VERSION "1.0.0"
 
 /* What a call returns. These are the exit statuses of the program `aggen`, and 1. */
 enum aggen_status {
